@@ -38,6 +38,37 @@ def run(installed: pathlib.Path, *words: object, python: str = "") -> tuple[int,
     return done.returncode, done.stdout, done.stderr
 
 
+def completed(folder: pathlib.Path, *words: str) -> list[str]:
+    """What completion makes of the last of these words. bash-completion's own functions are as simple as they can be."""
+    code = f"""
+        vecmon-lab() {{ {sys.executable} -m vecmon_lab "$@"; }}
+        _init_completion() {{ words=(vecmon-lab "$@"); words=("${{WORDS[@]}}"); cword=$(({len(words)})); cur=${{words[cword]}}; }}
+        _filedir() {{ COMPREPLY+=(A_FILE); }}
+        WORDS=(vecmon-lab {' '.join(f"'{word}'" for word in words)})
+        source {TOP / "packaging" / "completion"}
+        _vecmon
+        printf '%s\\n' "${{COMPREPLY[@]}}"
+    """
+    done = subprocess.run(["bash", "-c", code], cwd=folder, capture_output=True, text=True, check=True)
+    assert done.stderr == ""
+    return done.stdout.split()
+
+
+def test_completion(tmp_path: pathlib.Path) -> None:
+    (tmp_path / "monday").mkdir()
+    for name in ("A.script", "B.script", "A.json", "class.json"):
+        (tmp_path / "monday" / name).touch()
+    assert completed(tmp_path, "ve") == ["vectors"] and completed(tmp_path, "help", "so") == ["solo"]
+    assert completed(tmp_path, "--v") == ["--version"]
+    assert completed(tmp_path, "vectors", "vid.v", "vsadd.") == ["vsadd.vv", "vsadd.vx", "vsadd.vi"]
+    assert completed(tmp_path, "vectors", "al") == ["all"] and "--seed" in completed(tmp_path, "vectors", "--se")
+    assert completed(tmp_path, "grade", "st") == ["strip_mined_copy", "strlen", "A_FILE"]
+    assert completed(tmp_path, "grade", "strlen", "a") == ["A_FILE"]
+    assert completed(tmp_path, "solo", "monday", "B") == [f"B{digit}" for digit in range(1, 9)]
+    assert completed(tmp_path, "solo", "monday", "A1") == ["A1"] and completed(tmp_path, "solo", "mon") == ["A_FILE"]
+    assert completed(tmp_path, "class", "monday", "sum=x") == ["A_FILE"]
+
+
 def test_another_python_that_has_no_library(installed: pathlib.Path, program: pathlib.Path) -> None:
     assert run(installed, "class", "monday", python="plain/bin/python") == (2, "", WITHOUT_AIOHTTP)
     status, told, _ = run(installed, "check", python="plain/bin/python")

@@ -65,10 +65,14 @@ def _missing(module: str) -> str:
 
 def arguments_of(words: list[str]) -> argparse.Namespace:
     """What the program's words are, with the function `run` of the command that they name; options stand anywhere."""
-    if words[:1] == ["help"]:
-        words = [*words[1:2], "--help"]
-    if words[:1] == ["--version"]:
-        return argparse.Namespace(run=importlib.import_module("vecmon_lab.check").versions)
+    match words:
+        case ["help", *more]:
+            words = [*more[:1], "--help"]
+        case ["--version"]:
+            return argparse.Namespace(run=importlib.import_module("vecmon_lab.check").versions)
+        case ["--names", ("vectors" | "grade") as which]:  # for completion
+            print("\n".join(importlib.import_module(f"vecmon_lab.{COMMANDS[which][0]}").names()))
+            raise SystemExit(0)
     if words and words[0] in COMMANDS:
         place, summary = COMMANDS[words[0]]
         command = _Parser(prog=f"vecmon-lab {words[0]}", description=f"{summary[0].upper()}{summary[1:]}.")

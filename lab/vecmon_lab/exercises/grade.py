@@ -13,7 +13,7 @@ from .. import LabError
 from ..machine.program import find_program
 from ..tables.table import table_lines
 from .answer import attempt, read_answer, settled
-from .exercise import Exercise, Results, read_exercise
+from .exercise import OURS, Exercise, Results, read_exercise
 
 Grades = list[tuple[pathlib.Path, list[str]]]
 """Answers, each with why it fails, or nothing, for each case."""
@@ -28,6 +28,11 @@ def add_arguments(parser: argparse.ArgumentParser) -> None:
     form = parser.add_mutually_exclusive_group()
     form.add_argument("--csv", action="store_true", help="a row of CSV for each answer, below a header, and no table")
     form.add_argument("--rows", action="store_true", help="the same without the header")
+
+
+def names() -> list[str]:
+    """The exercises that come with the lab."""
+    return sorted(path.parent.name for path in OURS.glob("*/exercise.toml"))
 
 
 def run(arguments: argparse.Namespace) -> int:

@@ -26,6 +26,11 @@ def add_arguments(parser: argparse.ArgumentParser) -> None:
     parser.add_argument("--policy", choices=("keep", "ones"), default="keep", help="for agnostic elements; else keep")
 
 
+def names() -> list[str]:
+    """What NAME may be."""
+    return ["all", *instruction_table()]
+
+
 def run(arguments: argparse.Namespace) -> int:
     """Prints the cases. Raises LabError for a name that no instruction has."""
     program, table = find_program(), instruction_table()
