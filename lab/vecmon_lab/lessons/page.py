@@ -1,6 +1,5 @@
 """A lesson as one page: its frames as differences."""
 
-import dataclasses
 from collections.abc import Mapping, Sequence
 
 from ..page.pages import lone_page, merge_patch
@@ -16,4 +15,4 @@ def _differences(frames: Sequence[Frame]) -> list[dict[str, object]]:
     """The frames, with what changed of the states."""
     before: list[Mapping[str, object]] = [{}, *(frame.states for frame in frames)]
     patches = [merge_patch(old, frame.states) for old, frame in zip(before, frames)]
-    return [dataclasses.asdict(frame) | {"states": patch} for frame, patch in zip(frames, patches)]
+    return [vars(frame) | {"states": patch} for frame, patch in zip(frames, patches)]
