@@ -4,11 +4,12 @@ import { byId, header, make, unseen } from "./elements.js";
 import { inOrder, paintRows } from "./rows.js";
 import { target, withNames } from "./words.js";
 
+const TABLE = { caption: "Program", names: ["marks", "address", "word", "instruction"], bytes: 4 };
+
 export function paintListing(state, before) {
   const abi = byId("names").value === "abi";
   const rows = inOrder(Object.keys(state.code)).map((address) => listingRow(state, before, address, abi));
-  const names = ["marks", "address", "word", "instruction"];
-  paintRows(byId("listing"), "Program", names, rows, 4, state, "No program stands in memory yet.");
+  paintRows(byId("listing"), TABLE, rows, state.labels, "No program stands in memory yet.");
 }
 
 function listingRow(state, before, address, abi) {

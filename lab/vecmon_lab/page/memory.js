@@ -3,11 +3,13 @@
 import { byId, header, make } from "./elements.js";
 import { inOrder, paintRows } from "./rows.js";
 
+const NAMES = ["address", "bytes 0 to 3", "4 to 7", "8 to 11", "12 to 15", "text"];
+const TABLE = { caption: "Memory", names: NAMES, bytes: 16 };
+
 export function paintMemory(state, before) {
   const row = (address) => memoryRow(address, state.memory[address], before.memory[address]);
   const rows = inOrder(Object.keys(state.memory)).map(row);
-  const names = ["address", "bytes 0 to 3", "4 to 7", "8 to 11", "12 to 15", "text"];
-  paintRows(byId("bytes"), "Memory", names, rows, 16, state, "No memory but the program is in use yet.");
+  paintRows(byId("bytes"), TABLE, rows, state.labels, "No memory but the program is in use yet.");
 }
 
 export function paintOutput(state) {

@@ -1,7 +1,8 @@
 // How the vector registers are best shown: by the operands of the listing's instructions, which the server tells.
 
 /**
- * An instruction's operands under a vector type, a register group each: { register, group, width, mask, writes, masked }.
+ * An instruction's operands under a vector type, a register group each:
+ * { register, group, width, mask, writes, masked }.
  * The width of elements is in bits; a mask has the type's width.
  * masked: whether elements whose bit in v0 is 0 are left out of it, and v0 is still what it was.
  */
