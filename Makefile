@@ -12,7 +12,7 @@ completions = $(prefix)/share/bash-completion/completions
 program = crates/vecmon/out/vecmon
 
 lab_files = lab/vecmon_lab/py.typed $(filter-out %.pyc, $(wildcard lab/vecmon_lab/*.py lab/vecmon_lab/*.txt lab/vecmon_lab/*/*.* \
-    lab/vecmon_lab/exercises/*/* lab/vecmon_lab/lessons/tours/* lab/examples/*))
+    lab/vecmon_lab/exercises/given/*/* lab/vecmon_lab/lessons/tours/* lab/examples/*))
 documents = README.md CHANGELOG.md CONTRIBUTING.md crates.txt crates/monitor_script/src/script.rt $(wildcard docs/*.md docs/*.csv docs/pictures/*)
 copy = install -D -m 644
 link = ln -s -f -n --relative
@@ -29,7 +29,7 @@ install:
 	$(link) "$(DESTDIR)$(lab)/lab" "$(DESTDIR)$(docdir)/lab"
 	$(copy) crates/vecmon/first_vectors "$(DESTDIR)$(docdir)/examples/first_vectors"
 	$(link) "$(DESTDIR)$(lab)/lab/examples" "$(DESTDIR)$(docdir)/examples/sources"
-	$(link) "$(DESTDIR)$(lab)/lab/vecmon_lab/exercises" "$(DESTDIR)$(docdir)/examples/exercises"
+	$(link) "$(DESTDIR)$(lab)/lab/vecmon_lab/exercises/given" "$(DESTDIR)$(docdir)/examples/exercises"
 	$(link) "$(DESTDIR)$(lab)/lab/vecmon_lab/lessons/tours" "$(DESTDIR)$(docdir)/examples/tour"
 	$(call page,vecmon,1,'trainer machine for the RISC-V vector extension',PROGRAM.md)
 	$(call page,vecmon-lab,1,'front end of vecmon with lessons and classes',LAB.md)

@@ -11,7 +11,7 @@ from typing import Any
 from .. import LabError
 from ..tables.table import read_table
 
-OURS = pathlib.Path(__file__).parent
+OURS = pathlib.Path(__file__).with_name("given")
 TICKS, OUTPUT_BYTES = 100_000, 4096  # the limits where an exercise has none
 PLACE_BYTES = 1 << 20  # all that a user's pages have
 
