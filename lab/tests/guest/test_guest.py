@@ -69,7 +69,7 @@ def test_arguments(program: pathlib.Path, tmp_path: pathlib.Path, arguments: lis
     make_image(program, tmp_path / "arguments", ARGUMENTS)
     with started(tmp_path / "arguments", arguments=arguments) as guest:
         stop = guest.go(1_000_000)
-        assert stop is not None and (stop.kind, stop.status) == ("exit", len(arguments))
+        assert stop is not None and (stop.kind, stop.number) == ("exit", len(arguments))
         assert guest.output() == "".join(f"{argument}\n" for argument in arguments).encode()
 
 

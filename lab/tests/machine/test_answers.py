@@ -31,7 +31,7 @@ def test_stored_answers_are_printed_as_they_were() -> None:
 
 def test_stops_of_slices_are_told_to_their_users() -> None:
     answer = ["2 ebreak pc=0000000000010000", "1 exit 3 pc=0000000000020000", "* granted 5"]
-    stops = (("2", Stop("ebreak", 0x10000)), ("1", Stop("exit", 0x20000, status=3)))
+    stops = (("2", Stop("ebreak", 0x10000)), ("1", Stop("exit", 0x20000, 3)))
     assert read(answer) == Granted(5, stops) and told(answer) == [*stops, ("*", Granted(5, stops))]
 
 

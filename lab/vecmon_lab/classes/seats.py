@@ -5,10 +5,11 @@ from collections import deque
 from collections.abc import Iterable, Sequence
 from dataclasses import dataclass, field
 
+from ..guest.guest import Guest
 from ..machine.answers import is_refusal, is_stop, read, told
 from ..machine.lines import DIGITS, is_look, words_of
 from ..machine.session import Session
-from ..page.state import ABSENT, RowChoice, State, Watch, look_at, with_last, with_rows
+from ..page.state import ABSENT, RowChoice, State, Watch, look_at, with_rows
 
 LOG_ENTRIES = 500
 OUTPUT_DIGITS = 8192
@@ -86,9 +87,8 @@ class Seats:
             own = [said for _, answer in done for whom, said in told(answer) if whom == digit]
             single = lines == [f"{digit} step 1"] and before["run"] == "stopped"
             carried_out = before["code"].get(before["pc"], "")[9:] if single else ""
-            state = look_at(session, int(digit), seat.watch, before, own, carried_out)
-            if all(map(is_look, lines)):
-                state = with_last(state, before)
+            is_done = not all(map(is_look, lines))
+            state = look_at(Guest(session, int(digit)), seat.watch, before, own, carried_out, is_done)
             if "output" in state:
                 state["output"] = state["output"][-OUTPUT_DIGITS:]
             seat.rows.add(state)

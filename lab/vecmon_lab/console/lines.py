@@ -204,7 +204,7 @@ class Console:
         for count in range(number):
             pc = self._guest.pc
             if self._is_interrupted or count and pc in breaks:
-                where: Position | Stop = Position("stopped", pc) if self._is_interrupted else Stop("break", pc)
+                where = Position("stopped", pc) if self._is_interrupted else Stop("break", pc)
                 self._screen.say(describe_stop(where))
                 break
             carried = self._stepper.step()

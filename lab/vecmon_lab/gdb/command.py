@@ -99,7 +99,7 @@ class Target:
         self._guest.empty_buffer()
         self._last = TRAPPED if stop else signal
         if stop and stop.kind == "exit":
-            self._last = f"W{stop.status:02x}"
+            self._last = f"W{stop.number:02x}"
         if stop and stop.kind == "fault":
             words = f"vecmon: {self._guest.explain(stop)}\n"
             self._link.send(f"O{words.encode().hex()}")

@@ -6,7 +6,7 @@ An instruction is illegal where the RISC-V "V" manual, version 1.0, reserves it,
 from collections.abc import Iterator, Sequence
 from fractions import Fraction
 
-from ..machine.answers import Position, Stop, VectorView
+from ..machine.answers import Place, VectorView
 from ..tables.table import read_table
 from .words import VECTOR_ACCESSES, NoInstruction, Operand, Trait, VectorInstruction, decode, listed
 
@@ -117,27 +117,16 @@ def _emul(operand: Operand, view: VectorView) -> str:
 _SENTENCES = dict(read_table("stops"))
 
 
-def describe_stop(
-    where: Stop | Position, word: int | None = None, view: VectorView | None = None, text: str = ""
-) -> str:
+def describe_stop(where: Place, word: int | None = None, view: VectorView | None = None, text: str = "") -> str:
     """A stop, or an answer to `step`, `go`, `stop` or `state`, in sentences.
 
     word, text: the word at the program counter, and its canonical text
     view: the vector state at the stop
     """
-    match where:
-        case Position(what, pc, number):
-            return _SENTENCES[what].format(number=number, pc=f"{pc:#x}")
-        case Stop("fault", pc, _, cause, value):
-            sentence = _SENTENCES[f"fault cause={cause}"].format(
-                pc=f"{pc:#x}", value=f"{value:#x}", text=text or f"{value:#010x}"
-            )
-        case Stop(what, pc, status):
-            return _SENTENCES[what].format(number=status, pc=f"{pc:#x}")
-    if view is None:
-        return sentence
-    if cause == 2:
-        return " ".join([sentence, *illegal_reasons(value, view)])
-    if cause in (5, 7) and word is not None and word & 0x7F in VECTOR_ACCESSES:
+    value, text = f"{where.value:#x}", text or f"{where.value:#010x}"
+    sentence = _SENTENCES[where.what].format(number=where.number, pc=f"{where.pc:#x}", value=value, text=text)
+    if view and where.what == "fault cause=2":
+        return " ".join([sentence, *illegal_reasons(where.value, view)])
+    if view and where.cause in (5, 7) and word is not None and word & 0x7F in VECTOR_ACCESSES:
         return f"{sentence} It stopped at element {view.vstart}."
     return sentence

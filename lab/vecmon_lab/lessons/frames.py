@@ -6,6 +6,7 @@ from contextlib import suppress
 from dataclasses import dataclass
 
 from .. import LabError
+from ..guest.guest import Guest
 from ..machine.answers import Answer, Position, Refused, read, told
 from ..machine.lines import DIGITS, BadLine, is_look, words_of
 from ..machine.session import Session
@@ -111,7 +112,7 @@ class _Maker:
         for user, watch in self._watches.items():
             if user in users or "*" in users:
                 own, before = [answer for whom, answer in answers if whom == user], self._states.get(user, ABSENT)
-                self._states[user] = look_at(self._single, int(user), watch, before, own, carried_out)
+                self._states[user] = look_at(Guest(self._single, int(user)), watch, before, own, carried_out)
 
     def _instruction_note(self, user: str) -> str:
         """The author's sentence before the instruction of the source that a user carried out."""

@@ -184,42 +184,41 @@ class Addresses:
 
 
 @dataclass(frozen=True)
-class Position:
-    """Where a program is: it has `stepped` so often, is `running` or `stopped` now, or its state is shown.
+class Place:
+    """Where a program is, and why.
 
-    kind: `stepped`, `running`, `stopped`, `state running` or `state stopped`
+    number: how often it has stepped, or the status of an exit
+    cause, value: of a fault
     """
 
     kind: str
     pc: int
     number: int = 0
+    cause: int = 0
+    value: int = 0
+
+    @property
+    def what(self) -> str:
+        """The kind, of a fault with its cause."""
+        return f"fault cause={self.cause}" if self.kind == "fault" else self.kind
+
+    def __str__(self) -> str:
+        number = f" {self.number}" if self.kind in ("stepped", "exit") else ""
+        value = f" value={self.value:016x}" if self.kind == "fault" else ""
+        return f"{self.what}{number} pc={self.pc:016x}{value}"
+
+
+class Position(Place):
+    """It has `stepped` so often, is `running` or `stopped` now, or its state is shown: `state running`, `state stopped`."""
 
     @property
     def run(self) -> str:
         """`running` or `stopped`."""
         return "running" if self.kind.endswith("running") else "stopped"
 
-    def __str__(self) -> str:
-        return f"{self.kind} {f'{self.number} ' if self.kind == 'stepped' else ''}pc={self.pc:016x}"
 
-
-@dataclass(frozen=True)
-class Stop:
-    """Why a program stopped by itself.
-
-    kind: `exit`, with its status; `fault`, with its cause and value; `break`, `ebreak` or `outfull`
-    pc: where the program stands
-    """
-
-    kind: str
-    pc: int
-    status: int = 0
-    cause: int = 0
-    value: int = 0
-
-    def __str__(self) -> str:
-        number = {"exit": f" {self.status}", "fault": f" cause={self.cause}"}.get(self.kind, "")
-        return f"{self.kind}{number} pc={self.pc:016x}" + (f" value={self.value:016x}" if self.kind == "fault" else "")
+class Stop(Place):
+    """It has stopped by itself: by an `exit`, a `fault`, a `break`, an `ebreak`, or as its output buffer is full, `outfull`."""
 
 
 @dataclass(frozen=True)
@@ -282,7 +281,7 @@ _READERS: dict[str, Callable[..., Answer]] = {  # by the first word of an answer
     **dict.fromkeys(("running", "stopped"), lambda kind, pc: Position(kind, _value(pc))),
     "state": lambda kind, run, pc: Position(f"{kind} {run}", _value(pc)),
     **dict.fromkeys(("break", "ebreak", "outfull"), lambda kind, pc: Stop(kind, _value(pc))),
-    "exit": lambda kind, status, pc: Stop(kind, _value(pc), status=int(status)),
+    "exit": lambda kind, status, pc: Stop(kind, _value(pc), int(status)),
     "fault": lambda kind, cause, pc, value: Stop(kind, _value(pc), 0, int(cause[-1]), _value(value)),
     "out": lambda _, number, digits="": Output(bytes.fromhex(digits)),
     "list": lambda _, *users: Users({user[0]: user[2:] for user in users}),

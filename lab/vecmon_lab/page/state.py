@@ -22,7 +22,6 @@ from ..machine.answers import (
     VectorRegister,
 )
 from ..machine.lines import words_of
-from ..machine.session import Session
 from .operands import ShownOperand, shown_operands
 
 
@@ -121,21 +120,22 @@ class Watch:
 
 
 def look_at(
-    session: Session, user: int, watch: Watch, before: State, answers: Sequence[Answer] = (), carried_out: str = ""
+    guest: Guest, watch: Watch, before: State, answers: Sequence[Answer], carried_out: str = "", is_done: bool = True
 ) -> State:
-    """The user's state after a line that was answered to the user so; before it the state was `before`.
+    """The user's state after lines that were answered to the user so; before them the state was `before`.
 
-    carried_out: the text of the instruction that the line may have carried out, if it did nothing else
+    carried_out: the text of the instruction that a line may have carried out, if nothing else was done
+    is_done: whether a line did more than look
     While the program runs the machine shows nothing else, so that all but `run` and `pc` stays as it was.
     """
-    guest = Guest(session, user)
     (place,) = guest.ask("state")
     if not isinstance(place, Position):
         return ABSENT.copy()
     state = before.copy()
-    state.pop("instruction", None)
-    state.pop("faulted", None)
-    state.pop("stop", None)
+    if is_done:
+        state.pop("instruction", None)
+        state.pop("faulted", None)
+        state.pop("stop", None)
     state.update({"run": place.run, "pc": f"{place.pc:x}"})
     for answer in answers:
         if isinstance(answer, Output) and answer.data:
@@ -143,7 +143,7 @@ def look_at(
     if place.run == "running":
         return state
     control = _take_registers(guest, state)
-    state["policy"] = session.policy[user]
+    state["policy"] = guest.session.policy[guest.user]
     if not carried_out or carried_out.startswith("v"):
         state["v"] = _vectors(guest)
     trace = guest.told("trace", Addresses).addresses
@@ -163,18 +163,6 @@ def look_at(
     if stop and stop.kind == "fault":
         state.update({"instruction": state["pc"], "faulted": True})
     watch.trace = trace
-    return state
-
-
-def with_last(state: State, before: State) -> State:
-    """The state with what the one before has of the instruction that was carried out last."""
-    state = state.copy()
-    if "instruction" in before:
-        state["instruction"] = before["instruction"]
-    if "faulted" in before:
-        state["faulted"] = before["faulted"]
-    if "stop" in before:
-        state["stop"] = before["stop"]
     return state
 
 

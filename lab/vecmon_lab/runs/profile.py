@@ -41,7 +41,7 @@ def run(arguments: argparse.Namespace) -> int:
         print(f"vecmon-lab: {symbols.trouble}", file=sys.stderr)
     with started(image, arguments=[image.name]) as guest:
         counts, stop = count(guest, arguments.ticks)
-        end = f"status {stop.status}" if stop and stop.kind == "exit" else guest.tell(stop, symbols.place(guest.pc))
+        end = f"status {stop.number}" if stop and stop.kind == "exit" else guest.tell(stop, symbols.place(guest.pc))
     rows = [*_rows(counts, symbols)]
     summary = [*_summary(counts, end)]
     print("\n".join([*table_lines([HEAD, *rows], 4), "", *_histogram(counts), "", *summary]))

@@ -38,7 +38,7 @@ def run(arguments: argparse.Namespace) -> int:
         if counts and arguments.stats:
             print("\n".join(stats(counts)), file=sys.stderr)
         if stop and stop.kind == "exit":
-            return stop.status
+            return stop.number
         print(f"vecmon-lab: {image}: {guest.tell(stop, symbols.place(guest.pc))}", file=sys.stderr)
         return status_of(stop)
 

@@ -78,7 +78,7 @@ def carry_out(session: Session, row: Row, case: Case, policy: str = "keep") -> d
     golden["end"] = stop.kind if stop else "ran"
     if stop and stop.kind != "ebreak":
         is_fault = stop.kind == "fault"
-        golden |= {"cause": stop.cause, "value": f"{stop.value:x}"} if is_fault else {"status": stop.status}
+        golden |= {"cause": stop.cause, "value": f"{stop.value:x}"} if is_fault else {"status": stop.number}
     changes: dict[str, object] = {name: value for name, value in after.items() if value != before[name]}
     for kind, values in left.items():
         changes[kind] = {number: value for number, value in values.items() if value != held[kind][number]}
