@@ -62,7 +62,7 @@ class Room:
         return self.session.losses[-1] if self.session.losses else ""
 
     def restore(self, notes: Notes) -> None:
-        """Brings the machine to where an earlier server left it. Raises BadFolder where it answers otherwise than then."""
+        """Brings the machine to where an earlier server left it. Raises BadFolder where it answers otherwise."""
         for line, answer in self.file.replay(self.session, notes):
             self.seats.follow(line, answer)
             self.seats.observe(line, answer, is_told=not line.startswith(("* slices", "* run")))

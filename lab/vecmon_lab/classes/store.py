@@ -40,7 +40,7 @@ class Facts:
 
 @dataclass(frozen=True)
 class Notes:
-    """What is kept beside a script: how many lines were answered by a digest, the clock, the rights, labels by digit."""
+    """What is kept beside a script: how many lines were answered by a digest, the clock, rights, labels by digit."""
 
     lines: int = 0
     answers: str = ""
@@ -70,7 +70,7 @@ class ScriptFile:
         os.ftruncate(self._file, self._saved)
 
     def replay(self, session: Session, notes: Notes) -> Iterator[tuple[str, Sequence[str]]]:
-        """Carries out what was kept: each line and its answer. Raises BadFolder where it is answered otherwise than then."""
+        """Carries out what was kept: each line and its answer. Raises BadFolder where it is answered otherwise."""
         script = self.kept.decode("latin-1").split("\n")[:-1]
         if len(script) < notes.lines:
             raise BadFolder(f"the script of machine {self._machine} has lost lines: it had {notes.lines}")

@@ -1,8 +1,8 @@
-"""What the monitor answers, as docs/COMMANDS.md has it: where an answer ends, and what it says. Nothing else knows a column.
+"""What the monitor answers, as docs/COMMANDS.md has it: where an answer ends, and what it says.
 
-A user's answer is one line, but for an accepted `regs` (9 lines) and an accepted `dis ADDR N` (N lines). An operator's
-answer is the stop lines of the slices that it granted, and then a line that begins with `*`. Each answer is printed
-(`str`) as the machine printed it, without the digits of users.
+No other module knows a column. A user's answer is one line, but for an accepted `regs` (9 lines) and an accepted
+`dis ADDR N` (N lines). An operator's answer is the stop lines of the slices that it granted, and then a line that
+begins with `*`. Each answer is printed (`str`) as the machine printed it, without the digits of users.
 """
 
 import functools
@@ -209,7 +209,7 @@ class Place:
 
 
 class Position(Place):
-    """It has `stepped` so often, is `running` or `stopped` now, or its state is shown: `state running`, `state stopped`."""
+    """It has `stepped` so often, is `running` or `stopped` now, or is shown: `state running` or `state stopped`."""
 
     @property
     def run(self) -> str:
@@ -218,7 +218,7 @@ class Position(Place):
 
 
 class Stop(Place):
-    """It has stopped by itself: by an `exit`, a `fault`, a `break`, an `ebreak`, or as its output buffer is full, `outfull`."""
+    """It has stopped by itself: an `exit`, a `fault`, a `break`, an `ebreak`, or a full output buffer, `outfull`."""
 
 
 @dataclass(frozen=True)
