@@ -10,7 +10,7 @@ import pytest
 from vecmon_lab.page.modules import join_modules
 from vecmon_lab.page.pages import FILES, Page, lone_page, page_file
 
-PAGES = ["class", "lesson", "profile"]
+PAGES = sorted(path.stem for path in FILES.glob("*.html") if path.with_suffix(".js").exists())
 FILE = {
     "main.js": 'import { half } from "./numbers.js";\nimport { say, Loud } from "./words.js";\n\nsay(half(4));\n',
     "numbers.js": "// Numbers.\n\nexport const half = (number) => number / 2;\nconst own = 1;\n",
@@ -90,6 +90,7 @@ def test_a_page_has_each_module_once_behind_what_it_imports(name: str) -> None:
 
 
 def test_each_module_is_of_a_page() -> None:
+    assert {"class", "lesson", "profile"} <= set(PAGES)
     scripts = "".join(join_modules(name, page_file) for name in PAGES)
     assert {path.stem for path in FILES.glob("*.js")} == set(re.findall(r"^const \$(\w+) = ", scripts, re.MULTILINE))
 
