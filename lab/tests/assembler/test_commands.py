@@ -78,9 +78,13 @@ def test_help_lists_the_commands() -> None:
 @pytest.mark.parametrize(
     "line, told",
     [
-        ("1 dance", ["E03: there is no such command, or the line has no word"]),
+        ("1 dance", ["E03: there is no command dance"]),
         ("1 regs 5", ["E04: 5 is a word too many; the form is regs"]),
         ("* slices 0", ["E04: 0 isn't from 1 to 1,000; the form is * slices N"]),
+        ("1 ", ["E03: there is no such command, or the line has no word"]),
+        ("1 slices 5", ["E03: slices is the operator's: * slices N"]),
+        ("* regs", ["E03: regs is a user's: regs"]),
+        ("1 load it", ["E08: there is no image of this name"]),
         ("2 regs", ["E05: the user has not entered"]),
         ("1 peek 0 4", ["E11: an address isn't mapped"]),
         (

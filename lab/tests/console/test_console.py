@@ -208,7 +208,7 @@ def test_a_breakpoint_where_the_ticks_of_a_round_end(tmp_path: pathlib.Path) -> 
 @pytest.mark.parametrize(
     "line, told",
     [
-        ("dance", "E03: there is no such command, or the line has no word"),
+        ("dance", "E03: there is no command dance"),
         ("step 257", "E04: 257 isn't from 1 to 256; the form is step N"),
         ("step 01", "E04: 01 begins with 0, and a decimal number doesn't; the form is step N"),
         ("break nowhere", "there is no symbol nowhere"),

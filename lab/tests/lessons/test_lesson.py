@@ -31,8 +31,8 @@ def transcript(program: pathlib.Path, script: str) -> list[str]:
 
 
 def logged(frames: list[Frame], mark: str) -> list[str]:
-    """The entries of a kind in the log of a lesson."""
-    return [entry[1:] for frame in frames for entry in frame.log if entry[0] == mark]
+    """The entries of a kind in the log of a lesson, without what refusals mean."""
+    return [entry[1:].split("\n")[0] for frame in frames for entry in frame.log if entry[0] == mark]
 
 
 def lab(*words: str, **variables: str) -> subprocess.CompletedProcess[str]:
@@ -127,6 +127,14 @@ def test_a_script_with_errors_shows_the_refusals(program: pathlib.Path) -> None:
     made = make_frames(read_script(script + "9 enter\n1 \tregs\n1 poke 0 é\n"), program)
     assert logged(made, "<") == transcript(program, script)
     assert len(logged(made, "!")) == 3
+    words = [entry.partition("\n")[2] for frame in made for entry in frame.log if entry[0] == "<"]
+    assert list(filter(None, words)) == [
+        "E03: there is no command dance",
+        "E06: the user has entered already",
+        "E11: an address isn't mapped",
+        "E04: 9 is no user, who are 1 to 8; the form is * run U",
+        "E05: the user has not entered",
+    ]
     assert made[-1].user == "1"
 
 

@@ -203,15 +203,25 @@ def test_stops_and_refusals_are_told(opened: Callable[[str], "Chrome"], program:
     from selenium.webdriver.common.keys import Keys
 
     browser = opened(
-        lesson_page("x", make_frames(read_script("1 enter\n1 peek 0 1\n1 enter\n1 step 1\n9 x\n"), program))
+        lesson_page(
+            "x",
+            make_frames(
+                read_script(
+                    "1 enter\n1 peek 0 1\n1 enter\n1 step 1\n1 map 0 1 rwx\n1 asm 0 li x1, 1\n1 step 300\n9 x\n"
+                ),
+                program,
+            ),
+        )
     )
     assert browser.execute_script("return document.querySelector('#stop').ariaLive") == "polite"
     told = []
-    for _ in range(4):
+    for _ in range(7):
         told.append(text_of(browser, "#stop"))
         press(browser, Keys.ARROW_RIGHT)
     assert told[0].startswith("1 peek 0 1: E11: ") and told[1].startswith("E06: ")
-    assert "0x0" in told[2] and told[3].startswith("Not sent: ")
+    assert "0x0" in told[2] and told[6].startswith("Not sent: ")
+    assert told[4] == "li x1, 1\n^\nE15: there is no instruction li"
+    assert told[5] == "E04: 300 isn't from 1 to 256; the form is step N"
 
 
 @pytest.mark.parametrize("scheme", ["light", "dark"])

@@ -36,7 +36,11 @@ def run(arguments: argparse.Namespace) -> int:
     os.umask(0o077)
     images, host = images_of(arguments.images), arguments.host
     store = Store(arguments.folder, find_program(), images, arguments.quantum, arguments.machines)
-    doors = _listening(host, arguments.port)  # before the class is carried out again, which may take a while
+    try:
+        doors = _listening(host, arguments.port)  # before the class is carried out again, which may take a while
+    except LabError:
+        store.close()
+        raise
     members = Class(store, arguments.patience)
     asyncio.run(serve(members, host, doors, set(arguments.name)))
     return 0

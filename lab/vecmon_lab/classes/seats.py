@@ -5,6 +5,7 @@ from collections import deque
 from collections.abc import Iterable, Sequence
 from dataclasses import dataclass, field
 
+from ..assembler.commands import log_entries
 from ..guest.guest import Guest
 from ..machine.answers import is_refusal, is_stop, read, told
 from ..machine.lines import DIGITS, is_look, words_of
@@ -114,10 +115,10 @@ class Seats:
             asker.stop, asker.labels = "", {}
         elif words == ["go"] and not is_refusal(answer):
             asker.stop = ""
-        for part in answer:
+        for part, entry in zip(answer, log_entries(line, answer)):
             seat = self.users.get(part[0], self.operator)
             if is_told or seat is not self.operator:
-                seat.note(f"<{part}")
+                seat.note(entry)
                 seat.answer = part[2:]
             if is_stop(part):
                 seat.stop = part[2:]

@@ -8,6 +8,7 @@ from dataclasses import asdict
 from typing import TypedDict
 
 from .. import LabError
+from ..assembler.commands import refusal_on_pages
 from ..machine.session import SCRIPT_BYTES
 from ..page.pages import merge_patch
 from ..page.state import State
@@ -35,6 +36,7 @@ class Message(TypedDict, total=False):
     mistakes: list[Mistake]
     error: str
     done: Answers
+    words: list[str]
     patch: dict[str, object]
     logs: Logs
 
@@ -169,6 +171,12 @@ class Class:
             answer.update(await self._carry_out(tab, read_request(message, tab.who == TEACHER), done))
         except (LabError, ValueError, RecursionError) as error:
             answer.update({"error": str(error), "done": done})
+        digit = "*" if tab.who == TEACHER else tab.who[-1]
+        if done:  # which are the first of these lines
+            asked = [
+                (f"{digit} {text}", [f"{digit} {part}" for part in parts]) for text, parts in zip(message["do"], done)
+            ]
+            answer["words"] = [refusal_on_pages(*each) for each in asked]
         answer.update(self.news(tab))
         return answer
 

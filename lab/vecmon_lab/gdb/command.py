@@ -10,6 +10,7 @@ import contextlib
 import pathlib
 import re
 
+from ..assembler.commands import refusal_in_words
 from ..guest.guest import Guest, started
 from ..instructions.accesses import LINE_BYTES
 from ..machine.answers import CONTROL, ControlRegisters, Done, Memory, Refused, ScalarRegisters, Stop, VectorRegister
@@ -134,9 +135,10 @@ class Target:
         if not is_look(f"1 {line}") and words_of(f"1 {line}")[:1] != ["policy"]:
             return "monitor takes policy and lines that look, as regs, vreg, dis and trace; gdb does the rest\n"
         try:
-            return f"{self._guest.ask(line)[0]}\n"
+            (answer,) = self._guest.ask(line)
         except BadLine as error:
             return f"{error}\n"
+        return "\n".join([*refusal_in_words(f"1 {line}", answer), ""]) if isinstance(answer, Refused) else f"{answer}\n"
 
     def _do(self, command: str) -> str:
         """What gdb is told after a command."""

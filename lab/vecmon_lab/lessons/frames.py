@@ -6,6 +6,7 @@ from contextlib import suppress
 from dataclasses import dataclass
 
 from .. import LabError
+from ..assembler.commands import log_entries
 from ..guest.guest import Guest
 from ..machine.answers import Answer, Position, Refused, read, told
 from ..machine.lines import DIGITS, BadLine, is_look, words_of
@@ -21,7 +22,7 @@ class Frame:
     user: the digit of the user whose state is shown
     line: what was done, and how many lines more
     note: the author's sentence
-    log: lines behind `>`, their answers behind `<`, and why a line wasn't sent behind `!`
+    log: lines behind `>`, their answers behind `<` (`log_entries`), and why a line wasn't sent behind `!`
     states: the state of each user after it, by the user's digit
     """
 
@@ -87,7 +88,7 @@ class _Maker:
             raise refused_statement(self._script, line, answer)
         if line[0] in DIGITS:
             self._watches.setdefault(line[0], Watch()).follow(line, answer)
-        log += [f"<{part}" for part in parts]
+        log += log_entries(line, parts)
         answers += told(parts)
 
     def _step_singly(self, step: Step, number: int, log: list[str], answers: Sequence[tuple[str, Answer]]) -> None:

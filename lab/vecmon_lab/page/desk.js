@@ -1,16 +1,15 @@
 // A seat's machine, live: what was told of it is painted where it changed.
 
-import { byId, make } from "./elements.js";
+import { byId, make, prose } from "./elements.js";
 import { showStep, showStop } from "./stage.js";
-import { addToLog, logEntry } from "./transcript.js";
+import { addToLog, entryParts, logEntry } from "./transcript.js";
 import { paintState, whenFormsChange } from "./view.js";
-import { refusalWords } from "./words.js";
 
 /** An entry of a seat's log; a refusal with its words. */
 function seatEntry(entry) {
   const item = logEntry(entry, true);
-  const words = entry[0] === "<" && refusalWords(entry.slice(1));
-  if (words) item.append(make("small", "", words.slice(words.indexOf(":") + 2)));
+  const [, words] = entryParts(entry);
+  if (words) item.append(make("small", "", ...prose(words.replace(/^E\d\d.*?: /m, ""))));
   return item;
 }
 

@@ -3,9 +3,8 @@
 import { byId, make, prose, put } from "./elements.js";
 import { patched } from "./patches.js";
 import { showStep, showStop } from "./stage.js";
-import { STOP_LINE, logEntry } from "./transcript.js";
+import { STOP_LINE, entryParts, logEntry } from "./transcript.js";
 import { paintState, whenFormsChange } from "./view.js";
-import { refusalWords } from "./words.js";
 
 const ADDRESS_DELAY = 300; // ms: a browser takes only so many new addresses in a time
 
@@ -115,12 +114,11 @@ class Lesson {
 
   /** What an entry of a frame's log tells of a stop or a refusal, in words; "" for most. */
   entryWords(log, place, states) {
-    const text = log[place].slice(1);
+    const [text, refusal] = entryParts(log[place]);
     if (log[place][0] === "!") return text;
     if (log[place][0] === ">") return "";
     const stop = STOP_LINE.test(text) ? (states[text[0]]?.stop ?? "") : "";
     if (stop) return this.users.length > 1 ? `User ${text[0]}: ${stop}` : stop;
-    const refusal = refusalWords(text);
     const isFirst = place < 2; // then its line stands beside it
     return refusal && !isFirst ? `\`${log[place - 1].slice(1)}\`: ${refusal}` : refusal;
   }

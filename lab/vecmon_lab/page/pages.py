@@ -8,7 +8,6 @@ import pathlib
 import string
 from collections.abc import Mapping
 
-from ..assembler.commands import MEANINGS
 from .modules import join_modules
 
 FILES = pathlib.Path(__file__).parent
@@ -58,5 +57,5 @@ def _digest(text: str) -> str:
 
 
 def page_file(name: str) -> str:
-    """A file of this folder, with the meanings of refusals where it names them."""
-    return (FILES / name).read_text("utf-8").replace("$refusals", json.dumps(MEANINGS))
+    """A file of this folder."""
+    return (FILES / name).read_text("utf-8")

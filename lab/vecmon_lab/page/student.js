@@ -2,7 +2,6 @@
 
 import { Desk } from "./desk.js";
 import { byId, make, put, say } from "./elements.js";
-import { refusalWords } from "./words.js";
 
 const MOST_WAITING = 5; // requests: keys that repeat faster are left out
 const NEW_MACHINE = ["enter", "map 10000 1 rwx", "map 20000 1 rw", "setpc 10000"];
@@ -75,8 +74,7 @@ export class Student {
   async request(request, words) {
     const answer = await this.connection.ask(request, words);
     const lines = request.do ?? [];
-    const refusals = (answer?.do ?? answer?.done ?? []).map(([text]) => refusalWords(`1 ${text}`));
-    const told = refusals.map((why, place) => why && `\`${lines[place]}\`: ${why}.`).filter(Boolean);
+    const told = (answer?.words ?? []).map((why, place) => why && `\`${lines[place]}\`: ${why}.`).filter(Boolean);
     this.refuse([...told, answer?.error ?? ""].join(" ").trim());
     return answer;
   }

@@ -5,14 +5,6 @@ export const ABI_NAMES =
 
 export const ROUNDING = ["to nearest, ties up (rnu)", "to nearest, ties to even (rne)", "down (rdn)", "to odd (rod)"];
 
-const REFUSALS = $refusals; // the meanings by code, of tables/refusals.txt
-
-/** The words for an answer that refuses a line, or "" for any other answer. */
-export function refusalWords(answer) {
-  const [, code, more] = /^[1-8*] (E\d\d)( .*)?$/.exec(answer) ?? [];
-  return code ? `${code}${more ?? ""}: ${REFUSALS[code] ?? "refused"}` : "";
-}
-
 /** vtype, a hexadecimal number, in its parts: SEW in bits, LMUL as a number, VLMAX; 32 bits and 1 where it is vill. */
 export function vectorType(vtype) {
   const bits = BigInt("0x" + vtype);
