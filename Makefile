@@ -12,9 +12,9 @@ lab = $(prefix)/share/vecmon
 completions = $(prefix)/share/bash-completion/completions
 program = crates/vecmon/out/vecmon
 
-lab_files = README.md docs/INSTRUCTIONS.md lab/vecmon_lab/py.typed $(filter-out %.pyc, $(wildcard lab/vecmon_lab/*.py lab/vecmon_lab/*/*.* \
-    lab/vecmon_lab/exercises/*/* lab/examples/*.* lab/examples/*/* tests/command_lines/data/tour.page tests/command_lines/data/tour/*))
-documents = CHANGELOG.md CONTRIBUTING.md crates.txt crates/monitor_script/src/script.rt $(wildcard docs/*.md docs/*.csv docs/pictures/*)
+lab_files = lab/vecmon_lab/py.typed $(filter-out %.pyc, $(wildcard lab/vecmon_lab/*.py lab/vecmon_lab/*.txt lab/vecmon_lab/*/*.* \
+    lab/vecmon_lab/exercises/given/*/* lab/vecmon_lab/lessons/tours/* lab/examples/*.* lab/examples/*/*))
+documents = README.md CHANGELOG.md CONTRIBUTING.md crates.txt crates/monitor_script/src/script.rt $(wildcard docs/*.md docs/*.csv docs/pictures/*)
 # Outside of the folders that are vecmon's alone, $(lab) and $(docdir)
 others = $(bindir)/vecmon $(bindir)/vecmon-lab $(mandir)/man1/vecmon.1 $(mandir)/man1/vecmon-lab.1 $(mandir)/man5/vecmon-commands.5 \
     $(completions)/vecmon $(completions)/vecmon-lab
@@ -23,18 +23,18 @@ link = ln -s -f -n --relative
 page = umask 022; packaging/manual_page $(1) $(2) $(3) docs/$(4) > "$(DESTDIR)$(mandir)/man$(2)/$(1).$(2)"
 
 install:
-	@test -x "$(program)" || { echo 'make install: there is no $(program): rt ci builds it' >&2; exit 2; }
+	@test -x "$(program)" || { echo 'make install: there is no $(program): `cd crates/vecmon && rt run < stdin` builds it, in a quarter of an hour or more' >&2; exit 2; }
 	@command -v lowdown > /dev/null || { echo 'make install: there is no lowdown, which makes the manual pages' >&2; exit 2; }
 	install -d "$(DESTDIR)$(mandir)/man1" "$(DESTDIR)$(mandir)/man5" "$(DESTDIR)$(docdir)/examples"
 	install -D -m 755 "$(program)" packaging/vecmon-lab -t "$(DESTDIR)$(bindir)"
 	sed -i 's,\.\./share/vecmon,$(shell realpath -m --relative-to="$(bindir)" "$(lab)"),' "$(DESTDIR)$(bindir)/vecmon-lab"
 	for file in $(lab_files); do $(copy) $$file "$(DESTDIR)$(lab)/$$file" || exit; done
 	for file in $(documents); do $(copy) $$file "$(DESTDIR)$(docdir)/$$file" || exit; done
-	for file in README.md docs/INSTRUCTIONS.md lab; do $(link) "$(DESTDIR)$(lab)/$$file" "$(DESTDIR)$(docdir)/$$file" || exit; done
+	$(link) "$(DESTDIR)$(lab)/lab" "$(DESTDIR)$(docdir)/lab"
 	$(copy) crates/vecmon/first_vectors "$(DESTDIR)$(docdir)/examples/first_vectors"
 	$(link) "$(DESTDIR)$(lab)/lab/examples" "$(DESTDIR)$(docdir)/examples/sources"
-	$(link) "$(DESTDIR)$(lab)/lab/vecmon_lab/exercises" "$(DESTDIR)$(docdir)/examples/exercises"
-	$(link) "$(DESTDIR)$(lab)/tests/command_lines/data/tour" "$(DESTDIR)$(docdir)/examples/tour"
+	$(link) "$(DESTDIR)$(lab)/lab/vecmon_lab/exercises/given" "$(DESTDIR)$(docdir)/examples/exercises"
+	$(link) "$(DESTDIR)$(lab)/lab/vecmon_lab/lessons/tours" "$(DESTDIR)$(docdir)/examples/tour"
 	$(call page,vecmon,1,'trainer machine for the RISC-V vector extension',PROGRAM.md)
 	$(call page,vecmon-lab,1,'front end of vecmon with lessons and classes',LAB.md)
 	$(call page,vecmon-commands,5,'scripts and commands of vecmon',COMMANDS.md)

@@ -143,7 +143,9 @@ async def served(
 ) -> AsyncIterator[Served]:
     """A class that is served in this process."""
     members = Class(Store(folder, find_program(), images, None, machines), 5.0)
-    async with class_server.served(members, "127.0.0.1", 0, {name}) as port, _session() as session:
+    async with class_server.served(
+        members, class_server.listening("127.0.0.1", 0), {name}
+    ) as port, _session() as session:
         room = Served(folder, port, session)
         room.members = members
         yield room

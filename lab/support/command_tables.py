@@ -1,4 +1,4 @@
-"""The tables of commands and refusals in pages of docs/, made from `vecmon_lab/tables`."""
+"""The tables of commands and refusals in pages of docs/, made from `vecmon_lab/tables`; and one there, made of a page."""
 
 import itertools
 import operator
@@ -17,3 +17,11 @@ def with_tables(page: str) -> str:
             lines = [[" " if cell == "-" else f" {cell} " for cell in row[1 : found[1].count("|")]] for row in group]
             page = page[: found.start(2)] + "".join(f"|{'|'.join(line)}|\n" for line in lines) + page[found.end(2) :]
     return page
+
+
+def with_instructions(table: str, page: str) -> str:
+    """The lab's table of instructions, whose comments stay, with the rows of docs/INSTRUCTIONS.md."""
+    rows = re.findall(r"^\| `([a-z]\S*) ?([^`]*)` \| `([01 -]+)` \|$", page, re.MULTILINE)
+    comments = [line for line in table.splitlines() if line.startswith("#")]
+    lines = [*comments, *(f"{name}  {operands or '-'}  {bits}" for name, operands, bits in rows)]
+    return "".join(f"{line}\n" for line in lines)

@@ -7,16 +7,12 @@ import subprocess
 from collections.abc import Iterator
 from dataclasses import dataclass
 
-from vecmon_lab.instructions.reasons import VectorView
 from vecmon_lab.instructions.table import instruction_table
+from vecmon_lab.instructions.words import CONTROL_REGISTERS, LOAD_FP, OP_V, STORE_FP, SUPPORTED, SYSTEM
+from vecmon_lab.machine.answers import VectorView
 
 CODE = 0x10000
 SET_TYPE, SET_VSTART = 0x80A5F057, 0x00861073  # vsetvl x0, x11, x10; csrrw x0, vstart, x12
-OP_V, LOAD_FP, STORE_FP, SYSTEM = 0x57, 0x07, 0x27, 0x73
-SUPPORTED = [  # vtype by SEW and LMUL, 1 to 8 and 1/8 to 1/2, where SEW is at most LMUL x 64
-    sew << 3 | lmul for sew in range(4) for lmul in (0, 1, 2, 3, 5, 6, 7) if lmul < 4 or sew <= lmul - 5
-]
-CONTROL_REGISTERS = (0x008, 0x009, 0x00A, 0x00F, 0xC20, 0xC21, 0xC22)
 
 
 @functools.cache

@@ -6,6 +6,7 @@ TOP = pathlib.Path(__file__).resolve().parents[2]
 DOCS = TOP / "docs"
 EXAMPLES = TOP / "lab" / "examples"
 DATA = TOP / "lab" / "tests" / "data"
+TOURS = TOP / "lab" / "vecmon_lab" / "lessons" / "tours"
 SCRIPTS = TOP / "tests" / "command_lines" / "data"
 STOCK = SCRIPTS / "images"
 SUM, SQUARES, SORT = STOCK / "sum", STOCK / "squares", TOP / "crates" / "test_images" / "data" / "sortgcc"

@@ -3,6 +3,7 @@
 import importlib.util
 import pathlib
 import shutil
+import signal
 import subprocess
 from collections.abc import Iterator
 from typing import TYPE_CHECKING
@@ -18,6 +19,8 @@ from vecmon_lab.machine.session import Session
 
 if TYPE_CHECKING:
     from selenium.webdriver import Chrome
+
+signal.signal(signal.SIGINT, signal.default_int_handler)  # which a job in the background ignores, with what it starts
 
 
 @pytest.fixture(scope="session")

@@ -38,7 +38,7 @@ class _Parser(argparse.ArgumentParser):
 def main() -> int:
     """Carries out the command that the program's words name; its status is 2, after one line, for bad input."""
     try:
-        arguments = _arguments()
+        arguments = arguments_of(sys.argv[1:])
         status: int = arguments.run(arguments)
         return status
     except KeyboardInterrupt:
@@ -46,7 +46,7 @@ def main() -> int:
     except LabError as error:
         mistake = str(error)
     except ModuleNotFoundError as error:
-        mistake = f"this needs the Python library {error.name}, which isn't installed"
+        mistake = _missing(error.name or "")
     except BrokenPipeError:  # whoever reads has gone, as `head` does; what is left is written nowhere
         os.dup2(os.open(os.devnull, os.O_WRONLY), sys.stdout.fileno())
         return 141
@@ -56,17 +56,36 @@ def main() -> int:
     return 2
 
 
-def _arguments() -> argparse.Namespace:
-    """What the program's words are, with the function `run` of the command that they name."""
+def _missing(module: str) -> str:
+    """What is said of a library that isn't installed: its name for pip and Debian's, and how the launcher finds one."""
+    name = {"elftools": "pyelftools"}.get(module, module)
+    own = f"`python3 -m venv ~/.vecmon && ~/.vecmon/bin/pip install {name}`, and VECMON_PYTHON=~/.vecmon/bin/python"
+    return f"this needs the Python library {name}: `sudo apt install python3-{name.replace('_', '-')}`; or else {own}"
+
+
+def arguments_of(words: list[str]) -> argparse.Namespace:
+    """What the program's words are, with the function `run` of the command that they name; options stand anywhere."""
+    match words:
+        case ["help", *more]:
+            words = [*more[:1], "--help"]
+        case ["--version"]:
+            return argparse.Namespace(run=importlib.import_module("vecmon_lab.check").versions)
+        case ["--names", ("vectors" | "grade") as which]:  # for completion
+            print("\n".join(importlib.import_module(f"vecmon_lab.{COMMANDS[which][0]}").names()))
+            raise SystemExit(0)
+    if words and words[0] in COMMANDS:
+        place, summary = COMMANDS[words[0]]
+        command = _Parser(prog=f"vecmon-lab {words[0]}", description=f"{summary[0].upper()}{summary[1:]}.")
+        module = importlib.import_module(f"vecmon_lab.{place}")
+        module.add_arguments(command)
+        command.set_defaults(run=module.run)
+        return command.parse_intermixed_args(words[1:])
     parser = _Parser(prog="vecmon-lab", description="A front end for vecmon, the trainer machine for RISC-V vectors.")
-    commands = parser.add_subparsers(dest="command", metavar="COMMAND", required=True)
-    for name, (place, summary) in COMMANDS.items():
-        command = commands.add_parser(name, help=summary, description=f"{summary[0].upper()}{summary[1:]}.")
-        if sys.argv[1:2] == [name]:
-            module = importlib.import_module(f"vecmon_lab.{place}")
-            module.add_arguments(command)
-            command.set_defaults(run=module.run)
-    return parser.parse_args()
+    parser.add_argument("--version", action="store_true", help="tell the versions of the lab and of the program")
+    commands = parser.add_subparsers(metavar="COMMAND", required=True)
+    for name, (_, summary) in COMMANDS.items():
+        commands.add_parser(name, help=summary)
+    return parser.parse_args(words)
 
 
 if __name__ == "__main__":

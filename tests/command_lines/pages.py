@@ -6,8 +6,8 @@ answered:
 - `> LINE`: a line of a script for the section's machine; its answer comes behind it;
 - `$ vecmon WORDS`: a run of the program; both of its outputs come behind it as one, and then its status. With
   ` > /dev/full` behind the words its standard output takes nothing;
-- `@steps NAME`: the script in the file NAME beside what is answered, in the steps that NAME.steps has: how many lines
-  of the script a step takes, and a sentence;
+- `@steps NAME`: the script NAME of the lab's tour beside what is answered, in the steps that NAME.steps has: how many
+  lines of the script a step takes, and a sentence;
 - `@file NAME`: the text of the file.
 """
 
@@ -19,6 +19,7 @@ from collections.abc import Iterator
 from tests.program import answers, lines_of
 
 DATA = pathlib.Path(__file__).parent / "data"
+TOURS = pathlib.Path(__file__).parents[2] / "lab" / "vecmon_lab" / "lessons" / "tours"
 IMAGES = [f"{name}=images/{name}" for name in ("good", "short", "sum", "squares")]
 FULL = " > /dev/full"
 LONGEST_SHOWN = 300  # bytes of a line that is shown whole
@@ -31,9 +32,9 @@ MORE = "program.page"
 """The template of a page that stands in no document, with what those of docs/ don't show."""
 
 
-def read(name: str) -> str:
-    """A file of `data/`, a character for each byte."""
-    return (DATA / name).read_bytes().decode("latin-1")
+def read(name: str, folder: pathlib.Path = DATA) -> str:
+    """A file of `data/` or another folder, a character for each byte."""
+    return (folder / name).read_bytes().decode("latin-1")
 
 
 def page(program: pathlib.Path, name: str) -> str:
@@ -63,7 +64,7 @@ def _section(program: pathlib.Path, lines: list[str]) -> Iterator[str]:
 def _script_lines(line: str) -> list[str]:
     """The lines of a script for the section's machine that a line of a template has."""
     if line.startswith("@steps "):
-        return lines_of(read(line.removeprefix("@steps ")))
+        return lines_of(read(line.removeprefix("@steps "), TOURS))
     return [line.removeprefix("> ")] if line.startswith("> ") else []
 
 
@@ -91,7 +92,7 @@ def _program_run(program: pathlib.Path, words: str) -> Iterator[str]:
 
 def _steps(name: str, told: Iterator[tuple[str, list[str]]]) -> Iterator[str]:
     """A script beside what is answered, in steps. Raises ValueError where the steps don't take all lines."""
-    steps = [step.split(" ", 1) for step in lines_of(read(f"{name}.steps"))]
+    steps = [step.split(" ", 1) for step in lines_of(read(f"{name}.steps", TOURS))]
     if sum(int(count) for count, _ in steps) != len(_script_lines(f"@steps {name}")):
         raise ValueError(f"the steps of {name} don't take its lines")
     for count, sentence in steps:

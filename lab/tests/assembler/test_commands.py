@@ -9,7 +9,7 @@ import pytest
 from support.command_tables import with_tables
 from support.places import DOCS
 from vecmon_lab.assembler.commands import COMMANDS, MEANINGS, help_on, refusal_in_words
-from vecmon_lab.machine.lines import is_refusal
+from vecmon_lab.machine.answers import Refused, read
 from vecmon_lab.machine.session import Session
 from vecmon_lab.tables.table import read_table
 
@@ -78,9 +78,13 @@ def test_help_lists_the_commands() -> None:
 @pytest.mark.parametrize(
     "line, told",
     [
-        ("1 dance", ["E03: there is no such command, or the line has no word"]),
-        ("1 regs 5", ["E04: a wrong number of words, or a word out of its form or range; the form is regs"]),
-        ("* slices 0", ["E04: a wrong number of words, or a word out of its form or range; the form is * slices N"]),
+        ("1 dance", ["E03: there is no command dance"]),
+        ("1 regs 5", ["E04: 5 is a word too many; the form is regs"]),
+        ("* slices 0", ["E04: 0 isn't from 1 to 1,000; the form is * slices N"]),
+        ("1 ", ["E03: there is no such command, or the line has no word"]),
+        ("1 slices 5", ["E03: slices is the operator's: * slices N"]),
+        ("* regs", ["E03: regs is a user's: regs"]),
+        ("1 load it", ["E08: there is no image of this name"]),
         ("2 regs", ["E05: the user has not entered"]),
         ("1 peek 0 4", ["E11: an address isn't mapped"]),
         (
@@ -98,6 +102,6 @@ def test_help_lists_the_commands() -> None:
 def test_refusals_in_words(session: Session, line: str, told: list[str]) -> None:
     for before in ("1 enter", "1 map 10000 1 rwx"):
         session.do(before)
-    answer = session.do(line)
-    assert is_refusal(answer)
-    assert refusal_in_words(line, answer[0]) == told
+    answer = read(session.do(line))
+    assert isinstance(answer, Refused)
+    assert refusal_in_words(line, answer) == told

@@ -7,11 +7,16 @@ import pathlib
 import resource
 import shutil
 import signal
+import socket
+import subprocess
+import sys
 
 import pytest
 
 from support.class_tabs import LOOP, SECONDS, process, served
+from support.places import TOP
 from vecmon_lab import LabError
+from vecmon_lab.classes.requests import Lines
 from vecmon_lab.classes.room import Stopped
 from vecmon_lab.classes.store import BadFolder, Store
 from vecmon_lab.classes.view import Class
@@ -154,14 +159,14 @@ async def test_a_replay_that_differs_stops_the_class(tmp_path: pathlib.Path) -> 
     members = Class(Store(tmp_path / "class", program), 5.0)
     room = members.rooms["A"]
     for line in LOOP:
-        await room.lines(room.seats["1"], [line], [], 0, [])
+        await room.lines(room.seats.users["1"], Lines("", [line], 0, []), [])
     word.write_text("00128294")
     room.session.close()
     for _ in range(2):
         with pytest.raises(Stopped, match="in doubt.*line 3, '1 asm 10000 .*now with '1 0000000000010000 00128294'"):
-            await room.lines(room.seats["1"], ["step 1"], [], 0, [])
+            await room.lines(room.seats.users["1"], Lines("", ["step 1"], 0, []), [])
     with pytest.raises(Stopped):
-        await room.source(room.seats["1"], "nop")
+        await room.source(room.seats.users["1"], "nop")
     assert "in doubt" in room.trouble and room.session.lines == len(LOOP)
     members.end()
     assert (tmp_path / "class" / "A.script").read_text().count("\n") == len(LOOP)
@@ -172,17 +177,17 @@ async def test_a_program_that_cannot_be_had_for_a_while(tmp_path: pathlib.Path) 
     shutil.copy(find_program(), program)
     members = Class(Store(tmp_path / "class", program), 5.0)
     room = members.rooms["A"]
-    await room.lines(room.seats["1"], LOOP, [], 0, [])
+    await room.lines(room.seats.users["1"], Lines("", LOOP, 0, []), [])
     program.rename(tmp_path / "elsewhere")
     assert room.session.process
     os.kill(room.session.process, signal.SIGKILL)
     room.set_clock({"on": True})
     with pytest.raises(machine.ProgramGone):
-        await room.lines(room.seats["1"], ["step 1"], [], 0, [])
+        await room.lines(room.seats.users["1"], Lines("", ["step 1"], 0, []), [])
     assert "is down" in room.trouble
     (tmp_path / "elsewhere").rename(program)
     done: list[list[str]] = []
-    await room.lines(room.seats["1"], ["step 1"], [], 0, done)
+    await room.lines(room.seats.users["1"], Lines("", ["step 1"], 0, []), done)
     assert done == [["stepped 1 pc=0000000000010004"]] and room.trouble == ""
     members.end()
     assert (tmp_path / "class" / "A.script").read_bytes() == room.session.script
@@ -284,6 +289,39 @@ async def test_a_clock_without_room_for_its_lines(tmp_path: pathlib.Path, monkey
         await teacher.do("list", machine="A")
         assert any(entry.startswith("!The clock was stopped: the script has 300 bytes") for entry in teacher.logs["A"])
         await room.check_replay()
+
+
+async def test_a_taken_port_is_told_before_the_class_is_carried_out_again(tmp_path: pathlib.Path) -> None:
+    async with process(tmp_path / "class") as room:
+        await (await room.sit("A1")).do("enter")
+        assert await room.end() == 0
+    (tmp_path / "class" / "A.json").write_text('{"lines": 5, "answers": ""}')
+    with socket.create_server(("127.0.0.1", 0)) as taken:
+        port = taken.getsockname()[1]
+        told = f"vecmon-lab: 127.0.0.1, port {port}: Address already in use; --port names another port\n"
+        assert refused(tmp_path / "class", "--port", port) == told
+    told = "vecmon-lab: the script of machine A has lost lines: it had 5\n"
+    assert refused(tmp_path / "class", "--port", port) == told
+
+
+@pytest.mark.parametrize(
+    "words, told",
+    [
+        (["--port", "65536"], " class: argument --port: 65536 is no number from 0 to 65535; --help says more\n"),
+        (["--port", "-1"], " class: argument --port: -1 is no number from 0 to 65535; --help says more\n"),
+        (["--host", "256.1.1.1"], ": 256.1.1.1, port 8765: Name or service not known\n"),
+    ],
+)
+async def test_an_address_that_cannot_be_had(tmp_path: pathlib.Path, words: list[str], told: str) -> None:
+    assert refused(tmp_path / "class", *words) == f"vecmon-lab{told}"
+
+
+def refused(folder: pathlib.Path, *words: object) -> str:
+    """What the command says of a class that it doesn't serve."""
+    line = [sys.executable, "-m", "vecmon_lab", "class", str(folder), *map(str, words)]
+    done = subprocess.run(line, cwd=TOP, capture_output=True, text=True, timeout=SECONDS)
+    assert (done.returncode, done.stdout) == (2, "")
+    return done.stderr
 
 
 async def test_a_torn_connection(tmp_path: pathlib.Path) -> None:

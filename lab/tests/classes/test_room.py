@@ -8,8 +8,9 @@ from typing import Any
 
 import pytest
 
-from vecmon_lab.classes.room import Room, Seat
-from vecmon_lab.classes.seats import CODE_LETTERS, Codes, new_code
+from vecmon_lab.classes.requests import Lines
+from vecmon_lab.classes.room import Room
+from vecmon_lab.classes.seats import Seat
 from vecmon_lab.classes.store import ScriptFile
 from vecmon_lab.machine.lines import is_look
 from vecmon_lab.machine.session import Session
@@ -55,7 +56,7 @@ class Machine:
 
     def ask(self, seat: Seat, *lines: str) -> "asyncio.Task[Any]":
         """A request that is under way."""
-        return asyncio.create_task(self.room.lines(seat, list(lines), [], 0, []))
+        return asyncio.create_task(self.room.lines(seat, Lines("", list(lines), 0, []), []))
 
     async def order(self, count: int, *tasks: "asyncio.Task[Any]") -> str:
         """Whose lines were carried out, in this order, when so many were let go."""
@@ -69,7 +70,7 @@ class Machine:
 
 async def test_a_seat_with_many_requests_has_one_turn(tmp_path: pathlib.Path) -> None:
     machine = Machine(tmp_path)
-    seats = machine.room.seats
+    seats = machine.room.seats.users
     greedy = [machine.ask(seats["1"], "step 1") for _ in range(20)]
     await asyncio.sleep(0)
     others = [machine.ask(seats[digit], "step 1") for digit in "2345678"]
@@ -78,16 +79,16 @@ async def test_a_seat_with_many_requests_has_one_turn(tmp_path: pathlib.Path) ->
 
 async def test_turns_go_round(tmp_path: pathlib.Path) -> None:
     machine = Machine(tmp_path)
-    tasks = [machine.ask(machine.room.seats[digit], "step 1", "step 1") for digit in "312" for _ in range(3)]
+    tasks = [machine.ask(machine.room.seats.users[digit], "step 1", "step 1") for digit in "312" for _ in range(3)]
     assert await machine.order(9, *tasks) == "312" * 3
 
 
 async def test_the_clock_has_its_turn(tmp_path: pathlib.Path) -> None:
     machine = Machine(tmp_path)
-    machine.room.seats["8"].state = {"run": "running", "pc": "0"}
+    machine.room.seats.users["8"].state = {"run": "running", "pc": "0"}
     machine.room.set_clock({"on": True, "ms": 10})
-    greedy = [machine.ask(machine.room.seats["1"], "step 1") for _ in range(4)]
-    clock = asyncio.create_task(machine.room.run_clock())
+    greedy = [machine.ask(machine.room.seats.users["1"], "step 1") for _ in range(4)]
+    clock = asyncio.create_task(machine.room.clock.run())
     machine.session.go.release(1)
     while "*" not in machine.session.order:
         machine.session.go.release(1)
@@ -101,18 +102,7 @@ async def test_the_clock_has_its_turn(tmp_path: pathlib.Path) -> None:
 
 async def test_overviews_do_not_wait_for_the_machine(tmp_path: pathlib.Path) -> None:
     machine = Machine(tmp_path)
-    task = machine.ask(machine.room.seats["1"], "step 1")
+    task = machine.ask(machine.room.seats.users["1"], "step 1")
     await asyncio.sleep(0.05)
-    assert machine.room.is_busy() and machine.room.notes()["lines"] == 0
+    assert machine.room.is_busy() and machine.room.notes().lines == 0
     assert await machine.order(1, task) == "1"
-
-
-async def test_codes() -> None:
-    codes = Codes("AB", {"A1": "kept", "C1": "gone"})
-    assert list(codes.codes) == ["teacher", *(f"{letter}{digit}" for letter in "AB" for digit in "12345678")]
-    assert codes.who("kept") == "A1" and codes.who(codes.codes["teacher"]) == "teacher"
-    assert [codes.who(code) for code in ("", "gone", None, 5, "é", "\ud800")] == [None] * 6
-    codes.renew("A1")
-    assert codes.who("kept") is None and codes.who(codes.codes["A1"]) == "A1"
-    assert len(CODE_LETTERS) ** len(new_code()) > 1 << 64
-    assert len({new_code() for _ in range(1000)}) == 1000

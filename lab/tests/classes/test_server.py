@@ -59,6 +59,17 @@ async def test_looks_are_not_recorded_and_change_nothing(room: Served) -> None:
     assert script.decode().splitlines() == [f"1 {line}" for line in [*LOOP, "step 5"]] and b"peek" not in transcript
 
 
+async def test_what_refusals_mean(room: Served) -> None:
+    tab, teacher = await room.sit("A2"), await room.sit("teacher")
+    told = await tab.ask("lines", do=["enter", "map 10000 1 rwx", "asm 10000 add x1, x2, 4", "step 300"])
+    mark = "`add x1, x2, 4\n            ^`\nE15: 4 doesn't fit here, as the machine reads it: add x1, x2, 4"
+    sentence = "E04: 300 isn't from 1 to 256; the form is step N"
+    assert told["words"] == ["", "", mark, sentence] and told["do"][2:] == [["E15 13"], ["E04"]]
+    assert tab.logs["A2"][-3:] == [f"<2 E15 13\n{mark}", ">2 step 300", f"<2 E04\n{sentence}"]
+    told = await teacher.ask("lines", machine="A", do=["regs", "slices 1"])
+    assert told["words"] == ["E03: regs is a user's: regs", ""]
+
+
 @pytest.mark.parametrize("look", ["step 1", "out", "set x1 1", "", "list", "regsx", "Regs"])
 async def test_looks_that_are_none(room: Served, look: str) -> None:
     tab = await room.sit("A1")
@@ -229,7 +240,7 @@ async def test_what_is_served(room: Served) -> None:
         assert "Set-Cookie" not in answer.headers
     assert "default-src 'none'" in policy and "frame-ancestors 'none'" in policy and "unsafe" not in policy
     assert page.count("<script") == policy.split("script-src")[1].split(";")[0].count("sha256-")
-    assert not re.search(r"""(src|href)\s*=\s*["'](?!data:)|\son\w+\s*=|\sstyle\s*=""", page.split("<script>")[0])
+    assert not re.search(r"""(src|href)\s*=\s*["'](?!data:)|\son\w+\s*=|\sstyle\s*=""", page.split("<script")[0])
     assert not [code for code in room.codes.values() if code in page]
     for path in ("A", "A/", "A/json", "codes.json", "A/../codes.json", "lab", "B/script", "socket/"):
         assert (await room.get(path))[0] == 404, path

@@ -8,11 +8,11 @@ import sys
 import pytest
 
 from support.class_tabs import LOOP, SECONDS, served
-from support.places import SUM, TOP
+from support.places import SUM, TOP, TOURS
 from vecmon_lab.classes.solo import own_lines, solo_script
 from vecmon_lab.machine.session import Session
 
-CLASS_OF_THREE = TOP / "tests" / "command_lines" / "data" / "tour" / "class_of_three"
+CLASS_OF_THREE = TOURS / "class_of_three"
 WORDS = (
     ["go"] * 6 + ["stop"] * 2 + ["step 3", "break 10004", "unbreak 10004", "regs", "out", "leave", "enter", "load sum"]
 )

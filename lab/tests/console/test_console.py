@@ -8,9 +8,10 @@ from collections.abc import Iterator
 
 import pytest
 
-from support.places import EXAMPLES, SCRIPTS, SQUARES, STOCK, SUM, SUM_DWARF4, SUM_DWARF5, TOP
+from support.places import EXAMPLES, SQUARES, STOCK, SUM, SUM_DWARF4, SUM_DWARF5, TOP, TOURS
 from support.terminal import END, INTERRUPT, UP, WHERE, Terminal
 from vecmon_lab.console.show import Screen
+from vecmon_lab.machine.answers import ControlRegisters, VectorRegister, read
 
 CONSOLE = [sys.executable, "-m", "vecmon_lab", "console"]
 STRIP_MINED = EXAMPLES / "strip_mined.s"
@@ -152,8 +153,13 @@ def test_a_source_in_place_of_an_image_and_back() -> None:
         told[1:3] == ["=> 10000  addi x10, x0, 13", "ok"] and "=> 10018 next  vsetvli x5, x10, e32, m1, ta, mu" in told
     )
     again = told[told.index("loaded pc=0000000000011190 pages=7") + 1 :]
-    assert again[0] == "=> 11190 _start  addi x2, x2, -16" and again[1].startswith("E04: ")  # there are no labels now
+    assert again[0] == "=> 11190 _start  addi x2, x2, -16" and again[1] == "there is no symbol next"
     assert again[2].split()[:5] == ["11190", *"13 01 01 ff".split()] and again[3] == "328350"
+
+
+def test_a_symbol_with_something_behind_it() -> None:
+    told = "E04: _start+zz is no value, which has hexadecimal digits alone; the form is set xN VALUE"
+    assert shown(["set a0 _start+zz", "set a0 _start+0x8"], SUM)[1:] == [told, "ok"]
 
 
 def test_the_last_words_of_a_page() -> None:
@@ -163,7 +169,7 @@ def test_the_last_words_of_a_page() -> None:
 
 
 def test_lines_of_the_monitor_are_taken_as_they_stand(program: pathlib.Path) -> None:
-    script = (SCRIPTS / "tour" / "assembling").read_bytes()
+    script = (TOURS / "assembling").read_bytes()
     own = [line for line in script.decode("ascii").splitlines() if line.startswith("1 ") and line != "1 enter"]
     lines = b"# a sentence\n\n" + "".join(f"{line}\r\n" for line in own).encode() + b"* list\n2 enter\n2 state\n"
     told = shown(lines)
@@ -203,10 +209,14 @@ def test_a_breakpoint_where_the_ticks_of_a_round_end(tmp_path: pathlib.Path) -> 
 @pytest.mark.parametrize(
     "line, told",
     [
-        ("dance", "E03: there is no such command, or the line has no word"),
-        ("step 257", "E04: a wrong number of words, or a word out of its form or range; the form is step N"),
-        ("step 01", "E04: a wrong number of words, or a word out of its form or range; the form is step N"),
-        ("break nowhere", "E04: a wrong number of words, or a word out of its form or range; the form is break ADDR"),
+        ("dance", "E03: there is no command dance"),
+        ("step 257", "E04: 257 isn't from 1 to 256; the form is step N"),
+        ("step 01", "E04: 01 begins with 0, and a decimal number doesn't; the form is step N"),
+        ("break nowhere", "there is no symbol nowhere"),
+        ("set a0 nowhere+8", "there is no symbol nowhere"),
+        ("break 0x10002", "E04: 10002 isn't divisible by 4: the last digit is 0, 4, 8 or c; the form is break ADDR"),
+        ("set q5 1", "E04: q5 is no register that can be set, which are x1 to x31; the form is set xN VALUE"),
+        ("set zero 1", "E04: x0 is always 0; the form is set xN VALUE"),
         ("break 0", "ok"),
         ("run fast", "the form is run"),
         ("source", "the form is source FILE"),
@@ -384,8 +394,9 @@ def test_colours(tmp_path: pathlib.Path, more: dict[str, str], has_colours: bool
     ],
 )
 def test_how_elements_lie(register: str, width: int, control: dict[str, int], mask: int | None, lies: str) -> None:
-    answer = " ".join([register, *(f"{number:0{width // 4}x}" for number in range(256 // width))])
-    rows = "\n".join(Screen(True).element_rows(answer, {"vstart": 0, **control}, mask))
+    shown = read([" ".join(["1", register, *(f"{number:0{width // 4}x}" for number in range(256 // width))])])
+    assert isinstance(shown, VectorRegister)
+    rows = "\n".join(Screen(True).element_rows(shown, ControlRegisters(**control, vstart=0, vxrm=0, vxsat=0), mask))
     kinds = {"": "a", "35": "m", "2": "t"}
     found = [(kinds[colour], int(digits, 16)) for colour, digits in re.findall(r" (?:\x1b\[(\d+)m)?([0-9a-f]+)", rows)]
     assert found == list(zip(lies, range(256 // width)))

@@ -8,7 +8,7 @@ from collections.abc import Callable
 
 import pytest
 
-from support.images import make_image
+from support.images import MARCH, make_image
 from support.places import DATA, DOCS, EXAMPLES, SUM
 from vecmon_lab import LabError
 from vecmon_lab.exercises.answer import settled
@@ -144,9 +144,9 @@ def test_a_script_and_an_image_are_right(echo: Echo, program: pathlib.Path, tmp_
     "change, reason",
     [
         (("li t0, 7", "li t0, 8"), "element 1, i32 at 0x20014: expected 7, found 8"),
-        (("sw t0, 16", "sw t0, 24"), "element 0, i32 at 0x20010: expected -5, found 4"),  # the opposite stands there
+        (("sw t0, 16", "sw t0, 24"), "element 0, i32 at 0x20010: expected -5, and it was left as it was"),
         (("li t1, -1", "addi a0, a0, 1"), "x10: expected 5, found 6"),
-        (("li t1, -1", ""), "x6: expected -1, found 0"),
+        (("li t1, -1", ""), "x6: expected -1, and it was left as it was"),
         (("li a0, 1", "li a0, 1\naddi a2, a2, -1"), "x10: expected 5, found 4"),
         (("ecall", "ecall\nli a0, 1\necall"), "it writes more than 8 bytes"),
         (("ecall", "li a0, 5"), "output: expected 'hello', found ''"),
@@ -170,7 +170,11 @@ def test_the_first_wrong_place_is_told(echo: Echo, change: tuple[str, str], reas
 @pytest.mark.parametrize(
     "content, name, reason",
     [
-        (BY_POKES, "script", "x10: expected 5, found -6"),  # the opposite stands there when the program begins
+        (
+            BY_POKES,
+            "script",
+            "x10: expected 5, and it was left as it was",
+        ),  # it has another value when the program begins
         (
             BY_POKES + "1 map 20000 1 rw\n1 poke 20010 fbffffff07000000",
             "script",
@@ -190,12 +194,27 @@ def test_the_first_wrong_place_is_told(echo: Echo, change: tuple[str, str], reas
             "line 13: an answer has no line of the operator's, and no enter, leave or load",
         ),
         (BY_HAND + "1 regs", "script", "line 13: an answer has lines of one user, here of 2"),
-        ("regs", "script", "line 1: a line begins with `1 ` to `8 ` or `* `: 'regs'"),
+        ("regs", "script", "line 1: 'regs' has no user's digit and space before it; a source's name ends in .s or .S"),
+        (
+            "1 set x5 1\nret",
+            "a.asm",
+            "line 2: 'ret' has no user's digit and space before it; a source's name ends in .s or .S",
+        ),
         ("1 map 10000 1 rx\n1 asm 10000 nop", "script", "asm 10000 nop: E15: there is no instruction nop"),
         ("", "script", "No instruction can be fetched at 0x0: its page isn't mapped, or has no permission x."),
         ("", "empty.s", "No instruction can be fetched at 0x10000: its page isn't mapped, or has no permission x."),
         (b"\x7fELF", "image", "the machine refuses image (E09 Short): the file has less than 64 bytes"),
-        (b"\x7fELF\1\1\1" + bytes(60), "image", "the machine refuses image (E09 Class): the class isn't 2, 64 bits"),
+        (
+            b"\x7fELF\1\1\1" + bytes(60),
+            "image",
+            f"the machine refuses image (E09 Class): the class isn't 2, 64 bits: compile with {MARCH} -mabi=lp64",
+        ),
+        (
+            b"\x7fELF\2\1".ljust(18, b"\0") + b"\xf3".ljust(30, b"\0") + b"\5".ljust(16, b"\0"),
+            "image",
+            "it is compiled for compressed instructions and a floating-point ABI, and the machine has none: "
+            f"compile with {MARCH} -mabi=lp64",
+        ),
         pytest.param(b"\x7fELF" + bytes(1 << 22), "image", "it has more than 4,194,304 bytes", id="large"),
         (b"1 regs\n\xff\xfe", "script", "it is no image and no text: byte 8 is 0xff"),
         (b"\0\0\0", "answer.s", "answer.s:1:1: \0 stands where an instruction, a directive or a label has to"),
@@ -241,6 +260,12 @@ def test_twenty_four_answers_have_the_rows_that_each_has_alone() -> None:
 
 
 CASE = "[[cases]]\nexpected.registers = { a0 = 1 }\n"
+PLACE = "a text, or a list of numbers, by their type, i8 to u64"
+
+
+def in_memory(place: str) -> str:
+    """An exercise whose case has this place in memory."""
+    return f"{CASE}memory = [{place}]\n"
 
 
 @pytest.mark.parametrize(
@@ -249,26 +274,30 @@ CASE = "[[cases]]\nexpected.registers = { a0 = 1 }\n"
         ("title = 5\n" + CASE, "title isn't a text"),
         ("tilte = '5'\n" + CASE, "there is nothing that is called tilte"),
         ("title = ", "Invalid value (at end of document)"),
-        ("", "there is one case at least, no two have one name, and limits are from 1 up"),
-        ("limits.ticks = 0\n" + CASE, "there is one case at least, no two have one name, and limits are from 1 up"),
+        ("", "exercise.toml: there is no case: [[cases]] begins one"),
+        ("limits.ticks = 0\n" + CASE, "exercise.toml: limits: ticks and output are from 1 up"),
         ("limits = 5\n" + CASE, "limits isn't a table"),
+        ("set_up = [5]\n" + CASE, "exercise.toml: set_up is a list of texts, which are lines of the monitor"),
         ("cases = [5]", "case 1 isn't a table"),
-        (CASE + CASE.replace("]]\n", "]]\nname = 'case 1'\n"), "there is one case at least, no two have one name, and"),
-        ("[[cases]]", "case 1: policy is keep or ones, and registers, memory or output are expected"),
-        (CASE.replace("a0", "zero"), "case 1: zero isn't one of ra to t6 or x1 to x31 with a number of 64 bits"),
-        (CASE.replace("1 }", "1.5 }"), "case 1: a0 isn't one of ra to t6 or x1 to x31 with a number of 64 bits"),
+        (CASE + CASE.replace("]]\n", "]]\nname = 'case 1'\n"), "exercise.toml: two cases are called case 1"),
+        ("[[cases]]", "case 1: nothing is expected: expected has registers, memory or output"),
+        ("[[cases]]\npolicy = 'none'", "case 1: policy is keep or ones, and not none"),
+        (CASE.replace("a0", "zero"), "case 1: zero is no register that can be set, which are ra to t6 or x1 to x31"),
+        (CASE.replace("a0", "q5"), "case 1: q5 is no register that can be set, which are ra to t6 or x1 to x31"),
+        (CASE.replace("1 }", "1.5 }"), "case 1: a0 is 1.5, which is no whole number of 64 bits"),
+        (CASE.replace("1 }", f"{1 << 64} }}"), f"case 1: a0 is {1 << 64}, which is no whole number of 64 bits"),
+        (in_memory("5"), "case 1: a place in memory is a table with `at`, its address, and not 5"),
+        (in_memory("{ u8 = [1] }"), "case 1: a place in memory is a table with `at`, its address, and not {'u8': [1]}"),
+        (in_memory("{ at = -4, u8 = [1] }"), "case 1: -4 is no address of a place in memory, which is below 2^48"),
+        (in_memory("{ at = 4, i8 = [1, 128] }"), "case 1: the place at 0x4: 128 is no i8"),
+        (in_memory("{ at = 4, u8 = ['a'] }"), "case 1: the place at 0x4: a is no u8"),
+        (in_memory("{ at = 4, u8 = [] }"), "case 1: a place has 1 to 1,048,576 bytes, and the one at 0x4 0"),
+        (in_memory("{ at = 4 }"), f"case 1: the place at 0x4 has {PLACE}, and not nothing"),
+        (in_memory("{ at = 4, u8 = 1 }"), f"case 1: the place at 0x4 has {PLACE}, and not u8 = 1"),
+        (in_memory("{ at = 4, u7 = [1] }"), f"case 1: the place at 0x4 has {PLACE}, and not u7 = [1]"),
         (
-            CASE.replace("1 }", f"{1 << 64} }}"),
-            "case 1: a0 isn't one of ra to t6 or x1 to x31 with a number of 64 bits",
-        ),
-        (
-            CASE.replace("1 }", "1 }\nmemory = [{ at = 4, i8 = [128] }]"),
-            "case 1: a place is `at`, an address, and a text or",
-        ),
-        (CASE.replace("1 }", "1 }\nmemory = [{ u8 = [1] }]"), "case 1: a place is `at`, an address, and a text or"),
-        (
-            CASE.replace("1 }", "1 }\nmemory = [{ at = 4, u8 = 1 }]"),
-            "case 1: a place is `at`, an address, and a text or",
+            in_memory("{ at = 4, u8 = [1], text = 'a' }"),
+            f"case 1: the place at 0x4 has {PLACE}, and not u8 = [1], text",
         ),
         (
             CASE.replace("1 }", "1 }\nmemory = [{ at = 4096, u8 = [1] }]"),
@@ -276,10 +305,14 @@ CASE = "[[cases]]\nexpected.registers = { a0 = 1 }\n"
         ),
         (
             "set_up = ['map 0 1']\n" + CASE,
-            "case 1: map 0 1: E04: a wrong number of words, or a word out of its form or range",
+            "case 1: map 0 1: E04: PERM is missing; the form is map ADDR PAGES PERM",
         ),
-        ("reference = 'none.s'\n" + CASE, "case 1: expected: registers isn't a list"),
-        ("reference = 'none.s'\n" + CASE.replace("{ a0 = 1 }", "['a0']"), "case 1: it can't be read: No such file"),
+        ("reference = 'none.s'\n" + CASE, "case 1: expected by the reference: registers isn't a list"),
+        ("reference = 'none.s'\n" + CASE.replace("{ a0 = 1 }", "['a0']"), "reference: there is no file "),
+        (
+            "reference = 'none.s'\n[[cases]]\nexpected.memory = [{ at = 4, u8 = [1] }]",
+            "case 1: the place at 0x4 has how many numbers there are, by their type, i8 to u64, and not u8 = [1]",
+        ),
     ],
 )
 def test_a_bad_exercise_is_told(program: pathlib.Path, tmp_path: pathlib.Path, text: str, message: str) -> None:

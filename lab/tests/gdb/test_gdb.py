@@ -263,7 +263,14 @@ def test_the_signals_of_stops(tmp_path: pathlib.Path, program: pathlib.Path) -> 
         assert packets.ask("c") == packets.ask("s") == "S05" and packets.ask("p20") == little(labels["break"])
 
 
-@pytest.mark.parametrize("line, told", [("vreg v1 64", f"v1{4 * ' 0000000000000000'}\n"), ("policy ones", "ok\n")])
+@pytest.mark.parametrize(
+    "line, told",
+    [
+        ("vreg v1 64", f"v1{4 * ' 0000000000000000'}\n"),
+        ("policy ones", "ok\n"),
+        ("policy none", "E04: none is no policy, which are keep and ones; the form is policy P\n"),
+    ],
+)
 def test_monitor_lines(squares: Packets, line: str, told: str) -> None:
     assert bytes.fromhex(squares.ask(f"qRcmd,{line.encode().hex()}")).decode() == told
     refused = bytes.fromhex(squares.ask(f"qRcmd,{'go'.encode().hex()}")).decode()

@@ -9,7 +9,8 @@ from support.images import make_image
 from support.places import SQUARES, STOCK, SUM, TOP
 from support.sources import ARGUMENTS, FOREVER, WRITES
 from vecmon_lab import LabError
-from vecmon_lab.guest.guest import Guest, Stop, started
+from vecmon_lab.guest.guest import Guest, started
+from vecmon_lab.machine.answers import Position, Stop
 from vecmon_lab.machine.session import Session
 from vecmon_lab.tables.table import read_table
 
@@ -17,7 +18,7 @@ from vecmon_lab.tables.table import read_table
 def test_a_program_to_its_end() -> None:
     """The output and the status are those of QEMU 7.2; the instructions and elements were counted by hand."""
     with started(SUM, quantum=100) as guest:
-        assert guest.go() == Stop("exit", 0x112DC, "exit 0 pc=00000000000112dc")
+        assert guest.go() == Stop("exit", 0x112DC)
         assert (guest.output(), guest.output(), guest.ticks, guest.pc) == (b"328350\n", b"", 800, 0x112DC)
 
 
@@ -47,7 +48,7 @@ def test_a_program_that_runs_for_ever_is_interrupted(program: pathlib.Path, tmp_
         assert (guest.ticks, guest.pc, guest.ask("state")) == (
             3_000_000,
             0x10000,
-            [["state stopped pc=0000000000010000"]],
+            [Position("state stopped", 0x10000)],
         )
 
 
@@ -68,7 +69,7 @@ def test_arguments(program: pathlib.Path, tmp_path: pathlib.Path, arguments: lis
     make_image(program, tmp_path / "arguments", ARGUMENTS)
     with started(tmp_path / "arguments", arguments=arguments) as guest:
         stop = guest.go(1_000_000)
-        assert stop is not None and (stop.kind, stop.status) == ("exit", len(arguments))
+        assert stop is not None and (stop.kind, stop.number) == ("exit", len(arguments))
         assert guest.output() == "".join(f"{argument}\n" for argument in arguments).encode()
 
 

@@ -7,9 +7,12 @@ import subprocess
 
 import pytest
 
-from support.machine_cases import CONTROL_REGISTERS, machine_says, random_case, view_of
+from support.images import MARCH
+from support.machine_cases import machine_says, random_case, view_of
 from support.places import DOCS
-from vecmon_lab.instructions.reasons import VectorView, describe_stop, illegal_reasons
+from vecmon_lab.instructions.reasons import describe_stop, illegal_reasons
+from vecmon_lab.instructions.words import CONTROL_REGISTERS, SYSTEM, decode
+from vecmon_lab.machine.answers import Position, Stop, VectorView, read
 
 VILL = VectorView(1 << 63, 0)
 
@@ -222,21 +225,37 @@ REASONS: list[tuple[str, VectorView, list[str]]] = [
     (
         ".word 0x00010001",
         VILL,
-        ["Its lowest bits aren't 11: it would be a compressed instruction, and the machine has none."],
+        [
+            f"Its lowest bits aren't 11: it would be a compressed instruction, and the machine has none: compile with {MARCH}."
+        ],
     ),
     (
         ".word 0xffffffff",
         VILL,
         ["Its lowest bits are 11111: it would be longer than 32 bits, and the machine has none such."],
     ),
-    (".word 0x1005252f", VILL, ["It would be an atomic instruction, and the machine has none."]),
-    (".word 0x02a50553", VILL, ["It would be a floating-point instruction, and the machine has none."]),
-    (".word 0x00053507", VILL, ["It would be a floating-point load, and the machine has none."]),
-    (".word 0x02209057", VILL, ["It would be a vector floating-point instruction, and Zve64x has none."]),
+    (".word 0x1005252f", VILL, [f"It would be an atomic instruction, and the machine has none: compile with {MARCH}."]),
+    (
+        ".word 0x02a50553",
+        VILL,
+        [f"It would be a floating-point instruction, and the machine has none: compile with {MARCH}."],
+    ),
+    (".word 0x00053507", VILL, [f"It would be a floating-point load, and the machine has none: compile with {MARCH}."]),
+    (
+        ".word 0x02209057",
+        VILL,
+        [f"It would be a vector floating-point instruction, and Zve64x has none: compile with {MARCH}."],
+    ),
     (".word 0x0000100f", VILL, ["There is no fence.i: a fetch sees every earlier store."]),
     (".word 0x0000000b", VILL, ["No instruction has the opcode 0001011."]),
     (".word 0x00002063", VILL, ["No instruction with the opcode 1100011 has funct3 010."]),
-    (".word 0x40001033", VILL, ["No instruction with the opcode 0110011 and funct3 001 has funct7 0100000."]),
+    (
+        ".word 0x40001033",
+        VILL,
+        [
+            f"It would be an instruction of another extension, as Zba or Zbb, and the machine has none: compile with {MARCH}."
+        ],
+    ),
     (
         ".word 0x10500073",
         VILL,
@@ -313,37 +332,45 @@ STOPS = [
 ]
 
 
+def told(line: str) -> Position | Stop:
+    """Where the line says that a program is, with the user's digit or without. Raises ValueError for another line."""
+    answer = read([line if re.match("[1-8*] ", line) else f"1 {line}"])
+    if not isinstance(answer, Position | Stop):
+        raise ValueError(line)
+    return answer
+
+
 @pytest.mark.parametrize("line, sentence", STOPS)
 def test_stop_lines(line: str, sentence: str) -> None:
-    assert describe_stop(line) == sentence
+    assert describe_stop(told(line)) == sentence
 
 
 def test_an_illegal_instruction_is_named_with_its_reasons() -> None:
-    line = "1 fault cause=2 pc=0000000000010008 value=00000000022200d7"
+    stop = told("1 fault cause=2 pc=0000000000010008 value=00000000022200d7")
     assert (
-        describe_stop(line, 0x022200D7, view(32, "m2"), "vadd.vv v1, v2, v4")
+        describe_stop(stop, 0x022200D7, view(32, "m2"), "vadd.vv v1, v2, v4")
         == f"Illegal instruction at 0x10008: vadd.vv v1, v2, v4. {M2_ODD}: v1 is odd."
     )
-    assert describe_stop(line, view=VILL) == f"Illegal instruction at 0x10008: 0x022200d7. {NO_TYPE}"
+    assert describe_stop(stop, view=VILL) == f"Illegal instruction at 0x10008: 0x022200d7. {NO_TYPE}"
 
 
 def test_a_vector_access_says_its_element() -> None:
-    line = "1 fault cause=5 pc=0000000000010008 value=0000000000020000"
-    assert describe_stop(line, 0x02056407, view(32, "m2", 5)).endswith("no permission r. It stopped at element 5.")
-    assert describe_stop(line, 0x00053283, view(32, "m2", 5)).endswith("no permission r.")
+    stop = told("1 fault cause=5 pc=0000000000010008 value=0000000000020000")
+    assert describe_stop(stop, 0x02056407, view(32, "m2", 5)).endswith("no permission r. It stopped at element 5.")
+    assert describe_stop(stop, 0x00053283, view(32, "m2", 5)).endswith("no permission r.")
 
 
 @pytest.mark.parametrize("line", ["", "1 ok", "1 E07", "1 out 0", "1 fault cause=3 pc=0000000000010008", "* granted 1"])
 def test_other_lines_are_refused(line: str) -> None:
     with pytest.raises(ValueError):
-        describe_stop(line)
+        told(line)
 
 
 def test_every_stop_line_of_the_manuals_has_a_sentence() -> None:
     pages = "\n".join(page.read_text() for page in DOCS.glob("*.md"))
     lines = re.findall(r"^[1-8] .* pc=[0-9a-f]{16}(?: value=[0-9a-f]{16})?$", pages, re.MULTILINE)
     stops = [line for line in lines if not line.startswith(("1 loaded", "2 loaded"))]
-    assert len(stops) > 40 and all(describe_stop(line) for line in stops)
+    assert len(stops) > 40 and all(describe_stop(told(line)) for line in stops)
 
 
 def test_a_view_is_read_from_vcsr() -> None:

@@ -4,8 +4,8 @@ import itertools
 import random
 from collections.abc import Iterator
 
-from support.machine_cases import LOAD_FP, OP_V, STORE_FP, SYSTEM, encodings, fixed_bits, with_operands
-from vecmon_lab.instructions.words import NoInstruction, decode
+from support.machine_cases import encodings, fixed_bits, with_operands
+from vecmon_lab.instructions.words import LOAD_FP, OP_V, STORE_FP, SYSTEM, NoInstruction, decode
 from vecmon_lab.tables.table import read_table
 
 MISC_MEM = 0x0F

@@ -1,5 +1,6 @@
 """Lessons: their frames beside what a plain run of the program prints, their files, and bad input."""
 
+import json
 import os
 import pathlib
 import re
@@ -12,13 +13,13 @@ from hypothesis import given, settings
 from hypothesis import strategies as st
 
 from support.class_tabs import patched
-from support.places import EXAMPLES
+from support.places import DOCS, EXAMPLES, SUM
 from vecmon_lab import LabError
 from vecmon_lab.lessons import frames
 from vecmon_lab.lessons.frames import Frame, make_frames
 from vecmon_lab.lessons.page import lesson_page
 from vecmon_lab.lessons.script import read_script, read_source
-from vecmon_lab.lessons.tour import DATA, tours
+from vecmon_lab.lessons.tour import TOURS, tours
 from vecmon_lab.machine.session import Session
 from vecmon_lab.page.pages import FILES, merge_patch
 
@@ -30,8 +31,8 @@ def transcript(program: pathlib.Path, script: str) -> list[str]:
 
 
 def logged(frames: list[Frame], mark: str) -> list[str]:
-    """The entries of a kind in the log of a lesson."""
-    return [entry[1:] for frame in frames for entry in frame.log if entry[0] == mark]
+    """The entries of a kind in the log of a lesson, without what refusals mean."""
+    return [entry[1:].split("\n")[0] for frame in frames for entry in frame.log if entry[0] == mark]
 
 
 def lab(*words: str, **variables: str) -> subprocess.CompletedProcess[str]:
@@ -43,7 +44,7 @@ def lab(*words: str, **variables: str) -> subprocess.CompletedProcess[str]:
 @pytest.mark.parametrize("name", list(tours()))
 @pytest.mark.by_command("tour")
 def test_a_tours_log_is_the_plain_transcript(program: pathlib.Path, name: str) -> None:
-    script = (DATA / "tour" / name).read_text("ascii")
+    script = (TOURS / name).read_text("ascii")
     made = make_frames(tours()[name], program)
     assert logged(made, ">") == script.splitlines()
     assert logged(made, "<") == transcript(program, script)
@@ -51,7 +52,7 @@ def test_a_tours_log_is_the_plain_transcript(program: pathlib.Path, name: str) -
 
 @pytest.mark.parametrize("name", list(tours()))
 def test_the_last_frame_shows_what_the_machine_shows(session: Session, program: pathlib.Path, name: str) -> None:
-    for line in (DATA / "tour" / name).read_text("ascii").splitlines():
+    for line in (TOURS / name).read_text("ascii").splitlines():
         session.do(line)
     for user, state in make_frames(tours()[name], program)[-1].states.items():
         if state["run"] != "stopped":
@@ -66,7 +67,7 @@ def test_the_last_frame_shows_what_the_machine_shows(session: Session, program: 
         for number in range(32):
             elements = session.look(f"{user} vreg v{number} 8")[0].split()[2:]
             assert state["v"][str(number)] == "".join(elements)
-        control = " ".join(f"{key}={state[key]}" for key in ("vl", "vstart", "vxrm", "vxsat"))
+        control = f"vl={state['vl']} vstart={state['vstart']} vxrm={state['vxrm']} vxsat={state['vxsat']}"
         told = session.look(f"{user} vcsr")[0][2:]
         assert control == re.sub(r"vtype=\w+ ", "", told) and f"vtype={state['vtype']:0>16} " in told
         for address, digits in state["memory"].items():
@@ -127,6 +128,14 @@ def test_a_script_with_errors_shows_the_refusals(program: pathlib.Path) -> None:
     made = make_frames(read_script(script + "9 enter\n1 \tregs\n1 poke 0 é\n"), program)
     assert logged(made, "<") == transcript(program, script)
     assert len(logged(made, "!")) == 3
+    words = [entry.partition("\n")[2] for frame in made for entry in frame.log if entry[0] == "<"]
+    assert list(filter(None, words)) == [
+        "E03: there is no command dance",
+        "E06: the user has entered already",
+        "E11: an address isn't mapped",
+        "E04: 9 is no user, who are 1 to 8; the form is * run U",
+        "E05: the user has not entered",
+    ]
     assert made[-1].user == "1"
 
 
@@ -180,7 +189,7 @@ def test_set_up_of_a_source_names_labels(program: pathlib.Path) -> None:
 
 
 def test_the_example_of_the_manual(program: pathlib.Path) -> None:
-    text = (DATA.parents[2] / "docs" / "LAB.md").read_text("utf-8")
+    text = (DOCS / "LAB.md").read_text("utf-8")
     example = text.partition("```text\n")[2].partition("```")[0]
     script = read_script(example)
     made = make_frames(script, program)
@@ -247,14 +256,17 @@ def test_no_program(tmp_path: pathlib.Path) -> None:
 @pytest.mark.by_command("lesson")
 def test_pages_are_written(tmp_path: pathlib.Path) -> None:
     (tmp_path / "script").write_text("# <first>\n1 enter\n1 load sum\n")
-    image = DATA / "images" / "sum"
-    done = lab("lesson", str(tmp_path / "script"), f"sum={image}", "-o", str(tmp_path / "page.html"))
+    done = lab("lesson", str(tmp_path / "script"), f"sum={SUM}", "-o", str(tmp_path / "page.html"))
     assert (done.returncode, done.stdout, done.stderr) == (0, "", "")
     page = (tmp_path / "page.html").read_text("utf-8")
     assert page.startswith("<!doctype html>") and "1 loaded pc=" in page and "<first>" not in page
-    assert lab("lesson", str(tmp_path / "script"), f"sum={image}").stdout == page
+    assert lab("lesson", str(tmp_path / "script"), f"sum={SUM}").stdout == page
     assert lab("tour", str(tmp_path / "new" / "tour")).returncode == 0
-    assert {path.stem for path in (tmp_path / "new" / "tour").iterdir()} == set(tours())
+    assert {path.stem for path in (tmp_path / "new" / "tour").iterdir()} == {"index", *tours()}
+    index = (tmp_path / "new" / "tour" / "index.html").read_text("utf-8")
+    links = json.loads(index.partition('id="data">')[2].partition("</script>")[0])
+    titles = re.findall("^## (.*)", (DOCS / "TOUR.md").read_text("utf-8"), re.MULTILINE)
+    assert links == [[name, title] for name, title in zip(tours(), titles, strict=True)]
 
 
 def test_steps_that_end_otherwise_one_by_one_are_an_error(

@@ -10,7 +10,8 @@ from collections.abc import Iterator, Sequence
 import pytest
 
 from support.places import SCRIPTS, TOP
-from vecmon_lab.machine.lines import BadLine, OutOfStep, is_look, is_refusal, is_whole
+from vecmon_lab.machine.answers import OutOfStep, is_refusal, is_whole
+from vecmon_lab.machine.lines import BadLine, is_look
 from vecmon_lab.machine.session import Session
 
 CRATES, TESTS = TOP / "crates", TOP / "tests"

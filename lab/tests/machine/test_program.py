@@ -9,7 +9,8 @@ import types
 
 import pytest
 
-from support.places import TOP
+from support.places import SUM, TOP
+from vecmon_lab import LabError
 from vecmon_lab import __main__ as start
 from vecmon_lab.machine import program as places
 from vecmon_lab.machine.program import NoProgram, find_program
@@ -58,18 +59,74 @@ def test_each_command_is_tried_with_the_proved_program() -> None:
     assert sorted(marked) == sorted(start.COMMANDS)
 
 
-@pytest.mark.parametrize("words", [[], ["dance"], ["--dance"]])
+@pytest.mark.parametrize("words", [[], ["dance"], ["--dance"], ["help", "dance"]])
 def test_wrong_words(words: list[str]) -> None:
     run = subprocess.run([sys.executable, "-m", "vecmon_lab", *words], cwd=TOP, capture_output=True, text=True)
     assert (run.returncode, run.stdout, run.stderr.count("\n")) == (2, "", 1)
     assert run.stderr.startswith("vecmon-lab: ")
 
 
+@pytest.mark.parametrize(
+    "words, told",
+    [
+        (["class", "DIR", "--port", "9331", "a=x", "b=y"], {"images": ["a=x", "b=y"], "port": 9331}),
+        (["class", "--host", "H", "DIR", "a=x", "--port", "1", "b=y"], {"images": ["a=x", "b=y"], "host": "H"}),
+        (["lesson", "--title", "T", "script", "hello=F", "-o", "page"], {"images": ["hello=F"], "title": "T"}),
+        (["lesson", "script", "--title", "T", "hello=F"], {"images": ["hello=F"], "title": "T"}),
+        (["grade", "E", "a.s", "--csv", "b.s"], {"answers": [pathlib.Path("a.s"), pathlib.Path("b.s")], "csv": True}),
+        (["run", "image", "--ticks", "5", "one", "two"], {"words": ["one", "two"], "ticks": 5}),
+        (["run", "image", "one", "--stats", "--", "--ticks", "--"], {"words": ["one", "--ticks", "--"], "ticks": None}),
+        (["vectors", "vadd.vv", "--cases", "3", "vsub.vv"], {"names": ["vadd.vv", "vsub.vv"], "cases": 3}),
+    ],
+)
+def test_options_stand_anywhere(words: list[str], told: dict[str, object]) -> None:
+    arguments = vars(start.arguments_of(words))
+    assert {name: arguments[name] for name in told} == told
+
+
+@pytest.mark.parametrize("words", [["run", "--trace"], ["lesson", "-o"], ["profile", "-o"]])
+def test_an_output_that_is_an_input(
+    monkeypatch: pytest.MonkeyPatch, capsys: pytest.CaptureFixture[str], tmp_path: pathlib.Path, words: list[str]
+) -> None:
+    (tmp_path / "sum.csv").write_bytes(SUM.read_bytes())
+    (tmp_path / "sum.html").symlink_to("sum.csv")
+    monkeypatch.chdir(tmp_path)
+    monkeypatch.setattr(sys, "argv", ["vecmon-lab", *words, "sum.html", "sum.csv"])
+    told = "vecmon-lab: sum.html would be overwritten, and it is read here: name another file\n"
+    assert (start.main(), *capsys.readouterr()) == (2, "", told)
+    assert (tmp_path / "sum.csv").read_bytes() == SUM.read_bytes()
+
+
+def test_the_other_output_of_a_profile(monkeypatch: pytest.MonkeyPatch, tmp_path: pathlib.Path) -> None:
+    (tmp_path / "sum.csv").write_bytes(SUM.read_bytes())
+    arguments = start.arguments_of(["profile", str(tmp_path / "sum.csv"), "-o", str(tmp_path / "sum.html")])
+    with pytest.raises(LabError, match="sum.csv would be overwritten"):
+        arguments.run(arguments)
+
+
+@pytest.mark.parametrize(
+    "words, begin, has",
+    [
+        (["help"], "usage: vecmon-lab [-h]", "a page that steps back and forth"),
+        (["--help"], "usage: vecmon-lab [-h]", "a page that steps back and forth"),
+        (["help", "run"], "usage: vecmon-lab run [-h]", "--trace FILE"),
+        (["run", "--help"], "usage: vecmon-lab run [-h]", "--trace FILE"),
+    ],
+)
+def test_help(capsys: pytest.CaptureFixture[str], words: list[str], begin: str, has: str) -> None:
+    with pytest.raises(SystemExit, match="0"):
+        start.arguments_of(words)
+    told = capsys.readouterr().out
+    assert told.startswith(begin) and has in told
+
+
 def test_a_library_that_is_missing() -> None:
     code = "import sys; sys.modules['aiohttp'] = None; sys.argv[1:] = 'class', 'x'; from vecmon_lab.__main__ import main; sys.exit(main())"
     run = subprocess.run([sys.executable, "-c", code], cwd=TOP, capture_output=True, text=True)
     assert (run.returncode, run.stdout) == (2, "")
-    assert run.stderr == "vecmon-lab: this needs the Python library aiohttp, which isn't installed\n"
+    assert run.stderr.startswith(
+        "vecmon-lab: this needs the Python library aiohttp: `sudo apt install python3-aiohttp`"
+    )
 
 
 def test_what_is_imported_before_a_command_is_named() -> None:
@@ -91,7 +148,9 @@ def test_what_is_imported_before_a_command_is_named() -> None:
         (
             ModuleNotFoundError(name="elftools"),
             2,
-            "vecmon-lab: this needs the Python library elftools, which isn't installed\n",
+            "vecmon-lab: this needs the Python library pyelftools: `sudo apt install python3-pyelftools`; or else "
+            "`python3 -m venv ~/.vecmon && ~/.vecmon/bin/pip install pyelftools`, and "
+            "VECMON_PYTHON=~/.vecmon/bin/python\n",
         ),
         (KeyboardInterrupt(), 130, ""),
     ],

@@ -8,6 +8,7 @@ import signal
 import pytest
 
 from support.places import SCRIPTS
+from vecmon_lab.machine.program import NoProgram
 from vecmon_lab.machine.session import OutOfStep, ProgramGone, ReplayDiffers, ScriptFull, Session
 
 SUM = SCRIPTS / "images" / "sum"
@@ -201,7 +202,7 @@ def test_a_program_that_speaks_unasked(tmp_path: pathlib.Path) -> None:
 
 @pytest.mark.parametrize("program", ["/bin/cat", "/bin/true"])
 def test_another_program(program: str) -> None:
-    with pytest.raises((OutOfStep, ProgramGone)):
+    with pytest.raises(NoProgram, match=f"^{program} is no vecmon; VECMON=PATH names one$"):
         Session(pathlib.Path(program))
 
 

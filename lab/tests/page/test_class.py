@@ -12,7 +12,6 @@ import pytest
 from support.browser import CONTRAST, media, press
 from support.class_pages import Served, Tab, close_all, digest_of
 from support.places import EXAMPLES
-from vecmon_lab.assembler.commands import MEANINGS
 
 if TYPE_CHECKING:
     from selenium.webdriver import Chrome
@@ -172,10 +171,8 @@ def test_lines_of_before_and_refusals(sit: Sit) -> None:
     tab = sit("A4")
     tag = "<img src=x onerror=document.title=1>"
     tab.command("enter", "map 10000 1 rwx", "map 10000 1 rwx", tag)
-    assert "E03: there is no such command" in tab.text("#stop") and tag in tab.text("#stop")
+    assert "E03: there is no command <img" in tab.text("#stop") and tag in tab.text("#stop")
     assert "a page is mapped already" in tab.text("#log") and f"> {tag}" in tab.text("#log")
-    told = {code: tab.run("refusalWords(`1 ${arguments[0]} 14`)", code) for code in MEANINGS}
-    assert told == {code: f"{code} 14: {meaning}" for code, meaning in MEANINGS.items()}
     tab.keys("#line", Keys.ARROW_UP)
     assert tab.run("id('line').value") == tag
     tab.keys("#line", Keys.ARROW_UP)
@@ -195,6 +192,11 @@ def test_lines_of_before_and_refusals(sit: Sit) -> None:
     assert teacher.run("document.title") == "Teacher – vecmon" and tab.run("!one('img') && document.title").startswith(
         "Seat"
     )
+    tab.command("asm 10000 addi x1, x0, 4096")
+    marked = "addi x1, x0, 4096\n             ^"  # each column as wide as the other ones
+    for box in ("#stop", "#log"):
+        assert marked in tab.text(box) and "4096 doesn't fit here" in tab.text(box)
+        assert tab.run(f"getComputedStyle(one('{box} code:last-of-type')).fontFamily").endswith("monospace")
 
 
 def test_the_teacher_sees_and_settles(sit: Sit, tmp_path: pathlib.Path, served: Served) -> None:

@@ -2,24 +2,20 @@
 
 import json
 import pathlib
-import random
-from collections.abc import Callable, Iterator
-from fractions import Fraction
+from collections.abc import Callable
 from typing import TYPE_CHECKING
 
 import pytest
 
 from support.browser import CONTRAST, media, press
 from support.lesson_follower import PICTURE, Follower
-from support.machine_cases import SUPPORTED, encodings, with_operands
 from support.places import EXAMPLES
-from vecmon_lab.instructions.reasons import VectorView, illegal_reasons
-from vecmon_lab.instructions.words import decode
-from vecmon_lab.lessons.frames import Frame, make_frames
+from vecmon_lab.lessons.frames import make_frames
 from vecmon_lab.lessons.page import lesson_page
 from vecmon_lab.lessons.script import read_script, read_source
 from vecmon_lab.lessons.tour import tours
 from vecmon_lab.machine.session import Session
+from vecmon_lab.page.pages import lone_page
 
 if TYPE_CHECKING:
     from selenium.webdriver import Chrome
@@ -191,66 +187,41 @@ def test_texts_stay_texts(opened: Callable[[str], "Chrome"], program: pathlib.Pa
     assert browser.get_log("browser") == []
 
 
-def test_operands_are_those_of_the_words(opened: Callable[[str], "Chrome"], session: Session) -> None:
-    """What the page reads out of instructions' texts, beside the fields of their words, on legal ones."""
-    draws = random.Random(1)
-    names = [name for name, bits in encodings() if name.startswith("v") and not name.startswith("vset")]
-    words = [with_operands(dict(encodings())[name], draws.getrandbits(32)) for name in names for _ in range(12)]
-    texts = list(texts_of(session, words))
-    cases = []
-    for word, text in zip(words, texts, strict=True):
-        view = VectorView(draws.choice(SUPPORTED), 0)
-        if not illegal_reasons(word, view):
-            cases.append((text, view, covered(word, view)))
-    assert len({text.split()[0] for text, _, _ in cases}) > 0.9 * len(names)
-    script = "return arguments[0].map(([text, vtype]) => vectorOperands(text, vectorType(vtype)))"
-    browser = opened(lesson_page("x", [Frame("1", "", 0, "", [], {})]))
-    told = browser.execute_script(script, [(text, f"{view.vtype:x}") for text, view, _ in cases])
-    for (text, view, expected), operands in zip(cases, told, strict=True):
-        registers = dict[int, set[tuple[bool, int]]]()
-        for operand in operands:
-            for register in range(operand["register"], operand["register"] + operand["group"]):
-                width = 1 if operand["mask"] else operand["width"]
-                registers.setdefault(register, set()).add((operand["writes"], width))
-        assert (text, view, registers) == (text, view, expected)
-
-
-def texts_of(session: Session, words: list[int]) -> Iterator[str]:
-    """The canonical texts of words."""
-    session.do("1 enter")
-    session.do("1 map 0 1 r")
-    for place in range(0, len(words), 16):
-        some = words[place : place + 16]
-        session.do("1 poke 0 " + b"".join(word.to_bytes(4, "little") for word in some).hex())
-        yield from (line[28:] for line in session.look(f"1 dis 0 {len(some)}"))
-
-
-def covered(word: int, view: VectorView) -> dict[int, set[tuple[bool, int]]]:
-    """The registers of a word's operands: whether they are written, and the width of their elements, 1 for a mask."""
-    instruction = decode(word, view.sew, view.lmul)
-    assert instruction
-    registers = dict[int, set[tuple[bool, int]]]()
-    for operand in instruction.operands:
-        for register in operand.registers:
-            registers.setdefault(register, set()).add((operand.noun == "destination", operand.eew))
-    if instruction.is_masked:
-        registers.setdefault(0, set()).add((False, 1))
-    return registers
+def test_nothing_but_the_script_of_the_page_runs(opened: Callable[[str], "Chrome"], program: pathlib.Path) -> None:
+    browser = opened(lesson_page("x", make_frames(read_script("1 enter"), program)))
+    script = """const script = document.createElement("script");
+        script.textContent = "window.ran = 1";
+        document.body.append(script);
+        document.body.setAttribute("onclick", "window.ran = 2");
+        document.body.click();
+        return window.ran"""
+    assert browser.execute_script(script) is None and text_of(browser, "#count") == "1 of 1"
+    assert ["Content Security Policy" in entry["message"] for entry in browser.get_log("browser")] == [True, True]
 
 
 def test_stops_and_refusals_are_told(opened: Callable[[str], "Chrome"], program: pathlib.Path) -> None:
     from selenium.webdriver.common.keys import Keys
 
     browser = opened(
-        lesson_page("x", make_frames(read_script("1 enter\n1 peek 0 1\n1 enter\n1 step 1\n9 x\n"), program))
+        lesson_page(
+            "x",
+            make_frames(
+                read_script(
+                    "1 enter\n1 peek 0 1\n1 enter\n1 step 1\n1 map 0 1 rwx\n1 asm 0 li x1, 1\n1 step 300\n9 x\n"
+                ),
+                program,
+            ),
+        )
     )
     assert browser.execute_script("return document.querySelector('#stop').ariaLive") == "polite"
     told = []
-    for _ in range(4):
+    for _ in range(7):
         told.append(text_of(browser, "#stop"))
         press(browser, Keys.ARROW_RIGHT)
     assert told[0].startswith("1 peek 0 1: E11: ") and told[1].startswith("E06: ")
-    assert "0x0" in told[2] and told[3].startswith("Not sent: ")
+    assert "0x0" in told[2] and told[6].startswith("Not sent: ")
+    assert told[4] == "li x1, 1\n^\nE15: there is no instruction li"
+    assert told[5] == "E04: 300 isn't from 1 to 256; the form is step N"
 
 
 @pytest.mark.parametrize("scheme", ["light", "dark"])
@@ -304,3 +275,13 @@ def test_focus_is_seen_on_all_controls(opened: Callable[[str], "Chrome"], progra
         "log",
     } <= seen.keys()
     assert any(name.startswith("user 2") for name in seen)
+
+
+def test_the_tours_beginning(opened: Callable[[str], "Chrome"], tmp_path: pathlib.Path) -> None:
+    """Its links lead to the lessons beside it."""
+    browser = opened(lone_page("tour", "A tour", [("one", "Masks & tails"), ("two", "A <class>")]))
+    links = browser.find_elements("css selector", "li a")
+    assert [link.text for link in links] == ["Masks & tails", "A <class>"] and not browser.get_log("browser")
+    (tmp_path / "two.html").write_text("<title>here</title>")
+    links[1].click()
+    assert browser.title == "here"

@@ -121,7 +121,7 @@ def test_stock_programs(lab: Lab) -> None:
     assert (status, output.decode().splitlines(), told) == (0, alike(first), "")
     status, output, told = lab("compare", SQUARES)
     first = "keep, slices of 1,000:  fault cause=7 pc=0000000000010198 value=0000000000012000; 0 bytes: b''"
-    assert (status, output.decode().splitlines(), told) == (0, alike(first), "")
+    assert (status, output.decode().splitlines(), told) == (139, alike(first), "")
 
 
 def compared(
@@ -188,10 +188,15 @@ def test_a_program_without_an_end(lab: Lab, program: pathlib.Path, tmp_path: pat
     make_image(program, tmp_path / "forever", FOREVER)
     status, output, _ = lab("compare", tmp_path / "forever", "--ticks", "6999")
     first = "keep, slices of 1,000:  no end in 7,000 ticks, pc=0000000000010000; 0 bytes: b''"
-    assert (status, output.decode().splitlines()) == (0, alike(first))
+    assert (status, output.decode().splitlines()) == (124, alike(first))
 
 
 @pytest.mark.parametrize("words", [[], ["none"], [STOCK / "short"], [SUM, "--ticks", "none"]])
 def test_bad_input(lab: Lab, words: list[object]) -> None:
     status, output, told = lab("compare", *words)
     assert (status, output, told.count("\n")) == (2, b"", 1)
+
+
+def test_a_breakpoint_has_the_status_of_a_run(lab: Lab, program: pathlib.Path, tmp_path: pathlib.Path) -> None:
+    make_image(program, tmp_path / "stops", "nop\nebreak")
+    assert lab("compare", tmp_path / "stops")[0] == lab("run", tmp_path / "stops")[0] == 133

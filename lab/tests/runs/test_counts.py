@@ -9,6 +9,7 @@ from support.images import make_image
 from support.places import SUM
 from support.sources import CHANGES
 from vecmon_lab.guest.guest import started
+from vecmon_lab.machine.answers import ControlRegisters
 from vecmon_lab.machine.session import Session
 from vecmon_lab.runs.counts import Place, count, elements_of
 
@@ -45,7 +46,7 @@ def test_elements(
 ) -> None:
     """Bits 1, 2, 4 and 15 of v0 are set."""
     word = _word(session, text)
-    control = {"vtype": TYPES[vtype], "vl": vl, "vstart": vstart}
+    control = ControlRegisters(TYPES[vtype], vstart, vl, vxrm=0, vxsat=0)
     elements = elements_of(word, control, bytes([0x16, 0x80]) + bytes(30))
     assert elements is not None
     assert (list(elements.active), elements.masked, elements.tail) == (active, masked, tail)
@@ -53,8 +54,9 @@ def test_elements(
 
 @pytest.mark.parametrize("text", ["vsetvli x5, x10, e8, m1, ta, ma", "addi x5, x5, 1", "ecall"])
 def test_other_instructions_have_no_elements(session: Session, text: str) -> None:
-    assert elements_of(_word(session, text), {"vtype": 0, "vl": 3, "vstart": 0}, bytes(32)) is None
-    assert elements_of(0, {"vtype": 0, "vl": 3, "vstart": 0}, bytes(32)) is None
+    control = ControlRegisters(vtype=0, vstart=0, vl=3, vxrm=0, vxsat=0)
+    assert elements_of(_word(session, text), control, bytes(32)) is None
+    assert elements_of(0, control, bytes(32)) is None
 
 
 def _word(session: Session, text: str) -> int:

@@ -59,7 +59,7 @@ def test_the_table(lab: Lab) -> None:
 def test_a_program_without_vectors(lab: Lab, program: pathlib.Path, tmp_path: pathlib.Path) -> None:
     make_image(program, tmp_path / "loop", "loop: j loop")
     status, output, told = lab("profile", tmp_path / "loop", "--ticks", "2000", "-o", tmp_path / "page.html")
-    assert (status, told) == (0, "")
+    assert (status, told) == (124, "")
     assert output.decode().splitlines()[1].split() == "10000 jal x0, 0 2000 2000".split()
     assert output.decode().splitlines()[-1] == "2,000 instructions in 2,000 ticks; the ticks ran out at 10000"
 
@@ -118,3 +118,10 @@ def test_the_page(browser: "Chrome", lab: Lab, program: pathlib.Path, tmp_path: 
 def test_bad_input(lab: Lab, words: list[object], told: str) -> None:
     status, _, complaint = lab("profile", *words)
     assert (status, complaint.count("\n")) == (2, 1) and complaint.startswith(told)
+
+
+@pytest.mark.parametrize("source, ends", [("li a7, 93\necall", 0), ("nop\nebreak", 133), (".word 0", 139)])
+def test_statuses(lab: Lab, program: pathlib.Path, tmp_path: pathlib.Path, source: str, ends: int) -> None:
+    make_image(program, tmp_path / "stops", source)
+    status, output, told = lab("profile", tmp_path / "stops")
+    assert (status, told) == (ends, "") and output.startswith(b"address  place")

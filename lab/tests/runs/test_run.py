@@ -9,7 +9,7 @@ import sys
 import pytest
 
 from support.commands import Lab
-from support.images import make_image
+from support.images import MARCH, make_image
 from support.places import DATA, SORT, SQUARES, SQUARES_DWARF5, STOCK, SUM, TOP
 from support.sources import ARGUMENTS, FOREVER, WRITES
 from vecmon_lab.guest.changes import vtype_text
@@ -63,6 +63,23 @@ def test_other_stops(
     assert lab("run", tmp_path / "stops") == (status, b"", f"vecmon-lab: {tmp_path / 'stops'}: {told}\n")
 
 
+def test_images_of_other_kinds(lab: Lab, program: pathlib.Path, tmp_path: pathlib.Path) -> None:
+    """By the psABI: e_flags at byte 48, where 1 is compressed instructions, 2 to 6 floating-point ABIs, 8 is RVE."""
+    image, words = tmp_path / "image", f"compile with {MARCH}"
+    make_image(program, image, "li a0, 3\nli a7, 93\necall\n.word 0x20b56533")
+    data = image.read_bytes()
+    for flags, kinds in {1: "compressed instructions", 4: "a floating-point ABI", 8: "", 16: ""}.items():
+        image.write_bytes(data[:48] + bytes([flags]) + data[49:])
+        told = f"vecmon-lab: {image}: it is compiled for {kinds}, and the machine has none: {words} -mabi=lp64\n"
+        assert lab("run", image) == ((2, b"", told) if kinds else (3, b"", ""))
+    image.write_bytes(data[:4] + b"\1" + data[5:])
+    assert lab("run", image)[2].endswith(f"(E09 Class): the class isn't 2, 64 bits: {words} -mabi=lp64\n")
+    make_image(program, image, ".word 0x20b56533")
+    other = "It would be an instruction of another extension, as Zba or Zbb, and the machine has none"
+    status, _, told = lab("run", image)
+    assert status == 139 and told.endswith(f"10000: .word 0x20b56533. {other}: {words}.\n")
+
+
 def test_ticks_run_out(lab: Lab, program: pathlib.Path, tmp_path: pathlib.Path) -> None:
     image = tmp_path / "forever"
     make_image(program, image, FOREVER)
@@ -105,7 +122,7 @@ def test_output_comes_while_it_runs_and_ctrl_c_ends_it(program: pathlib.Path, tm
         (["--quantum", "1001", SUM], "vecmon-lab run: argument --quantum: 1001 is no number from 1 to 1000; "),
         (["--quantum", "-1", SUM], "vecmon-lab run: argument --quantum: "),
         (["--policy", "none", SUM], "vecmon-lab run: argument --policy: invalid choice: 'none' "),
-        (["--dance", SUM], "vecmon-lab: unrecognized arguments: --dance"),
+        (["--dance", SUM], "vecmon-lab run: unrecognized arguments: --dance"),
         (["none"], "vecmon-lab: none: No such file or directory"),
         ([STOCK], f"vecmon-lab: {STOCK}: Is a directory"),
         (

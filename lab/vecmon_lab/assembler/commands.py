@@ -3,11 +3,14 @@
 import itertools
 import operator
 import re
+from collections.abc import Sequence
 from dataclasses import dataclass
 
+from ..machine.answers import Refused, is_refusal, read
 from ..machine.lines import words_of
 from ..tables.table import read_table
 from .instruction import Statement, refusal
+from .misfits import misfit
 
 
 @dataclass(frozen=True)
@@ -31,6 +34,7 @@ def _name(form: str) -> str:
 
 _COMMANDS, _REFUSALS = read_table("commands"), read_table("refusals")
 COMMANDS = {_name(form): Command(form, _plain(does), own.split(" ")) for _, form, does, _, own in _COMMANDS}
+_IMAGE_FAULTS = dict(read_table("image_faults"))
 MEANINGS = {code: _plain(meaning) for code, meaning, _ in _REFUSALS}
 
 
@@ -48,13 +52,38 @@ def help_on(name: str) -> list[str]:
     return [f"{command.form}: {command.does}", *own]
 
 
-def refusal_in_words(line: str, answer: str) -> list[str]:
+def refusal_in_words(line: str, answer: Refused) -> list[str]:
     """What the refusal of a line means. Below a text that spells no instruction is marked where it doesn't fit."""
-    code, _, column = answer[2:].partition(" ")
-    name = ("* " if line[0] == "*" else "") + "".join(words_of(line)[:1])
-    if code == "E15":
-        text = line[2:].strip(" ").split(maxsplit=2)[2]
-        statement = Statement(0, 1, text, tuple(range(1, len(text) + 2)))
-        return [text, f"{'^':>{column}}", f"E15: {refusal(statement, int(column)).message}"]
-    form = f"; the form is {COMMANDS[name].form}" if code == "E04" and name in COMMANDS else ""
-    return [f"{answer[2:]}: {MEANINGS[code]}{form}"]
+    word = "".join(words_of(line)[:1])
+    own, other, whose = (f"* {word}", word, "a user") if line[0] == "*" else (word, f"* {word}", "the operator")
+    match answer.code:
+        case "E03" if other in COMMANDS:
+            told = f"{word} is {whose}'s: {COMMANDS[other].form}"
+        case "E03" if word:
+            told = f"there is no command {word}"
+        case "E04":
+            told = f"{misfit(line, COMMANDS[own].form)}; the form is {COMMANDS[own].form}"
+        case "E09":
+            told = _IMAGE_FAULTS[str(answer)]
+        case "E15":
+            text = line[2:].strip(" ").split(maxsplit=2)[2]
+            told = refusal(Statement(0, 1, text, tuple(range(1, len(text) + 2))), int(answer.detail)).message
+            return [text, f"{'^':>{answer.detail}}", f"E15: {told}"]
+        case code:
+            told = MEANINGS[code]
+    return [f"{answer}: {told}"]
+
+
+def refusal_on_pages(line: str, answer: Sequence[str]) -> str:
+    """What the refusal of a line means, as pages show it, with code between backquotes; "" where it isn't refused."""
+    said = read(answer) if is_refusal(answer) else None
+    if not isinstance(said, Refused):
+        return ""
+    *marked, sentence = refusal_in_words(line, said)
+    return "`{}\n{}`\n{}".format(*marked, sentence) if marked else sentence
+
+
+def log_entries(line: str, answer: Sequence[str]) -> list[str]:
+    """The lines of an answer as entries of a log. Behind one that refuses stands what that means, behind a newline."""
+    words = refusal_on_pages(line, answer)
+    return [f"<{part}\n{words}".rstrip("\n") for part in answer]

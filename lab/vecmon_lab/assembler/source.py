@@ -8,10 +8,11 @@ from collections.abc import Callable
 from dataclasses import dataclass
 from functools import partial
 
+from ..instructions.accesses import PAGE_BYTES
 from .instruction import Instruction, Statement, refusal
 from .line import Kind, Operand, SourceError, Token, check_count, operands_of, tokens_of
 from .pseudo import templates
-from .value import PAGE, Section, Symbols, Value
+from .value import Section, Symbols, Value
 
 __all__ = ["Program", "SourceError", "Statement", "assemble", "refusal"]
 
@@ -39,8 +40,8 @@ class Program:
 
 def assemble(text: str, origin: int = 0x10000) -> Program:
     """Assembles a source. The text's address is the origin, a multiple of 4,096. Raises SourceError."""
-    if origin % PAGE or not 0 <= origin <= (1 << 48) - _USER_PAGES * PAGE:
-        raise ValueError(f"{origin:#x} is no multiple of {PAGE} with room for {_USER_PAGES} pages below 2^48")
+    if origin % PAGE_BYTES or not 0 <= origin <= (1 << 48) - _USER_PAGES * PAGE_BYTES:
+        raise ValueError(f"{origin:#x} is no multiple of {PAGE_BYTES} with room for {_USER_PAGES} pages below 2^48")
     assembler = _Assembler()
     for number, line in enumerate(text.split("\n"), 1):
         assembler.read(tokens_of(line.removesuffix("\r"), number))
@@ -88,7 +89,7 @@ class _Assembler:
         """The program, with its text at the origin."""
         for section in self._sections.values():
             section.base = origin
-            origin += section.pages() * PAGE
+            origin += section.pages() * PAGE_BYTES
         statements = [statement for item in self._instructions for statement in item.statements(self._symbols)]
         filled = [section for section in self._sections.values() if section.size]
         lines = [f"map {section.base:x} {section.pages()} {section.permissions}" for section in filled]
@@ -108,7 +109,9 @@ class _Assembler:
             self._section.contents.append((self._section.size, make))
         self._section.size += size
         if sum(section.pages() for section in self._sections.values()) > _USER_PAGES:
-            raise name.error(f"here the program grows beyond {_USER_PAGES} pages of {PAGE} bytes, all that a user has")
+            raise name.error(
+                f"here the program grows beyond {_USER_PAGES} pages of {PAGE_BYTES} bytes, all that a user has"
+            )
 
     def _read_instruction(self, name: Token, operands: list[Operand]) -> None:
         if self._section is not self._text:
@@ -137,8 +140,8 @@ class _Assembler:
         if name.text == ".align" and not 0 <= number <= 12:
             raise operands[0][0].error(".align n aligns to 2^n bytes, with n from 0 to 12")
         size = 1 << number if name.text == ".align" else number
-        if not 1 <= size <= PAGE or size & size - 1:
-            raise operands[0][0].error(f".balign takes a power of two from 1 to {PAGE}")
+        if not 1 <= size <= PAGE_BYTES or size & size - 1:
+            raise operands[0][0].error(f".balign takes a power of two from 1 to {PAGE_BYTES}")
         padding = -self._section.size % size
         nops = bytes(padding % 4) + b"\x13\0\0\0" * (padding // 4)
         self._put(name, padding, partial(bytes, nops) if self._section is self._text else None)

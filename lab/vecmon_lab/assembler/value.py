@@ -4,11 +4,8 @@ from collections import Counter
 from collections.abc import Callable, Iterator
 from dataclasses import dataclass, field
 
-from ..instructions.accesses import LINE_BYTES
+from ..instructions.accesses import LINE_BYTES, PAGE_BYTES
 from .line import Kind, Operand, Token
-
-PAGE = 4096
-"""The bytes of a page of the machine."""
 
 
 @dataclass(eq=False)
@@ -22,7 +19,7 @@ class Section:
 
     def pages(self) -> int:
         """How many pages it takes."""
-        return -(-self.size // PAGE)
+        return -(-self.size // PAGE_BYTES)
 
     def pokes(self) -> Iterator[str]:
         """The lines that write its bytes, but for those that would write zeros alone. Raises SourceError."""

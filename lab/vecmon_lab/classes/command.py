@@ -2,14 +2,16 @@
 
 import argparse
 import asyncio
+import errno
 import os
 import pathlib
+import socket
 
 from .. import LabError
 from ..arguments import between
 from ..machine.program import find_program, images_of
-from .seats import LETTERS
-from .server import serve
+from .codes import LETTERS
+from .server import listening, serve
 from .store import Store
 from .view import Class
 
@@ -19,7 +21,8 @@ def add_arguments(parser: argparse.ArgumentParser) -> None:
     parser.add_argument("folder", metavar="DIR", type=pathlib.Path, help="keeps the class; made if it isn't there")
     parser.add_argument("images", metavar="NAME=PATH", nargs="*", default=[], help="images that students load by name")
     parser.add_argument("--host", default="127.0.0.1", help="the address to serve at; 0.0.0.0 is a whole network")
-    parser.add_argument("--port", type=int, default=8765, help="the port; 0 is one that is free (default: %(default)s)")
+    port = between(0, 65535)
+    parser.add_argument("--port", metavar="P", type=port, default=8765, help="0 is one that is free; else %(default)s")
     parser.add_argument("--name", action="append", default=[], help="a host name that the page is opened under as well")
     machines = between(1, len(LETTERS))
     parser.add_argument("--machines", metavar="N", type=machines, help="eight seats each, 1 to 12; else 1")
@@ -31,12 +34,23 @@ def add_arguments(parser: argparse.ArgumentParser) -> None:
 def run(arguments: argparse.Namespace) -> int:
     """Serves until it is told to end. Raises LabError and OSError for a bad folder, image or address."""
     os.umask(0o077)
-    images = images_of(arguments.images)
+    images, host = images_of(arguments.images), arguments.host
     store = Store(arguments.folder, find_program(), images, arguments.quantum, arguments.machines)
-    members = Class(store, arguments.patience)
     try:
-        asyncio.run(serve(members, arguments.host, arguments.port, set(arguments.name)))
-    except (OSError, OverflowError) as error:
-        reason = getattr(error, "strerror", None) or str(error)
-        raise LabError(f"{arguments.host}, port {arguments.port}: {reason}") from error
+        doors = _listening(host, arguments.port)  # before the class is carried out again, which may take a while
+    except LabError:
+        store.close()
+        raise
+    members = Class(store, arguments.patience)
+    asyncio.run(serve(members, host, doors, set(arguments.name)))
     return 0
+
+
+def _listening(host: str, port: int) -> list[socket.socket]:
+    """Sockets that listen at the host's addresses. Raises LabError where there can't be any."""
+    try:
+        return listening(host, port)
+    except OSError as error:
+        reason = (error.strerror or str(error)).partition(" (while")[0]
+        hint = "; --port names another port" if error.errno == errno.EADDRINUSE else ""
+        raise LabError(f"{host}, port {port}: {reason}{hint}") from error

@@ -1,35 +1,129 @@
-"""The seats of a class, and the codes that open them."""
+"""The seats of a machine: what each has been told, and what is known of its user."""
 
-import secrets
-from collections.abc import Iterable, Mapping
+import asyncio
+from collections import deque
+from collections.abc import Iterable, Sequence
+from dataclasses import dataclass, field
 
-from ..machine.lines import DIGITS
+from ..assembler.commands import log_entries
+from ..guest.guest import Guest
+from ..machine.answers import is_refusal, is_stop, read, told
+from ..machine.lines import DIGITS, is_look, words_of
+from ..machine.session import Session
+from ..page.state import ABSENT, RowChoice, State, Watch, look_at, with_rows
 
-TEACHER = "teacher"
-LETTERS = "ABCDEFGHIJKL"  # of machines
-CODE_LETTERS = "abcdefghjkmnpqrstuvwxyz23456789"  # none looks like another one
-CODE_LENGTH = 14  # 69 bits
+LOG_ENTRIES = 500
+OUTPUT_DIGITS = 8192
+
+Done = tuple[str, Sequence[str]]
+"""A line that was carried out, and its answer."""
 
 
-def new_code() -> str:
-    """A code that nobody can guess."""
-    return "".join(secrets.choice(CODE_LETTERS) for _ in range(CODE_LENGTH))
+@dataclass(eq=False)
+class Seat:
+    """A user's place at a machine, or the operator's.
+
+    log, number: its last entries, and how many there were
+    state, shown: all that is known of the user, and what pages show of it
+    stop, line, answer: the last stop, command and line of an answer, without the digit
+    used: the bytes of the script that are the seat's
+    """
+
+    name: str
+    digit: str
+    turn: asyncio.Lock = field(default_factory=asyncio.Lock)  # which is given first come, first served
+    log: deque[str] = field(default_factory=lambda: deque(maxlen=LOG_ENTRIES))
+    number: int = 0
+    state: State = field(default_factory=ABSENT.copy)
+    shown: State = field(default_factory=ABSENT.copy)
+    watch: Watch = field(default_factory=Watch)
+    rows: RowChoice = field(default_factory=RowChoice)
+    labels: dict[str, list[str]] = field(default_factory=dict)
+    stop: str = ""
+    line: str = ""
+    answer: str = ""
+    used: int = 0
+
+    def note(self, entry: str) -> None:
+        """Adds an entry to the log."""
+        self.log.append(entry)
+        self.number += 1
 
 
-class Codes:
-    """The code of each seat (A1 to L8) and of the teacher."""
+class Seats:
+    """The seats of a machine's users by digit, and the operator's."""
 
-    def __init__(self, machines: Iterable[str], kept: Mapping[str, str]) -> None:
-        """The codes that were kept, and new ones for all others."""
-        seats = [f"{machine}{digit}" for machine in machines for digit in DIGITS]
-        self.codes = {name: kept.get(name) or new_code() for name in (TEACHER, *seats)}
+    def __init__(self, letter: str) -> None:
+        self.users = {digit: Seat(letter + digit, digit) for digit in DIGITS}
+        self.operator = Seat(letter, "*")
 
-    def who(self, code: object) -> str | None:
-        """Whose code it is, if anybody's; it takes as long for any text."""
-        text = code.encode("utf-8", "replace") if isinstance(code, str) else b""
-        matches = [secrets.compare_digest(known.encode("ascii"), text) for known in self.codes.values()]
-        return next((name for name, match in zip(self.codes, matches) if match), None)
+    def names(self) -> list[str]:
+        """The names of all users' seats."""
+        return [seat.name for seat in self.users.values()]
 
-    def renew(self, seat: str) -> None:
-        """Gives a seat another code; the old one opens nothing from now on."""
-        self.codes[seat] = new_code()
+    def running(self) -> set[str]:
+        """The digits of users whose programs run."""
+        return {digit for digit, seat in self.users.items() if seat.state["run"] == "running"}
+
+    def follow(self, line: str, answer: Sequence[str]) -> None:
+        """Takes up what a user's line says of the user's memory."""
+        if line[0] in self.users:
+            seat = self.users[line[0]]
+            seat.watch.follow(line, read(answer))
+            if _begins_anew(line, answer):
+                seat.rows = RowChoice()
+
+    def touched(self, done: Sequence[Done]) -> set[str]:
+        """Whom lines may have changed: their users, and whose programs an operator's line may have run."""
+        lines = {line[0] for line, _ in done}
+        return lines - {"*"} | (self.running() if "*" in lines else set())
+
+    def look(self, session: Session, done: Sequence[Done], digits: Iterable[str]) -> dict[str, tuple[State, State]]:
+        """The states of users after what was done: all that is known, and what pages show of it."""
+        lines, states = [line for line, _ in done], {}
+        for digit in digits:
+            seat = self.users[digit]
+            anew = any(line[0] == digit and _begins_anew(line, answer) for line, answer in done)
+            before = ABSENT if anew else seat.state
+            own = [said for _, answer in done for whom, said in told(answer) if whom == digit]
+            single = lines == [f"{digit} step 1"] and before["run"] == "stopped"
+            carried_out = before["code"].get(before["pc"], "")[9:] if single else ""
+            is_done = not all(map(is_look, lines))
+            state = look_at(Guest(session, int(digit)), seat.watch, before, own, carried_out, is_done)
+            if "output" in state:
+                state["output"] = state["output"][-OUTPUT_DIGITS:]
+            seat.rows.add(state)
+            states[digit] = state, with_rows(state, seat.rows.rows(seat.watch))
+        return states
+
+    def take(self, states: dict[str, tuple[State, State]]) -> None:
+        """Takes up states that `look` made."""
+        for digit, pair in states.items():
+            self.users[digit].state, self.users[digit].shown = pair
+
+    def observe(self, line: str, answer: Sequence[str], is_told: bool) -> None:
+        """Tells seats of a line and its answer. Lines of the clock, and those that grant own slices, aren't told."""
+        asker, words = self.users.get(line[0], self.operator), words_of(line)
+        if is_told:
+            asker.note(f">{line}")
+            asker.line = line[2:]
+        if line[0] == "*" and words[:1] == ["run"] and words[1:] and words[1] in self.users:
+            self.users[words[1]].used += len(line) + 1
+        elif not is_look(line):
+            asker.used += len(line) + 1
+        if _begins_anew(line, answer):
+            asker.stop, asker.labels = "", {}
+        elif words == ["go"] and not is_refusal(answer):
+            asker.stop = ""
+        for part, entry in zip(answer, log_entries(line, answer)):
+            seat = self.users.get(part[0], self.operator)
+            if is_told or seat is not self.operator:
+                seat.note(entry)
+                seat.answer = part[2:]
+            if is_stop(part):
+                seat.stop = part[2:]
+
+
+def _begins_anew(line: str, answer: Sequence[str]) -> bool:
+    """Whether the line dropped all that its user had."""
+    return words_of(line)[:1] in (["enter"], ["leave"], ["load"]) and line[0] != "*" and not is_refusal(answer)

@@ -12,19 +12,16 @@ import socket
 import subprocess
 import sys
 import weakref
-from collections.abc import AsyncIterator, Awaitable, Callable
-from typing import Any
+from collections.abc import AsyncIterator, Awaitable, Callable, Iterable
 
 from aiohttp import WSMsgType, web
 from aiohttp.http import HttpProcessingError
 
-from ..page.pages import content_policy, page_text
-from .seats import TEACHER
+from ..page.pages import Page
+from .codes import TEACHER
 from .store import BadFolder
 from .view import Class, Message, Tab
 
-SCRIPTS = ["words.js", "operands.js", "view.js", "connection.js", "desk.js", "teacher.js", "class.js"]
-STYLES = ["page.css", "class.css"]
 MESSAGE_BYTES = 400_000
 PATIENCE = 10.0  # seconds for a first request, and for a tab's code
 UNKNOWN = 500  # connections without a whole request, and sockets without a code
@@ -41,9 +38,8 @@ class Server:
     def __init__(self, members: Class, names: set[str]) -> None:
         """names: hosts that the page may be opened under, besides all numeric addresses."""
         self.members, self.names = members, {"localhost", *names}
-        self._page = page_text("class.html", STYLES, SCRIPTS)
-        self._policy = f"{content_policy(STYLES, SCRIPTS)}; frame-ancestors 'none'; connect-src 'self'"
-        self._spoke: set[Any] = set()  # connections that have made a whole request
+        self._page = Page("class")
+        self._spoke: set[web.RequestHandler] = set()  # connections that have made a whole request
         self._is_ending = False
         self._nameless = asyncio.Semaphore(UNKNOWN)  # had by sockets without a code
         self._sockets: weakref.WeakSet[web.WebSocketResponse] = weakref.WeakSet()
@@ -73,7 +69,7 @@ class Server:
 
     async def sweep(self, runner: web.AppRunner) -> None:
         """Closes connections that have made no request in time, and the oldest such where there are too many."""
-        loop, since = asyncio.get_running_loop(), dict[Any, float]()
+        loop, since = asyncio.get_running_loop(), dict[web.RequestHandler, float]()
         while True:
             await asyncio.sleep(0.5)
             there = set(runner.server.connections) if runner.server else set()
@@ -101,10 +97,11 @@ class Server:
 
     async def _add_headers(self, request: web.Request, response: web.StreamResponse) -> None:
         host = request.headers.get("Host", "")
+        own = f"{self._page.policy}; frame-ancestors 'none'; connect-src 'self'"
         sockets = f" ws://{host} wss://{host}" if response.status == 200 else ""
         response.headers.update(
             {
-                "Content-Security-Policy": self._policy + sockets,
+                "Content-Security-Policy": own + sockets,
                 "Cache-Control": "no-store",
                 "Referrer-Policy": "no-referrer",
                 "X-Content-Type-Options": "nosniff",
@@ -113,7 +110,7 @@ class Server:
         )
 
     async def _get_page(self, request: web.Request) -> web.Response:
-        return web.Response(text=self._page, content_type="text/html")
+        return web.Response(text=self._page.text("vecmon class"), content_type="text/html")
 
     async def _get_file(self, request: web.Request) -> web.Response:
         code = request.headers.get("Authorization", "").removeprefix("Bearer ")
@@ -172,7 +169,8 @@ class Server:
             while tab.is_open:
                 await tab.changed.wait()
                 if tab.is_open and (news := self.members.news(tab)):
-                    await send({"kind": "news", **news})
+                    news["kind"] = "news"
+                    await send(news)
                 await asyncio.sleep(0.1 if tab.who == TEACHER else 0.02)  # what changes meanwhile goes together
             await own.close(code=CLOSED, message=b"another code")
 
@@ -194,17 +192,24 @@ class Server:
                 pusher.cancel()
 
 
+def listening(host: str, port: int) -> list[socket.socket]:
+    """Sockets that listen, one at each address of a host. Raises OSError where one can't be had."""
+    found = dict.fromkeys(socket.getaddrinfo(host, port, type=socket.SOCK_STREAM, flags=socket.AI_PASSIVE))
+    return [socket.create_server(address, family=family) for family, _, _, _, address in found]
+
+
 @contextlib.asynccontextmanager
-async def served(members: Class, host: str, port: int, names: set[str]) -> AsyncIterator[int]:
-    """Serves a class; the port. Ends it behind. Raises OSError where the address can't be had."""
+async def served(members: Class, doors: Iterable[socket.socket], names: set[str]) -> AsyncIterator[int]:
+    """Serves a class at sockets that listen; the port of the first. Ends it behind."""
     logging.getLogger("aiohttp.server").addFilter(_is_ours)
-    server = Server(members, {host, socket.gethostname(), *names})
+    server = Server(members, {socket.gethostname(), *names})
     runner = web.AppRunner(server.application(), access_log=None, keepalive_timeout=15.0, lingering_time=2.0)
     await runner.setup()
     tasks = []
     try:
-        await web.TCPSite(runner, host, port, shutdown_timeout=2.0).start()
-        work = [server.sweep(runner), _keep(members), *(room.run_clock() for room in members.rooms.values())]
+        for door in doors:
+            await web.SockSite(runner, door, shutdown_timeout=2.0).start()
+        work = [server.sweep(runner), _keep(members), *(room.clock.run() for room in members.rooms.values())]
         tasks = [asyncio.create_task(each) for each in work]
         yield runner.addresses[0][1]
     finally:
@@ -216,10 +221,10 @@ async def served(members: Class, host: str, port: int, names: set[str]) -> Async
         await runner.cleanup()
 
 
-async def serve(members: Class, host: str, port: int, names: set[str]) -> None:
-    """Serves a class until SIGINT or SIGTERM.
+async def serve(members: Class, host: str, doors: Iterable[socket.socket], names: set[str]) -> None:
+    """Serves a class at a host's sockets until SIGINT or SIGTERM.
 
-    Raises OSError where the address can't be had, and BadFolder once the program was replaced or taken away, as with its package.
+    Raises BadFolder once the program was replaced or taken away, as with its package.
     """
     sys.setswitchinterval(0.0005)  # so long a machine's thread waits for the event loop's, which may be busy
     most = resource.getrlimit(resource.RLIMIT_NOFILE)[1]
@@ -227,8 +232,8 @@ async def serve(members: Class, host: str, port: int, names: set[str]) -> None:
     ended, loop = asyncio.Event(), asyncio.get_running_loop()
     for sign in (signal.SIGINT, signal.SIGTERM):
         loop.add_signal_handler(sign, ended.set)
-    async with served(members, host, port, names) as own_port:
-        _announce(host, own_port, members.codes.codes[TEACHER])
+    async with served(members, doors, {host, *names}) as port:
+        _announce(host, port, members.codes.codes[TEACHER])
         missed = 0  # looks that found no program; after one, it may just be installed anew
         while not ended.is_set():
             missed = 0 if members.store.check_program() else missed + 1

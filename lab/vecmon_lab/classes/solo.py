@@ -7,7 +7,8 @@ import sys
 from collections.abc import Iterable, Iterator
 
 from .. import LabError
-from ..machine.lines import DIGITS, is_refusal, is_stop, words_of
+from ..machine.answers import is_refusal, is_stop
+from ..machine.lines import DIGITS, words_of
 from ..machine.program import find_program
 from ..machine.session import Session
 from .store import ScriptFile, Store

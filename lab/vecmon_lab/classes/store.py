@@ -15,16 +15,41 @@ import os
 import pathlib
 import re
 import shutil
-from collections.abc import Mapping
-from typing import Any
+from collections.abc import Callable, Iterator, Mapping, Sequence
+from dataclasses import asdict, dataclass, field, replace
+from typing import TypeVar
 
 from .. import LabError
 from ..machine.session import Session
-from .seats import LETTERS, Codes
+from .codes import LETTERS, Codes
 
 
 class BadFolder(LabError):
     """The folder can't keep this class; the text says why."""
+
+
+@dataclass(frozen=True)
+class Facts:
+    """What a class is begun with: the digest of the program, and those of the images by name."""
+
+    program: str = ""
+    quantum: int = 100
+    machines: int = 1
+    images: Mapping[str, str] = field(default_factory=dict)
+
+
+@dataclass(frozen=True)
+class Notes:
+    """What is kept beside a script: how many lines were answered by a digest, the clock, rights, labels by digit."""
+
+    lines: int = 0
+    answers: str = ""
+    clock: Mapping[str, int] = field(default_factory=dict)
+    own_slices: bool = True
+    labels: Mapping[str, dict[str, list[str]]] = field(default_factory=dict)
+
+
+Kept = TypeVar("Kept")
 
 
 class ScriptFile:
@@ -35,6 +60,7 @@ class ScriptFile:
 
     def __init__(self, path: pathlib.Path) -> None:
         """Opens the file, and cuts off a last line without its newline; `kept` has the rest."""
+        self._machine = path.stem
         self._file = os.open(path, os.O_RDWR | os.O_CREAT, 0o600)
         data = path.read_bytes()
         self.kept = data[: data.rfind(b"\n") + 1]
@@ -42,6 +68,16 @@ class ScriptFile:
         self._waiting = bytearray()
         self._saved = len(self.kept)
         os.ftruncate(self._file, self._saved)
+
+    def replay(self, session: Session, notes: Notes) -> Iterator[tuple[str, Sequence[str]]]:
+        """Carries out what was kept: each line and its answer. Raises BadFolder where it is answered otherwise."""
+        script = self.kept.decode("latin-1").split("\n")[:-1]
+        if len(script) < notes.lines:
+            raise BadFolder(f"the script of machine {self._machine} has lost lines: it had {notes.lines}")
+        for number, line in enumerate(script, 1):
+            yield line, session.do(line)
+            if number == notes.lines and session.digest != notes.answers:
+                raise BadFolder(f"machine {self._machine} answers the first {number} lines otherwise than before")
 
     @property
     def is_saved(self) -> bool:
@@ -110,14 +146,14 @@ class Store:
             raise
 
     def _open(self, images: Mapping[str, pathlib.Path], quantum: int | None, machines: int | None) -> None:
-        kept = self.read("class.json")
-        facts = self._facts(kept, images, quantum, machines) if kept else self._begin(images, quantum, machines)
-        self._program_digest: str = facts["program"]
-        self.quantum: int = facts["quantum"]
-        self.machines = LETTERS[: facts["machines"]]
-        self.images = {name: self._image(name) for name in facts["images"]}
-        self.codes = Codes(self.machines, self.read("codes.json"))
-        if not (self.write("class.json", facts) and self.write("codes.json", self.codes.codes)):
+        kept = self.read("class.json", Facts)
+        facts = self._facts(kept, images, quantum, machines) if kept.program else self._begin(images, quantum, machines)
+        self._program_digest = facts.program
+        self.quantum = facts.quantum
+        self.machines = LETTERS[: facts.machines]
+        self.images = {name: self._image(name) for name in facts.images}
+        self.codes = Codes(self.machines, self.read("codes.json", dict[str, str]))
+        if not (self.write("class.json", asdict(facts)) and self.write("codes.json", self.codes.codes)):
             raise BadFolder(self.trouble)
 
     def close(self) -> None:
@@ -138,17 +174,16 @@ class Store:
             return False
         raise BadFolder(f"the class has ended, since {self.program} is another program now")
 
-    def read(self, name: str) -> dict[str, Any]:
-        """An object that was kept; an empty one if there is none."""
-        with contextlib.suppress(FileNotFoundError):
-            with contextlib.suppress(ValueError):
-                value = json.loads((self.folder / name).read_text("utf-8"))
-                if isinstance(value, dict):
-                    return value
-            raise BadFolder(f"{self.folder / name} isn't what a server wrote")
-        return {}
+    def read(self, name: str, kind: Callable[..., Kept]) -> Kept:
+        """What was kept, which is of this kind; what that is without words if there is nothing."""
+        try:
+            return kind(**json.loads((self.folder / name).read_text("utf-8")))
+        except FileNotFoundError:
+            return kind()
+        except (ValueError, TypeError) as error:
+            raise BadFolder(f"{self.folder / name} isn't what a server wrote") from error
 
-    def write(self, name: str, value: Mapping[str, Any]) -> bool:
+    def write(self, name: str, value: Mapping[str, object]) -> bool:
         """Keeps an object, as a whole or not at all; whether that went well. `trouble` says why not."""
         new = self.folder / f"{name}.new"
         try:
@@ -163,7 +198,7 @@ class Store:
     def _image(self, name: str) -> pathlib.Path:
         return self.folder / "images" / f"{name}.elf"
 
-    def _begin(self, images: Mapping[str, pathlib.Path], quantum: int | None, machines: int | None) -> dict[str, Any]:
+    def _begin(self, images: Mapping[str, pathlib.Path], quantum: int | None, machines: int | None) -> Facts:
         """What a new class is begun with; the images are copied."""
         for name in images:
             if not re.fullmatch(r"[A-Za-z0-9._-]{1,32}", name):
@@ -174,22 +209,21 @@ class Store:
         for name, path in images.items():
             shutil.copyfile(path, self._image(name))
         digests = {name: _digest(self._image(name)) for name in images}
-        facts = {"quantum": quantum or 100, "machines": machines or 1, "images": digests}
-        return {"program": _digest(self.program)} | facts
+        return Facts(_digest(self.program), quantum or 100, machines or 1, digests)
 
     def _facts(
-        self, kept: dict[str, Any], images: Mapping[str, pathlib.Path], quantum: int | None, machines: int | None
-    ) -> dict[str, Any]:
+        self, kept: Facts, images: Mapping[str, pathlib.Path], quantum: int | None, machines: int | None
+    ) -> Facts:
         """What the class was begun with, compared with what is there and what is named now."""
-        if _digest(self.program) != kept["program"]:
+        if _digest(self.program) != kept.program:
             raise BadFolder(f"{self.folder} was begun with another program than {self.program}")
         named = {name: _digest(path) for name, path in images.items()}
-        there = {name: _digest(self._image(name)) for name in kept["images"]}
-        if there != kept["images"] or images and named != there:
+        there = {name: _digest(self._image(name)) for name in kept.images}
+        if there != kept.images or images and named != there:
             raise BadFolder(f"{self.folder} was begun with other images")
-        if quantum not in (None, kept["quantum"]):
-            raise BadFolder(f"{self.folder} was begun with --quantum {kept['quantum']}")
-        return kept | {"machines": max(kept["machines"], machines or 1)}
+        if quantum not in (None, kept.quantum):
+            raise BadFolder(f"{self.folder} was begun with --quantum {kept.quantum}")
+        return replace(kept, machines=max(kept.machines, machines or 1))
 
 
 def _digest(path: pathlib.Path) -> str:

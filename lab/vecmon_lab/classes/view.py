@@ -3,17 +3,88 @@
 import asyncio
 import contextlib
 import json
-from collections.abc import Iterable
-from typing import Any
+from collections.abc import Iterable, Mapping
+from dataclasses import asdict
+from typing import TypedDict
 
 from .. import LabError
+from ..assembler.commands import refusal_on_pages
 from ..machine.session import SCRIPT_BYTES
 from ..page.pages import merge_patch
-from .room import SEAT_BYTES, BadRequest, Room, Seat
-from .seats import TEACHER
-from .store import ScriptFile, Store
+from ..page.state import State
+from .codes import TEACHER
+from .requests import BadRequest, Lines, LookOver, Renew, Request, SetClock, SetRights, Source, read_request
+from .room import SEAT_BYTES, Room
+from .seats import Seat
+from .store import Notes, ScriptFile, Store
 
-Message = dict[str, Any]
+Logs = dict[str, list[str]]
+Answers = list[list[str]]
+Clock = Mapping[str, int]
+Mistake = TypedDict("Mistake", {"line": int, "column": int, "message": str})
+Share = TypedDict("Share", {"used": int, "of": int})
+
+
+class Message(TypedDict, total=False):
+    """What a tab is told. A patch is one of its view; logs have new entries by the name of their seat."""
+
+    kind: str
+    id: int
+    who: str
+    do: Answers
+    look: Answers
+    mistakes: list[Mistake]
+    error: str
+    done: Answers
+    words: list[str]
+    patch: dict[str, object]
+    logs: Logs
+
+
+class StudentView(TypedDict):
+    """What a student's page shows."""
+
+    seat: str
+    state: State
+    stop: str
+    images: list[str]
+    quantum: int
+    clock: bool
+    own_slices: bool
+    share: Share
+    trouble: str
+
+
+SeatView = TypedDict(
+    "SeatView", {"code": str, "tabs": int, "run": str, "pc": str, "stop": str, "line": str, "answer": str, "used": int}
+)
+
+
+class MachineView(TypedDict):
+    """What the teacher's page shows of a machine."""
+
+    seats: dict[str, SeatView]
+    clock: Clock
+    own_slices: bool
+    script: int
+    of: int
+    lines: int
+    digest: str
+    restarts: int
+    loss: str
+    trouble: str
+
+
+class TeacherView(TypedDict):
+    """What the teacher's page shows."""
+
+    machines: dict[str, MachineView]
+    share: int
+    images: list[str]
+    quantum: int
+    trouble: str
+    shoulder: str
+    state: State
 
 
 class Tab:
@@ -22,7 +93,7 @@ class Tab:
     def __init__(self, who: str) -> None:
         self.who = who
         self.shoulder: Seat | None = None  # whom a teacher looks at
-        self.view: Message = {}
+        self.view: Mapping[str, object] = {}
         self.since: dict[str, int] = {}  # how many entries of each log were told
         self.changed = asyncio.Event()
         self.is_open = True
@@ -36,13 +107,13 @@ class Class:
         self.store, self.codes = store, store.codes
         self.tabs: set[Tab] = set()
         self.rooms: dict[str, Room] = {}
-        self._kept: dict[str, Message] = {}
+        self._kept: dict[str, Notes] = {}
         try:
             for letter in store.machines:
                 file = ScriptFile(store.folder / f"{letter}.script")
                 self.rooms[letter] = room = Room(letter, store.session(patience), file)
                 room.changed = self._tell
-                room.restore(store.read(f"{letter}.json"))
+                room.restore(store.read(f"{letter}.json", Notes))
         except BaseException:
             self.end()
             raise
@@ -61,25 +132,27 @@ class Class:
             trouble = room.trouble
             room.file.catch_up()
             if room.trouble != trouble:
-                self._tell(room.names())
+                self._tell(room.seats.names())
             notes = room.notes()
             name = f"{room.letter}.json"
-            if room.file.is_saved and self._kept.get(name) != notes and self.store.write(name, notes):
+            if room.file.is_saved and self._kept.get(name) != notes and self.store.write(name, asdict(notes)):
                 self._kept[name] = notes
         if self.store.trouble and self.store.write("codes.json", self.codes.codes):
             self._tell([])
 
-    def seat(self, name: Any) -> Seat:
+    def seat(self, name: str) -> Seat:
         """The seat of a name. Raises BadRequest."""
-        with contextlib.suppress(KeyError, IndexError, TypeError):
-            return self.rooms[name[:-1]].seats[name[-1]]
+        with contextlib.suppress(KeyError):
+            return self.rooms[name[:-1]].seats.users[name[-1:]]
         raise BadRequest("there is no such seat")
 
     def hello(self, tab: Tab) -> Message:
         """The first message to a tab, which joins the class; news follow it."""
         self.tabs.add(tab)
         self._tell([tab.who])
-        return {"kind": "hello", "who": tab.who, **self.news(tab)}
+        hello: Message = {"kind": "hello", "who": tab.who}
+        hello.update(self.news(tab))
+        return hello
 
     def leave(self, tab: Tab) -> None:
         """The tab is gone."""
@@ -89,34 +162,46 @@ class Class:
     async def answer(self, tab: Tab, text: str) -> Message:
         """The answer to a request, with what is new."""
         answer: Message = {"kind": "answer", "id": 0}
-        done: list[list[str]] = []
+        done: Answers = []
         try:
-            request = json.loads(text)
-            if not isinstance(request, dict) or type(request.get("id")) is not int:
+            message = json.loads(text)
+            if not isinstance(message, dict) or type(message.get("id")) is not int:
                 raise BadRequest("a request is an object with a whole number as id")
-            answer["id"] = request["id"]
-            answer |= await self._carry_out(tab, request, done)
+            answer["id"] = message["id"]
+            answer.update(await self._carry_out(tab, read_request(message, tab.who == TEACHER), done))
         except (LabError, ValueError, RecursionError) as error:
-            answer |= {"error": str(error), "done": done}
-        return answer | self.news(tab)
+            answer.update({"error": str(error), "done": done})
+        digit = "*" if tab.who == TEACHER else tab.who[-1]
+        if done:  # which are the first of these lines
+            asked = [
+                (f"{digit} {text}", [f"{digit} {part}" for part in parts]) for text, parts in zip(message["do"], done)
+            ]
+            answer["words"] = [refusal_on_pages(*each) for each in asked]
+        answer.update(self.news(tab))
+        return answer
 
     def news(self, tab: Tab) -> Message:
         """What the tab hasn't been told: a patch of its view, and entries of logs."""
         tab.changed.clear()
+        view: Mapping[str, object]
         view = self._teacher_view(tab) if tab.who == TEACHER else self._student_view(self.seat(tab.who))
         patch, tab.view = merge_patch(tab.view, view), view
-        logs = {}
+        news, logs = Message(), Logs()
+        if patch:
+            news["patch"] = patch
         for seat in self._logs(tab):
             new = seat.number - tab.since.get(seat.name, 0)
             if new:
                 logs[seat.name] = list(seat.log)[-new:]
             tab.since[seat.name] = seat.number
-        return ({"patch": patch} if patch else {}) | ({"logs": logs} if logs else {})
+        if logs:
+            news["logs"] = logs
+        return news
 
     def _logs(self, tab: Tab) -> list[Seat]:
         if tab.who != TEACHER:
             return [self.seat(tab.who)]
-        operators = [room.operator for room in self.rooms.values()]
+        operators = [room.seats.operator for room in self.rooms.values()]
         return operators if tab.shoulder is None else [*operators, tab.shoulder]
 
     def _tell(self, names: Iterable[str]) -> None:
@@ -126,7 +211,7 @@ class Class:
             if tab.who in names:
                 tab.changed.set()
 
-    def _student_view(self, seat: Seat) -> Message:
+    def _student_view(self, seat: Seat) -> StudentView:
         room = self.rooms[seat.name[0]]
         return {
             "seat": seat.name,
@@ -134,13 +219,13 @@ class Class:
             "stop": seat.stop,
             "images": list(self.store.images),
             "quantum": self.store.quantum,
-            "clock": room.clock["on"],
+            "clock": room.clock.settings.on,
             "own_slices": room.own_slices,
             "share": {"used": seat.used, "of": SEAT_BYTES},
             "trouble": room.trouble,
         }
 
-    def _teacher_view(self, tab: Tab) -> Message:
+    def _teacher_view(self, tab: Tab) -> TeacherView:
         return {
             "machines": {letter: self._machine_view(room) for letter, room in self.rooms.items()},
             "share": SEAT_BYTES,
@@ -151,10 +236,10 @@ class Class:
             "state": _shown(tab.shoulder) if tab.shoulder else {},
         }
 
-    def _machine_view(self, room: Room) -> Message:
+    def _machine_view(self, room: Room) -> MachineView:
         return {
-            "seats": {seat.digit: self._seat_view(seat) for seat in room.seats.values()},
-            "clock": room.clock.copy(),
+            "seats": {seat.digit: self._seat_view(seat) for seat in room.seats.users.values()},
+            "clock": asdict(room.clock.settings),
             "own_slices": room.own_slices,
             "script": room.session.size,
             "of": SCRIPT_BYTES,
@@ -165,7 +250,7 @@ class Class:
             "trouble": room.trouble,
         }
 
-    def _seat_view(self, seat: Seat) -> Message:
+    def _seat_view(self, seat: Seat) -> SeatView:
         return {
             "code": self.codes.codes[seat.name],
             "tabs": sum(tab.who == seat.name for tab in self.tabs),
@@ -177,29 +262,26 @@ class Class:
             "used": seat.used,
         }
 
-    async def _carry_out(self, tab: Tab, request: Message, done: list[list[str]]) -> Message:
+    async def _carry_out(self, tab: Tab, request: Request, done: Answers) -> Message:
         """Carries out a request, and tells what its answer has of its own."""
-        match request.get("ask"), tab.who == TEACHER:
-            case "lines", is_teacher:
-                seat = self._room(request).operator if is_teacher else self.seat(tab.who)
-                do, look, slices = request.get("do", []), request.get("look", []), request.get("slices", 0)
-                looks = await self.rooms[seat.name[0]].lines(seat, do, look, slices, done)
-                return {"do": done, "look": looks}
-            case "source", False:
+        match request:
+            case Lines(machine):
+                seat = self._room(machine).seats.operator if tab.who == TEACHER else self.seat(tab.who)
+                return {"do": done, "look": await self.rooms[seat.name[0]].lines(seat, request, done)}
+            case Source(text):
                 seat = self.seat(tab.who)
-                return {"mistakes": await self.rooms[seat.name[0]].source(seat, request.get("text"))}
-            case "clock", True:
-                self._room(request).set_clock(request)
-            case "rights", True:
-                self._room(request).set_rights(request.get("own_slices"))
-            case "renew", True:
-                self._renew(self.seat(request.get("seat")).name)
-            case "shoulder", True:
-                tab.shoulder = self.seat(request["seat"]) if request.get("seat") else None
+                mistakes = await self.rooms[seat.name[0]].source(seat, text)
+                return {"mistakes": [{"line": it.line, "column": it.column, "message": it.message} for it in mistakes]}
+            case SetClock(machine, settings):
+                self._room(machine).set_clock(settings)
+            case SetRights(machine, own_slices):
+                self._room(machine).set_rights(own_slices)
+            case Renew(name):
+                self._renew(self.seat(name).name)
+            case LookOver(name):
+                tab.shoulder = self.seat(name) if name else None
                 if tab.shoulder:
                     tab.since.pop(tab.shoulder.name, None)
-            case _:
-                raise BadRequest("there is no such request for this seat")
         return {}
 
     def _renew(self, name: str) -> None:
@@ -210,12 +292,14 @@ class Class:
         self._tell([name])
         self.store.write("codes.json", self.codes.codes)
 
-    def _room(self, request: Message) -> Room:
-        if request.get("machine") not in list(self.rooms):
+    def _room(self, machine: str) -> Room:
+        if machine not in self.rooms:
             raise BadRequest("there is no such machine")
-        return self.rooms[request["machine"]]
+        return self.rooms[machine]
 
 
-def _shown(seat: Seat) -> Message:
+def _shown(seat: Seat) -> State:
     """A seat's state as pages show it."""
-    return seat.shown | {"labels": seat.labels}
+    shown = seat.shown.copy()
+    shown["labels"] = seat.labels
+    return shown

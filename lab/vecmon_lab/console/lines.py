@@ -14,9 +14,24 @@ from ..guest.changes import Change, Stepper, vtype_text
 from ..guest.guest import Guest
 from ..guest.symbols import Symbols
 from ..instructions.accesses import PAGE_BYTES
-from ..instructions.reasons import VectorView, describe_stop
+from ..instructions.reasons import describe_stop
 from ..lessons.script import read_source, refused_statement
-from ..machine.lines import is_look, is_refusal
+from ..machine.answers import (
+    Addresses,
+    Answer,
+    ControlRegisters,
+    Listing,
+    Loaded,
+    Memory,
+    Position,
+    Refused,
+    ScalarRegisters,
+    Stop,
+    VectorRegister,
+    VectorView,
+    read,
+)
+from ..machine.lines import is_look
 from ..machine.program import find_program
 from ..machine.session import Session
 from ..tables.table import read_table
@@ -24,6 +39,7 @@ from .show import ABI_NAMES, Screen, change_text, control_row, memory_rows, regi
 
 STEPS = [str(number) for number in range(1, 257)]  # that the machine takes
 WIDTH = 96  # of a row of registers that changed
+DIGITS = "[0-9a-fA-F]+"
 
 LEFT_OUT = {"dis": "{pc:x} {number}", "load": "image", "peek": "ADDR 16", "step": "1", "vreg": "vN {sew}"}
 REGISTERS = {name: number for number, name in ABI_NAMES.items()} | {"fp": "x8"}
@@ -57,9 +73,9 @@ class Console:
         script = read_source(path.read_text("utf-8", "replace"), str(path))
         with Session(find_program()) as trial:
             for line in script.steps[0].lines:
-                answer = trial.do(line)
-                if is_refusal(answer):
-                    raise refused_statement(script, line, answer[0])
+                answer = read(trial.do(line))
+                if isinstance(answer, Refused):
+                    raise refused_statement(script, line, answer)
         for line in ["1 stop", "1 leave", *script.steps[0].lines]:
             self._guest.session.do(line)
         self._symbols = Symbols.of_labels(script.labels)
@@ -75,7 +91,7 @@ class Console:
         if run != "stopped":
             return run
         control, policy = self._stepper.registers.control, self._guest.session.policy[self._guest.user]
-        return f"pc {self._place(pc)}   vtype {vtype_text(control['vtype'])}   vl {control['vl']}   policy {policy}"
+        return f"pc {self._place(pc)}   vtype {vtype_text(control.vtype)}   vl {control.vl}   policy {policy}"
 
     def tell_place(self) -> None:
         """Shows the next instruction."""
@@ -116,7 +132,7 @@ class Console:
         name = line.split()[0]
         form = COMMANDS[name].form.split() if name in COMMANDS else [name]
         words = line.split(None, max(len(form) - 1, 1))
-        vtype, (_, pc) = self._stepper.registers.control["vtype"], self._state()
+        vtype, (_, pc) = self._stepper.registers.control.vtype, self._state()
         number, sew = min(8, (PAGE_BYTES - pc % PAGE_BYTES) // 4), VectorView(vtype & 0x3F, 0).sew
         words += LEFT_OUT.get(name, "").format(pc=pc, number=number, sew=sew).split()[len(words) - 1 :]
         return words[:1] + [self._named(word, kind) for word, kind in zip(words[1:], [*form[1:], ""])]
@@ -129,7 +145,9 @@ class Console:
             return word
         name, _, offset = word.partition("+")
         address = self._symbols.addresses.get(name)
-        if address is None or not re.fullmatch("(0x)?[0-9a-fA-F]+", offset or "0"):
+        if address is None and re.fullmatch("[A-Za-z_.$][A-Za-z0-9_.$]*", name) and not re.fullmatch(DIGITS, name):
+            raise LabError(f"there is no symbol {name}")
+        if address is None or not re.fullmatch(f"(0x)?{DIGITS}", offset or "0"):
             return word.removeprefix("0x")
         return f"{address + int(offset or '0', 16):x}"
 
@@ -137,36 +155,37 @@ class Console:
         """Carries out a line of the monitor, whose user or operator may stand before it, and shows the answer."""
         has_user = len(words[0]) == 1 and words[0] in "12345678*"
         line = " ".join(words if has_user else [str(self._guest.user), *words])
-        answer = self._guest.session.do(line)
+        lines = self._guest.session.do(line)
+        answer = read(lines)
         if not is_look(line):
             self._look()
-        if is_refusal(answer):
-            self._screen.say(*refusal_in_words(line, answer[0]), kind="refused")
+        if isinstance(answer, Refused):
+            self._screen.say(*refusal_in_words(line, answer), kind="refused")
         else:
-            self._screen.say(*answer if has_user else self._shown(words[0], [part[2:] for part in answer]))
-        if words[0] == "load" and not is_refusal(answer):
+            self._screen.say(*lines if has_user else self._shown(answer))
+        if isinstance(answer, Loaded):
             self._symbols = self._image_symbols
         if words[0] in ("load", "setpc"):
             self.tell_place()
 
-    def _shown(self, command: str, answer: list[str]) -> Iterable[str]:
+    def _shown(self, answer: Answer) -> Iterable[str]:
         """An answer as the console shows it."""
         registers = self._stepper.registers
-        match command:
-            case "regs":
+        match answer:
+            case ScalarRegisters():
                 return register_rows(answer)
-            case "vreg":
+            case VectorRegister():
                 mask = int.from_bytes(registers.v[:32], "little") if self._has_mask else None
-                return self._screen.element_rows(answer[0], registers.control, mask)
-            case "vcsr":
-                return [control_row(registers.control, self._guest.session.policy[self._guest.user])]
-            case "peek":
-                return memory_rows(answer[0])
-            case "dis":
-                return [f"{self._place(int(line[:16], 16))}  {line[26:]}" for line in answer]
-            case "breaks" | "trace":
-                return [self._place(int(address, 16)) for address in answer[0].split()[1:]]
-        return answer
+                return self._screen.element_rows(answer, registers.control, mask)
+            case ControlRegisters():
+                return [control_row(answer, self._guest.session.policy[self._guest.user])]
+            case Memory():
+                return memory_rows(answer)
+            case Listing(words):
+                return [f"{self._place(word.address)}  {word.text}" for word in words]
+            case Addresses(_, addresses):
+                return map(self._place, addresses)
+        return [str(answer)]
 
     def _run(self) -> None:
         """The program runs to its next stop, or until Ctrl-C."""
@@ -175,17 +194,18 @@ class Console:
         self._guest.ask("stop")  # it may have gone on in slices of the operator's
         stop = self._guest.go(None, lambda: self._is_interrupted)
         self._has_mask = False
-        self._screen.say(self._guest.explain(stop) if stop else describe_stop(f"stopped pc={self._guest.pc:016x}"))
+        self._screen.say(self._guest.explain(stop) if stop else describe_stop(Position("stopped", self._guest.pc)))
         self._screen.say(*_change_rows(self._look()), kind="changed")
         self.tell_place()
 
     def _step(self, number: int) -> None:
         """Carries out instructions, up to a stop, a breakpoint or Ctrl-C; each is shown with what it changed."""
-        breaks = self._guest.ask("breaks")[0][0].split()[1:]
+        breaks = self._guest.told("breaks", Addresses).addresses
         for count in range(number):
             pc = self._guest.pc
-            if self._is_interrupted or count and f"{pc:016x}" in breaks:
-                self._screen.say(describe_stop(f"{'stopped' if self._is_interrupted else 'break'} pc={pc:016x}"))
+            if self._is_interrupted or count and pc in breaks:
+                where = Position("stopped", pc) if self._is_interrupted else Stop("break", pc)
+                self._screen.say(describe_stop(where))
                 break
             carried = self._stepper.step()
             self._has_mask = carried.text.endswith("v0.t")
@@ -202,8 +222,8 @@ class Console:
 
     def _state(self) -> tuple[str, int]:
         """Whether the user's program is `stopped` or `running`, and where; or `absent`."""
-        words = self._guest.ask("state")[0][0].split()
-        return (words[1], int(words[2].removeprefix("pc="), 16)) if len(words) == 3 else ("absent", 0)
+        (state,) = self._guest.ask("state")
+        return (state.run, state.pc) if isinstance(state, Position) else ("absent", 0)
 
     def _look(self) -> list[Change]:
         """Looks at all registers again, where the machine shows them; what has changed."""

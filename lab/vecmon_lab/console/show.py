@@ -1,12 +1,12 @@
 """What the console shows: the program's output, rows of text, registers by both names, and elements in the colour of how they lie."""
 
 import sys
-from collections.abc import Iterator, Mapping, Sequence
+from collections.abc import Iterator
 from fractions import Fraction
 
 from ..guest.changes import Change, RegisterChange, vtype_text
 from ..instructions.accesses import ROW_BYTES
-from ..instructions.reasons import VectorView
+from ..machine.answers import ControlRegisters, Memory, ScalarRegisters, VectorRegister
 from ..tables.table import read_table
 
 COLOURS = {"tail": "2", "masked": "35", "changed": "33", "refused": "31"}
@@ -41,23 +41,22 @@ class Screen:
         """A text in the colour of its kind; an empty kind has none."""
         return f"\033[{COLOURS[kind]}m{text}\033[0m" if kind and self._has_colours else text
 
-    def element_rows(self, answer: str, control: Mapping[str, int], mask: int | None) -> Iterator[str]:
-        """The elements in an answer to `vreg`, some to a row; those of the tail, and those that a mask has off, have colours."""
-        name, *values = answer.split()
-        width, view = 256 // len(values), VectorView(control["vtype"], control["vstart"])
-        group = max(1, int(Fraction(width, view.sew) * view.lmul))
-        first = int(name[1:]) % group * len(values)
+    def element_rows(self, register: VectorRegister, control: ControlRegisters, mask: int | None) -> Iterator[str]:
+        """The elements of a register, some to a row; those of the tail, and those that a mask has off, have colours."""
+        name, values = f"v{register.number}", [f"{value:0{register.width // 4}x}" for value in register.elements]
+        group = max(1, int(Fraction(register.width, control.sew) * control.lmul))
+        first = register.number % group * len(values)
         texts = [self.paint(value, _lie(first + place, control, mask)) for place, value in enumerate(values)]
-        room = 1 << (ELEMENTS_WIDTH // (width // 4 + 1)).bit_length() - 1
+        room = 1 << (ELEMENTS_WIDTH // (register.width // 4 + 1)).bit_length() - 1
         for row in range(0, len(texts), room):
             yield f"{'' if row else name:3} {' '.join(texts[row : row + room])}"
 
 
-def _lie(element: int, control: Mapping[str, int], mask: int | None) -> str:
+def _lie(element: int, control: ControlRegisters, mask: int | None) -> str:
     """How an element lies: in the tail, masked off, or neither; where there is no vector type, neither."""
-    if control["vtype"] >> 63:
+    if control.vtype >> 63:
         return ""
-    if element >= control["vl"]:
+    if element >= control.vl:
         return "tail"
     return "" if mask is None or mask >> element & 1 else "masked"
 
@@ -73,26 +72,23 @@ def change_text(change: Change) -> str:
     return text.replace(change.name, both_names(change.name), 1) if isinstance(change, RegisterChange) else text
 
 
-def register_rows(answer: Sequence[str]) -> Iterator[str]:
-    """The program counter and the scalar registers, three to a row, from an answer to `regs`."""
-    words = " ".join(answer).split()
-    cells = [f"{both_names(name):8} {value}" for name, value in zip(words[::2], words[1::2])]
+def register_rows(registers: ScalarRegisters) -> Iterator[str]:
+    """The program counter and the scalar registers, three to a row."""
+    named = {"pc": registers.pc} | {f"x{number}": value for number, value in enumerate(registers.x)}
+    cells = [f"{both_names(name):8} {value:016x}" for name, value in named.items()]
     for row in range(0, len(cells), 3):
         yield "  ".join(cells[row : row + 3])
 
 
-def control_row(control: Mapping[str, int], policy: str) -> str:
+def control_row(control: ControlRegisters, policy: str) -> str:
     """The vector control registers and the policy."""
-    vtype, rounding = control["vtype"], ROUNDING[control["vxrm"]]
-    first = f"vl={control['vl']} vtype={vtype:x} ({vtype_text(vtype)}) vstart={control['vstart']}"
-    return f"{first} vxrm={control['vxrm']} ({rounding}) vxsat={control['vxsat']} policy={policy}"
+    first = f"vl={control.vl} vtype={control.vtype:x} ({vtype_text(control.vtype)}) vstart={control.vstart}"
+    return f"{first} vxrm={control.vxrm} ({ROUNDING[control.vxrm]}) vxsat={control.vxsat} policy={policy}"
 
 
-def memory_rows(answer: str) -> Iterator[str]:
-    """The bytes in an answer to `peek`, 16 to a row, as digits and as ASCII."""
-    _, address, digits = answer.split()
-    data = bytes.fromhex(digits)
-    for place in range(0, len(data), ROW_BYTES):
-        row = data[place : place + ROW_BYTES]
+def memory_rows(memory: Memory) -> Iterator[str]:
+    """The bytes, 16 to a row, as digits and as ASCII."""
+    for place in range(0, len(memory.data), ROW_BYTES):
+        row = memory.data[place : place + ROW_BYTES]
         text = "".join(chr(byte) if 32 <= byte < 127 else "." for byte in row)
-        yield f"{int(address, 16) + place:8x}  {row.hex(' '):{3 * ROW_BYTES - 1}}  {text}"
+        yield f"{memory.address + place:8x}  {row.hex(' '):{3 * ROW_BYTES - 1}}  {text}"

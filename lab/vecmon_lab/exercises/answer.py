@@ -9,12 +9,17 @@ from .. import LabError
 from ..assembler.commands import refusal_in_words
 from ..guest.guest import IMAGE_BYTES, QUANTUM, STACK_END, STACK_POINTER, Guest, pokes
 from ..lessons.script import Script, read_source, refused_statement
-from ..machine.lines import check_line, is_refusal, words_of
+from ..machine.answers import Refused, ScalarRegisters
+from ..machine.lines import check_line, words_of
+from ..machine.program import check_flags
 from ..machine.session import Session
 from .exercise import Case, Exercise, Results
 
 RETURN = STACK_END
 """Where an answer returns to, as x1 has it: to an ebreak in a page of its own."""
+
+TURNED = 0xA5
+"""The bits of a byte that are turned round where something is expected. All would make -32768 of 32767, as sums do."""
 
 _RETURN_PAGE = (f"map {RETURN:x} 1 rx", f"poke {RETURN:x} 73001000", f"set x1 {RETURN:x}")
 _STACK = (f"map {STACK_END - 0x4000:x} 4 rw", f"set x2 {STACK_POINTER:x}")
@@ -39,6 +44,7 @@ def read_answer(path: pathlib.Path) -> Answer:
     if len(data) > IMAGE_BYTES:
         raise LabError(f"it has more than {IMAGE_BYTES:,} bytes")
     if data.startswith(b"\x7fELF"):
+        check_flags(data)
         return Answer(path)
     try:
         text = data.decode("utf-8")
@@ -55,6 +61,10 @@ def _script_commands(text: str) -> list[str]:
     lines = [(number, line) for number, line in enumerate(text.split("\n"), 1) if line and not line.startswith("#")]
     for number, line in lines:
         try:
+            if not re.match("[1-8*] ", line):
+                raise LabError(
+                    f"{line[:40]!r} has no user's digit and space before it; a source's name ends in .s or .S"
+                )
             check_line(line)
             if line[0] == "*" or words_of(line)[:1] in (["enter"], ["leave"], ["load"]):
                 raise LabError("an answer has no line of the operator's, and no enter, leave or load")
@@ -65,8 +75,11 @@ def _script_commands(text: str) -> list[str]:
     return [line[2:] for _, line in lines]
 
 
-def attempt(program: pathlib.Path, answer: Answer, exercise: Exercise, case: Case) -> Results:
-    """What an answer leaves in the places of a case. Raises LabError with the reason where it fails before."""
+def attempt(program: pathlib.Path, answer: Answer, exercise: Exercise, case: Case) -> tuple[Results, Results]:
+    """What stands in the places of a case before an answer runs, and what it leaves there.
+
+    Raises LabError with the reason where it fails before.
+    """
     output = bytearray()
 
     def write(data: bytes) -> None:
@@ -85,35 +98,36 @@ def attempt(program: pathlib.Path, answer: Answer, exercise: Exercise, case: Cas
         guest.empty_buffer()
         output.clear()
         _ask(guest, list(_inputs(exercise, case)))
-        stop = guest.go(exercise.ticks)
+        before, stop = _results(guest, case.expected, b""), guest.go(exercise.ticks)
         if stop is None or stop.kind not in ("ebreak", "exit"):
             raise LabError(guest.explain(stop) if stop else f"it hasn't ended after {exercise.ticks:,} ticks")
-        return _results(guest, case.expected, bytes(output))
+        return before, _results(guest, case.expected, bytes(output))
 
 
 def _inputs(exercise: Exercise, case: Case) -> Iterator[str]:
     """The lines between an answer and its run. What is expected somewhere doesn't stand there before."""
     yield from (*exercise.set_up, *_RETURN_PAGE, f"policy {case.policy}")
-    opposite = [(place.address, bytes(255 - byte for byte in place.data)) for place in case.expected.memory]
-    for address, data in (*opposite, *((place.address, place.data) for place in case.memory)):
+    others = [(place.address, bytes(byte ^ TURNED for byte in place.data)) for place in case.expected.memory]
+    for address, data in (*others, *((place.address, place.data) for place in case.memory)):
         yield from pokes(address, data)
-    registers = {name: value ^ (1 << 64) - 1 for name, value in case.expected.registers.items()} | dict(case.registers)
+    turned = int.from_bytes(bytes([TURNED]) * 8, "little")
+    registers = {name: value ^ turned for name, value in case.expected.registers.items()} | dict(case.registers)
     yield from (f"set {name} {value:x}" for name, value in registers.items())
 
 
 def _ask(guest: Guest, commands: Sequence[str], source: Script | None = None) -> None:
     """Sends commands. Raises LabError where one is refused."""
-    for command, (told, *_) in zip(commands, guest.ask(*commands)):
-        if is_refusal([f"1 {told}"]):
+    for command, told in zip(commands, guest.ask(*commands)):
+        if isinstance(told, Refused):
             if source and f"1 {command}" in source.statements:
-                raise refused_statement(source, f"1 {command}", f"1 {told}")
-            raise LabError(f"{command[:60]}: {refusal_in_words(f'1 {command}', f'1 {told}')[-1]}")
+                raise refused_statement(source, f"1 {command}", told)
+            raise LabError(f"{command[:60]}: {refusal_in_words(f'1 {command}', told)[-1]}")
 
 
 def _results(guest: Guest, expected: Results, output: bytes) -> Results:
     """What stands in the places where something is expected."""
-    values = dict(re.findall(r"(x\d+) (\w+)", " ".join(guest.ask("regs")[0])))
-    registers = {name: int(values[name], 16) for name in expected.registers}
+    x = guest.told("regs", ScalarRegisters).x
+    registers = {name: x[int(name[1:])] for name in expected.registers}
     memory = [place.holding(guest.peek(place.address, len(place.data))) for place in expected.memory]
     return Results(registers, memory, None if expected.output is None else output)
 
@@ -125,7 +139,7 @@ def settled(program: pathlib.Path, exercise: Exercise) -> Exercise:
         try:
             if exercise.reference:
                 reference = read_answer(exercise.reference)
-            results = attempt(program, reference, exercise, case)
+            _, results = attempt(program, reference, exercise, case)
         except LabError as error:
             raise LabError(f"{exercise.title}, {case.name}: {error}") from error
         cases.append(replace(case, expected=results) if exercise.reference else case)

@@ -3,14 +3,15 @@
 import pathlib
 import struct
 import tomllib
+from collections import Counter
 from collections.abc import Mapping, Sequence
 from dataclasses import dataclass, replace
-from typing import Any
+from types import SimpleNamespace
 
 from .. import LabError
 from ..tables.table import read_table
 
-OURS = pathlib.Path(__file__).parent
+OURS = pathlib.Path(__file__).with_name("given")
 TICKS, OUTPUT_BYTES = 100_000, 4096  # the limits where an exercise has none
 PLACE_BYTES = 1 << 20  # all that a user's pages have
 
@@ -84,15 +85,24 @@ def read_exercise(folder: pathlib.Path) -> Exercise:
         raise LabError(f"{path}: {error}") from error
     defaults = {"title": folder.name, "set_up": [], "limits": {}, "reference": "", "cases": []}
     table = _taken(str(path), entries, defaults)
-    limits = _taken(f"{path}: limits", table["limits"], {"ticks": TICKS, "output": OUTPUT_BYTES})
-    reference = path.parent / table["reference"] if table["reference"] else None
-    cases = [_case(f"{path}: case {number}", each, reference) for number, each in enumerate(table["cases"], 1)]
-    if not cases or len({case.name for case in cases}) < len(cases) or min(limits.values()) < 1:
-        raise LabError(f"{path}: there is one case at least, no two have one name, and limits are from 1 up")
-    return Exercise(table["title"], [*map(str, table["set_up"])], limits["ticks"], limits["output"], cases, reference)
+    limits = _taken(f"{path}: limits", table.limits, {"ticks": TICKS, "output": OUTPUT_BYTES})
+    reference = path.parent / table.reference if table.reference else None
+    cases = [_case(f"{path}: case {number}", each, reference) for number, each in enumerate(table.cases, 1)]
+    twice = [name for name, count in Counter(case.name for case in cases).items() if count > 1]
+    mistakes = {
+        "there is no case: [[cases]] begins one": not cases,
+        f"two cases are called {' and '.join(twice)}": twice,
+        "limits: ticks and output are from 1 up": min(limits.ticks, limits.output) < 1,
+        "set_up is a list of texts, which are lines of the monitor": {*map(type, table.set_up)} - {str},
+        f"reference: there is no file {reference}": reference and not reference.is_file(),
+    }
+    for mistake, is_made in mistakes.items():
+        if is_made:
+            raise LabError(f"{path}: {mistake}")
+    return Exercise(table.title, table.set_up, limits.ticks, limits.output, cases, reference)
 
 
-def _taken(where: str, entries: Any, defaults: dict[str, Any]) -> dict[str, Any]:
+def _taken(where: str, entries: object, defaults: Mapping[str, object]) -> SimpleNamespace:
     """A table's entries, and defaults for those that are missing. Raises LabError for others, and for other types."""
     if not isinstance(entries, dict):
         raise LabError(f"{where} isn't a table")
@@ -101,46 +111,71 @@ def _taken(where: str, entries: Any, defaults: dict[str, Any]) -> dict[str, Any]
             raise LabError(f"{where}: there is nothing that is called {key}")
         if type(value) is not type(defaults[key]):
             raise LabError(f"{where}: {key} isn't {_NAMES[type(defaults[key])]}")
-    return defaults | entries
+    return SimpleNamespace(**defaults | entries)
 
 
-def _case(where: str, entries: Any, reference: pathlib.Path | None) -> Case:
+def _case(where: str, entries: object, reference: pathlib.Path | None) -> Case:
     """A case. What a reference is to give is named alone: registers in a list, how many numbers, and output = true."""
-    defaults = {"name": where.split(": ")[-1], "hidden": False, "policy": "keep", "registers": {}, "memory": []}
-    table = _taken(where, entries, defaults | {"expected": {}})
+    inputs = {"hidden": False, "policy": "keep", "registers": {}, "memory": []}
+    table = _taken(where, entries, {"name": where.split(": ")[-1], "expected": {}, **inputs})
     results = {"registers": [], "output": False} if reference else {"registers": {}, "output": ""}
-    expected, output = _taken(f"{where}: expected", table["expected"], results | {"memory": []}), None
-    if "output" in table["expected"]:
-        output = b"" if reference else expected["output"].encode()
-    asked = dict.fromkeys(map(str, expected["registers"]), 0) if reference else expected["registers"]
-    places = [_place(where, each, bool(reference)) for each in expected["memory"]]
-    if table["policy"] not in ("keep", "ones") or not (asked or places or output is not None):
-        raise LabError(f"{where}: policy is keep or ones, and registers, memory or output are expected")
-    memory = [_place(where, each, False) for each in table["memory"]]
-    inputs = (table["policy"], _registers(where, table["registers"]), memory)
-    return Case(table["name"], table["hidden"], *inputs, Results(_registers(where, asked), places, output))
+    of = "expected by the reference" if reference else "expected"
+    expected, output = _taken(f"{where}: {of}", table.expected, {"memory": [], **results}), None
+    if "output" in table.expected:
+        output = b"" if reference else expected.output.encode()
+    asked = dict.fromkeys(map(str, expected.registers), 0) if reference else expected.registers
+    places = [_place(where, each, bool(reference)) for each in expected.memory]
+    if table.policy not in ("keep", "ones"):
+        raise LabError(f"{where}: policy is keep or ones, and not {table.policy}")
+    if not (asked or places or output is not None):
+        raise LabError(f"{where}: nothing is expected: expected has registers, memory or output")
+    memory = [_place(where, each, False) for each in table.memory]
+    expectation = Results(_registers(where, asked), places, output)
+    return Case(table.name, table.hidden, table.policy, _registers(where, table.registers), memory, expectation)
 
 
-def _registers(where: str, named: dict[str, Any]) -> dict[str, int]:
+def _registers(where: str, named: Mapping[str, object]) -> dict[str, int]:
     """Values of 64 bits by register."""
+    values = {}
     for name, value in named.items():
-        if _REGISTERS.get(name, "x0") == "x0" or type(value) is not int or not -(1 << 63) <= value < 1 << 64:
-            raise LabError(f"{where}: {name} isn't one of ra to t6 or x1 to x31 with a number of 64 bits")
-    return {_REGISTERS[name]: value % (1 << 64) for name, value in named.items()}
+        if _REGISTERS.get(name, "x0") == "x0":
+            raise LabError(f"{where}: {name} is no register that can be set, which are ra to t6 or x1 to x31")
+        if not isinstance(value, int) or isinstance(value, bool) or not -(1 << 63) <= value < 1 << 64:
+            raise LabError(f"{where}: {name} is {value}, which is no whole number of 64 bits")
+        values[_REGISTERS[name]] = value % (1 << 64)
+    return values
 
 
-def _place(where: str, entries: Any, by_reference: bool) -> Place:
-    """A place in memory: `at`, and the numbers, or how many, by their type; or a text."""
-    try:
-        address = entries.pop("at")
-        ((kind, numbers),) = entries.items()
-        if by_reference:
-            numbers = [0] * min(numbers, PLACE_BYTES)
-        elif kind == "text":
-            kind, numbers = "u8", list(numbers.encode())
-        place = Place(address, kind, numbers)
-        if not 0 <= address < 1 << 48 or not 0 < len(place.data) <= PLACE_BYTES:
-            raise ValueError
-    except (AttributeError, KeyError, TypeError, ValueError, struct.error) as error:
-        raise LabError(f"{where}: a place is `at`, an address, and a text or numbers from i8 to u64") from error
+def _place(where: str, entries: object, by_reference: bool) -> Place:
+    """A place in memory: `at`, and the numbers, or how many, by their type; or a text. Raises LabError."""
+    match entries:
+        case {"at": int(address), **others} if 0 <= address < 1 << 48:
+            place = Place(address, *_numbers(f"{where}: the place at {address:#x}", others, by_reference))
+        case {"at": address}:
+            raise LabError(f"{where}: {address} is no address of a place in memory, which is below 2^48")
+        case _:
+            raise LabError(f"{where}: a place in memory is a table with `at`, its address, and not {entries}")
+    if not 0 < len(place.data) <= PLACE_BYTES:
+        raise LabError(
+            f"{where}: a place has 1 to {PLACE_BYTES:,} bytes, and the one at {address:#x} {len(place.data):,}"
+        )
     return place
+
+
+def _numbers(where: str, entries: Mapping[object, object], by_reference: bool) -> tuple[str, list[int]]:
+    """The numbers of a place, or as many zeros as there are, and their type. Raises LabError."""
+    match [*entries.items()]:
+        case [("text", str(text))] if not by_reference:
+            return "u8", [*text.encode()]
+        case [(str(kind), int(count))] if by_reference and kind in _FORMATS:
+            return kind, [0] * min(count, PLACE_BYTES + 1)
+        case [(str(kind), list(numbers))] if not by_reference and kind in _FORMATS:
+            bits = int(kind[1:])
+            least = -(1 << bits - 1) if kind[0] == "i" else 0
+            odd = [number for number in numbers if type(number) is not int or not least <= number < least + (1 << bits)]
+            if not odd:
+                return kind, numbers
+            raise LabError(f"{where}: {odd[0]} is no {kind}")
+    form = "how many numbers there are" if by_reference else "a text, or a list of numbers"
+    told = ", ".join(f"{key} = {value}" for key, value in entries.items()) or "nothing"
+    raise LabError(f"{where} has {form}, by their type, i8 to u64, and not {told}")

@@ -5,6 +5,7 @@ import csv
 import os
 import pathlib
 import sys
+from collections.abc import Iterator
 from concurrent.futures import ThreadPoolExecutor
 from functools import partial
 
@@ -12,7 +13,7 @@ from .. import LabError
 from ..machine.program import find_program
 from ..tables.table import table_lines
 from .answer import attempt, read_answer, settled
-from .exercise import Exercise, Results, read_exercise
+from .exercise import OURS, Exercise, Results, read_exercise
 
 Grades = list[tuple[pathlib.Path, list[str]]]
 """Answers, each with why it fails, or nothing, for each case."""
@@ -27,6 +28,11 @@ def add_arguments(parser: argparse.ArgumentParser) -> None:
     form = parser.add_mutually_exclusive_group()
     form.add_argument("--csv", action="store_true", help="a row of CSV for each answer, below a header, and no table")
     form.add_argument("--rows", action="store_true", help="the same without the header")
+
+
+def names() -> list[str]:
+    """The exercises that come with the lab."""
+    return sorted(path.parent.name for path in OURS.glob("*/exercise.toml"))
 
 
 def run(arguments: argparse.Namespace) -> int:
@@ -47,30 +53,37 @@ def grade(program: pathlib.Path, exercise: Exercise, path: pathlib.Path) -> list
     outcomes = []
     for case in exercise.cases:
         try:
-            outcomes.append(difference(case.expected, attempt(program, read_answer(path), exercise, case)))
+            outcomes.append(difference(case.expected, *attempt(program, read_answer(path), exercise, case)))
         except LabError as error:
             outcomes.append(str(error))
     return outcomes
 
 
-def difference(expected: Results, found: Results) -> str:
+def difference(expected: Results, before: Results, found: Results) -> str:
     """The first place where something else is found than is expected, in words; or nothing."""
-    pairs: list[tuple[str, int | bytes | None, int | bytes | None]] = []
-    for name, value in expected.registers.items():
-        signed = [each - (each >> 63 << 64) for each in (value, found.registers[name])]
-        pairs.append((name, signed[0], signed[1]))
-    for place, left in zip(expected.memory, found.memory):
+    for where, value, old, left in _numbers(expected, before, found):
+        if left != value:
+            return f"{where}: expected {value}, {'and it was left as it was' if left == old else f'found {left}'}"
+    if found.output != expected.output:
+        return "output: expected {}, found {}".format(*map(_shown, (expected.output, found.output)))
+    return ""
+
+
+def _numbers(expected: Results, before: Results, found: Results) -> Iterator[tuple[str, int, int, int]]:
+    """The places of numbers, and those that are expected there, were there before, and were found."""
+    for name in expected.registers:
+        values = (each.registers[name] for each in (expected, before, found))
+        value, old, left = (each - (each >> 63 << 64) for each in values)
+        yield name, value, old, left
+    for place, *others in zip(expected.memory, before.memory, found.memory):
         size = len(place.data) // len(place.numbers)
-        for number, values in enumerate(zip(place.numbers, left.numbers)):
-            pairs.append((f"element {number}, {place.type} at {place.address + number * size:#x}", *values))
-    pairs.append(("output", expected.output, found.output))
-    differing = ((where, _shown(value), _shown(other)) for where, value, other in pairs if value != other)
-    return next((f"{where}: expected {value}, found {other}" for where, value, other in differing), "")
+        for number, (value, old, left) in enumerate(zip(place.numbers, *(each.numbers for each in others))):
+            yield f"element {number}, {place.type} at {place.address + number * size:#x}", value, old, left
 
 
-def _shown(value: int | bytes | None) -> str:
-    """A number, or the beginning of an output."""
-    return repr(value.decode("utf-8", "replace"))[:60] if isinstance(value, bytes) else str(value)
+def _shown(output: bytes | None) -> str:
+    """The beginning of an output."""
+    return repr((output or b"").decode("utf-8", "replace"))[:60]
 
 
 def _reasons(exercise: Exercise, outcomes: list[str]) -> list[str]:

@@ -10,15 +10,16 @@ import contextlib
 import pathlib
 import re
 
-from ..guest.changes import CONTROL
-from ..guest.guest import Guest, Stop, control_values, started
+from ..assembler.commands import refusal_in_words
+from ..guest.guest import Guest, started
 from ..instructions.accesses import LINE_BYTES
+from ..machine.answers import CONTROL, ControlRegisters, Done, Memory, Refused, ScalarRegisters, Stop, VectorRegister
 from ..machine.lines import BadLine, is_look, words_of
 from .packets import Link
 
 INTERRUPTED, ILLEGAL, TRAPPED, MISALIGNED, UNMAPPED = "S02", "S04", "S05", "S0a", "S0b"  # SIGINT, ILL, TRAP, BUS, SEGV
 FAULTS = {0: MISALIGNED, 1: UNMAPPED, 2: ILLEGAL, 5: UNMAPPED, 7: UNMAPPED}  # by cause
-REFUSED, THERE_ALREADY = "E04", "E13"
+REFUSED, THERE_ALREADY = "E04", Refused("E13")
 PACKET_BYTES = 512  # so that what gdb writes at once, in two digits a byte, isn't too much for `poke`
 DESCRIPTION = pathlib.Path(__file__).with_name("registers.xml").read_text("ascii")
 PC, FIRST_CONTROL = 32, 33  # numbers of registers: x0 to x31, pc, the control registers, v0 to v31
@@ -81,7 +82,8 @@ class Target:
                 return self._write_register(int(number, 16), digits)
             case "m", [address, length]:  # gdb asks again for what is left
                 most = LINE_BYTES - int(address, 16) % LINE_BYTES
-                return self._guest.ask(f"peek {address} {min(int(length, 16), most)}")[0][0].split()[-1]
+                (told,) = self._guest.ask(f"peek {address} {min(int(length, 16), most)}")
+                return told.data.hex() if isinstance(told, Memory) else str(told)
             case "M", [address, _, digits]:
                 return self._do(f"poke {address} {digits}")
             case ("Z" | "z"), ["0" | "1", address, _]:
@@ -98,7 +100,7 @@ class Target:
         self._guest.empty_buffer()
         self._last = TRAPPED if stop else signal
         if stop and stop.kind == "exit":
-            self._last = f"W{stop.status:02x}"
+            self._last = f"W{stop.number:02x}"
         if stop and stop.kind == "fault":
             words = f"vecmon: {self._guest.explain(stop)}\n"
             self._link.send(f"O{words.encode().hex()}")
@@ -107,16 +109,17 @@ class Target:
 
     def _scalars(self) -> list[str]:
         """The registers x0 to x31 and pc."""
-        pc, *scalars = " ".join(self._guest.ask("regs")[0]).split()[1::2]
-        return [_turned(digits) for digits in (*scalars, pc)]
+        registers = self._guest.told("regs", ScalarRegisters)
+        return [value.to_bytes(8, "little").hex() for value in (*registers.x, registers.pc)]
 
     def _register(self, number: int) -> str:
         """The register of a number."""
         if number < FIRST_CONTROL:
             return self._scalars()[number]
         if number >= FIRST_VECTOR:
-            return "".join(self._guest.ask(f"vreg v{number - FIRST_VECTOR} 8")[0][0].split()[1:]) or REFUSED
-        values = control_values(self._guest.ask("vcsr")[0][0])
+            (told,) = self._guest.ask(f"vreg v{number - FIRST_VECTOR} 8")
+            return told.data.hex() if isinstance(told, VectorRegister) else REFUSED
+        values = self._guest.told("vcsr", ControlRegisters).named()
         return values[CONTROL[number - FIRST_CONTROL]].to_bytes(8, "little").hex()
 
     def _write_register(self, number: int, digits: str) -> str:
@@ -132,14 +135,15 @@ class Target:
         if not is_look(f"1 {line}") and words_of(f"1 {line}")[:1] != ["policy"]:
             return "monitor takes policy and lines that look, as regs, vreg, dis and trace; gdb does the rest\n"
         try:
-            return "".join(f"{part}\n" for part in self._guest.ask(line)[0])
+            (answer,) = self._guest.ask(line)
         except BadLine as error:
             return f"{error}\n"
+        return "\n".join([*refusal_in_words(f"1 {line}", answer), ""]) if isinstance(answer, Refused) else f"{answer}\n"
 
     def _do(self, command: str) -> str:
         """What gdb is told after a command."""
-        ((answer,),) = self._guest.ask(command)
-        return "OK" if answer in ("ok", THERE_ALREADY) else answer
+        (answer,) = self._guest.ask(command)
+        return "OK" if isinstance(answer, Done) or answer == THERE_ALREADY else str(answer)
 
 
 def _turned(digits: str) -> str:

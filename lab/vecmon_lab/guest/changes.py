@@ -6,14 +6,24 @@ from dataclasses import dataclass
 from fractions import Fraction
 
 from ..instructions.accesses import PAGE_BYTES, REGISTER_BYTES, Span, stored_spans, vector_instruction
-from ..instructions.reasons import VectorView
-from ..instructions.words import Operand
-from .guest import Guest, Stop, control_values
+from ..instructions.words import LOAD_FP, OP_V, STORE_FP, SYSTEM, Operand
+from ..machine.answers import (
+    CONTROL,
+    Answer,
+    ControlRegisters,
+    Listing,
+    Memory,
+    ScalarRegisters,
+    Stop,
+    VectorRegister,
+    VectorView,
+    elements_in,
+)
+from .guest import Guest
 
 WORDS_AT_ONCE = 16  # that a look shows
 SCALARS = [f"x{number}" for number in range(32)]
-CONTROL = ("vl", "vtype", "vstart", "vxrm", "vxsat")
-ECALL, OP_V, SYSTEM, LOAD_FP, STORE_FP = 0x73, 0x57, 0x73, 0x07, 0x27
+ECALL = 0x73  # the word
 CONTROLLING = (OP_V, SYSTEM, LOAD_FP, STORE_FP)  # opcodes of what may write control registers
 NO_REGISTER = (0x63, 0x23, 0x0F, OP_V, LOAD_FP, STORE_FP)  # those of what writes no scalar register, but for
 OP_VSET, OP_MVV, FROM_VECTOR = 7, 2, 0b010000  # funct3 of vset; that of vmv.x.s, vcpop and vfirst, and their funct6
@@ -86,21 +96,21 @@ class Carried:
 
 @dataclass
 class Registers:
-    """All registers: the scalar ones, the control registers by name, and the bytes of the vector ones."""
+    """All registers: the scalar ones, the control registers, and the bytes of the vector ones."""
 
-    x: list[int]
-    control: dict[str, int]
+    x: Sequence[int]
+    control: ControlRegisters
     v: bytearray
 
     def copy(self) -> "Registers":
         """The same registers, which later looks don't change."""
-        return Registers(list(self.x), dict(self.control), bytearray(self.v))
+        return Registers(self.x, self.control, bytearray(self.v))
 
     def groups(self, operand: Operand) -> Iterator[tuple[int, list[int]]]:
         """The first register of each of an operand's groups, and the elements of the group."""
         for register in range(operand.registers.start, min(operand.registers.stop, 32), operand.group):
             group = self.v[register * REGISTER_BYTES : (register + operand.group) * REGISTER_BYTES]
-            yield register, _elements(group, operand.eew)
+            yield register, elements_in(group, operand.eew)
 
 
 class Stepper:
@@ -111,7 +121,7 @@ class Stepper:
 
     def __init__(self, guest: Guest, is_brief: bool = False) -> None:
         self.guest, self._is_brief = guest, is_brief
-        self.registers = Registers([0] * 32, {}, bytearray(32 * REGISTER_BYTES))
+        self.registers = Registers([0] * 32, ControlRegisters(1 << 63, 0, 0, 0, 0), bytearray(32 * REGISTER_BYTES))
         self.look()
 
     def look(self) -> list[Change]:
@@ -119,8 +129,8 @@ class Stepper:
         self._listing: dict[int, tuple[int, str]] = {}  # words and texts by address
         before = self.registers.copy()
         looks = ["regs", "vcsr", *(f"vreg v{number} 64" for number in range(32))]
-        self._take_in(looks, self.guest.ask(*looks))
-        sew = VectorView(self.registers.control["vtype"] & 0x3F, 0).sew
+        self._take_in(self.guest.ask(*looks))
+        sew = VectorView(self.registers.control.vtype & 0x3F, 0).sew
         singles = [Operand("destination", sew, Fraction(1), False, 1, range(32))]
         return self._changes_since(before, singles)
 
@@ -130,7 +140,7 @@ class Stepper:
         word, text = self.fetch(pc)
         if word == ECALL:
             self.guest.empty_buffer()
-        instruction = vector_instruction(word, before.control["vtype"])
+        instruction = vector_instruction(word, before.control.vtype)
         targets = [operand for operand in instruction.operands if operand.noun == "destination"] if instruction else []
         looks, spans = _looks(word, targets), list[Span]()
         if self._is_brief:
@@ -139,7 +149,7 @@ class Stepper:
             spans = stored_spans(word, before.x, before.control, before.v)
         peeks = [f"peek {address:x} {length}" for address, length in spans]
         stop, answers = self.guest.step_between(peeks, looks + peeks)
-        self._take_in(looks, answers[len(peeks) :])
+        self._take_in(answers)
         if word == ECALL:
             self.guest.empty_buffer()
         stored = [change for span in zip(spans, answers, answers[-len(spans) :]) for change in _memory_changes(*span)]
@@ -152,41 +162,34 @@ class Stepper:
         """The word at an address and its text; 0 and "" where nothing can be fetched."""
         if pc not in self._listing:
             number = min(WORDS_AT_ONCE, (PAGE_BYTES - pc % PAGE_BYTES) // 4)
-            for line in self.guest.ask(f"dis {pc:x} {number}")[0]:
-                if len(line) > 26:  # a refusal is shorter
-                    self._listing[int(line[:16], 16)] = int(line[17:25], 16), line[26:]
+            (listing,) = self.guest.ask(f"dis {pc:x} {number}")
+            if isinstance(listing, Listing):
+                self._listing |= {each.address: (each.word, each.text) for each in listing.words}
         return self._listing.get(pc, (0, ""))
 
-    def _take_in(self, looks: Sequence[str], answers: Sequence[Sequence[str]]) -> None:
+    def _take_in(self, answers: Sequence[Answer]) -> None:
         """Takes in what looks at registers show."""
-        for look, answer in zip(looks, answers):
-            words = " ".join(answer).split()
-            if look == "regs":
-                self.guest.pc = int(words[1], 16)
-                self.registers.x = [int(value, 16) for value in words[3::2]]
-            elif look == "vcsr":
-                self.registers.control = control_values(answer[0])
-            else:
-                at = int(words[0][1:]) * REGISTER_BYTES
-                parts = [int(value, 16).to_bytes(8, "little") for value in words[1:]]
-                self.registers.v[at : at + REGISTER_BYTES] = b"".join(parts)
+        for answer in answers:
+            match answer:
+                case ScalarRegisters():
+                    self.guest.pc, self.registers.x = answer.pc, answer.x
+                case ControlRegisters():
+                    self.registers.control = answer
+                case VectorRegister():
+                    at = answer.number * REGISTER_BYTES
+                    self.registers.v[at : at + REGISTER_BYTES] = answer.data
 
     def _changes_since(self, before: Registers, targets: Sequence[Operand]) -> list[Change]:
         """The registers that aren't as they were, of vector registers those of some operands alone."""
         now = self.registers
-        pairs = [*zip(SCALARS, before.x, now.x), *zip(CONTROL, before.control.values(), now.control.values())]
+        pairs = [
+            *zip(SCALARS, before.x, now.x),
+            *zip(CONTROL, before.control.named().values(), now.control.named().values()),
+        ]
         changes: list[Change] = [RegisterChange(*pair) for pair in pairs if pair[1] != pair[2]]
         for target in targets:
             changes += _element_changes(target, before, now)
         return changes
-
-
-def _elements(group: bytes, width: int) -> list[int]:
-    """The elements of a group of registers, of so many bits each."""
-    if width == 1:
-        return [byte >> bit & 1 for byte in group for bit in range(8)]
-    size = width // 8
-    return [int.from_bytes(group[at : at + size], "little") for at in range(0, len(group), size)]
 
 
 def _looks(word: int, targets: Sequence[Operand]) -> list[str]:
@@ -206,9 +209,9 @@ def _element_changes(target: Operand, before: Registers, after: Registers) -> It
             yield ElementsChange(register, target.eew, first, old[first:last], new[first:last])
 
 
-def _memory_changes(span: Span, *answers: Sequence[str]) -> Iterator[MemoryChange]:
+def _memory_changes(span: Span, *answers: Answer) -> Iterator[MemoryChange]:
     """The bytes of a span that changed, in runs, by what `peek` shows before and after; none where it isn't mapped."""
-    before, after = (bytes.fromhex("".join(answer[0].split()[2:])) for answer in answers)
+    before, after = (answer.data if isinstance(answer, Memory) else b"" for answer in answers)
     for first, last in runs(before, after):
         yield MemoryChange(span[0] + first, before[first:last], after[first:last])
 

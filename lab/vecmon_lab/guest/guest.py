@@ -3,16 +3,28 @@
 import contextlib
 import os
 import pathlib
-import re
 import struct
 from collections.abc import Callable, Iterator, Sequence
-from dataclasses import dataclass
+from typing import TypeVar
 
 from .. import LabError
 from ..instructions.accesses import LINE_BYTES
-from ..instructions.reasons import VectorView, describe_stop
+from ..instructions.reasons import describe_stop
+from ..machine.answers import (
+    Addresses,
+    Answer,
+    ControlRegisters,
+    Granted,
+    Listing,
+    Loaded,
+    Memory,
+    Output,
+    Position,
+    Stop,
+    read,
+)
 from ..machine.lines import is_look
-from ..machine.program import find_program
+from ..machine.program import check_flags, find_program
 from ..machine.session import TOGETHER, Session
 from ..tables.table import read_table
 
@@ -20,32 +32,7 @@ IMAGE_BYTES, ARGUMENT_BYTES = 4_194_304, 8192  # of a file; of the stack's 16 Ki
 QUANTUM, MOST_SLICES = 1000, 1000  # the longest slices, as the program is alone; and how many one line grants
 STACK_POINTER, STACK_END = 0x7FFF_EFC0, 0x7FFF_F000  # as `load` leaves them
 
-_STOP = re.compile("([a-z]+)(?: ([0-9]+))?(?: cause=([0-9]+))? pc=([0-9a-f]{16})(?: value=([0-9a-f]{16}))?")
-
-
-@dataclass(frozen=True)
-class Stop:
-    """Why a program stopped by itself.
-
-    kind: `exit`, with its status; `fault`, with its cause and value; `break`; `ebreak`
-    pc: where the program stands
-    line: what the machine said, without the user's digit
-    """
-
-    kind: str
-    pc: int
-    line: str
-    status: int = 0
-    cause: int = 0
-    value: int = 0
-
-    @classmethod
-    def read(cls, line: str) -> "Stop":
-        """The stop that a stop line tells, which has the user's digit."""
-        match = _STOP.fullmatch(line[2:])
-        assert match is not None, line
-        kind, status, cause, pc, value = match.groups("0")
-        return cls(kind, int(pc, 16), line[2:], int(status), int(cause), int(value, 16))
+Told = TypeVar("Told", bound=Answer)
 
 
 class Guest:
@@ -62,20 +49,27 @@ class Guest:
         self._kept: list[bytes] = []
         self._hands_on, self._write = write is not None, write or self._kept.append
 
-    def ask(self, *commands: str) -> list[list[str]]:
-        """The lines of each answer to commands, without the user's digit. Some dozens go to the machine together."""
-        answers = list[list[str]]()
+    def ask(self, *commands: str) -> list[Answer]:
+        """The answer to each command. Some dozens go to the machine together."""
+        answers = list[Answer]()
         for at in range(0, len(commands), TOGETHER):
             lines = [f"{self.user} {command}" for command in commands[at : at + TOGETHER]]
             send = self.session.look_all if all(map(is_look, lines)) else self.session.do_all
-            answers += [[line[2:] for line in answer] for answer in send(lines)]
+            answers += map(read, send(lines))
         return answers
+
+    def told(self, command: str, kind: type[Told]) -> Told:
+        """The answer to a command, which is of this kind. Raises LabError where it is another one."""
+        (answer,) = self.ask(command)
+        if not isinstance(answer, kind):
+            raise LabError(f"the machine answers {answer}")
+        return answer
 
     def peek(self, address: int, length: int) -> bytes:
         """The bytes from an address on, which are all in pages that are mapped."""
         end = address + length
         looks = (f"peek {at:x} {min(LINE_BYTES, end - at)}" for at in range(address, end, LINE_BYTES))
-        return bytes.fromhex("".join(told.split()[2] for (told,) in self.ask(*looks)))
+        return b"".join(told.data for told in self.ask(*looks) if isinstance(told, Memory))
 
     def start(self, image: str, policy: str = "keep", arguments: Sequence[str] = ()) -> None:
         """The user enters, and an image is loaded; arguments, the first of them its name, are laid on the stack.
@@ -83,10 +77,11 @@ class Guest:
         Without arguments nothing is written there. Raises LabError where the image is refused, or they have no room.
         """
         block = _argument_block(arguments)
-        _, (loaded,), _ = self.ask("enter", f"load {image}", f"policy {policy}")  # who is there already has E06
-        if not loaded.startswith("loaded "):
-            raise LabError(f"the machine refuses {image} ({loaded}): {dict(read_table('image_faults')).get(loaded)}")
-        self.pc = _pc(loaded)
+        _, loaded, _ = self.ask("enter", f"load {image}", f"policy {policy}")  # who is there already has E06
+        if not isinstance(loaded, Loaded):
+            reason = dict(read_table("image_faults")).get(str(loaded))
+            raise LabError(f"the machine refuses {image} ({loaded}): {reason}")
+        self.pc = loaded.pc
         if arguments:
             place = STACK_END - len(block)
             self.ask(*pokes(place, block), f"set x2 {place:x}")
@@ -96,7 +91,7 @@ class Guest:
 
         `is_interrupted` is asked between some slices. A full output buffer is emptied, and the program goes on.
         """
-        breaks = self.ask("breaks")[0][0].split()[1:]
+        breaks = self.told("breaks", Addresses).addresses
         left = None if ticks is None else -(-ticks // self.session.quantum)
         while left != 0 and not is_interrupted():
             self.ask("go")
@@ -115,21 +110,23 @@ class Guest:
                 return stop
             self.empty_buffer()
 
-    def step_between(self, before: Sequence[str], after: Sequence[str]) -> tuple[Stop | None, list[list[str]]]:
+    def step_between(self, before: Sequence[str], after: Sequence[str]) -> tuple[Stop | None, list[Answer]]:
         """As `step`, with looks before and after it that go to the machine together; and the answers to all looks.
 
         The stop may be `outfull`, at an ecall.
         """
         answers = self.ask(*before, "step 1", *after)
-        (line,) = answers.pop(len(before))
-        self.pc = _pc(line)
-        return None if line.startswith("stepped ") else Stop.read(f"{self.user} {line}"), answers
+        told = answers.pop(len(before))
+        if not isinstance(told, Position | Stop):
+            raise LabError(f"the machine answers {told}")
+        self.pc = told.pc
+        return told if isinstance(told, Stop) else None, answers
 
     def empty_buffer(self) -> None:
         """Takes what the program has written out of the machine's buffer."""
-        _, number, *digits = self.ask("out")[0][0].split()
-        if number != "0":
-            self._write(bytes.fromhex(digits[0]))
+        data = self.told("out", Output).data
+        if data:
+            self._write(data)
 
     def output(self) -> bytes:
         """What the program has written since this was asked last; nothing where `write` is given it, now at least."""
@@ -140,10 +137,8 @@ class Guest:
 
     def explain(self, stop: Stop) -> str:
         """A stop in sentences, by what stands at its place."""
-        (listing, *_), (told,) = self.ask(f"dis {stop.pc:x} 1", "vcsr")
-        control = control_values(told)
-        view = VectorView(control["vtype"], control["vstart"])
-        return describe_stop(stop.line, int(listing[17:25] or "0", 16), view, listing[26:])  # a refusal is shorter
+        word, text = self._word(stop.pc)
+        return describe_stop(stop, word, self.told("vcsr", ControlRegisters), text)
 
     def tell(self, stop: Stop | None, place: str = "") -> str:
         """A stop in a line: its address, and the place by a symbol; the instruction there; and why, in sentences.
@@ -152,8 +147,13 @@ class Guest:
         """
         if stop is None:
             return f"the ticks ran out at {self.pc:x} {place}".rstrip()
-        text = self.ask(f"dis {stop.pc:x} 1")[0][0][26:]
+        text = self._word(stop.pc)[1]
         return ": ".join(filter(None, [f"{stop.pc:x} {place}".rstrip(), text, self.explain(stop)]))
+
+    def _word(self, address: int) -> tuple[int, str]:
+        """The word at an address and its text; 0 and "" where nothing is mapped."""
+        (told,) = self.ask(f"dis {address:x} 1")
+        return (told.words[0].word, told.words[0].text) if isinstance(told, Listing) else (0, "")
 
     def _run_on(self, left: int | None, is_interrupted: Callable[[], bool]) -> tuple[Stop | None, int | None]:
         """Grants slices to a stop, to the last one, or until output is to be handed on; the stop, how many are left."""
@@ -165,21 +165,22 @@ class Guest:
 
     def _slices(self, number: int) -> tuple[int, Stop | None]:
         """Grants slices; how many they were, and the stop that ended them."""
-        *stops, granted = self.session.do(f"* slices {number}")
-        count = int(granted.split()[-1])
-        self.ticks += count * self.session.quantum
-        if not stops:
-            return count, None
-        self.pc = _pc(stops[0])
-        return count, Stop.read(stops[0])
+        granted = read(self.session.do(f"* slices {number}"))
+        assert isinstance(granted, Granted)
+        self.ticks += granted.slices * self.session.quantum
+        if not granted.stops:
+            return granted.slices, None
+        ((_, stop),) = granted.stops
+        self.pc = stop.pc
+        return granted.slices, stop
 
-    def _halt(self, breaks: Sequence[str]) -> Stop | None:
+    def _halt(self, breaks: Sequence[int]) -> Stop | None:
         """Stops the running program. Where its next slice would stop it at a breakpoint, that is granted first."""
-        while breaks and self.ask("state")[0][0].partition("pc=")[2] in breaks:
+        while breaks and self.told("state", Position).pc in breaks:
             _, stop = self._slices(1)
             if stop:
                 return stop
-        self.pc = _pc(self.ask("stop")[0][0])
+        self.pc = self.told("stop", Position).pc
         return None
 
 
@@ -197,11 +198,12 @@ def started(
     Raises LabError and OSError where the image can't be read or is refused, or there is no program.
     """
     with path.open("rb") as file:
-        if len(file.read(IMAGE_BYTES + 1)) > IMAGE_BYTES:
+        if len(image := file.read(IMAGE_BYTES + 1)) > IMAGE_BYTES:
             raise LabError(f"{path} has more than {IMAGE_BYTES:,} bytes")
     with Session(find_program(), {"image": path}, quantum=quantum) as session:
         guest = Guest(session, write=write)
         try:
+            check_flags(image)
             guest.start("image", policy, arguments)
         except LabError as error:
             raise LabError(f"{path}: {error}") from error
@@ -212,20 +214,6 @@ def pokes(address: int, data: bytes) -> Iterator[str]:
     """The commands that write bytes from an address on."""
     for at in range(0, len(data), LINE_BYTES):
         yield f"poke {address + at:x} {data[at : at + LINE_BYTES].hex()}"
-
-
-def control_values(answer: str) -> dict[str, int]:
-    """The vector control registers by name, from an answer to `vcsr`."""
-    pairs = (word.split("=") for word in answer.split())
-    return {name: int(value, 16 if name == "vtype" else 10) for name, value in pairs}
-
-
-def _pc(answer: str) -> int:
-    """The program counter in an answer. Raises LabError where there is none."""
-    found = re.search(r"\bpc=([0-9a-f]{16})", answer)
-    if found is None:
-        raise LabError(f"the machine answers {answer}")
-    return int(found[1], 16)
 
 
 def _argument_block(arguments: Sequence[str]) -> bytes:

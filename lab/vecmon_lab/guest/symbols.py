@@ -5,12 +5,12 @@ import functools
 import pathlib
 from collections.abc import Iterator, Mapping, Sequence
 from dataclasses import dataclass, field
-from typing import Any
-
-from elftools.elf.elffile import ELFFile
-from elftools.elf.sections import SymbolTableSection
+from typing import TYPE_CHECKING
 
 from ..instructions.accesses import PAGE_BYTES
+
+if TYPE_CHECKING:
+    from elftools.elf.elffile import ELFFile
 
 ALLOCATED = 2  # SHF_ALLOC: the section is a part of the memory
 NAMING = ("STT_NOTYPE", "STT_OBJECT", "STT_FUNC")
@@ -34,6 +34,8 @@ class Symbols:
     def read(cls, path: pathlib.Path) -> "Symbols":
         """The symbols of a file; none where it is no ELF file or a damaged one. Raises OSError if it can't be read."""
         with path.open("rb") as file:
+            from elftools.elf.elffile import ELFFile  # which a console without an image doesn't need
+
             try:
                 found = sorted(_symbols(ELFFile(file)))
             except Exception:  # pylint: disable=broad-except  # a damaged file makes pyelftools raise what its parts do
@@ -76,6 +78,8 @@ class Symbols:
         if self.path is None:
             return [], ""
         with self.path.open("rb") as file:
+            from elftools.elf.elffile import ELFFile
+
             try:
                 rows = sorted(_source_rows(ELFFile(file)), key=lambda row: (row[0], row[1] != ""))
             except Exception as error:  # pylint: disable=broad-except  # as above; KeyError for clang's DWARF 5
@@ -84,10 +88,10 @@ class Symbols:
         return rows, ""
 
 
-def _symbols(elf: Any) -> Iterator[tuple[int, int, int, str]]:
+def _symbols(elf: "ELFFile") -> Iterator[tuple[int, int, int, str]]:
     """The address of each symbol, how much it tells, the end of its section or 0, and its name."""
     for section in elf.iter_sections():
-        if not isinstance(section, SymbolTableSection):
+        if section["sh_type"] not in ("SHT_SYMTAB", "SHT_DYNSYM"):
             continue
         for symbol in section.iter_symbols():
             kind, bind, index = symbol["st_info"]["type"], symbol["st_info"]["bind"], symbol["st_shndx"]
@@ -98,7 +102,7 @@ def _symbols(elf: Any) -> Iterator[tuple[int, int, int, str]]:
             yield symbol["st_value"], rank, end, symbol.name
 
 
-def _section_end(elf: Any, index: int, address: int) -> int:
+def _section_end(elf: "ELFFile", index: int, address: int) -> int:
     """The end of the section of a symbol, if the symbol stands in it; else 0."""
     section = elf.get_section(index)
     start: int = section["sh_addr"]
@@ -106,7 +110,7 @@ def _section_end(elf: Any, index: int, address: int) -> int:
     return end if section["sh_flags"] & ALLOCATED and start <= address < end else 0
 
 
-def _source_rows(elf: Any) -> Iterator[tuple[int, str]]:
+def _source_rows(elf: "ELFFile") -> Iterator[tuple[int, str]]:
     """The address of each row of the line tables, and its file and line; "" at the end of a sequence."""
     if not elf.has_dwarf_info():
         return

@@ -1,12 +1,11 @@
 """The vector instruction that a word is, and where a store writes, by the registers before it."""
 
 import functools
-from collections.abc import Iterable, Iterator, Mapping, Sequence
+from collections.abc import Iterable, Iterator, Sequence
 
-from .reasons import VectorView
-from .words import NoInstruction, Operand, VectorInstruction, decode
+from ..machine.answers import ControlRegisters, VectorView
+from .words import STORE, STORE_FP, NoInstruction, Operand, VectorInstruction, decode
 
-SCALAR_STORE, VECTOR_STORE = 0x23, 0x27
 UNIT_STRIDE, STRIDED = 0, 2  # mop; 1 and 3 are indexed
 WHOLE_REGISTERS, MASK = 0b01000, 0b01011  # sumop
 REGISTER_BYTES, ROW_BYTES, LINE_BYTES, PAGE_BYTES = 32, 16, 256, 4096  # a line shows or writes LINE_BYTES of memory
@@ -25,24 +24,24 @@ def vector_instruction(word: int, vtype: int) -> VectorInstruction | None:
         return None
 
 
-def stored_spans(word: int, x: Sequence[int], control: Mapping[str, int], v: bytes) -> list[Span]:
+def stored_spans(word: int, x: Sequence[int], control: ControlRegisters, v: bytes) -> list[Span]:
     """The spans that hold what a store writes, each of 256 bytes or less in one page; none of any other instruction.
 
-    x, control, v: the scalar registers, vl, vtype and vstart by name, and the bytes of all vector registers, before it.
+    x, control, v: the scalar and control registers, and the bytes of all vector registers, before it.
     Elements that are masked off count, and those after one that faults.
     """
     opcode, base = word & 0x7F, x[word >> 15 & 31]
-    if opcode == SCALAR_STORE:
+    if opcode == STORE:
         offset = (word >> 25 << 5 | word >> 7 & 31) ^ 0x800
         return _joined([(base + offset - 0x800, 1 << (word >> 12 & 3))])
-    instruction = vector_instruction(word, control["vtype"]) if opcode == VECTOR_STORE else None
+    instruction = vector_instruction(word, control.vtype) if opcode == STORE_FP else None
     if instruction is None:
         return []
     return _joined(_vector_spans(word, base, x[word >> 20 & 31], control, v, instruction.operands))
 
 
 def _vector_spans(
-    word: int, base: int, stride: int, control: Mapping[str, int], v: bytes, operands: Sequence[Operand]
+    word: int, base: int, stride: int, control: ControlRegisters, v: bytes, operands: Sequence[Operand]
 ) -> Iterator[Span]:
     """The spans of the elements of a vector store, or of its segments."""
     data, kind, mode = operands[0], word >> 26 & 3, word >> 20 & 31
@@ -50,10 +49,10 @@ def _vector_spans(
         yield base, len(data.registers) * REGISTER_BYTES
         return
     if kind == UNIT_STRIDE and mode == MASK:
-        yield base, -(-control["vl"] // 8)
+        yield base, -(-control.vl // 8)
         return
     length = data.eew // 8 * ((word >> 29) + 1)
-    for element in range(control["vstart"], control["vl"]):
+    for element in range(control.vstart, control.vl):
         if kind == UNIT_STRIDE:
             yield base + element * length, length
         elif kind == STRIDED:

@@ -3,38 +3,14 @@
 An instruction is illegal where the RISC-V "V" manual, version 1.0, reserves it, by the choices in docs/DECISIONS.md.
 """
 
-import re
 from collections.abc import Iterator, Sequence
-from dataclasses import dataclass
 from fractions import Fraction
 
+from ..machine.answers import Place, VectorView
 from ..tables.table import read_table
 from .words import VECTOR_ACCESSES, NoInstruction, Operand, Trait, VectorInstruction, decode, listed
 
 ELEN = 64
-
-
-@dataclass(frozen=True)
-class VectorView:
-    """What legality reads of a vector state: vtype, as `vcsr` shows it, and vstart. vl has no part in it."""
-
-    vtype: int
-    vstart: int
-
-    @property
-    def sew(self) -> int:
-        """The element width in bits."""
-        return 8 << (self.vtype >> 3 & 7)
-
-    @property
-    def lmul(self) -> Fraction:
-        """The group multiplier, 1/8 to 8."""
-        return Fraction(2) ** (((self.vtype & 7) + 4) % 8 - 4)
-
-    @property
-    def vlmax(self) -> int:
-        """How many elements a group has; 0 where the type is vill."""
-        return 0 if self.vtype >> 63 else int(256 * self.lmul / self.sew)
 
 
 def illegal_reasons(word: int, view: VectorView) -> list[str]:
@@ -138,27 +114,19 @@ def _emul(operand: Operand, view: VectorView) -> str:
     return f"EMUL {operand.emul} (EEW {operand.eew} / SEW {view.sew} x LMUL {view.lmul})"
 
 
-_STOP = re.compile("(?:[1-8] )?(.+?)(?: ([0-9]+))? pc=([0-9a-f]{16})(?: value=([0-9a-f]{16}))?")
 _SENTENCES = dict(read_table("stops"))
 
 
-def describe_stop(line: str, word: int | None = None, view: VectorView | None = None, text: str = "") -> str:
-    """A stop line, or an answer to `step`, `go`, `stop` or `state`, in sentences.
+def describe_stop(where: Place, word: int | None = None, view: VectorView | None = None, text: str = "") -> str:
+    """A stop, or an answer to `step`, `go`, `stop` or `state`, in sentences.
 
-    line: as the machine printed it, with or without the user's digit
     word, text: the word at the program counter, and its canonical text
     view: the vector state at the stop
-    Raises ValueError if the line is no such line.
     """
-    match = _STOP.fullmatch(line)
-    if match is None or match[1] not in _SENTENCES:
-        raise ValueError(f"no stop line: {line}")
-    what, number, pc, value = match[1], match[2], int(match[3], 16), int(match[4] or "0", 16)
-    sentence = _SENTENCES[what].format(number=number, pc=f"{pc:#x}", value=f"{value:#x}", text=text or f"{value:#010x}")
-    if view is None:
-        return sentence
-    if what == "fault cause=2":
-        return " ".join([sentence, *illegal_reasons(value, view)])
-    if what in ("fault cause=5", "fault cause=7") and word is not None and word & 0x7F in VECTOR_ACCESSES:
+    value, text = f"{where.value:#x}", text or f"{where.value:#010x}"
+    sentence = _SENTENCES[where.what].format(number=where.number, pc=f"{where.pc:#x}", value=value, text=text)
+    if view and where.what == "fault cause=2":
+        return " ".join([sentence, *illegal_reasons(where.value, view)])
+    if view and where.cause in (5, 7) and word is not None and word & 0x7F in VECTOR_ACCESSES:
         return f"{sentence} It stopped at element {view.vstart}."
     return sentence

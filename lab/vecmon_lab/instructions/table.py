@@ -1,15 +1,10 @@
-"""The table of instructions: the names that the assembler knows, as docs/INSTRUCTIONS.md lists them."""
+"""The table of instructions: the names that the assembler knows, as docs/INSTRUCTIONS.md lists them too."""
 
 import functools
-import pathlib
 import re
 from dataclasses import dataclass
 
-from .. import LabError
-
-PAGE = pathlib.Path(__file__).resolve().parents[3] / "docs" / "INSTRUCTIONS.md"
-
-_ROW = re.compile(r"^\| `(\S+) ?([^`]*)` \| `([01 -]+)` \|$", re.MULTILINE)
+from ..tables.table import read_table
 
 
 @dataclass(frozen=True)
@@ -37,8 +32,6 @@ class Row:
 
 @functools.cache
 def instruction_table() -> dict[str, Row]:
-    """The rows by name, in the page's order, but for `.word`. Raises LabError where the page isn't there."""
-    if not PAGE.is_file():
-        raise LabError(f"the table of instructions stands in a checkout of the repository, and there is no file {PAGE}")
-    rows = _ROW.findall(PAGE.read_text("utf-8"))
-    return {name: Row(name, operands, bits.replace(" ", "")) for name, operands, bits in rows if name != ".word"}
+    """The rows by name, in the page's order, but for `.word`."""
+    rows = read_table("instructions")
+    return {name: Row(name, operands.removeprefix("-"), bits.replace(" ", "")) for name, operands, bits in rows}

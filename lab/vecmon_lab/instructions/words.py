@@ -6,9 +6,16 @@ from collections.abc import Iterable, Mapping
 from dataclasses import dataclass
 from fractions import Fraction
 
+from ..machine.program import MARCH
 from ..tables.table import read_table
 
-VECTOR_ACCESSES = (0x07, 0x27)  # opcodes of loads and stores
+LOAD, LOAD_FP, STORE, STORE_FP, OP_V, SYSTEM = 0x03, 0x07, 0x23, 0x27, 0x57, 0x73  # opcodes
+VECTOR_ACCESSES = (LOAD_FP, STORE_FP)  # of vector loads and stores
+CONTROL_REGISTERS = (0x008, 0x009, 0x00A, 0x00F, 0xC20, 0xC21, 0xC22)  # vstart, vxsat, vxrm, vcsr, vl, vtype, vlenb
+SUPPORTED = [sew << 3 | lmul for sew in range(4) for lmul in (0, 1, 2, 3, 5, 6, 7) if lmul < 4 or sew <= lmul - 5]
+"""The 22 supported vector types by SEW and LMUL, without the policies in bits 6 and 7."""
+
+CARRIES = ("vmerge", "vadc", "vsbc", "vmadc", "vmsbc")  # where vm is 0, v0 is an operand and no mask
 
 Trait = enum.Enum("Trait", "APART ANYWHERE V0_TOO UNTYPED FROM_ZERO BELOW_64")
 """What an instruction asks for beside the widths of its operands; the table of shapes says what each one is."""
@@ -28,6 +35,7 @@ class Operand:
     is_whole: bool  # whether these are whole registers, under each vector type
     group: int  # the registers that a group takes
     registers: range  # those of a group, or of the groups of a segment's fields, one after another
+    part: Fraction | None = None  # of SEW, that the width is; None where the instruction itself says the width
 
 
 @dataclass(frozen=True)
@@ -38,6 +46,11 @@ class VectorInstruction:
     traits: frozenset[Trait]
     is_masked: bool
     operands: list[Operand]
+
+    @property
+    def leaves_out(self) -> bool:
+        """Whether elements whose bit in v0 is 0 are masked off."""
+        return self.is_masked and self.name not in CARRIES
 
 
 _FIELDS = {"opcode": (0, 7), "vd": (7, 5), "funct3": (12, 3), "vs1": (15, 5), "vs2": (20, 5)}  # lowest bit, and length
@@ -68,7 +81,7 @@ def decode(word: int, sew: int = 8, lmul: Fraction = Fraction(1)) -> VectorInstr
     _, kind, text = _WORDS[fit.lastindex - 1]
     fields = {name: word >> low & (1 << length) - 1 for name, (low, length) in _FIELDS.items()}
     if kind == "none":
-        raise NoInstruction(text.format(**fields))
+        raise NoInstruction(text.format(**fields, march=MARCH))
     if kind == "scalar":
         return None
     name, (vd, vs2, vs1, *traits) = _operation(fields) if kind == "operation" else (text, _SHAPES[kind])
@@ -100,7 +113,8 @@ def _operation(fields: Mapping[str, int]) -> tuple[str, list[str]]:
 def _operand(noun: str, place: str, cell: list[str], fields: Mapping[str, int], sew: int, lmul: Fraction) -> Operand:
     """The operand at a place, by the words of a cell in the table of shapes."""
     width, *others = cell
-    eew = _WIDTHS[fields["funct3"]] if width == "EEW" else int(_PARTS[width] * sew) if width in _PARTS else int(width)
+    part = _PARTS.get(width)
+    eew = int(part * sew) if part else _WIDTHS[fields["funct3"]] if width == "EEW" else int(width)
     many = fields["nf"] + 1
     counts = {"x1": 1, "x2": 2, "x4": 4, "x8": 8, "xN": many}
     whole = next((counts[other] for other in others if other in counts), None)
@@ -108,4 +122,4 @@ def _operand(noun: str, place: str, cell: list[str], fields: Mapping[str, int], 
     group = max(1, int(emul))
     count = group * many if "fields" in others else group
     registers = range(fields[place], fields[place] + count)
-    return Operand("index" if "index" in others else noun, eew, emul, whole is not None, group, registers)
+    return Operand("index" if "index" in others else noun, eew, emul, whole is not None, group, registers, part)

@@ -6,9 +6,12 @@ from contextlib import suppress
 from dataclasses import dataclass
 
 from .. import LabError
-from ..machine.lines import DIGITS, BadLine, is_look, is_refusal, words_of
+from ..assembler.commands import log_entries
+from ..guest.guest import Guest
+from ..machine.answers import Answer, Position, Refused, read, told
+from ..machine.lines import DIGITS, BadLine, is_look, words_of
 from ..machine.session import Session
-from ..page.state import RowChoice, State, Watch, look_at, with_rows
+from ..page.state import ABSENT, RowChoice, State, Watch, look_at, with_rows
 from .script import Script, Step, refused_statement
 
 
@@ -19,7 +22,7 @@ class Frame:
     user: the digit of the user whose state is shown
     line: what was done, and how many lines more
     note: the author's sentence
-    log: lines behind `>`, their answers behind `<`, and why a line wasn't sent behind `!`
+    log: lines behind `>`, their answers behind `<` (`log_entries`), and why a line wasn't sent behind `!`
     states: the state of each user after it, by the user's digit
     """
 
@@ -56,8 +59,9 @@ class _Maker:
 
     def add(self, step: Step) -> None:
         """Carries out a step, and adds its frame, or a frame for each instruction of a line that steps several."""
-        log = [entry for line in step.lines for entry in self._carry_out(line)]
-        answers = [entry[1:] for entry in log if entry[0] == "<"]
+        log, answers = list[str](), list[tuple[str, Answer]]()
+        for line in step.lines:
+            self._carry_out(line, log, answers)
         number = _steps(step, answers)
         if number:
             self._step_singly(step, number, log, answers)
@@ -71,25 +75,28 @@ class _Maker:
         user = next((entry[1] for entry in log if entry[1:2] in self._watches), before)
         self._add_frame(step, user, log, step.note)
 
-    def _carry_out(self, line: str) -> list[str]:
-        """A line and its answer, for the log."""
+    def _carry_out(self, line: str, log: list[str], answers: list[tuple[str, Answer]]) -> None:
+        """Adds a line and its answer to the log, and what the answer tells whom to the answers."""
+        log.append(f">{line}")
         try:
-            answer = self._whole.do(line)
+            parts = self._whole.do(line)
         except BadLine as error:
-            return [f">{line}", f"!Not sent: {error}."]
-        if line in self._script.statements and is_refusal(answer):
-            raise refused_statement(self._script, line, answer[0])
+            log.append(f"!Not sent: {error}.")
+            return
+        answer = read(parts)
+        if line in self._script.statements and isinstance(answer, Refused):
+            raise refused_statement(self._script, line, answer)
         if line[0] in DIGITS:
             self._watches.setdefault(line[0], Watch()).follow(line, answer)
-        return [f">{line}", *(f"<{part}" for part in answer)]
+        log += log_entries(line, parts)
+        answers += told(parts)
 
-    def _step_singly(self, step: Step, number: int, log: list[str], answers: Sequence[str]) -> None:
+    def _step_singly(self, step: Step, number: int, log: list[str], answers: Sequence[tuple[str, Answer]]) -> None:
         """Steps as often as the line did: up to its number, a stop, or a breakpoint behind its first instruction."""
         line, user = step.lines[0], step.lines[0][0]
         for place in range(1, number + 1):
-            state, part = self._states[user], self._single.do(f"{user} step 1")
-            pc = part[0].rpartition("pc=")[2].lstrip("0") or "0"
-            ends = place == number or " stepped " not in part[0] or pc in state["breaks"]
+            state, part = self._states[user], told(self._single.do(f"{user} step 1"))
+            ends = not isinstance(part[0][1], Position) or place == number or f"{part[0][1].pc:x}" in state["breaks"]
             self._look([line], [*part, *answers] if ends else part, state["code"].get(state["pc"], "")[9:])
             own_log = ([] if place > 1 else log[:1]) + (log[1:] if ends else [])
             note = step.note if place == 1 and step.note else self._instruction_note(user)
@@ -100,13 +107,13 @@ class _Maker:
         if number > 1 and self._whole.look(f"{user} regs") != self._single.look(f"{user} regs"):
             raise LabError(f"{line!r} leaves something else than its instructions one by one")
 
-    def _look(self, lines: Sequence[str], answers: Sequence[str], carried_out: str = "") -> None:
+    def _look(self, lines: Sequence[str], answers: Sequence[tuple[str, Answer]], carried_out: str = "") -> None:
         """Looks at those users whom lines, or an instruction, may have changed: an operator's line may, all of them."""
         users = {line[:1] for line in lines if not is_look(line)}
         for user, watch in self._watches.items():
             if user in users or "*" in users:
-                own, before = [answer for answer in answers if answer[0] == user], self._states.get(user, {})
-                self._states[user] = look_at(self._single, int(user), watch, before, own, carried_out)
+                own, before = [answer for whom, answer in answers if whom == user], self._states.get(user, ABSENT)
+                self._states[user] = look_at(Guest(self._single, int(user)), watch, before, own, carried_out)
 
     def _instruction_note(self, user: str) -> str:
         """The author's sentence before the instruction of the source that a user carried out."""
@@ -121,7 +128,7 @@ class _Maker:
         for user, watch in self._watches.items():
             choice = RowChoice()
             for frame in self._frames:
-                choice.add(frame.states.get(user, {}))
+                choice.add(frame.states.get(user, ABSENT))
             rows = choice.rows(watch)
             for frame in self._frames:
                 if user in frame.states:
@@ -129,9 +136,9 @@ class _Maker:
         return self._frames
 
 
-def _steps(step: Step, answers: Sequence[str]) -> int:
+def _steps(step: Step, answers: Sequence[tuple[str, Answer]]) -> int:
     """How many instructions the first line of a step steps at most; 0 if it is another line, or refused."""
     match [words_of(line) for line in step.lines[:1]]:
-        case [["step", number]] if answers and not is_refusal(answers[:1]):
+        case [["step", number]] if answers and not isinstance(answers[0][1], Refused):
             return int(number)
     return 0

@@ -4,7 +4,7 @@ import argparse
 import pathlib
 import sys
 
-from .. import LabError
+from ..arguments import check_output
 from ..machine.program import find_program, images_of
 from .frames import make_frames
 from .page import lesson_page
@@ -25,6 +25,7 @@ def add_arguments(parser: argparse.ArgumentParser) -> None:
 def run(arguments: argparse.Namespace) -> int:
     """Writes the page. Raises LabError and OSError for bad input."""
     path, images = arguments.script, images_of(arguments.images)
+    check_output(arguments.output, path, *images.values())
     text = path.read_text("utf-8", "replace")
     script = read_source(text, path.name) if path.suffix in SOURCE_SUFFIXES else read_script(text)
     frames = make_frames(script, find_program(), images, arguments.quantum)

@@ -1,24 +1,18 @@
 """A lesson as one page: its frames as differences."""
 
-import dataclasses
 from collections.abc import Mapping, Sequence
-from typing import Any
 
 from ..page.pages import lone_page, merge_patch
 from .frames import Frame
 
-STYLES = ["page.css"]
-SCRIPTS = ["words.js", "operands.js", "view.js", "lesson.js"]
-
 
 def lesson_page(title: str, frames: Sequence[Frame], labels: Mapping[str, list[str]] = {}) -> str:
     """The page, in HTML."""
-    lesson = {"labels": labels, "frames": _differences(frames)}
-    return lone_page("lesson.html", title, lesson, STYLES, SCRIPTS)
+    return lone_page("lesson", title, {"labels": labels, "frames": _differences(frames)})
 
 
-def _differences(frames: Sequence[Frame]) -> list[dict[str, Any]]:
+def _differences(frames: Sequence[Frame]) -> list[dict[str, object]]:
     """The frames, with what changed of the states."""
-    before: list[Mapping[str, Any]] = [{}, *(frame.states for frame in frames)]
+    before: list[Mapping[str, object]] = [{}, *(frame.states for frame in frames)]
     patches = [merge_patch(old, frame.states) for old, frame in zip(before, frames)]
-    return [dataclasses.asdict(frame) | {"states": patch} for frame, patch in zip(frames, patches)]
+    return [vars(frame) | {"states": patch} for frame, patch in zip(frames, patches)]

@@ -6,6 +6,7 @@ from dataclasses import dataclass, field
 
 from .. import LabError
 from ..assembler.source import Program, SourceError, Statement, assemble, refusal
+from ..machine.answers import Refused
 from ..machine.lines import is_look, words_of
 
 RUN_LINES = ["1 step 256", "1 out"]
@@ -83,13 +84,12 @@ def read_source(text: str, name: str) -> Script:
     return Script(title, steps, name, program.names(), statements, notes)
 
 
-def refused_statement(script: Script, line: str, answer: str) -> LabError:
+def refused_statement(script: Script, line: str, answer: Refused) -> LabError:
     """What is wrong with an instruction of the source, by the machine's answer to the line that writes it."""
-    code, _, column = answer[2:].partition(" ")
     statement = script.statements[line]
-    if code == "E15":
-        return _mistake(script.source, refusal(statement, int(column)))
-    return LabError(f"{script.source}:{statement.line}: the machine answers {code} to {statement.text}")
+    if answer.code == "E15":
+        return _mistake(script.source, refusal(statement, int(answer.detail)))
+    return LabError(f"{script.source}:{statement.line}: the machine answers {answer.code} to {statement.text}")
 
 
 def _mistake(name: str, error: SourceError) -> LabError:

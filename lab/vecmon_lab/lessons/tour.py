@@ -1,16 +1,16 @@
-"""Makes the ten lessons of the tour (docs/TOUR.md)."""
+"""Makes the ten lessons of the tour (docs/TOUR.md), and a page with links to them."""
 
 import argparse
 import pathlib
-import re
 
-from .. import LabError
 from ..machine.program import find_program
+from ..page.pages import lone_page
+from ..tables.table import read_table
 from .frames import make_frames
 from .page import lesson_page
 from .script import Script, Step, add_line
 
-DATA = pathlib.Path(__file__).resolve().parents[3] / "tests" / "command_lines" / "data"
+TOURS = pathlib.Path(__file__).with_name("tours")
 
 
 def add_arguments(parser: argparse.ArgumentParser) -> None:
@@ -20,9 +20,12 @@ def add_arguments(parser: argparse.ArgumentParser) -> None:
 
 def run(arguments: argparse.Namespace) -> int:
     """Writes the pages, and prints their paths in the order of the tour. Raises LabError and OSError for bad input."""
-    program, folder = find_program(), arguments.folder
+    program, folder, scripts = find_program(), arguments.folder, tours()
     folder.mkdir(parents=True, exist_ok=True)
-    for name, script in tours().items():
+    links = [(name, script.title) for name, script in scripts.items()]
+    (folder / "index.html").write_text(lone_page("tour", "A tour", links), "utf-8")
+    print(f"{folder / 'index.html'}: A tour")
+    for name, script in scripts.items():
         path = folder / f"{name}.html"
         path.write_text(lesson_page(script.title, make_frames(script, program)), "utf-8")
         print(f"{path}: {script.title}")
@@ -30,19 +33,15 @@ def run(arguments: argparse.Namespace) -> int:
 
 
 def tours() -> dict[str, Script]:
-    """The tours by the names of their scripts, in their order. Raises LabError where they aren't."""
-    if not DATA.is_dir():
-        raise LabError(f"the tour's scripts stand in a checkout of the repository, and there is no folder {DATA}")
-    sections = re.findall(r"^## (.+)|^@steps tour/(\S+)", (DATA / "tour.page").read_text("utf-8"), re.M)
-    titles, names = [title for title, _ in sections if title], [name for _, name in sections if name]
-    return {name: _script(title, f"tour/{name}") for title, name in zip(titles, names, strict=True)}
+    """The tours by the names of their scripts, in their order."""
+    return {name: _script(name, title) for name, title in read_table("tours")}
 
 
-def _script(title: str, path: str) -> Script:
+def _script(name: str, title: str) -> Script:
     """A tour's script. Its sentences stand in a file of their own, each behind how many lines it is said of."""
-    lines = iter((DATA / path).read_text("ascii").splitlines())
+    lines = iter((TOURS / name).read_text("ascii").splitlines())
     steps: list[Step] = []
-    for sentence in (DATA / f"{path}.steps").read_text("utf-8").splitlines():
+    for sentence in (TOURS / f"{name}.steps").read_text("utf-8").splitlines():
         number, _, note = sentence.partition(" ")
         for place in range(int(number)):
             add_line(steps, next(lines), "" if place else note)

@@ -3,6 +3,7 @@
 import os
 import pathlib
 import shutil
+import subprocess
 
 from .. import LabError
 
@@ -11,6 +12,10 @@ HOW_TO_BUILD = (
     "it is built with its proofs by `cd crates/vecmon && rt run < stdin`, in a quarter of an hour or more, and without "
     "them by `python3 tools/unproved_build.py vecmon OUT`, in a minute or two, which VECMON=OUT then names"
 )
+MARCH = "-march=rv64im_zicsr_zve64x_zvl256b"
+"""The compiler's word for what the machine has, as docs/COMPILING.md has it."""
+
+_FLAGS = {1: "compressed instructions", 6: "a floating-point ABI"}  # by the bits of e_flags that say so
 
 
 class NoProgram(LabError):
@@ -27,6 +32,16 @@ def find_program() -> pathlib.Path:
     return pathlib.Path(found).absolute()
 
 
+def check_is_vecmon(program: pathlib.Path) -> None:
+    """Raises NoProgram where a program that answers otherwise than it should isn't vecmon, by how its help begins."""
+    try:
+        told = subprocess.run([program, "--help"], stdin=subprocess.DEVNULL, capture_output=True, timeout=10).stdout
+    except (OSError, subprocess.TimeoutExpired):
+        return
+    if not told.startswith(b"Runs a script on a trainer machine for the RISC-V vector extension"):
+        raise NoProgram(f"{program} is no vecmon; VECMON=PATH names one")
+
+
 def images_of(words: list[str]) -> dict[str, pathlib.Path]:
     """The images by name. Raises LabError for a word that names none."""
     images = {}
@@ -37,4 +52,17 @@ def images_of(words: list[str]) -> dict[str, pathlib.Path]:
         if not pathlib.Path(path).is_file():
             raise LabError(f"image {name}: there is no file {path}")
         images[name] = pathlib.Path(path)
+        try:
+            check_flags(images[name].read_bytes())
+        except LabError as error:
+            raise LabError(f"image {name}: {error}") from error
     return images
+
+
+def check_flags(image: bytes) -> None:
+    """Raises LabError for an image that was compiled for what the machine doesn't have, as its e_flags tell."""
+    is_riscv = image[:6] == b"\x7fELF\2\1" and image[18:20] == b"\xf3\0"
+    kinds = [kind for bits, kind in _FLAGS.items() if is_riscv and int.from_bytes(image[48:52], "little") & bits]
+    if kinds:
+        told = f"it is compiled for {' and '.join(kinds)}, and the machine has none"
+        raise LabError(f"{told}: compile with {MARCH} -mabi=lp64")

@@ -13,14 +13,16 @@ import subprocess
 from collections.abc import Callable, Mapping, Sequence
 
 from .. import LabError
-from .lines import BadLine, OutOfStep, check_line, is_look, is_refusal, is_whole, words_of
+from .answers import OutOfStep, Users, is_refusal, is_whole, read
+from .lines import DIGITS, BadLine, check_line, is_look, words_of
+from .program import check_is_vecmon
 
 __all__ = ["BadLine", "OutOfStep", "ProgramGone", "ReplayDiffers", "ScriptFull", "Session"]
 
 SCRIPT_BYTES = 15_000_000  # a process takes 16,777,216 bytes at most, and lines that look need room as well
 TOGETHER = 40  # lines that go to the program at once: each has to fit into its pipe
 MARK_BYTES = 8
-NEW_MACHINE = "* list 1:- 2:- 3:- 4:- 5:- 6:- 7:- 8:-"
+NEW_MACHINE = Users(dict.fromkeys(DIGITS, "-"))
 
 
 class ProgramGone(LabError):
@@ -160,7 +162,11 @@ class Session(contextlib.AbstractContextManager["Session"]):
         self._has_ended = False
         self.policy: dict[int, str] = {}
         self.losses: list[str] = []
-        self._process: _Process | None = self._replay()
+        try:
+            self._process: _Process | None = self._replay()
+        except (ProgramGone, OutOfStep):
+            check_is_vecmon(program)
+            raise
         try:
             for line in filter(None, script.decode("latin-1").split("\n")):
                 self.do(line)
@@ -267,7 +273,7 @@ class Session(contextlib.AbstractContextManager["Session"]):
         """A new process that has carried out the script, and has answered as the one before."""
         process, answers = _Process(self.command, self._patience), hashlib.sha256()
         try:
-            if process.ask(["* list"]) != [[NEW_MACHINE]]:
+            if read(process.ask(["* list"])[0]) != NEW_MACHINE:
                 raise OutOfStep("the program doesn't begin with a new machine")
             self._check()
             for number, line in enumerate(self._script.decode("ascii").splitlines(), 1):

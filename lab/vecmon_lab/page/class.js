@@ -1,10 +1,10 @@
-"use strict"; // A tab of the class: its code, what it was told, and whose page it is.
+// A tab of the class: its code, what it was told, and whose page it is.
 
-/** Shows a sentence at the top, or nothing. */
-function say(id, words) {
-  put(byId(id), words);
-  byId(id).hidden = words === "";
-}
+import { Connection } from "./connection.js";
+import { byId, put, say } from "./elements.js";
+import { patched } from "./patches.js";
+import { Student } from "./student.js";
+import { Teacher } from "./teacher.js";
 
 /** Begins anew with a code, or with none, that is kept for this tab's session alone, and not in the address. */
 function sitDown(code) {

@@ -1,10 +1,10 @@
-"use strict"; // The way to the class: one WebSocket, one request after the other, growing pauses where it is gone.
+// The way to the class: one WebSocket, one request after the other, growing pauses where it is gone.
 
 const [FIRST_PAUSE, LONGEST_PAUSE] = [500, 15000]; // ms
 const LONGEST_SILENCE = 60000; // until a request without an answer tells that the connection is broken
 const ENDINGS = { 4403: "This code isn't valid, or not any more.", 4429: "This seat is open in too many tabs." };
 
-class Connection {
+export class Connection {
   /** told: is given each message; gone: a sentence while the server is gone, or what was lost; ended: why it ended. */
   constructor(code, told, gone, ended) {
     Object.assign(this, { code, told, gone, ended, pause: FIRST_PAUSE, number: 0, lost: "" });

@@ -1,36 +1,22 @@
-"use strict"; // A seat's machine, live: what was told of it is painted, and what a student does becomes lines.
+// A seat's machine, live: what was told of it is painted where it changed.
 
-const LOG_LENGTH = 500;
-const MOST_WAITING = 5; // requests: keys that repeat faster are left out
-const NEW_MACHINE = ["enter", "map 10000 1 rwx", "map 20000 1 rw", "setpc 10000"];
-
-/** Adds entries to a log in one batch, and shows its end. */
-function addToLog(log, items) {
-  log.append(...items);
-  while (log.childElementCount > LOG_LENGTH) log.firstChild.remove();
-  if (items.length) log.scrollTop = log.scrollHeight;
-}
+import { byId, make, prose } from "./elements.js";
+import { showStep, showStop } from "./stage.js";
+import { addToLog, entryParts, logEntry } from "./transcript.js";
+import { paintState, whenFormsChange } from "./view.js";
 
 /** An entry of a seat's log; a refusal with its words. */
 function seatEntry(entry) {
   const item = logEntry(entry, true);
-  const words = entry[0] === "<" && refusalWords(entry.slice(1));
-  if (words) item.append(make("small", "", words.slice(words.indexOf(":") + 2)));
+  const [, words] = entryParts(entry);
+  if (words) item.append(make("small", "", ...prose(words.replace(/^E\d\d.*?: /m, ""))));
   return item;
 }
 
-/** The bytes of a register with another element; all bytes in hexadecimal, the least first. */
-function withElement(bytes, width, place, value) {
-  const turned = (digits) => digits.match(/../g).reverse().join("");
-  const shift = BigInt(width * place);
-  const others = BigInt("0x" + turned(bytes)) & ~(((1n << BigInt(width)) - 1n) << shift);
-  return turned((others | (BigInt.asUintN(width, value) << shift)).toString(16).padStart(bytes.length, "0"));
-}
-
 /** A machine's state, painted where it changed: at its seat, and for a teacher who looks over the shoulder. */
-class Desk {
+export class Desk {
   constructor() {
-    this.view = new View(() => this.paint());
+    whenFormsChange(() => this.paint());
     this.state = this.before = { run: "absent" };
     this.used = new Set(); // vector registers that weren't zero since the machine began
     this.refusal = ""; // of what was sent last
@@ -49,178 +35,13 @@ class Desk {
 
   /** Paints it. A machine that runs may never have been looked at. */
   paint() {
-    this.view.paint(this.state.x ? this.state : { run: "absent" }, this.before.x && this.before, this.used);
+    paintState(this.state.x ? this.state : { run: "absent" }, this.before.x && this.before, this.used);
     this.showStage();
   }
 
   showStage() {
-    const remark = { absent: "nobody has entered: a new machine or a source begins", running: RUNS }[this.state.run];
-    byId("step").replaceChildren(...(remark ? [make("small", "", remark)] : []), ...instructionPart(this.state));
+    const absent = make("small", "", "nobody has entered: a new machine or a source begins");
+    showStep(this.state, ...(this.state.run === "absent" ? [absent] : []));
     showStop([this.refusal, this.state.stop].filter(Boolean).join(" "));
-  }
-}
-
-/** A student's desk: buttons, keys, the command line, values to click, and the source. */
-class Student {
-  constructor(connection) {
-    this.connection = connection;
-    this.desk = new Desk();
-    this.past = []; // lines that were typed
-    this.place = 0; // among them
-    byId("log").after(byId("command"));
-    byId("listing").before(byId("editor"));
-    byId("program-title").after(byId("sides"));
-    byId("source").value = sessionStorage.getItem("source") ?? byId("source").value;
-    byId("foot").hidden = false;
-    this.listen();
-    this.numberLines();
-  }
-
-  listen() {
-    const on = (id, event, heard) => byId(id).addEventListener(event, heard);
-    document.querySelectorAll("[data-do]").forEach(({ id, dataset }) => on(id, "click", () => this.send([dataset.do])));
-    on("steps", "submit", () => this.send([`step ${byId("number").value}`]));
-    on("command", "submit", () => this.command());
-    on("change", "submit", () => this.change());
-    on("slice", "click", () => this.request({ ask: "lines", slices: 1 }, "a slice"));
-    on("new", "click", () => this.send([...this.leaving(), ...NEW_MACHINE]));
-    on("images", "change", () => this.send([...this.leaving(), "enter", `load ${byId("images").value}`]));
-    on("line", "keydown", (event) => this.recall(event));
-    on("source", "input", () => this.numberLines());
-    on("source", "scroll", () => (byId("numbers-of-lines").scrollTop = byId("source").scrollTop));
-    on("assemble", "click", () => this.assemble());
-    for (const side of ["listing", "source"]) on(`show-${side}`, "click", () => this.showSide(side));
-    on("edit-close", "click", () => byId("edit").close());
-    on("machine", "click", (event) => this.edit(event.target.closest("[data-edit]")));
-    document.addEventListener("keydown", (event) => this.pressed(event));
-  }
-
-  show(view, logs, isAnew) {
-    const { run } = view.state;
-    document.title = `Seat ${view.seat} – vecmon`;
-    put(byId("who"), `Seat ${view.seat}`);
-    const stop = run === "stopped" && view.state.stop && view.stop.split(" ")[0];
-    put(byId("run"), run === "absent" ? "not entered" : stop || run);
-    byId("run").className = `pill ${run}`;
-    for (const id of ["one", "many", "number", "go", "out"]) byId(id).disabled = run !== "stopped";
-    byId("halt").disabled = byId("slice").disabled = run !== "running";
-    byId("slice").hidden = !view.own_slices;
-    put(byId("clock"), `the clock is ${view.clock ? "on" : "off"}`);
-    const share = Math.floor((100 * view.share.used) / view.share.of);
-    const warning = share < 90 ? "" : `${share} % of this seat's share of the script is used up.`;
-    say("trouble", [view.trouble, warning].join(" ").trim());
-    const images = ["Load …", ...view.images].map((name) => make("option", "", name));
-    if (byId("images").length < images.length) byId("images").replaceChildren(...images);
-    Object.assign(byId("images"), { hidden: view.images.length === 0, selectedIndex: 0 });
-    this.desk.show(view.state, logs[view.seat] ?? [], isAnew);
-    byId("log").ariaLive = "polite";
-  }
-
-  /** Sends a request; what was refused is told in words. */
-  async request(request, words) {
-    const answer = await this.connection.ask(request, words);
-    const lines = request.do ?? [];
-    const refusals = (answer?.do ?? answer?.done ?? []).map(([text]) => refusalWords(`1 ${text}`));
-    const told = refusals.map((why, place) => why && `\`${lines[place]}\`: ${why}.`).filter(Boolean);
-    this.refuse([...told, answer?.error ?? ""].join(" ").trim());
-    return answer;
-  }
-
-  send(lines) {
-    return this.request({ ask: "lines", do: lines }, lines.join(", "));
-  }
-
-  refuse(words) {
-    this.desk.refusal = words;
-    this.desk.showStage();
-  }
-
-  /** The lines that end the machine that there is. */
-  leaving() {
-    return { absent: [], stopped: ["leave"], running: ["stop", "leave"] }[this.desk.state.run];
-  }
-
-  command() {
-    const line = byId("line").value.trim();
-    byId("line").value = "";
-    if (!line) return;
-    this.past = [...this.past.filter((each) => each !== line), line];
-    this.place = this.past.length;
-    this.send([line]);
-  }
-
-  /** Lines of before, by arrow keys. */
-  recall(event) {
-    const step = { ArrowUp: -1, ArrowDown: 1 }[event.key];
-    if (!step) return;
-    event.preventDefault();
-    this.place = Math.min(this.past.length, Math.max(0, this.place + step));
-    byId("line").value = this.past[this.place] ?? "";
-  }
-
-  pressed(event) {
-    const id = { F8: "one", F9: event.shiftKey ? "halt" : "go" }[event.key];
-    if (!id || byId("edit").open) return;
-    event.preventDefault();
-    if (this.connection.waiting.length < MOST_WAITING) byId(id).click();
-  }
-
-  /** Sets or removes a breakpoint, or asks for another value. */
-  edit(place) {
-    if (!place || this.desk.state.run !== "stopped") return undefined;
-    const [word, first, , index] = place.dataset.edit.split(" ");
-    if (word === "break") return this.send([`${this.desk.state.breaks.includes(first) ? "un" : ""}break ${first}`]);
-    this.changed = place.dataset.edit;
-    byId("edit-name").textContent = [word, first, index && `element ${index}`].filter(Boolean).join(" ");
-    byId("value").value = place.firstChild.data;
-    byId("edit").showModal();
-    return byId("value").select();
-  }
-
-  /** Sends the line that writes a value, which is decimal where decimal ones are shown. */
-  change() {
-    const text = byId("value").value.trim();
-    const [word, first, width, index, form] = this.changed.split(" ");
-    byId("edit").close();
-    if (word === "setpc" || word === "poke") return this.send([`${word} ${first ?? ""} ${text}`]);
-    const isDecimal = form ? form !== "hexadecimal" : byId("numbers").value === "signed";
-    const [bits, kind] = [Number(width ?? 64), isDecimal ? "decimal" : "hexadecimal"];
-    const isNumber = (isDecimal ? /^-?\d{1,20}$/ : /^[0-9a-f]{1,16}$/i).test(text);
-    const value = isNumber ? BigInt(isDecimal ? text : "0x" + text) : 1n << 64n; // which fits nowhere
-    const fits = [BigInt.asUintN(bits, value), BigInt.asIntN(bits, value)].includes(value);
-    if (!fits) return this.refuse(`\`${text}\` is no ${kind} number of ${bits} bits: nothing was sent.`);
-    const bytes = form && withElement(this.desk.state.v[first.slice(1)], bits, Number(index), value);
-    return this.send([`${word} ${first} ${bytes ?? BigInt.asUintN(64, value).toString(16)}`]);
-  }
-
-  showSide(side) {
-    byId("editor").hidden = side === "listing";
-    byId("listing").hidden = side === "source";
-    for (const each of ["listing", "source"]) byId(`show-${each}`).ariaPressed = `${each === side}`;
-  }
-
-  numberLines() {
-    const lines = byId("source").value.split("\n");
-    byId("numbers-of-lines").textContent = lines.map((_, place) => place + 1).join("\n");
-    sessionStorage.setItem("source", byId("source").value);
-  }
-
-  async assemble() {
-    const { mistakes } = (await this.request({ ask: "source", text: byId("source").value }, "the source")) ?? {};
-    byId("mistakes").replaceChildren(...(mistakes ?? []).map((mistake) => this.mistake(mistake)));
-    if (mistakes?.length === 0) this.showSide("listing");
-  }
-
-  /** A mistake of the source, which leads to its place. */
-  mistake({ line, column, message }) {
-    const button = make("button", "", `${line}:${column}: ${message}`);
-    button.addEventListener("click", () => {
-      const lines = byId("source").value.split("\n");
-      const start = lines.slice(0, line - 1).reduce((sum, each) => sum + each.length + 1, 0);
-      byId("source").focus();
-      byId("source").setSelectionRange(start + column - 1, start + lines[line - 1].length);
-      byId("source").scrollTop = 17 * (line - 3);
-    });
-    return make("li", "", button);
   }
 }

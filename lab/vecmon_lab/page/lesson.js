@@ -1,4 +1,10 @@
-"use strict"; // A lesson: frames made beforehand, stepped back and forth. Each has what changed of the states.
+// A lesson: frames made beforehand, stepped back and forth. Each has what changed of the states.
+
+import { byId, make, prose, put } from "./elements.js";
+import { patched } from "./patches.js";
+import { showStep, showStop } from "./stage.js";
+import { STOP_LINE, entryParts, logEntry } from "./transcript.js";
+import { paintState, whenFormsChange } from "./view.js";
 
 const ADDRESS_DELAY = 300; // ms: a browser takes only so many new addresses in a time
 
@@ -6,7 +12,7 @@ class Lesson {
   constructor({ frames, labels }) {
     this.frames = frames;
     this.labels = labels;
-    this.view = new View(() => this.show(this.place));
+    whenFormsChange(() => this.show(this.place));
     this.user = ""; // the user chosen to be shown; without one it is the line's
     this.states = [];
     let states = {};
@@ -71,7 +77,7 @@ class Lesson {
     this.showPlace(user, states);
     this.showStage(frame, state, user, states);
     this.showLog(frame.log.length);
-    this.view.paint({ ...state, labels: this.labels }, this.states[this.place - 1]?.[user], this.used[user]);
+    paintState({ ...state, labels: this.labels }, this.states[this.place - 1]?.[user], this.used[user]);
     byId("log").scrollTop = byId("log").scrollHeight;
     clearTimeout(this.address);
     this.address = setTimeout(() => history.replaceState(null, "", `#${this.place + 1}`), ADDRESS_DELAY);
@@ -103,18 +109,16 @@ class Lesson {
     const remark = (text) => parts.push(make("small", "", text));
     if (frame.line && user !== frame.line[0] && this.users.length > 1) remark(`shown: user ${user}`);
     if (state.run === "absent") remark(`user ${user} isn't there`);
-    if (state.run === "running") remark(RUNS);
-    byId("step").replaceChildren(...parts, ...instructionPart(state));
+    showStep(state, ...parts);
   }
 
   /** What an entry of a frame's log tells of a stop or a refusal, in words; "" for most. */
   entryWords(log, place, states) {
-    const text = log[place].slice(1);
+    const [text, refusal] = entryParts(log[place]);
     if (log[place][0] === "!") return text;
     if (log[place][0] === ">") return "";
     const stop = STOP_LINE.test(text) ? (states[text[0]]?.stop ?? "") : "";
     if (stop) return this.users.length > 1 ? `User ${text[0]}: ${stop}` : stop;
-    const refusal = refusalWords(text);
     const isFirst = place < 2; // then its line stands beside it
     return refusal && !isFirst ? `\`${log[place - 1].slice(1)}\`: ${refusal}` : refusal;
   }

@@ -1,4 +1,4 @@
-"""Pages with the files of this folder in line, which are allowed by their hashes alone, and what a page hasn't been told."""
+"""Pages, each with a style and a script in line, which are allowed by their hashes alone; and what is new to a page."""
 
 import base64
 import hashlib
@@ -6,57 +6,56 @@ import html
 import json
 import pathlib
 import string
-from collections.abc import Mapping, Sequence
-from typing import Any
+from collections.abc import Mapping
 
-from ..assembler.commands import MEANINGS
+from .modules import join_modules
 
 FILES = pathlib.Path(__file__).parent
 
 
-def lone_page(template: str, title: str, data: Any, styles: Sequence[str], scripts: Sequence[str]) -> str:
-    """A page that loads nothing, with what its scripts show."""
-    text = json.dumps(data, separators=(",", ":")).replace("<", "\\u003c")
-    policy = content_policy(styles, scripts)
-    return page_text(template, styles, scripts, policy=policy, title=html.escape(title), data=text)
+class Page:
+    """A page of this folder by its name. Its style and its script stand in line, and its policy allows these alone."""
+
+    def __init__(self, name: str) -> None:
+        frame, body, machine = map(page_file, ("page.html", f"{name}.html", "machine.html"))
+        self._template = string.Template(frame.replace("$body", body).replace("$machine", machine))
+        self._style = "".join(page_file(style) for style in ("page.css", f"{name}.css") if (FILES / style).exists())
+        self._script = join_modules(name, page_file)
+        self.policy = (
+            f"default-src 'none'; img-src data:; style-src {_digest(self._style)}; script-src {_digest(self._script)}; "
+            "base-uri 'none'; form-action 'none'"
+        )
+
+    def text(self, title: str, data: str = "", policy: str = "") -> str:
+        """The page in HTML, with what its script shows, and with its policy where no server sends it."""
+        texts = {"title": title, "style": self._style, "script": self._script, "data": data, "policy": policy}
+        return self._template.substitute(texts)
 
 
-def page_text(template: str, styles: Sequence[str], scripts: Sequence[str], **texts: str) -> str:
-    """A page of this folder, with its styles, its scripts, and the parts that show a machine in line."""
-    return string.Template(_file(template)).substitute(
-        texts,
-        machine=_file("machine.html"),
-        styles="\n".join(f"<style>{_file(name)}</style>" for name in styles),
-        scripts="\n".join(f"<script>{_file(name)}</script>" for name in scripts),
-    )
+def lone_page(name: str, title: str, data: object) -> str:
+    """A page that loads nothing, with what its script shows."""
+    page, text = Page(name), json.dumps(data, separators=(",", ":")).replace("<", "\\u003c")
+    policy = f'<meta http-equiv="Content-Security-Policy" content="{page.policy}">'
+    return page.text(html.escape(title), text, policy)
 
 
-def content_policy(styles: Sequence[str], scripts: Sequence[str]) -> str:
-    """The content policy of a page: these files, which it has in line, and pictures that it has in itself."""
-    return (
-        f"default-src 'none'; img-src data:; style-src {_in_line(styles)}; script-src {_in_line(scripts)}; "
-        "base-uri 'none'; form-action 'none'"
-    )
-
-
-def merge_patch(old: Mapping[str, Any], new: Mapping[str, Any]) -> dict[str, Any]:
+def merge_patch(old: Mapping[str, object], new: Mapping[str, object]) -> dict[str, object]:
     """The merge patch (RFC 7396) that makes the new object from the old one; no value is None."""
-    patch: dict[str, Any] = {key: None for key in old if key not in new}
+    patch: dict[str, object] = {key: None for key in old if key not in new}
     for key, value in new.items():
-        if key in old and isinstance(value, dict) and isinstance(old[key], dict):
-            if value != old[key]:
-                patch[key] = merge_patch(old[key], value)
-        elif key not in old or value != old[key]:
+        before = old.get(key)
+        if value != before:
             patch[key] = value
+            if isinstance(value, dict) and isinstance(before, dict):
+                patch[key] = merge_patch(before, value)
     return patch
 
 
-def _in_line(names: Sequence[str]) -> str:
-    """What a content policy calls these files, each in line."""
-    digests = (hashlib.sha256(_file(name).encode("utf-8")).digest() for name in names)
-    return " ".join(f"'sha256-{base64.b64encode(digest).decode('ascii')}'" for digest in digests)
+def _digest(text: str) -> str:
+    """What a content policy calls a text that stands in line."""
+    return f"'sha256-{base64.b64encode(hashlib.sha256(text.encode('utf-8')).digest()).decode('ascii')}'"
 
 
-def _file(name: str) -> str:
-    """A file of this folder, with the meanings of refusals where it names them."""
-    return (FILES / name).read_text("utf-8").replace("$refusals", json.dumps(MEANINGS))
+def page_file(name: str) -> str:
+    """A file of this folder."""
+    return (FILES / name).read_text("utf-8")

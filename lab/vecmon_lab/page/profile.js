@@ -1,18 +1,9 @@
-"use strict"; // A profile: bars beside the disassembly, and vector lengths. All texts are put in as texts.
+// A profile: bars beside the disassembly, and vector lengths.
+
+import { byId, make } from "./elements.js";
 
 const ORDERS = { "by-address": () => 0, "by-ticks": (one, other) => other.ticks - one.ticks };
 const KINDS = ["active", "masked", "tail"];
-
-const byId = (id) => document.getElementById(id);
-
-/** An element with a class and a text, and others in it. */
-function make(tag, kind = "", text = "", ...children) {
-  const element = document.createElement(tag);
-  element.className = kind;
-  element.textContent = text;
-  element.append(...children);
-  return element;
-}
 
 /** A cell with a bar of parts, which are shares of the whole cell, each of a class. */
 function bar(kind, parts) {
@@ -21,7 +12,7 @@ function bar(kind, parts) {
     piece.style.flex = `0 0 ${100 * share}%`;
     return piece;
   });
-  return make("td", "bar", "", make("div", kind, "", ...pieces));
+  return make("td", "bar", make("div", kind, ...pieces));
 }
 
 const number = (value, kind = "number") => make("td", kind, value.toLocaleString("en"));
@@ -30,7 +21,7 @@ const number = (value, kind = "number") => make("td", kind, value.toLocaleString
 function instructionRow(row, most) {
   const groups = row.active + row.masked + row.tail;
   const elements = KINDS.map((kind) => [kind, row[kind] / groups]);
-  return make("tr", "", "",
+  return make("tr", "",
     make("th", "", row.address), make("td", "text", row.text), make("td", "", row.source), number(row.times),
     number(row.ticks), bar("", [["ticks", row.ticks / most]]),
     ...(groups ? [...KINDS.map((kind) => number(row[kind])), number(row.work), bar("elements", elements)] : []));
@@ -39,21 +30,21 @@ function instructionRow(row, most) {
 /** Shows the instructions in an order; by address each symbol has a line of its own. */
 function show(rows, id) {
   const most = Math.max(...rows.map((row) => row.ticks));
-  const body = make("tbody");
+  const body = make("tbody", "");
   let symbol = "";
   for (const row of [...rows].sort(ORDERS[id])) {
     const name = row.place.replace(/\+0x[0-9a-f]+$/, "");
     if (id === "by-address" && name !== symbol) {
       const label = make("th", "", name || "no symbol");
       label.colSpan = 11;
-      body.append(make("tr", "label", "", label));
+      body.append(make("tr", "label", label));
     }
     symbol = name;
     body.append(instructionRow(row, most));
   }
   const heads = ["address", "instruction", "source", "times", "ticks", "", "active", "masked off", "tail", "work", ""];
   const head = heads.map((text, place) => make("th", place > 2 ? "number" : "", text));
-  byId("rows").replaceChildren(make("thead", "", "", make("tr", "", "", ...head)), body);
+  byId("rows").replaceChildren(make("thead", "", make("tr", "", ...head)), body);
   for (const button of Object.keys(ORDERS)) byId(button).setAttribute("aria-pressed", button === id);
 }
 
@@ -64,6 +55,6 @@ const most = Math.max(...data.lengths.map(([, , times]) => times));
 
 byId("summary").append(...data.summary.map((text) => make("p", "", text)));
 byId("lengths").append(...data.lengths.map(([kind, vl, times]) =>
-  make("tr", "", "", make("td", "", kind), number(`vl=${vl}`), number(times), bar("", [["ticks", times / most]]))));
+  make("tr", "", make("td", "", kind), number(`vl=${vl}`), number(times), bar("", [["ticks", times / most]]))));
 for (const id of Object.keys(ORDERS)) byId(id).addEventListener("click", () => show(rows, id));
 show(rows, "by-address");

@@ -3,25 +3,61 @@
 import re
 from collections import Counter
 from collections.abc import Iterator, Sequence
-from typing import Any
+from typing import TypedDict
 
+from ..guest.guest import Guest
 from ..instructions.accesses import LINE_BYTES, PAGE_BYTES, ROW_BYTES
-from ..instructions.reasons import VectorView, describe_stop
-from ..machine.lines import is_refusal, is_stop, words_of
-from ..machine.session import Session
+from ..instructions.reasons import describe_stop
+from ..machine.answers import (
+    Addresses,
+    Answer,
+    ControlRegisters,
+    Listing,
+    Memory,
+    Output,
+    Position,
+    Refused,
+    ScalarRegisters,
+    Stop,
+    VectorRegister,
+)
+from ..machine.lines import words_of
+from .operands import ShownOperand, shown_operands
 
-State = dict[str, Any]
-"""A user's state; addresses and values are hexadecimal digits without leading zeros, and bytes two digits each.
 
-run: `absent`, `stopped` or `running`; without a machine there is nothing else
-pc; x: 32 values by number; v: 32 times 32 bytes by number
-vl, vstart, vxrm, vxsat: numbers; vtype; policy: `keep` or `ones`
-code: words of the program with their texts by address; breaks: addresses
-memory: rows of 16 bytes by address
-instruction: the address of the instruction that was carried out last, or faulted, in what was just done; faulted: true
-stop: why the program stopped in what was just done, in words
-output: the bytes that answers to `out` have shown
-"""
+class State(TypedDict, total=False):
+    """A user's state; addresses and values are hexadecimal digits without leading zeros, and bytes two digits each.
+
+    run: `absent`, `stopped` or `running`; without a machine there is nothing else
+    x: 32 values by number; v: 32 times 32 bytes by number; policy: `keep` or `ones`
+    code, operands: words of the program with their texts, and their vector operands, by address
+    memory: rows of 16 bytes by address
+    instruction: the address of the instruction that was carried out last, or faulted, in what was just done
+    stop: why the program stopped in what was just done, in words
+    output: the bytes that answers to `out` have shown
+    labels: in a class, names by address of the source that was assembled last
+    """
+
+    run: str
+    pc: str
+    x: dict[str, str]
+    vtype: str
+    vl: int
+    vstart: int
+    vxrm: int
+    vxsat: int
+    breaks: list[str]
+    policy: str
+    v: dict[str, str]
+    code: dict[str, str]
+    operands: dict[str, Sequence[ShownOperand]]
+    memory: dict[str, str]
+    instruction: str
+    faulted: bool
+    stop: str
+    output: str
+    labels: dict[str, list[str]]
+
 
 ABSENT: State = {"run": "absent"}
 MOST_ROWS = 64
@@ -29,7 +65,6 @@ MAPPED_PAGES, MOST_PAGES = 8, 32  # how many pages are looked at since they were
 MOST_WORDS = 512
 WORDS_AHEAD = 8
 
-_OUTPUT = re.compile(r"[1-8] out \d+ ([0-9a-f]+)")
 _ADDRESS = re.compile(r"(-?\d+)?\(x(\d+)\)")
 _STORE = re.compile(r"(s[bhwd]|vs\S+) .*\(x\d+\)")
 
@@ -41,11 +76,11 @@ class Watch:
         self.code: set[int] = set()  # addresses of words
         self.pages: set[int] = set()  # addresses of pages
         self.named: set[int] = set()  # addresses of rows that lines named
-        self.trace: list[str] = []  # as it was when it was looked at last
+        self.trace: Sequence[int] = []  # as it was when it was looked at last
 
-    def follow(self, line: str, answer: Sequence[str]) -> None:
+    def follow(self, line: str, answer: Answer) -> None:
         """Takes up the places that a user's line names, if it was accepted."""
-        if is_refusal(answer):
+        if isinstance(answer, Refused):
             return
         match words_of(line):
             case ["enter"] | ["leave"] | ["load", _]:
@@ -85,43 +120,48 @@ class Watch:
 
 
 def look_at(
-    session: Session, user: int, watch: Watch, before: State, answers: Sequence[str] = (), carried_out: str = ""
+    guest: Guest, watch: Watch, before: State, answers: Sequence[Answer], carried_out: str = "", is_done: bool = True
 ) -> State:
-    """The user's state after a line that was answered by these lines; before it the state was `before`.
+    """The user's state after lines that were answered to the user so; before them the state was `before`.
 
-    carried_out: the text of the instruction that the line may have carried out, if it did nothing else
+    carried_out: the text of the instruction that a line may have carried out, if nothing else was done
+    is_done: whether a line did more than look
     While the program runs the machine shows nothing else, so that all but `run` and `pc` stays as it was.
     """
-    looks = _Looks(session, user)
-    answer = looks.ask("state")
-    if not answer:
-        return dict(ABSENT)
-    _, run, pc = answer[0].split()
-    state = {key: value for key, value in before.items() if key not in ("instruction", "faulted", "stop")}
-    state |= {"run": run, "pc": _short(pc.removeprefix("pc="))}
-    for output in filter(None, map(_OUTPUT.fullmatch, answers)):
-        state["output"] = state.get("output", "") + output[1]
-    if run == "running":
+    (place,) = guest.ask("state")
+    if not isinstance(place, Position):
+        return ABSENT.copy()
+    state = before.copy()
+    if is_done:
+        state.pop("instruction", None)
+        state.pop("faulted", None)
+        state.pop("stop", None)
+    state.update({"run": place.run, "pc": f"{place.pc:x}"})
+    for answer in answers:
+        if isinstance(answer, Output) and answer.data:
+            state["output"] = state.get("output", "") + answer.data.hex()
+    if place.run == "running":
         return state
-    state |= looks.registers() | {"policy": session.policy[user]}
+    control = _take_registers(guest, state)
+    state["policy"] = guest.session.policy[guest.user]
     if not carried_out or carried_out.startswith("v"):
-        state["v"] = looks.vectors()
-    trace = looks.ask("trace")[0].split()[1:]
-    stops = [line[2:] for line in answers if is_stop(line)]
-    stepped = any(line[2:].startswith("stepped ") for line in answers)
-    state["code"] = looks.code(watch, state["pc"], trace)
+        state["v"] = _vectors(guest)
+    trace = guest.told("trace", Addresses).addresses
+    stepped = any(isinstance(answer, Position) and answer.kind == "stepped" for answer in answers)
+    state["code"] = _code(guest, watch, place.pc, trace)
+    state["operands"] = {address: shown_operands(int(line[:8], 16)) for address, line in state["code"].items()}
     text = state["code"].get(state["pc"], "")
     pages = len(watch.pages)
     watch.add_accessed(text[9:], state["x"])
     if not carried_out or _STORE.match(carried_out) or len(watch.pages) > pages:
-        state["memory"] = looks.memory(watch)
+        state["memory"] = _memory(guest, watch)
     if trace and (stepped or trace != watch.trace):
-        state["instruction"] = _short(trace[-1])
-    if stops:
-        word = int(text[:8], 16) if text else None
-        state["stop"] = describe_stop(stops[-1], word, VectorView(int(state["vtype"], 16), state["vstart"]), text[9:])
-    if stops and stops[-1].startswith("fault "):
-        state |= {"instruction": state["pc"], "faulted": True}
+        state["instruction"] = f"{trace[-1]:x}"
+    stop = next((answer for answer in reversed(answers) if isinstance(answer, Stop)), None)
+    if stop:
+        state["stop"] = describe_stop(stop, int(text[:8], 16) if text else None, control, text[9:])
+    if stop and stop.kind == "fault":
+        state.update({"instruction": state["pc"], "faulted": True})
     watch.trace = trace
     return state
 
@@ -159,71 +199,58 @@ class RowChoice:
 
 def with_rows(state: State, rows: set[str]) -> State:
     """The state with these rows of memory alone."""
-    memory = {row: digits for row, digits in state.get("memory", {}).items() if row in rows}
-    return state | {"memory": memory} if "memory" in state else state
+    if "memory" not in state:
+        return state
+    shown = state.copy()
+    shown["memory"] = {row: digits for row, digits in state["memory"].items() if row in rows}
+    return shown
 
 
-class _Looks:
-    """What one user is shown."""
+def _take_registers(guest: Guest, state: State) -> ControlRegisters:
+    """Takes scalar registers, vector control registers and breakpoints into a state."""
+    scalar, control, breaks = guest.ask("regs", "vcsr", "breaks")
+    assert (
+        isinstance(scalar, ScalarRegisters) and isinstance(control, ControlRegisters) and isinstance(breaks, Addresses)
+    )
+    state["x"] = {str(number): f"{value:x}" for number, value in enumerate(scalar.x)}
+    state["vtype"] = f"{control.vtype:x}"
+    state["vl"], state["vstart"] = control.vl, control.vstart
+    state["vxrm"], state["vxsat"] = control.vxrm, control.vxsat
+    state["breaks"] = [f"{address:x}" for address in breaks.addresses]
+    return control
 
-    def __init__(self, session: Session, user: int) -> None:
-        self._session, self._user = session, user
 
-    def ask(self, command: str) -> list[str]:
-        """The answer's lines without the user's digit; none where it is refused."""
-        return self.ask_all([command])[0]
+def _vectors(guest: Guest) -> dict[str, str]:
+    """The vector registers."""
+    answers = guest.ask(*(f"vreg v{number} 64" for number in range(32)))
+    return {str(answer.number): answer.data.hex() for answer in answers if isinstance(answer, VectorRegister)}
 
-    def ask_all(self, commands: Sequence[str]) -> list[list[str]]:
-        """As `ask`, for commands that are sent together."""
-        answers = self._session.look_all([f"{self._user} {command}" for command in commands])
-        return [[] if is_refusal(answer) else [line[2:] for line in answer] for answer in answers]
 
-    def registers(self) -> State:
-        """Scalar registers, vector control registers and breakpoints."""
-        lines, (control_line,), (breaks,) = self.ask_all(["regs", "vcsr", "breaks"])
-        words = " ".join(lines).split()
-        control = dict(word.split("=") for word in control_line.split())
-        return {
-            "x": {name.removeprefix("x"): _short(value) for name, value in zip(words[2::2], words[3::2])},
-            "vtype": _short(control.pop("vtype")),
-            **{name: int(value) for name, value in control.items()},
-            "breaks": [_short(address) for address in breaks.split()[1:]],
-        }
+def _code(guest: Guest, watch: Watch, pc: int, trace: Sequence[int]) -> dict[str, str]:
+    """The listing: words that lines wrote, words that were carried out, and some from the program counter on."""
+    if len(watch.code) < MOST_WORDS:
+        watch.code.update(trace)
+        watch.code.update(_ahead(guest, pc))
+    answers = guest.ask(*(f"dis {run[0]:x} {len(run)}" for run in watch.runs()))
+    words = [word for answer in answers if isinstance(answer, Listing) for word in answer.words]
+    return {f"{word.address:x}": f"{word.word:08x} {word.text}" for word in words}
 
-    def vectors(self) -> dict[str, str]:
-        """The vector registers."""
-        answers = self.ask_all([f"vreg v{number} 8" for number in range(32)])
-        return {str(number): "".join(line.split()[1:]) for number, (line,) in enumerate(answers)}
 
-    def code(self, watch: Watch, pc: str, trace: Sequence[str]) -> dict[str, str]:
-        """The listing: words that lines wrote, words that were carried out, and some from the program counter on."""
-        if len(watch.code) < MOST_WORDS:
-            watch.code.update(int(address, 16) for address in trace)
-            watch.code.update(self._ahead(int(pc, 16)))
-        answers = self.ask_all([f"dis {run[0]:x} {len(run)}" for run in watch.runs()])
-        return {_short(line[:16]): line[17:] for answer in answers for line in answer}
+def _ahead(guest: Guest, pc: int) -> Iterator[int]:
+    """The addresses of instructions from one on, up to a later word that is none, or the end of the page."""
+    (listing,) = guest.ask(f"dis {pc:x} {min(WORDS_AHEAD, (PAGE_BYTES - pc % PAGE_BYTES) // 4)}")
+    for place, word in enumerate(listing.words if isinstance(listing, Listing) else ()):
+        if place and word.text.startswith(".word"):
+            return
+        yield word.address
 
-    def _ahead(self, pc: int) -> Iterator[int]:
-        """The addresses of instructions from one on, up to a later word that is none, or the end of the page."""
-        length = min(WORDS_AHEAD, (PAGE_BYTES - pc % PAGE_BYTES) // 4)
-        for place, line in enumerate(self.ask(f"dis {pc:x} {length}")):
-            if place and line[26:].startswith(".word"):
-                return
-            yield int(line[:16], 16)
 
-    def memory(self, watch: Watch) -> dict[str, str]:
-        """The rows of all pages that are watched and mapped."""
-        rows = {}
-        for page in sorted(watch.pages):
-            addresses = range(page, page + PAGE_BYTES, LINE_BYTES)
-            answers = self.ask_all([f"peek {address:x} {LINE_BYTES}" for address in addresses])
-            for address, (line,) in zip(addresses, filter(None, answers)):
-                digits = line.split()[2]
+def _memory(guest: Guest, watch: Watch) -> dict[str, str]:
+    """The rows of all pages that are watched and mapped."""
+    rows = {}
+    for page in sorted(watch.pages):
+        for answer in guest.ask(*(f"peek {at:x} {LINE_BYTES}" for at in range(page, page + PAGE_BYTES, LINE_BYTES))):
+            if isinstance(answer, Memory):
                 for place in range(0, LINE_BYTES, ROW_BYTES):
-                    rows[f"{address + place:x}"] = digits[2 * place : 2 * (place + ROW_BYTES)]
-        return rows
-
-
-def _short(digits: str) -> str:
-    """Hexadecimal digits without leading zeros."""
-    return digits.lstrip("0") or "0"
+                    rows[f"{answer.address + place:x}"] = answer.data[place : place + ROW_BYTES].hex()
+    return rows

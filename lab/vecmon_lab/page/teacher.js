@@ -1,4 +1,8 @@
-"use strict"; // The teacher's page: seats, clocks, the operator's lines, and a seat looked at.
+// The teacher's page: seats, clocks, the operator's lines, and a seat looked at.
+
+import { Desk } from "./desk.js";
+import { byId, header, make, put, say } from "./elements.js";
+import { addToLog, logEntry } from "./transcript.js";
 
 /** An answer without the leading zeros of its addresses. */
 const short = (answer) => answer.replace(/=0+(?=[0-9a-f])/g, "=");
@@ -68,7 +72,7 @@ class ClassMachine {
   }
 }
 
-class Teacher {
+export class Teacher {
   constructor(connection) {
     this.connection = connection;
     this.desk = new Desk();

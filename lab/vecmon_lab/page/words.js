@@ -1,20 +1,12 @@
-"use strict"; // Names and words that the page shows beside the machine's numbers.
+// Names and words that the page shows beside the machine's numbers.
 
-const ABI_NAMES =
+export const ABI_NAMES =
   "zero ra sp gp tp t0 t1 t2 s0 s1 a0 a1 a2 a3 a4 a5 a6 a7 s2 s3 s4 s5 s6 s7 s8 s9 s10 s11 t3 t4 t5 t6".split(" ");
 
-const ROUNDING = ["to nearest, ties up (rnu)", "to nearest, ties to even (rne)", "down (rdn)", "to odd (rod)"];
-
-const REFUSALS = $refusals; // the meanings by code, of tables/refusals.txt
-
-/** The words for an answer that refuses a line, or "" for any other answer. */
-function refusalWords(answer) {
-  const [, code, more] = /^[1-8*] (E\d\d)( .*)?$/.exec(answer) ?? [];
-  return code ? `${code}${more ?? ""}: ${REFUSALS[code] ?? "refused"}` : "";
-}
+export const ROUNDING = ["to nearest, ties up (rnu)", "to nearest, ties to even (rne)", "down (rdn)", "to odd (rod)"];
 
 /** vtype, a hexadecimal number, in its parts: SEW in bits, LMUL as a number, VLMAX; 32 bits and 1 where it is vill. */
-function vectorType(vtype) {
+export function vectorType(vtype) {
   const bits = BigInt("0x" + vtype);
   const vill = bits >> 63n === 1n;
   const sew = vill ? 32 : 8 << Number((bits >> 3n) & 7n);
@@ -23,14 +15,14 @@ function vectorType(vtype) {
 }
 
 /** A vector type as the assembler writes it. */
-function typeText(type) {
+export function typeText(type) {
   if (type.vill) return "vill";
   const group = type.lmul < 1 ? `mf${1 / type.lmul}` : `m${type.lmul}`;
   return `e${type.sew}, ${group}, ${type.tail ? "ta" : "tu"}, ${type.mask ? "ma" : "mu"}`;
 }
 
 /** A vector type in a sentence. */
-function typeWords(type) {
+export function typeWords(type) {
   if (type.vill) return "No vector type is set (vill): vector arithmetic is illegal.";
   const parts = { 0.5: "half of a register", 0.25: "a quarter of a register", 0.125: "an eighth of a register" };
   const group = parts[type.lmul] ?? (type.lmul === 1 ? "one register" : `a group of ${type.lmul} registers`);
@@ -40,17 +32,13 @@ function typeWords(type) {
 }
 
 /** A 64-bit number, in hexadecimal without leading zeros, as a signed decimal one. */
-function signedText(hexadecimal) {
-  return BigInt.asIntN(64, BigInt("0x" + hexadecimal)).toString();
-}
+export const signedText = (hexadecimal) => BigInt.asIntN(64, BigInt("0x" + hexadecimal)).toString();
 
 /** An instruction's text with the chosen names of scalar registers. */
-function withNames(text, abi) {
-  return abi ? text.replace(/\bx(\d+)\b/g, (_, number) => ABI_NAMES[number]) : text;
-}
+export const withNames = (text, abi) => (abi ? text.replace(/\bx(\d+)\b/g, (_, number) => ABI_NAMES[number]) : text);
 
 /** Where a branch or a jump goes to: an address in hexadecimal, or "" for any other instruction. */
-function target(address, text) {
+export function target(address, text) {
   const distance = /^(?:b\w+ x\d+, x\d+|jal x\d+), (-?\d+)$/.exec(text);
   return distance ? (BigInt("0x" + address) + BigInt(distance[1])).toString(16) : "";
 }

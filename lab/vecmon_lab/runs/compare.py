@@ -11,14 +11,16 @@ from ..guest.changes import Registers, Stepper
 from ..guest.guest import started
 from ..guest.symbols import Symbols
 from ..instructions.accesses import REGISTER_BYTES, vector_instruction
+from ..machine.answers import Stop
 from .counts import elements_of, is_whole
+from .run import status_of
 
 POLICIES, QUANTUMS = ("keep", "ones"), (1000, 7, 1)
 SHOWN_BYTES, SHOWN_DIFFERENCES = 40, 4
 
 
-Outcome = tuple[str, bytes]
-"""How a run ended, and what it wrote."""
+Outcome = tuple[Stop | None, str, bytes]
+"""How a run ended, if it did; that in words, and what it wrote."""
 
 
 def add_arguments(parser: argparse.ArgumentParser) -> None:
@@ -28,26 +30,30 @@ def add_arguments(parser: argparse.ArgumentParser) -> None:
 
 
 def run(arguments: argparse.Namespace) -> int:
-    """Prints how the runs end; 0 where all end alike, else 1. Raises LabError and OSError for bad input."""
-    image, ticks = arguments.image, -(-arguments.ticks // 7000) * 7000  # slices of each length come to the same ticks
+    """Prints how the runs end; 1 where one ends otherwise, else 0, or what `run` has where the program didn't exit.
+
+    Raises LabError and OSError for bad input.
+    """
+    image, symbols = arguments.image, Symbols.read(arguments.image)
+    ticks = -(-arguments.ticks // 7000) * 7000  # slices of each length come to the same ticks
     outcomes: dict[tuple[str, int], Outcome] = {}
     for policy, quantum in itertools.product(POLICIES, QUANTUMS):
         outcome = outcomes[policy, quantum] = _outcome(image, policy, quantum, ticks)
         is_same = len(outcomes) > 1 and outcome == outcomes["keep", QUANTUMS[0]]
-        print(f"{policy}, slices of {quantum:>5,}:  {'the same' if is_same else _told(*outcome)}")
+        print(f"{policy}, slices of {quantum:>5,}:  {'the same' if is_same else _told(*outcome[1:])}")
     if any(outcomes["keep", quantum] != outcomes["ones", quantum] for quantum in QUANTUMS):
-        for line in _parting(image, ticks):
+        for line in _parting(image, symbols, ticks):
             print(line)
     if any(outcomes[policy, quantum] != outcomes[policy, QUANTUMS[0]] for policy, quantum in outcomes):
         print("the length of slices tells only where a vector store that is cut has stored over its own word")
-    return int(len(set(outcomes.values())) > 1)
+    return 1 if len(set(outcomes.values())) > 1 else status_of(outcomes["keep", QUANTUMS[0]][0])
 
 
 def _outcome(image: pathlib.Path, policy: str, quantum: int, ticks: int) -> Outcome:
     """A run of an image, with its name as its argument."""
     with started(image, policy=policy, quantum=quantum, arguments=[image.name]) as guest:
         stop = guest.go(ticks)
-        return stop.line if stop else f"no end in {ticks:,} ticks, pc={guest.pc:016x}", guest.output()
+        return stop, str(stop) if stop else f"no end in {ticks:,} ticks, pc={guest.pc:016x}", guest.output()
 
 
 def _told(end: str, output: bytes) -> str:
@@ -56,9 +62,8 @@ def _told(end: str, output: bytes) -> str:
     return f"{end}; {len(output):,} bytes: {output[:SHOWN_BYTES]!r}{more}"
 
 
-def _parting(image: pathlib.Path, ticks: int) -> Iterator[str]:
+def _parting(image: pathlib.Path, symbols: Symbols, ticks: int) -> Iterator[str]:
     """The first instruction that tells agnostic elements that are kept from ones, and what differs behind it."""
-    symbols = Symbols.read(image)
     with ExitStack() as stack:
         guests = [stack.enter_context(started(image, policy=policy, arguments=[image.name])) for policy in POLICIES]
         steppers = [Stepper(guest) for guest in guests]
@@ -87,8 +92,8 @@ def _differences(word: int, before: Sequence[Registers], after: Sequence[Registe
 def _values(word: int, before: Registers, after: Registers) -> Iterator[tuple[str, int]]:
     """The scalar and control registers by name, and the active elements that an instruction wrote or stored."""
     yield from ((f"x{number}", value) for number, value in enumerate(after.x))
-    yield from after.control.items()
-    instruction = vector_instruction(word, before.control["vtype"])
+    yield from after.control.named().items()
+    instruction = vector_instruction(word, before.control.vtype)
     found = elements_of(word, before.control, before.v[:REGISTER_BYTES])
     if instruction is None or found is None or is_whole(word, instruction):
         return

@@ -2,16 +2,14 @@
 
 import re
 from collections import Counter
-from collections.abc import Callable, Mapping, Sequence
-from dataclasses import dataclass, field
+from collections.abc import Callable, Sequence
+from dataclasses import dataclass, field, replace
 
 from ..guest.changes import Carried, Stepper, vtype_text
-from ..guest.guest import Guest, Stop
+from ..guest.guest import Guest
 from ..instructions.accesses import MASK, REGISTER_BYTES, UNIT_STRIDE, WHOLE_REGISTERS, vector_instruction
-from ..instructions.reasons import VectorView
 from ..instructions.words import VECTOR_ACCESSES, VectorInstruction
-
-CARRIES = ("vmerge", "vadc", "vsbc", "vmadc", "vmsbc")  # where vm is 0, v0 is an operand and no mask
+from ..machine.answers import ControlRegisters, Stop
 
 
 @dataclass(frozen=True)
@@ -43,19 +41,19 @@ class Counts:
     lengths: Counter[tuple[str, int]] = field(default_factory=Counter)
     ticks: int = 0
 
-    def add(self, carried: Carried, control: Mapping[str, int], v0: bytes, vl: int) -> None:
-        """Counts an instruction, by vl, vtype, vstart and v0 before it, and vl after it."""
+    def add(self, carried: Carried, control: ControlRegisters, v0: bytes, vl: int) -> None:
+        """Counts an instruction, by the control registers and v0 before it, and vl after it."""
         is_access = carried.word & 0x7F in VECTOR_ACCESSES
-        elements = elements_of(carried.word, {**control, "vl": vl} if is_access else control, v0)
+        elements = elements_of(carried.word, replace(control, vl=vl) if is_access else control, v0)
         place = self.places.setdefault(carried.pc, Place(carried.text))
         ticks = 1
         if elements:
-            self.lengths[vtype_text(control["vtype"]), control["vl"]] += 1
+            self.lengths[vtype_text(control.vtype), control.vl] += 1
             place.active += len(elements.active)
             place.masked += elements.masked
             place.tail += elements.tail
             if is_access:  # a fault-only-first load has tried one element more, where it has shortened vl
-                ticks = max(1, len(elements.active) + elements.masked + (vl < control["vl"]))
+                ticks = max(1, len(elements.active) + elements.masked + (vl < control.vl))
         place.times += 1
         place.ticks += ticks
         self.ticks += ticks
@@ -77,21 +75,21 @@ def count(
         if tell:
             tell(carried)
         if carried.stop is None or carried.stop.kind == "exit":
-            counts.add(carried, control, v0, stepper.registers.control["vl"])
+            counts.add(carried, control, v0, stepper.registers.control.vl)
         if carried.stop:
             return counts, carried.stop
     return counts, None
 
 
-def elements_of(word: int, control: Mapping[str, int], v0: bytes) -> Elements | None:
-    """The elements of a vector instruction, by vl, vtype, vstart and v0 before it; None for any other instruction."""
-    instruction = vector_instruction(word, control["vtype"])
+def elements_of(word: int, control: ControlRegisters, v0: bytes) -> Elements | None:
+    """The elements of a vector instruction, by the control registers and v0 before it; None for any other one."""
+    instruction = vector_instruction(word, control.vtype)
     if instruction is None:
         return None
     length, all_there = _lengths(word, instruction, control)
-    body: Sequence[int] = range(control["vstart"], length)
+    body: Sequence[int] = range(control.vstart, length)
     active = body
-    if instruction.is_masked and instruction.name not in CARRIES:
+    if instruction.leaves_out:
         active = [element for element in body if v0[element // 8] >> element % 8 & 1]
     return Elements(active, len(body) - len(active), all_there - length)
 
@@ -106,9 +104,9 @@ def _unit_stride(word: int) -> int | None:
     return word >> 20 & 31 if word & 0x7F in VECTOR_ACCESSES and word >> 26 & 3 == UNIT_STRIDE else None
 
 
-def _lengths(word: int, instruction: VectorInstruction, control: Mapping[str, int]) -> tuple[int, int]:
+def _lengths(word: int, instruction: VectorInstruction, control: ControlRegisters) -> tuple[int, int]:
     """How many elements an instruction has up to its length, and how many its group has."""
-    vl, most = control["vl"], VectorView(control["vtype"], control["vstart"]).vlmax
+    vl, most = control.vl, control.vlmax
     if is_whole(word, instruction):
         return (len(instruction.operands[0].registers) * 256 // instruction.operands[0].eew,) * 2
     if _unit_stride(word) == MASK:

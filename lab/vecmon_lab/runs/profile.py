@@ -7,15 +7,15 @@ import sys
 from collections.abc import Iterator, Sequence
 
 from .. import LabError
-from ..arguments import add_image
+from ..arguments import add_image, check_output
 from ..guest.guest import started
 from ..guest.symbols import Symbols
 from ..page.pages import lone_page
 from ..tables.table import table_lines
 from .counts import Counts, count
+from .run import status_of
 
 HEAD = ("address", "place", "source", "instruction", "times", "ticks", "active", "masked off", "tail", "work")
-STYLES, SCRIPTS = ["page.css", "profile.css"], ["profile.js"]
 Row = Sequence[str | int]
 """The columns of HEAD. Work is the share of the elements of its groups that were active; these are "" without any."""
 
@@ -27,16 +27,21 @@ def add_arguments(parser: argparse.ArgumentParser) -> None:
 
 
 def run(arguments: argparse.Namespace) -> int:
-    """Prints the table, and writes the page and the CSV file. Raises LabError and OSError for bad input."""
+    """Prints the table, and writes the page and the CSV file; 0, or what `run` has where the program didn't exit.
+
+    Raises LabError and OSError for bad input.
+    """
     image, page = arguments.image, arguments.page
     if page and page.suffix != ".html":
         raise LabError(f"-o names a page, FILE.html, and {page} is none")
+    check_output(page, image)
+    check_output(page and page.with_suffix(".csv"), image)
     symbols = Symbols.read(image)
     if symbols.trouble:
         print(f"vecmon-lab: {symbols.trouble}", file=sys.stderr)
     with started(image, arguments=[image.name]) as guest:
         counts, stop = count(guest, arguments.ticks)
-        end = f"status {stop.status}" if stop and stop.kind == "exit" else guest.tell(stop, symbols.place(guest.pc))
+        end = f"status {stop.number}" if stop and stop.kind == "exit" else guest.tell(stop, symbols.place(guest.pc))
     rows = [*_rows(counts, symbols)]
     summary = [*_summary(counts, end)]
     print("\n".join([*table_lines([HEAD, *rows], 4), "", *_histogram(counts), "", *summary]))
@@ -45,8 +50,8 @@ def run(arguments: argparse.Namespace) -> int:
             csv.writer(file).writerows([HEAD, *rows])
         lengths = [(kind, vl, times) for (kind, vl), times in sorted(counts.lengths.items())]
         data = {"summary": summary, "rows": rows, "lengths": lengths}
-        page.write_text(lone_page("profile.html", f"Profile of {image.name}", data, STYLES, SCRIPTS), "utf-8")
-    return 0
+        page.write_text(lone_page("profile", f"Profile of {image.name}", data), "utf-8")
+    return status_of(stop)
 
 
 def _rows(counts: Counts, symbols: Symbols) -> Iterator[Row]:

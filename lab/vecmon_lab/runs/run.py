@@ -6,10 +6,11 @@ import sys
 from collections import Counter
 from collections.abc import Iterator
 
-from ..arguments import add_image, between
+from ..arguments import add_image, between, check_output
 from ..guest.changes import Carried
-from ..guest.guest import QUANTUM, Guest, Stop, started
+from ..guest.guest import QUANTUM, Guest, started
 from ..guest.symbols import Symbols
+from ..machine.answers import Stop
 from ..output import write_out
 from .counts import Counts, count
 
@@ -30,12 +31,16 @@ def add_arguments(parser: argparse.ArgumentParser) -> None:
 def run(arguments: argparse.Namespace) -> int:
     """Runs the image; its status, or one that says how it stopped. Raises LabError and OSError for bad input."""
     image, symbols = arguments.image, Symbols.read(arguments.image)
+    check_output(arguments.trace, image)
     words = [image.name, *arguments.words]
     with started(image, policy=arguments.policy, quantum=arguments.quantum, arguments=words, write=write_out) as guest:
         stop, counts = _carried_out(guest, arguments, symbols)
         if counts and arguments.stats:
             print("\n".join(stats(counts)), file=sys.stderr)
-        return _status(guest, stop, f"vecmon-lab: {image}", symbols.place(guest.pc))
+        if stop and stop.kind == "exit":
+            return stop.number
+        print(f"vecmon-lab: {image}: {guest.tell(stop, symbols.place(guest.pc))}", file=sys.stderr)
+        return status_of(stop)
 
 
 def trace_line(carried: Carried, symbols: Symbols) -> str:
@@ -55,6 +60,11 @@ def stats(counts: Counts) -> Iterator[str]:
     yield from (f"{times:>12,}  vl={vl}  {kind}" for (kind, vl), times in counts.lengths.most_common())
 
 
+def status_of(stop: Stop | None) -> int:
+    """The status that tells how a program stopped, 0 where it exited. Without a stop its ticks ran out."""
+    return TICKS_RAN_OUT if stop is None else {"exit": 0, "fault": FAULT}.get(stop.kind, BREAKPOINT)
+
+
 def _carried_out(guest: Guest, arguments: argparse.Namespace, symbols: Symbols) -> tuple[Stop | None, Counts | None]:
     """Runs or steps the program; the stop, and what was counted."""
     if not arguments.trace:
@@ -64,11 +74,3 @@ def _carried_out(guest: Guest, arguments: argparse.Namespace, symbols: Symbols) 
             counts, stop = count(guest, arguments.ticks, lambda carried: print(trace_line(carried, symbols), file=file))
     guest.output()
     return stop, counts
-
-
-def _status(guest: Guest, stop: Stop | None, who: str, place: str) -> int:
-    """The status for a stop; one that isn't the program's own is told."""
-    if stop and stop.kind == "exit":
-        return stop.status
-    print(f"{who}: {guest.tell(stop, place)}", file=sys.stderr)
-    return TICKS_RAN_OUT if stop is None else FAULT if stop.kind == "fault" else BREAKPOINT

@@ -9,9 +9,22 @@ from collections.abc import Sequence
 from dataclasses import dataclass, field
 from fractions import Fraction
 
-from ..instructions.reasons import VectorView, illegal_reasons
+from ..instructions.reasons import illegal_reasons
 from ..instructions.table import Row
-from ..instructions.words import VECTOR_ACCESSES, Operand, decode
+from ..instructions.words import (
+    CONTROL_REGISTERS,
+    LOAD,
+    LOAD_FP,
+    OP_V,
+    STORE,
+    STORE_FP,
+    SUPPORTED,
+    SYSTEM,
+    VECTOR_ACCESSES,
+    Operand,
+    decode,
+)
+from ..machine.answers import VectorView
 
 CODE, PC = 0x10000, 0x10800
 """The page of the code, and where the instruction stands."""
@@ -20,12 +33,8 @@ DATA, READ_ONLY, DATA_END = 0x20000, 0x21000, 0x22000
 """Where two pages of data begin and end, of which the second can only be read."""
 
 VILL = 1 << 63
-TYPES = [sew << 3 | lmul for sew in range(4) for lmul in (0, 1, 2, 3, 5, 6, 7) if lmul < 4 or sew <= lmul - 5]
-"""The 22 supported vector types by SEW and LMUL, without the policies in bits 6 and 7."""
-
-_OP_V, _LOADS, _STORES, _SYSTEM = 0x57, (0x03, 0x07), (0x23, 0x27), 0x73
+_LOADS, _STORES = (LOAD, LOAD_FP), (STORE, STORE_FP)
 _PLACES = {"rd": 7, "vd": 7, "rs1": 15, "vs1": 15, "rs2": 20, "vs2": 20, "csr": 20, "vtypei": 20}  # lowest bits
-_CONTROL = (0x008, 0x009, 0x00A, 0x00F, 0xC20, 0xC21, 0xC22)
 _MASKABLE = "[, v0.t]"
 _REACH = 512  # the bytes that a strided or indexed access spans
 _SCALAR_CASES, _TROUBLES, _DRAWS = 24, 8, 40  # cases in a plan, those of them that fault, and how often a word is drawn
@@ -87,9 +96,9 @@ class _Draws(random.Random):
     def field(self, row: Row, name: str, step: int) -> tuple[int, int]:
         """The mask of a field at its place, and a value for it."""
         if name == "csr":
-            return 0xFFF, self.choice((*_CONTROL, *_CONTROL, *_CONTROL, 0x300, 0x7C0))
+            return 0xFFF, self.choice((*CONTROL_REGISTERS, *CONTROL_REGISTERS, *CONTROL_REGISTERS, 0x300, 0x7C0))
         if name == "vtypei":
-            return 0x3FF, self.choice((*TYPES, self.getrandbits(8), self.getrandbits(10)))
+            return 0x3FF, self.choice((*SUPPORTED, self.getrandbits(8), self.getrandbits(10)))
         if name.startswith("v"):
             return 31, self.randrange(0, 32, step)
         return 31, self.choice((self.randrange(1, 32),) * 3 + (0,) * (not touches_memory(row)))
@@ -105,13 +114,13 @@ def plan(row: Row, seed: int) -> list[Kind]:
     """What cases of an instruction are drawn for: each type under which it is legal, with and without a mask; faults."""
     draws, types, masks = _Draws(f"{seed} {row.name}"), [VILL] * _SCALAR_CASES, (False, True)
     if _is_vector(row):
-        types = [vtype for vtype in TYPES if not illegal_reasons(*_draw_word(row, Kind(vtype), _Draws(0), [8]))]
-    elif row.opcode in (_OP_V, _SYSTEM) and row.operands:
-        types = [*TYPES, VILL]
+        types = [vtype for vtype in SUPPORTED if not illegal_reasons(*_draw_word(row, Kind(vtype), _Draws(0), [8]))]
+    elif row.opcode in (OP_V, SYSTEM) and row.operands:
+        types = [*SUPPORTED, VILL]
     kinds = [Kind(vtype, masked) for masked in masks[: 1 + (_MASKABLE in row.operands)] for vtype in types]
     for number in range(_TROUBLES):
         strays = touches_memory(row) and number % 4 != 0
-        vtype = draws.choice(types if strays else [*TYPES, VILL])
+        vtype = draws.choice(types if strays else [*SUPPORTED, VILL])
         kinds.append(Kind(vtype, draws.choice(masks), not strays, strays))
     draws.shuffle(kinds)
     return kinds
@@ -136,7 +145,7 @@ def draw_case(row: Row, number: int, seed: int) -> Case:
 
 def _is_vector(row: Row) -> bool:
     """Whether it is a vector instruction, and no vset."""
-    return row.opcode in VECTOR_ACCESSES or row.opcode == _OP_V and not row.name.startswith("vset")
+    return row.opcode in VECTOR_ACCESSES or row.opcode == OP_V and not row.name.startswith("vset")
 
 
 def _is_strided(row: Row) -> bool:
@@ -190,7 +199,7 @@ def _fill_scalars(case: Case, row: Row, draws: _Draws) -> None:
     if row.name in ("vsetvl", "vsetvli"):
         case.x[case.register("rs1")] = draws.choice((draws.randrange(300), draws.randrange(20), draws.scalar()))
     if row.name == "vsetvl":
-        case.x[case.register("rs2")] = draws.choice((*TYPES, *TYPES, draws.getrandbits(8), draws.scalar()))
+        case.x[case.register("rs2")] = draws.choice((*SUPPORTED, *SUPPORTED, draws.getrandbits(8), draws.scalar()))
     if row.name == "ecall":
         case.x |= {17: draws.choice((64, 64, 64, 93, 94, draws.getrandbits(11))), 10: draws.choice((1, 1, 1, 2))}
         case.x[12] = draws.choice((0, 1, draws.randrange(300)))

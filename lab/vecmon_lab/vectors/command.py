@@ -5,7 +5,6 @@ import json
 import pathlib
 import sys
 from collections.abc import Iterator
-from typing import Any
 
 from .. import LabError
 from ..guest.changes import Registers, Stepper, runs
@@ -27,10 +26,17 @@ def add_arguments(parser: argparse.ArgumentParser) -> None:
     parser.add_argument("--policy", choices=("keep", "ones"), default="keep", help="for agnostic elements; else keep")
 
 
+def names() -> list[str]:
+    """What NAME may be."""
+    return ["all", *instruction_table()]
+
+
 def run(arguments: argparse.Namespace) -> int:
     """Prints the cases. Raises LabError for a name that no instruction has."""
     program, table = find_program(), instruction_table()
     names = list(table) if arguments.names == ["all"] else arguments.names
+    if "all" in names:
+        raise LabError("all stands alone: it means each instruction")
     for name in names:
         if name not in table:
             raise LabError(f"there is no instruction {name}: docs/INSTRUCTIONS.md lists them, and all means each one")
@@ -44,7 +50,7 @@ def run(arguments: argparse.Namespace) -> int:
 
 def golden_results(
     program: pathlib.Path, row: Row, cases: int | None = None, seed: int = 0, policy: str = "keep"
-) -> Iterator[dict[str, Any]]:
+) -> Iterator[dict[str, object]]:
     """So many cases of an instruction, or its whole plan, with what the machine made of each. Raises as `Session` does."""
     count = len(plan(row, seed)) if cases is None else cases
     for first in range(0, count, _CASES_OF_A_SESSION):
@@ -53,29 +59,29 @@ def golden_results(
                 yield carry_out(session, row, draw_case(row, number, seed), policy)
 
 
-def carry_out(session: Session, row: Row, case: Case, policy: str = "keep") -> dict[str, Any]:
+def carry_out(session: Session, row: Row, case: Case, policy: str = "keep") -> dict[str, object]:
     """A case with what the machine made of it, as the page on the format has it. User 1 enters, and leaves again."""
     pages = {CODE: "rx"} | ({DATA: "rw", READ_ONLY: "r"} if touches_memory(row) else {})
     guest = Guest(session)
     guest.ask(*_set_up(case, pages, policy))
     stepper = Stepper(guest)
     length = DATA_END - DATA if DATA in pages else 0
-    text, before, old = stepper.fetch(PC)[1], _named(PC, stepper.registers), guest.peek(DATA, length)
+    text, (before, held), old = stepper.fetch(PC)[1], _named(PC, stepper.registers), guest.peek(DATA, length)
     stop = guest.step()
     stepper.look()
-    after, new, output = _named(guest.pc, stepper.registers), guest.peek(DATA, length), guest.output()
+    (after, left), new, output = _named(guest.pc, stepper.registers), guest.peek(DATA, length), guest.output()
     guest.ask("leave")
-    golden = {"name": row.name, "word": f"{case.word:08x}", "text": text, "policy": policy} | before
-    golden |= {key: {number: value for number, value in before[key].items() if value.strip("0")} for key in ("x", "v")}
+    golden: dict[str, object] = {"name": row.name, "word": f"{case.word:08x}", "text": text, "policy": policy, **before}
+    golden |= {kind: {number: it for number, it in values.items() if it.strip("0")} for kind, values in held.items()}
     golden["pages"] = {f"{address:x}": permissions for address, permissions in pages.items()}
     golden["memory"] = {f"{address:x}": data.hex() for address, data in case.memory.items()}
     golden["end"] = stop.kind if stop else "ran"
     if stop and stop.kind != "ebreak":
         is_fault = stop.kind == "fault"
-        golden |= {"cause": stop.cause, "value": f"{stop.value:x}"} if is_fault else {"status": stop.status}
-    changes = {key: value for key, value in after.items() if key not in ("x", "v") and value != before[key]}
-    for key in ("x", "v"):
-        changes[key] = {number: value for number, value in after[key].items() if value != before[key][number]}
+        golden |= {"cause": stop.cause, "value": f"{stop.value:x}"} if is_fault else {"status": stop.number}
+    changes: dict[str, object] = {name: value for name, value in after.items() if value != before[name]}
+    for kind, values in left.items():
+        changes[kind] = {number: value for number, value in values.items() if value != held[kind][number]}
     stored = {f"{DATA + first:x}": new[first:last].hex() for first, last in runs(old, new)}
     changes |= {"memory": stored, "output": output.hex()}
     return golden | {"after": {key: value for key, value in changes.items() if value not in ({}, "")}}
@@ -97,8 +103,8 @@ def _set_up(case: Case, pages: dict[int, str], policy: str) -> Iterator[str]:
     yield from (f"vset v{number} {data.hex()}" for number, data in case.v.items())
 
 
-def _named(pc: int, registers: Registers) -> dict[str, Any]:
-    """All registers by the names that lines have."""
-    named: dict[str, Any] = {"pc": f"{pc:x}"} | registers.control | {"vtype": f"{registers.control['vtype']:x}"}
-    named["x"] = {number: f"{value:x}" for number, value in enumerate(registers.x) if number}
-    return named | {"v": {number: registers.v[32 * number : 32 * number + 32].hex() for number in range(32)}}
+def _named(pc: int, registers: Registers) -> tuple[dict[str, object], dict[str, dict[int, str]]]:
+    """pc and the control registers by the names that lines have; x and v by number."""
+    control: dict[str, object] = {"pc": f"{pc:x}", **registers.control.named(), "vtype": f"{registers.control.vtype:x}"}
+    x = {number: f"{value:x}" for number, value in enumerate(registers.x) if number}
+    return control, {"x": x, "v": {number: registers.v[32 * number : 32 * number + 32].hex() for number in range(32)}}

@@ -9,13 +9,15 @@ import struct
 import subprocess
 import sys
 import tempfile
-from typing import Any
+from collections.abc import Mapping, Sequence
 
 QEMU = ["qemu-riscv64", "-cpu", "rv64,Zve64f=true,vext_spec=v1.0,vlen=256,elen=64"]
 CODE, DATA, PROGRAM, BLOCK, STACK = 0x10000, 0x20000, 0x60000000, 0x60010000, 0x60020000
 CONTROL = ("vl", "vtype", "vxrm", "vxsat", "vstart")
 NAMES = ("end", *CONTROL, "value", "v", "pc", *(f"x{number}" for number in range(1, 32)), "memory")
 LAYOUT = struct.Struct("<7Q8x1024s32Q8192s")  # of these; a case has its word as the end, and a result its signal
+Case = Mapping[str, object]
+State = dict[str, int | bytes | str]
 SIGNALS = {4: "fault 2", 5: "ebreak", 7: "fault {}", 11: "fault {}"}
 
 
@@ -34,48 +36,54 @@ def image() -> bytes:
     return head.ljust(4096, b"\0") + body
 
 
-def state(*named: dict[str, Any]) -> dict[str, Any]:
+def held(case: Case, name: str) -> dict[str, str]:
+    """An object in a case; an empty one where there is none."""
+    value = case.get(name)
+    return value if isinstance(value, dict) else {}
+
+
+def state(*named: Case) -> State:
     """The state that a case names, or a case and its changes; all else is 0."""
-    v, memory, values = bytearray(1024), bytearray(8192), dict[str, Any].fromkeys(NAMES, 0)
+    v, memory, values = bytearray(1024), bytearray(8192), dict[str, int].fromkeys(NAMES, 0)
     for part in named:
-        values |= {name: int(part[name], 16) for name in ("pc", "vtype") if name in part}
-        values |= {name: part[name] for name in ("vl", "vxrm", "vxsat", "vstart") if name in part}
-        values |= {f"x{number}": int(digits, 16) for number, digits in part.get("x", {}).items()}
-        pieces = [(v, 32 * int(number), digits) for number, digits in part.get("v", {}).items()]
-        pieces += [(memory, int(address, 16) - DATA, digits) for address, digits in part.get("memory", {}).items()]
+        values |= {name: int(str(part[name]), 16) for name in ("pc", "vtype") if name in part}
+        values |= {name: int(str(part[name])) for name in ("vl", "vxrm", "vxsat", "vstart") if name in part}
+        values |= {f"x{number}": int(digits, 16) for number, digits in held(part, "x").items()}
+        pieces = [(v, 32 * int(number), digits) for number, digits in held(part, "v").items()]
+        pieces += [(memory, int(address, 16) - DATA, digits) for address, digits in held(part, "memory").items()]
         for room, place, digits in pieces:
             room[place : place + len(digits) // 2] = bytes.fromhex(digits)
-    return values | {"v": bytes(v), "memory": bytes(memory)}
+    return {**values, "v": bytes(v), "memory": bytes(memory)}
 
 
-def can_run(case: dict[str, Any]) -> bool:
+def can_run(case: Case) -> bool:
     """Whether a case has no call, which QEMU hands on to the system, and no misaligned target, which ends QEMU."""
     return case["name"] != "ecall" and case.get("cause") != 0
 
 
-def expected(case: dict[str, Any]) -> dict[str, Any]:
+def expected(case: Case) -> State:
     """The state after a case, and how it ends."""
-    value = int(case["value"], 16) if case.get("cause") in (5, 7) else 0
-    end = f"fault {case['cause']}" if case["end"] == "fault" else case["end"]
-    return state(case, case["after"]) | {"end": end, "value": value}
+    value = int(str(case["value"]), 16) if case.get("cause") in (5, 7) else 0
+    end = f"fault {case['cause']}" if case["end"] == "fault" else str(case["end"])
+    return {**state(case, held(case, "after")), "end": end, "value": value}
 
 
-def found(case: dict[str, Any], result: bytes) -> dict[str, Any]:
+def found(case: Case, result: bytes) -> State:
     """The same by a result of QEMU's. A signal at another place tells that the instruction ran."""
     values = dict(zip(NAMES, LAYOUT.unpack(result)))
-    cause = 7 if int(case["word"], 16) & 0x20 else 5
-    end = SIGNALS[values["end"]].format(cause) if values["pc"] == int(case["pc"], 16) else "ran"
+    cause = 7 if int(str(case["word"]), 16) & 0x20 else 5
+    end = SIGNALS[values["end"]].format(cause) if values["pc"] == int(str(case["pc"]), 16) else "ran"
     return values | {"end": end, "value": values["value"] if end == f"fault {cause}" else 0}
 
 
-def differences(cases: list[dict[str, Any]]) -> list[dict[str, tuple[Any, Any]]]:
+def differences(cases: Sequence[Case]) -> list[dict[str, tuple[object, object]]]:
     """For each case what QEMU leaves otherwise, by name: what is expected, and what was found."""
-    befores: list[dict[str, Any]] = [state(case) | {"end": int(case["word"], 16)} for case in cases]
+    befores = [LAYOUT.pack(*(state(case) | {"end": int(str(case["word"]), 16)}).values()) for case in cases]
     with tempfile.TemporaryDirectory() as folder, tempfile.TemporaryFile() as feed:
         elf = pathlib.Path(folder, "image")
         elf.write_bytes(image())
         elf.chmod(0o700)
-        feed.write(b"".join(before["memory"] + LAYOUT.pack(*before.values())[:-8192] for before in befores))
+        feed.write(b"".join(before[-8192:] + before[:-8192] for before in befores))
         feed.seek(0)
         output = subprocess.run([*QEMU, elf], stdin=feed, stdout=subprocess.PIPE, check=True).stdout[LAYOUT.size :]
     results = [output[at : at + LAYOUT.size] for at in range(0, len(output), LAYOUT.size)]

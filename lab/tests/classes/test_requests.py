@@ -1,0 +1,68 @@
+"""What is a request, and whose; what else comes in is refused."""
+
+import pytest
+
+from vecmon_lab import LabError
+from vecmon_lab.classes.requests import (
+    Lines,
+    LookOver,
+    Renew,
+    Request,
+    SetClock,
+    SetRights,
+    Source,
+    read_request,
+)
+
+SHARED: list[tuple[dict[str, object], bool, Request]] = [
+    ({"ask": "lines"}, False, Lines("", [], 0, [])),
+    (
+        {"ask": "lines", "machine": "B", "do": ["enter"], "slices": 100, "look": ["regs"]},
+        False,
+        Lines("", ["enter"], 100, ["regs"]),
+    ),
+    (
+        {"ask": "lines", "machine": "B", "do": ["slices 1"], "look": ["list"]},
+        True,
+        Lines("B", ["slices 1"], 0, ["list"]),
+    ),
+    ({"ask": "source", "text": "nop"}, False, Source("nop")),
+    ({"ask": "clock", "machine": "A", "on": True, "ms": 10}, True, SetClock("A", {"on": True, "ms": 10})),
+    ({"ask": "clock", "machine": "A", "on": 0, "slices": 1000}, True, SetClock("A", {"on": False, "slices": 1000})),
+    ({"ask": "rights", "machine": "A", "own_slices": False}, True, SetRights("A", False)),
+    ({"ask": "renew", "seat": "A3"}, True, Renew("A3")),
+    ({"ask": "shoulder", "seat": ""}, True, LookOver("")),
+    ({"ask": "shoulder"}, True, LookOver("")),
+]
+
+
+@pytest.mark.parametrize("message, is_teacher, request_", SHARED)
+def test_requests(message: dict[str, object], is_teacher: bool, request_: Request) -> None:
+    assert read_request(message, is_teacher) == request_
+
+
+@pytest.mark.parametrize(
+    "message, is_teacher, told",
+    [
+        ({}, False, "no such request"),
+        ({"ask": ["lines"]}, True, "no such request"),
+        ({"ask": "source", "text": "nop"}, True, "no such request"),
+        ({"ask": "renew", "seat": "A3"}, False, "no such request"),
+        ({"ask": "renew", "seat": 5}, True, "no such seat"),
+        ({"ask": "rights", "machine": ["A"]}, True, "no such machine"),
+        ({"ask": "lines", "do": "regs"}, False, "lists of 256 lines"),
+        ({"ask": "lines", "do": ["regs"] * 200, "look": ["regs"] * 57}, False, "lists of 256 lines"),
+        ({"ask": "lines", "do": [5]}, False, "a line is a text"),
+        ({"ask": "lines", "do": ["x" * 1023]}, False, "at most 1,022 characters"),
+        ({"ask": "lines", "look": ["regs", "step 1"]}, False, "'step 1' isn't a line that only looks"),
+        ({"ask": "lines", "look": ["regs"]}, True, "'regs' isn't a line that only looks"),
+        ({"ask": "lines", "slices": 101}, False, "0 to 100 slices"),
+        ({"ask": "lines", "slices": 1.0}, False, "0 to 100 slices"),
+        ({"ask": "source"}, False, "a text of 65536 characters"),
+        ({"ask": "clock", "machine": "A", "slices": 0}, True, "slices of the clock is 1 to 1000"),
+        ({"ask": "clock", "machine": "A", "on": "yes"}, True, "on of the clock is 0 to 1"),
+    ],
+)
+def test_what_is_no_request(message: dict[str, object], is_teacher: bool, told: str) -> None:
+    with pytest.raises(LabError, match=told):
+        read_request(message, is_teacher)

@@ -1,0 +1,115 @@
+"""Modules joined: by hand, those of all pages, and the scripts that stand in the pages."""
+
+import base64
+import hashlib
+import html.parser
+import re
+
+import pytest
+
+from vecmon_lab.page.modules import join_modules
+from vecmon_lab.page.pages import FILES, Page, lone_page, page_file
+
+PAGES = sorted(path.stem for path in FILES.glob("*.html") if path.with_suffix(".js").exists())
+FILE = {
+    "main.js": 'import { half } from "./numbers.js";\nimport { say, Loud } from "./words.js";\n\nsay(half(4));\n',
+    "numbers.js": "// Numbers.\n\nexport const half = (number) => number / 2;\nconst own = 1;\n",
+    "words.js": 'import { half } from "./numbers.js";\n\nexport function say() {}\nexport class Loud {}\n',
+}
+JOINED = """\
+const $numbers = (() => {
+// Numbers.
+
+const half = (number) => number / 2;
+const own = 1;
+return { half };
+})();
+const $words = (() => {
+const { half } = $numbers;
+
+function say() {}
+class Loud {}
+return { say, Loud };
+})();
+const $main = (() => {
+const { half } = $numbers;
+const { say, Loud } = $words;
+
+say(half(4));
+return {  };
+})();
+"""
+
+
+class Elements(html.parser.HTMLParser):
+    """The attributes of a page's scripts and styles, and their texts."""
+
+    def __init__(self, page: str) -> None:
+        super().__init__()
+        self.found: list[tuple[str, dict[str, str | None], str]] = []
+        self.feed(page)
+
+    def handle_starttag(self, tag: str, attributes: list[tuple[str, str | None]]) -> None:
+        assert not any(name.startswith("on") for name, _ in attributes)
+        if tag in ("script", "style", "meta"):
+            self.found.append((tag, dict(attributes), ""))
+
+    def handle_data(self, data: str) -> None:
+        if self.lasttag in ("script", "style") and self.cdata_elem:
+            tag, attributes, text = self.found[-1]
+            self.found[-1] = tag, attributes, text + data
+
+
+def test_modules_are_joined_in_the_order_of_their_imports() -> None:
+    assert join_modules("main", FILE.__getitem__) == JOINED
+
+
+@pytest.mark.parametrize(
+    "name, text, told",
+    [
+        ("numbers.js", 'import { say } from "./words.js";\nexport const half = 1;\n', "numbers, words, numbers"),
+        ("numbers.js", 'import { half } from "./numbers.js";\n', "numbers, numbers"),
+        ("numbers.js", "const half = 2;\n", "main.js imports what numbers.js doesn't export: half"),
+        ("words.js", "export const say = 1;\n", "main.js imports what words.js doesn't export: Loud"),
+    ],
+)
+def test_what_cannot_be_joined_is_refused(name: str, text: str, told: str) -> None:
+    with pytest.raises(ValueError, match=re.escape(told)):
+        join_modules("main", (FILE | {name: text}).__getitem__)
+
+
+@pytest.mark.parametrize("name", PAGES)
+def test_a_page_has_each_module_once_behind_what_it_imports(name: str) -> None:
+    script = join_modules(name, page_file)
+    modules = re.findall(r"^const \$(\w+) = ", script, re.MULTILINE)
+    assert not re.search(r"^\s*(import|export)\b", script, re.MULTILINE)  # of another form than those that are joined
+    assert modules[-1] == name and len(modules) == len(set(modules)) > 1
+    for place, module in enumerate(modules):
+        imported = re.findall(r'^import .* from "\./(\w+)\.js";$', page_file(f"{module}.js"), re.MULTILINE)
+        assert set(imported) <= set(modules[:place])
+
+
+def test_each_module_is_of_a_page() -> None:
+    assert {"class", "lesson", "profile"} <= set(PAGES)
+    scripts = "".join(join_modules(name, page_file) for name in PAGES)
+    assert {path.stem for path in FILES.glob("*.js")} == set(re.findall(r"^const \$(\w+) = ", scripts, re.MULTILINE))
+
+
+@pytest.mark.parametrize("name", PAGES)
+def test_the_content_policy_names_one_script(name: str) -> None:
+    page = Page(name)
+    texts = [page.text("x"), lone_page(name, "x", ["</script><script>alert(1)</script>"])]
+    for text, policies in zip(texts, ([], [page.policy])):
+        found = Elements(text).found
+        (script,) = (text for tag, words, text in found if tag == "script" and words.get("type") != "application/json")
+        styles = [text for tag, _, text in found if tag == "style"]
+        assert [words["content"] for _, words, _ in found if "http-equiv" in words] == policies
+        assert not any("src" in words for _, words, _ in found)
+        rules = dict(rule.split(" ", 1) for rule in page.policy.split("; "))
+        assert rules["default-src"] == "'none'" and rules["script-src"] == named(script)
+        assert rules["style-src"].split() == [*map(named, styles)]
+
+
+def named(text: str) -> str:
+    """What a content policy calls a text: Content Security Policy Level 3, section 2.3.1."""
+    return f"'sha256-{base64.b64encode(hashlib.sha256(text.encode()).digest()).decode()}'"

@@ -1,0 +1,92 @@
+"""The launcher of a package: which Python carries out the lab, and what is said where a library is missing."""
+
+import os
+import pathlib
+import subprocess
+import sys
+import venv
+
+import elftools
+import pytest
+
+from support.places import SUM, TOP
+
+WITHOUT_AIOHTTP = (
+    "vecmon-lab: this needs the Python library aiohttp: `sudo apt install python3-aiohttp`; or else "
+    "`python3 -m venv ~/.vecmon && ~/.vecmon/bin/pip install aiohttp`, and VECMON_PYTHON=~/.vecmon/bin/python\n"
+)
+
+
+@pytest.fixture(scope="module")
+def installed(tmp_path_factory: pytest.TempPathFactory) -> pathlib.Path:
+    """A folder as a package fills it, with a virtual environment `plain`, in which there is no library at all."""
+    folder = tmp_path_factory.mktemp("installed")
+    (folder / "bin").mkdir()
+    (folder / "share").mkdir()
+    (folder / "bin" / "vecmon-lab").write_bytes((TOP / "packaging" / "vecmon-lab").read_bytes())
+    (folder / "share" / "vecmon").symlink_to(TOP)
+    venv.create(folder / "plain", symlinks=True)
+    return folder
+
+
+def run(installed: pathlib.Path, *words: object, python: str = "") -> tuple[int, str, str]:
+    """Runs the launcher, where VECMON_PYTHON is `python`: its status, and what it tells."""
+    command = [sys.executable, "-EB", str(installed / "bin" / "vecmon-lab"), *map(str, words)]
+    done = subprocess.run(
+        command, cwd=installed, env={**os.environ, "VECMON_PYTHON": python}, input="", capture_output=True, text=True
+    )
+    return done.returncode, done.stdout, done.stderr
+
+
+def completed(folder: pathlib.Path, *words: str) -> list[str]:
+    """What completion makes of the last of these words. bash-completion's own functions are as simple as they can be."""
+    code = f"""
+        vecmon-lab() {{ {sys.executable} -m vecmon_lab "$@"; }}
+        _init_completion() {{ words=(vecmon-lab "$@"); words=("${{WORDS[@]}}"); cword=$(({len(words)})); cur=${{words[cword]}}; }}
+        _filedir() {{ COMPREPLY+=(A_FILE); }}
+        WORDS=(vecmon-lab {' '.join(f"'{word}'" for word in words)})
+        source {TOP / "packaging" / "completion"}
+        _vecmon
+        printf '%s\\n' "${{COMPREPLY[@]}}"
+    """
+    done = subprocess.run(["bash", "-c", code], cwd=folder, capture_output=True, text=True, check=True)
+    assert done.stderr == ""
+    return done.stdout.split()
+
+
+def test_completion(tmp_path: pathlib.Path) -> None:
+    (tmp_path / "monday").mkdir()
+    for name in ("A.script", "B.script", "A.json", "class.json"):
+        (tmp_path / "monday" / name).touch()
+    assert completed(tmp_path, "ve") == ["vectors"] and completed(tmp_path, "help", "so") == ["solo"]
+    assert completed(tmp_path, "--v") == ["--version"]
+    assert completed(tmp_path, "vectors", "vid.v", "vsadd.") == ["vsadd.vv", "vsadd.vx", "vsadd.vi"]
+    assert completed(tmp_path, "vectors", "al") == ["all"] and "--seed" in completed(tmp_path, "vectors", "--se")
+    assert completed(tmp_path, "grade", "st") == ["strip_mined_copy", "strlen", "A_FILE"]
+    assert completed(tmp_path, "grade", "strlen", "a") == ["A_FILE"]
+    assert completed(tmp_path, "solo", "monday", "B") == [f"B{digit}" for digit in range(1, 9)]
+    assert completed(tmp_path, "solo", "monday", "A1") == ["A1"] and completed(tmp_path, "solo", "mon") == ["A_FILE"]
+    assert completed(tmp_path, "class", "monday", "sum=x") == ["A_FILE"]
+
+
+def test_another_python_that_has_no_library(installed: pathlib.Path, program: pathlib.Path) -> None:
+    assert run(installed, "class", "monday", python="plain/bin/python") == (2, "", WITHOUT_AIOHTTP)
+    status, told, _ = run(installed, "check", python="plain/bin/python")
+    assert status == 0 and "aiohttp for classes: not installed" in told
+    assert run(installed, "console", python="plain/bin/python") == (0, "=> 0  \n", "")
+    status, _, told = run(installed, "console", SUM, python="plain/bin/python")
+    assert status == 2 and told.startswith("vecmon-lab: this needs the Python library pyelftools: `sudo apt install ")
+    assert "python3-pyelftools`" in told
+
+
+def test_another_python_that_has_the_library(installed: pathlib.Path, program: pathlib.Path) -> None:
+    (packages,) = (installed / "plain" / "lib").glob("python3*/site-packages")
+    (packages / "elftools").symlink_to(pathlib.Path(elftools.__file__).parent)
+    assert run(installed, "run", SUM, python="plain/bin/python") == (0, "328350\n", "")
+    assert run(installed, "run", SUM, python=str(installed / "plain" / "bin" / "python")) == (0, "328350\n", "")
+
+
+def test_no_other_python(installed: pathlib.Path, program: pathlib.Path) -> None:
+    assert run(installed, "run", SUM) == (0, "328350\n", "")
+    told = "vecmon-lab: VECMON_PYTHON=/nowhere: No such file or directory\n"
+    assert run(installed, "check", python="/nowhere") == (2, "", told)

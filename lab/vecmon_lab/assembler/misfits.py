@@ -1,0 +1,20 @@
+"""Which word of a line doesn't fit its command, and why."""
+
+import re
+
+from ..tables.table import read_table
+
+_DEMANDS = [(where.split(), re.compile(pattern), told) for where, pattern, told in read_table("arguments")]
+
+
+def misfit(line: str, form: str) -> str:
+    """Why a line is answered E04, by the first of its words that doesn't fit the form of its command."""
+    name, *kinds = form.removeprefix("* ").split()
+    _, *words = line[2:].split(None, len(kinds) if "TEXT" in kinds else -1)
+    for kind, word in zip(kinds, words):
+        for where, pattern, told in _DEMANDS:
+            if where in ([kind], [name, kind]) and not pattern.fullmatch(word):
+                return f"{word} {told}"
+    if len(words) < len(kinds):
+        return f"{kinds[len(words)]} is missing"
+    return f"{words[len(kinds)]} is a word too many" if len(words) > len(kinds) else "the pages would end past 2^48"

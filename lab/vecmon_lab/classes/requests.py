@@ -1,0 +1,130 @@
+"""What a tab asks for (docs/CLASS_PROTOCOL.md): each request is checked here, once."""
+
+from collections.abc import Mapping
+from dataclasses import dataclass
+
+from .. import LabError
+from ..machine.lines import check_line, is_look
+
+REQUEST_LINES, SOURCE_LETTERS = 256, 1 << 16
+MOST_SLICES = 100
+
+
+class BadRequest(LabError):
+    """A request that isn't carried out; the text says why."""
+
+
+@dataclass(frozen=True)
+class Lines:
+    """Lines without digits that are carried out, slices for the student's own program, and lines that look."""
+
+    machine: str
+    do: list[str]
+    slices: int
+    look: list[str]
+
+
+@dataclass(frozen=True)
+class Source:
+    """An assembler source for a new machine of the student's."""
+
+    text: str
+
+
+@dataclass(frozen=True)
+class Settings:
+    """Of a clock: whether it is on, how many slices it grants at once, and how many milliseconds it waits before."""
+
+    on: bool = False
+    slices: int = 8
+    ms: int = 100
+
+
+@dataclass(frozen=True)
+class SetClock:
+    """What a machine's clock is set to; what isn't named stays."""
+
+    machine: str
+    settings: Mapping[str, int]
+
+
+@dataclass(frozen=True)
+class SetRights:
+    """Whether a machine's students may grant slices to their own programs."""
+
+    machine: str
+    own_slices: bool
+
+
+@dataclass(frozen=True)
+class Renew:
+    """A new code for a seat."""
+
+    seat: str
+
+
+@dataclass(frozen=True)
+class LookOver:
+    """The seat that a teacher looks at; "" for none."""
+
+    seat: str
+
+
+Request = Lines | Source | SetClock | SetRights | Renew | LookOver
+
+
+_LIMITS = {"on": (0, 1), "slices": (1, 1000), "ms": (10, 10_000)}  # of a clock's settings
+
+
+def read_request(message: Mapping[str, object], is_teacher: bool) -> Request:
+    """The request of a message that a teacher or a student sends. Raises BadRequest and BadLine."""
+    match message.get("ask"), is_teacher:
+        case "lines", _:
+            return _lines(message, is_teacher)
+        case "source", False:
+            text = message.get("text")
+            if not isinstance(text, str) or len(text) > SOURCE_LETTERS:
+                raise BadRequest(f"a source is a text of {SOURCE_LETTERS} characters at most")
+            return Source(text)
+        case "clock", True:
+            return SetClock(_name(message, "machine"), _settings(message))
+        case "rights", True:
+            return SetRights(_name(message, "machine"), bool(message.get("own_slices")))
+        case "renew", True:
+            return Renew(_name(message, "seat"))
+        case "shoulder", True:
+            return LookOver(_name(message, "seat"))
+    raise BadRequest("there is no such request for this seat")
+
+
+def _lines(message: Mapping[str, object], is_teacher: bool) -> Lines:
+    do, look, slices = message.get("do", []), message.get("look", []), message.get("slices", 0)
+    if not isinstance(do, list) or not isinstance(look, list) or len(do) + len(look) > REQUEST_LINES:
+        raise BadRequest(f"a request has lists of {REQUEST_LINES} lines at most")
+    if not isinstance(slices, int) or not 0 <= slices <= MOST_SLICES:
+        raise BadRequest(f"a request grants 0 to {MOST_SLICES} slices")
+    for text in (*do, *look):
+        check_line(f"{'*' if is_teacher else '1'} {text}" if isinstance(text, str) else text)
+    for text in look:
+        if not is_look(f"{'*' if is_teacher else '1'} {text}"):
+            raise BadRequest(f"{text[:40]!r} isn't a line that only looks")
+    return Lines(_name(message, "machine") if is_teacher else "", do, slices, look)
+
+
+def _settings(message: Mapping[str, object]) -> Mapping[str, int]:
+    """What a message names of a clock's settings."""
+    settings = {}
+    for name in _LIMITS.keys() & message.keys():
+        (least, most), value = _LIMITS[name], message[name]
+        if not isinstance(value, int) or not least <= value <= most:
+            raise BadRequest(f"{name} of the clock is {least} to {most}")
+        settings[name] = bool(value) if name == "on" else value
+    return settings
+
+
+def _name(message: Mapping[str, object], kind: str) -> str:
+    """The name of a machine or a seat; "" without one."""
+    name = message.get(kind) or ""
+    if not isinstance(name, str):
+        raise BadRequest(f"there is no such {kind}")
+    return name

@@ -1,0 +1,371 @@
+"""What the monitor answers, as docs/COMMANDS.md has it: where an answer ends, and what it says.
+
+No other module knows a column. A user's answer is one line, but for an accepted `regs` (9 lines) and an accepted
+`dis ADDR N` (N lines). An operator's answer is the stop lines of the slices that it granted, and then a line that
+begins with `*`. Each answer is printed (`str`) as the machine printed it, without the digits of users.
+"""
+
+import functools
+import re
+from collections.abc import Callable, Sequence
+from dataclasses import dataclass
+from fractions import Fraction
+
+from .. import LabError
+from ..tables.table import read_table
+from .lines import words_of
+
+_REFUSAL = re.compile(r"\* E0[34]|[1-8] E(?:0[3-8]|09 [A-Za-z]+|1[0-46]|15 [0-9]+)")
+_STOP = "(?:(?:break|ebreak|outfull|exit D) pc=V16|fault cause=[01257] pc=V16 value=V16)"
+_WORDS = {"STOP": _STOP, "V16": "[0-9a-f]{16}", "WORD": "[0-9a-f]{8}", "HEX": "(?:[0-9a-f]{2})+", "D": "[0-9]+"}
+
+
+def _pattern(form: str, who: str = "[1-8*]") -> re.Pattern[str]:
+    """What matches a line of a form, with what stands before it."""
+    for word, expression in _WORDS.items():
+        form = form.replace(word, expression)
+    return re.compile(f"{who} (?:{form})")
+
+
+_STOP_LINE = _pattern("STOP", "[1-8]")
+_LINES = {command: _pattern(form) for command, form in read_table("answers")}
+
+
+class OutOfStep(LabError):
+    """What came from the program can't be the answer to the line that was sent."""
+
+
+@dataclass(frozen=True)
+class Refused:
+    """A line that was refused: E01 to E16; of E09 also what is wrong with the image, and of E15 the column."""
+
+    code: str
+    detail: str = ""
+
+    def __str__(self) -> str:
+        return f"{self.code} {self.detail}".rstrip()
+
+
+@dataclass(frozen=True)
+class Done:
+    """A line that was accepted and shows nothing: `entered`, `left` or `ok`."""
+
+    word: str
+
+    def __str__(self) -> str:
+        return self.word
+
+
+@dataclass(frozen=True)
+class Loaded:
+    """An image that was loaded: its entry, and how many pages the user has."""
+
+    pc: int
+    pages: int
+
+    def __str__(self) -> str:
+        return f"loaded pc={self.pc:016x} pages={self.pages}"
+
+
+@dataclass(frozen=True)
+class Memory:
+    """Bytes from an address on."""
+
+    address: int
+    data: bytes
+
+    def __str__(self) -> str:
+        return f"peek {self.address:016x} {self.data.hex()}"
+
+
+@dataclass(frozen=True)
+class ScalarRegisters:
+    """The program counter, and x0 to x31."""
+
+    pc: int
+    x: Sequence[int]
+
+    def __str__(self) -> str:
+        cells = [f"x{number} {value:016x}" for number, value in enumerate(self.x)]
+        return "\n".join([f"pc {self.pc:016x}", *(" ".join(cells[at : at + 4]) for at in range(0, 32, 4))])
+
+
+@dataclass(frozen=True)
+class VectorRegister:
+    """The 32 bytes of a vector register, which are shown as elements of so many bits."""
+
+    number: int
+    width: int
+    data: bytes
+
+    @property
+    def elements(self) -> list[int]:
+        """The elements, element 0 first."""
+        return elements_in(self.data, self.width)
+
+    def __str__(self) -> str:
+        return " ".join([f"v{self.number}", *(f"{value:0{self.width // 4}x}" for value in self.elements)])
+
+
+@dataclass(frozen=True)
+class VectorView:
+    """What legality reads of a vector state: vtype, as `vcsr` shows it, and vstart. vl has no part in it."""
+
+    vtype: int
+    vstart: int
+
+    @property
+    def sew(self) -> int:
+        """The element width in bits."""
+        return 8 << (self.vtype >> 3 & 7)
+
+    @property
+    def lmul(self) -> Fraction:
+        """The group multiplier, 1/8 to 8."""
+        return Fraction(2) ** (((self.vtype & 7) + 4) % 8 - 4)
+
+    @property
+    def vlmax(self) -> int:
+        """How many elements a group has; 0 where the type is vill."""
+        return 0 if self.vtype >> 63 else int(256 * self.lmul / self.sew)
+
+
+@dataclass(frozen=True)
+class ControlRegisters(VectorView):
+    """The vector control registers."""
+
+    vl: int
+    vxrm: int
+    vxsat: int
+
+    def named(self) -> dict[str, int]:
+        """The registers by name, in the order of the line."""
+        return {name: getattr(self, name) for name in CONTROL}
+
+    def __str__(self) -> str:
+        words = (f"{name}={value:{'016x' if name == 'vtype' else 'd'}}" for name, value in self.named().items())
+        return " ".join(words)
+
+
+CONTROL = ("vl", "vtype", "vstart", "vxrm", "vxsat")
+
+
+@dataclass(frozen=True)
+class Word:
+    """A word of the program at an address; its canonical text, which `dis` shows, and `asm` doesn't."""
+
+    address: int
+    word: int
+    text: str = ""
+
+    def __str__(self) -> str:
+        return f"{self.address:016x} {self.word:08x}" + (f" {self.text}" if self.text else "")
+
+
+@dataclass(frozen=True)
+class Listing:
+    """Words one behind another."""
+
+    words: Sequence[Word]
+
+    def __str__(self) -> str:
+        return "\n".join(map(str, self.words))
+
+
+@dataclass(frozen=True)
+class Addresses:
+    """What `breaks` or `trace` shows."""
+
+    name: str
+    addresses: Sequence[int]
+
+    def __str__(self) -> str:
+        return " ".join([self.name, *(f"{address:016x}" for address in self.addresses)])
+
+
+@dataclass(frozen=True)
+class Place:
+    """Where a program is, and why.
+
+    number: how often it has stepped, or the status of an exit
+    cause, value: of a fault
+    """
+
+    kind: str
+    pc: int
+    number: int = 0
+    cause: int = 0
+    value: int = 0
+
+    @property
+    def what(self) -> str:
+        """The kind, of a fault with its cause."""
+        return f"fault cause={self.cause}" if self.kind == "fault" else self.kind
+
+    def __str__(self) -> str:
+        number = f" {self.number}" if self.kind in ("stepped", "exit") else ""
+        value = f" value={self.value:016x}" if self.kind == "fault" else ""
+        return f"{self.what}{number} pc={self.pc:016x}{value}"
+
+
+class Position(Place):
+    """It has `stepped` so often, is `running` or `stopped` now, or is shown: `state running` or `state stopped`."""
+
+    @property
+    def run(self) -> str:
+        """`running` or `stopped`."""
+        return "running" if self.kind.endswith("running") else "stopped"
+
+
+class Stop(Place):
+    """It has stopped by itself: an `exit`, a `fault`, a `break`, an `ebreak`, or a full output buffer, `outfull`."""
+
+
+@dataclass(frozen=True)
+class Output:
+    """What the program has put out."""
+
+    data: bytes
+
+    def __str__(self) -> str:
+        return f"out {len(self.data)} {self.data.hex()}".rstrip()
+
+
+@dataclass(frozen=True)
+class Granted:
+    """How many slices were granted, and the stops of these slices, each with its user's digit."""
+
+    slices: int
+    stops: Sequence[tuple[str, Stop]] = ()
+
+    def __str__(self) -> str:
+        return f"granted {self.slices}"
+
+
+@dataclass(frozen=True)
+class Users:
+    """What the program of each user does, by the user's digit: `-` (absent), `stopped` or `running`."""
+
+    runs: dict[str, str]
+
+    def __str__(self) -> str:
+        return " ".join(["list", *(f"{digit}:{run}" for digit, run in self.runs.items())])
+
+
+@dataclass(frozen=True)
+class Switches:
+    """How the vector unit was switched, by name: saves, restores, inits, and whose state it holds, or 0: owner."""
+
+    counts: dict[str, int]
+
+    def __str__(self) -> str:
+        return " ".join(f"{name} {count}" for name, count in self.counts.items())
+
+
+Answer = (
+    Refused | Done | Loaded | Memory | ScalarRegisters | VectorRegister | ControlRegisters | Word | Listing | Addresses
+) | (Position | Stop | Output | Granted | Users | Switches)
+
+
+def _value(word: str) -> int:
+    """The digits behind a name, as a number."""
+    return int(word.partition("=")[2], 16)
+
+
+_READERS: dict[str, Callable[..., Answer]] = {  # by the first word of an answer, of its words
+    **dict.fromkeys(("entered", "left", "ok"), Done),
+    "loaded": lambda _, pc, pages: Loaded(_value(pc), int(pages.partition("=")[2])),
+    "peek": lambda _, address, digits: Memory(int(address, 16), bytes.fromhex(digits)),
+    **dict.fromkeys(("breaks", "trace"), lambda name, *values: Addresses(name, [int(value, 16) for value in values])),
+    "stepped": lambda kind, number, pc: Position(kind, _value(pc), int(number)),
+    **dict.fromkeys(("running", "stopped"), lambda kind, pc: Position(kind, _value(pc))),
+    "state": lambda kind, run, pc: Position(f"{kind} {run}", _value(pc)),
+    **dict.fromkeys(("break", "ebreak", "outfull"), lambda kind, pc: Stop(kind, _value(pc))),
+    "exit": lambda kind, status, pc: Stop(kind, _value(pc), int(status)),
+    "fault": lambda kind, cause, pc, value: Stop(kind, _value(pc), 0, int(cause[-1]), _value(value)),
+    "out": lambda _, number, digits="": Output(bytes.fromhex(digits)),
+    "list": lambda _, *users: Users({user[0]: user[2:] for user in users}),
+    "saves": lambda *words: Switches({name: int(count) for name, count in zip(words[::2], words[1::2])}),
+}
+
+
+def read(answer: Sequence[str]) -> Answer:
+    """What a whole answer says, with the digits of its lines. Raises ValueError where it is none."""
+    *before, last = answer
+    first, *others = words = last[2:].split(" ")
+    if first in _READERS:
+        try:
+            return _READERS[first](*words)
+        except TypeError as error:
+            raise ValueError(f"no answer: {last}") from error
+    if first == "granted":
+        stops = [(line[0], stop) for line in before if isinstance(stop := read([line]), Stop)]
+        return Granted(int("".join(others)), tuple(stops))
+    if first[:1] == "E":
+        return Refused(first, "".join(others))
+    if first == "x28" and len(answer) == 9:
+        pc, *lines = answer
+        values = " ".join(line[2:] for line in lines).split()[1::2]
+        return ScalarRegisters(int(pc[5:], 16), [int(value, 16) for value in values])
+    if first[:3] == "vl=":
+        vl, vtype, vstart, vxrm, vxsat = (word.partition("=")[2] for word in words)
+        return ControlRegisters(int(vtype, 16), int(vstart), int(vl), int(vxrm), int(vxsat))
+    if first[:1] == "v":
+        width = 256 // len(others)
+        data = b"".join(int(element, 16).to_bytes(width // 8, "little") for element in others)
+        return VectorRegister(int(first[1:]), width, data)
+    listed = [Word(int(line[2:18], 16), int(line[19:27], 16), line[28:]) for line in answer]
+    return Listing(listed) if listed[0].text else listed[0]
+
+
+def told(answer: Sequence[str]) -> list[tuple[str, Answer]]:
+    """A whole answer, by whom it tells: those whose programs stopped, and who is answered."""
+    said = read(answer)
+    return [*(said.stops if isinstance(said, Granted) else ()), (answer[-1][0], said)]
+
+
+def elements_in(data: bytes, width: int) -> list[int]:
+    """The elements of registers, of so many bits each."""
+    if width == 1:
+        return [byte >> bit & 1 for byte in data for bit in range(8)]
+    size = width // 8
+    return [int.from_bytes(data[at : at + size], "little") for at in range(0, len(data), size)]
+
+
+def is_refusal(answer: Sequence[str]) -> bool:
+    """Whether the answer says that the line was refused."""
+    return _REFUSAL.fullmatch(answer[0]) is not None
+
+
+def is_stop(line: str) -> bool:
+    """Whether a line of an answer says that a program has stopped by itself."""
+    return _STOP_LINE.fullmatch(line) is not None
+
+
+def is_whole(line: str, answer: Sequence[str]) -> bool:
+    """Whether these lines, one at least, are all of the answer to `line`.
+
+    To be called with each line that comes; raises OutOfStep where the latest one can't be a part of the answer.
+    """
+    latest, (form, count) = answer[-1], _shape(line)
+    if latest[2:3] == "E" and latest[:2] == line[:2] and is_refusal(answer):
+        return True
+    if not count and is_stop(latest):
+        return False
+    if latest[:2] != line[:2] or form is None or not form.fullmatch(latest):
+        raise OutOfStep(f"the answer to {line[:60]!r} can't have the line {latest[:60]!a}")
+    return not count or len(answer) == count
+
+
+@functools.lru_cache(maxsize=1024)
+def _shape(line: str) -> tuple[re.Pattern[str] | None, int]:
+    """What matches a line of the answer, if it is accepted, and how many lines it has; 0 where stops stand before."""
+    words = words_of(line)
+    command, count = ("* " if line[0] == "*" else "") + "".join(words[:1]), 1
+    if command in ("* slices", "* run"):
+        count = 0
+    elif words == ["regs"]:
+        count = 9
+    elif command == "dis" and len(words) == 3 and words[2].isdecimal():
+        count = max(1, int(words[2]))
+    return _LINES.get(command), count

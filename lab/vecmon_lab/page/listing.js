@@ -1,0 +1,30 @@
+// The program: labels, breakpoints, the program counter, the instruction that is told of, and words that are new.
+
+import { byId, header, make, unseen } from "./elements.js";
+import { inOrder, paintRows } from "./rows.js";
+import { target, withNames } from "./words.js";
+
+const TABLE = { caption: "Program", names: ["marks", "address", "word", "instruction"], bytes: 4 };
+
+export function paintListing(state, before) {
+  const abi = byId("names").value === "abi";
+  const rows = inOrder(Object.keys(state.code)).map((address) => listingRow(state, before, address, abi));
+  paintRows(byId("listing"), TABLE, rows, state.labels, "No program stands in memory yet.");
+}
+
+function listingRow(state, before, address, abi) {
+  const line = state.code[address];
+  const marks = make("td", "marks");
+  const kinds = [address === state.pc ? "next" : "", address === state.instruction ? "told" : ""];
+  if (state.breaks.includes(address)) marks.append(make("span", "breakpoint", "●"), unseen("breakpoint"));
+  if (kinds[0]) marks.append(make("span", "arrow", "▶"), unseen("next instruction"));
+  if (kinds[1]) marks.append(unseen(state.faulted ? "stopped here" : "carried out"));
+  const text = make("td", "text", withNames(line.slice(9), abi));
+  const goal = target(address, line.slice(9));
+  if (goal) text.append(make("span", "goal", ` → ${state.labels?.[goal]?.[0] ?? goal}`));
+  const word = make("td", "word", line.slice(0, 8));
+  if (before.code[address] !== line && (before.code[address] || !state.instruction)) word.classList.add("changed");
+  const row = make("tr", kinds.join(" "), marks, header("row", address), word, text);
+  Object.assign(row.dataset, { address, edit: `break ${address}` });
+  return row;
+}

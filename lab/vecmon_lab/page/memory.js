@@ -1,0 +1,42 @@
+// Memory in rows of 16 bytes, with a gap where rows are left out; and what the program has put out.
+
+import { byId, header, make } from "./elements.js";
+import { inOrder, paintRows } from "./rows.js";
+
+const NAMES = ["address", "bytes 0 to 3", "4 to 7", "8 to 11", "12 to 15", "text"];
+const TABLE = { caption: "Memory", names: NAMES, bytes: 16 };
+
+export function paintMemory(state, before) {
+  const row = (address) => memoryRow(address, state.memory[address], before.memory[address]);
+  const rows = inOrder(Object.keys(state.memory)).map(row);
+  paintRows(byId("bytes"), TABLE, rows, state.labels, "No memory but the program is in use yet.");
+}
+
+export function paintOutput(state) {
+  byId("output-box").hidden = !state.output;
+  byId("output").textContent = outputText(state.output ?? "");
+}
+
+function memoryRow(address, digits, digitsBefore) {
+  const bytes = digits.match(/../g);
+  const spans = bytes.map((byte, place) => {
+    const changed = digitsBefore !== undefined && digitsBefore.slice(2 * place, 2 * place + 2) !== byte;
+    const span = make("span", changed ? "changed" : byte === "00" ? "zero" : "", byte);
+    span.dataset.edit = `poke ${(BigInt("0x" + address) + BigInt(place)).toString(16)}`;
+    return span;
+  });
+  const groups = [0, 4, 8, 12].map((first) => {
+    return make("td", "", ...spans.slice(first, first + 4).flatMap((span, place) => (place ? [" ", span] : [span])));
+  });
+  const text = bytes.map((byte) => (/[2-6].|7[0-9a-e]/.test(byte) ? String.fromCharCode(parseInt(byte, 16)) : "·"));
+  const row = make("tr", "", header("row", address), ...groups, make("td", "text", text.join("")));
+  row.dataset.address = address;
+  return row;
+}
+
+/** Bytes in hexadecimal as a text, with a picture for each control character but newlines and tabs. */
+function outputText(digits) {
+  const bytes = Uint8Array.from(digits.match(/../g) ?? [], (byte) => parseInt(byte, 16));
+  const picture = (character) => String.fromCharCode(0x2400 + character.charCodeAt(0));
+  return new TextDecoder().decode(bytes).replace(/[\x00-\x08\x0b-\x1f]/g, picture);
+}

@@ -1,0 +1,33 @@
+// How the vector registers are best shown: by the operands of the listing's instructions, which the server tells.
+
+/**
+ * An instruction's operands under a vector type, a register group each:
+ * { register, group, width, mask, writes, masked }.
+ * The width of elements is in bits; a mask has the type's width.
+ * masked: whether elements whose bit in v0 is 0 are left out of it, and v0 is still what it was.
+ */
+export function operandGroups(operands, type) {
+  return operands.flatMap(([register, groups, bits, part, isWhole, writes, masked]) => {
+    const mask = bits === 1;
+    const width = mask ? type.sew : Math.min(64, Math.max(8, bits || part * type.sew));
+    const group = isWhole ? 1 : Math.min(8, Math.max(1, (type.lmul * width) / type.sew));
+    const shape = { group, width, mask, writes, masked };
+    return Array.from({ length: groups }, (_, place) => ({ register: register + place * group, ...shape }));
+  });
+}
+
+/**
+ * How each register that a program names is best shown: as the instruction that is told of takes it, else as all
+ * instructions take it, if they agree. A map from a register to { width, group, mask }.
+ */
+export function registerShapes(operands, told, type) {
+  const shapes = new Map();
+  const plain = { width: type.sew, group: Math.max(1, type.lmul), mask: false };
+  for (const operand of operands) {
+    const other = shapes.get(operand.register) ?? operand;
+    const agree = other.width === operand.width && other.mask === operand.mask;
+    shapes.set(operand.register, agree ? operand : plain);
+  }
+  told.forEach((operand) => shapes.set(operand.register, operand));
+  return shapes;
+}

@@ -1,0 +1,32 @@
+// The transcript: lines and answers, and which of them tell of a stop or a refusal.
+
+import { make } from "./elements.js";
+
+const LOG_LENGTH = 500;
+export const STOP_LINE = /^[1-8] (e?break|exit|outfull|fault) /;
+
+/** The text of an entry, and what it means where it refuses a line, which may have several lines; "" where it doesn't. */
+export function entryParts(entry) {
+  const [text, ...words] = entry.slice(1).split("\n");
+  return [text, words.join("\n")];
+}
+
+/**
+ * A line or an answer in the transcript: lines begin with `>`, answers with `<`, other sentences with `!`.
+ * Of an only user's entries the digit is left out; `place` stands before all.
+ */
+export function logEntry(entry, isOnly = false, place = "") {
+  const [text, words] = entryParts(entry);
+  const stopped = entry[0] === "!" || (entry[0] === "<" && (STOP_LINE.test(text) || words));
+  const kind = { ">": "asked", "<": "answered", "!": "unsent" }[entry[0]];
+  const item = make("li", stopped ? `${kind} stopped` : kind);
+  item.textContent = place + (entry[0] === ">" ? "> " : "") + (isOnly && entry[0] !== "!" ? text.slice(2) : text);
+  return item;
+}
+
+/** Adds entries to a log in one batch, and shows its end. */
+export function addToLog(log, items) {
+  log.append(...items);
+  while (log.childElementCount > LOG_LENGTH) log.firstChild.remove();
+  if (items.length) log.scrollTop = log.scrollHeight;
+}
