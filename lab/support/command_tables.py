@@ -1,4 +1,4 @@
-"""The tables of commands and refusals in pages of docs/, made from `vecmon_lab/tables`; and one there, made of a page."""
+"""Tables of pages in docs/, made from `vecmon_lab/tables`: commands, refusals; and one there, made of a page."""
 
 import itertools
 import operator

@@ -39,10 +39,10 @@ def run(installed: pathlib.Path, *words: object, python: str = "") -> tuple[int,
 
 
 def completed(folder: pathlib.Path, *words: str) -> list[str]:
-    """What completion makes of the last of these words. bash-completion's own functions are as simple as they can be."""
+    """What completion makes of the last of these words, with functions of bash-completion as simple as can be."""
     code = f"""
         vecmon-lab() {{ {sys.executable} -m vecmon_lab "$@"; }}
-        _init_completion() {{ words=(vecmon-lab "$@"); words=("${{WORDS[@]}}"); cword=$(({len(words)})); cur=${{words[cword]}}; }}
+        _init_completion() {{ words=("${{WORDS[@]}}"); cword={len(words)}; cur=${{words[cword]}}; }}
         _filedir() {{ COMPREPLY+=(A_FILE); }}
         WORDS=(vecmon-lab {' '.join(f"'{word}'" for word in words)})
         source {TOP / "packaging" / "completion"}

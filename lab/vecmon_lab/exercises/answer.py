@@ -44,7 +44,7 @@ def read_answer(path: pathlib.Path) -> Answer:
     if len(data) > IMAGE_BYTES:
         raise LabError(f"it has more than {IMAGE_BYTES:,} bytes")
     if data.startswith(b"\x7fELF"):
-        check_flags(data)
+        check_flags(path)
         return Answer(path)
     try:
         text = data.decode("utf-8")

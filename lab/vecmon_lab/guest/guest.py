@@ -198,12 +198,12 @@ def started(
     Raises LabError and OSError where the image can't be read or is refused, or there is no program.
     """
     with path.open("rb") as file:
-        if len(image := file.read(IMAGE_BYTES + 1)) > IMAGE_BYTES:
+        if len(file.read(IMAGE_BYTES + 1)) > IMAGE_BYTES:
             raise LabError(f"{path} has more than {IMAGE_BYTES:,} bytes")
     with Session(find_program(), {"image": path}, quantum=quantum) as session:
         guest = Guest(session, write=write)
         try:
-            check_flags(image)
+            check_flags(path)
             guest.start("image", policy, arguments)
         except LabError as error:
             raise LabError(f"{path}: {error}") from error

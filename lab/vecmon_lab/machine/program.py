@@ -53,16 +53,18 @@ def images_of(words: list[str]) -> dict[str, pathlib.Path]:
             raise LabError(f"image {name}: there is no file {path}")
         images[name] = pathlib.Path(path)
         try:
-            check_flags(images[name].read_bytes())
+            check_flags(images[name])
         except LabError as error:
             raise LabError(f"image {name}: {error}") from error
     return images
 
 
-def check_flags(image: bytes) -> None:
+def check_flags(image: pathlib.Path) -> None:
     """Raises LabError for an image that was compiled for what the machine doesn't have, as its e_flags tell."""
-    is_riscv = image[:6] == b"\x7fELF\2\1" and image[18:20] == b"\xf3\0"
-    kinds = [kind for bits, kind in _FLAGS.items() if is_riscv and int.from_bytes(image[48:52], "little") & bits]
+    with image.open("rb") as file:
+        header = file.read(64)
+    is_riscv = header[:6] == b"\x7fELF\2\1" and header[18:20] == b"\xf3\0"
+    kinds = [kind for bits, kind in _FLAGS.items() if is_riscv and int.from_bytes(header[48:52], "little") & bits]
     if kinds:
         told = f"it is compiled for {' and '.join(kinds)}, and the machine has none"
         raise LabError(f"{told}: compile with {MARCH} -mabi=lp64")
