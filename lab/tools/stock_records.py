@@ -1,9 +1,9 @@
-#!/usr/bin/python3
-"""Records what a stock assembler and linker make of the sources here: of NAME.s symbols and bytes, in NAME.recorded.
+"""Records what a stock assembler and linker make of sources: `python lab/tools/stock_records.py`.
 
-It wants clang, lld and llvm 19.1.7 (Debian: clang-19 lld-19 llvm-19), and first writes the generated sources anew:
-instructions.s, each name of docs/INSTRUCTIONS.md with drawn operands, and constants.s. A line of a record is
-`symbol NAME ADDRESS` or `bytes ADDRESS BYTES`, up to 32 bytes in hexadecimal digits; .bss, all zeros, is left out.
+Of each NAME.s in lab/tests/data/stock it writes symbols and bytes to NAME.recorded. It wants clang, lld and llvm 19.1.7
+(Debian: clang-19 lld-19 llvm-19), and first writes the generated sources anew: instructions.s, each name of
+docs/INSTRUCTIONS.md with drawn operands, and constants.s. A line of a record is `symbol NAME ADDRESS` or
+`bytes ADDRESS BYTES`, up to 32 bytes in hexadecimal digits; .bss, all zeros, is left out.
 """
 
 import pathlib
@@ -12,8 +12,10 @@ import re
 import subprocess
 import tempfile
 
-HERE = pathlib.Path(__file__).resolve().parent
-INSTRUCTIONS = HERE.parents[3] / "docs" / "INSTRUCTIONS.md"
+from support.places import DATA, DOCS
+
+HERE = DATA / "stock"
+INSTRUCTIONS = DOCS / "INSTRUCTIONS.md"
 FLAGS = "--target=riscv64-linux-gnu -march=rv64im_zve64x -mabi=lp64 -mno-relax -c".split()
 LAYOUT = """SECTIONS {
   . = 0x10000;
