@@ -84,7 +84,8 @@ def test_help_lists_the_commands() -> None:
         ("1 ", ["E03: there is no such command, or the line has no word"]),
         ("1 slices 5", ["E03: slices is the operator's: * slices N"]),
         ("* regs", ["E03: regs is a user's: regs"]),
-        ("1 load it", ["E08: there is no image of this name"]),
+        ("1 load it", ["E08: there is no image it"]),
+        ("1 unbreak 10000", ["E13: no breakpoint stands there"]),
         ("2 regs", ["E05: the user has not entered"]),
         ("1 peek 0 4", ["E11: an address isn't mapped"]),
         (

@@ -336,7 +336,7 @@ def test_completion_pasted_lines_and_the_bar(tmp_path: pathlib.Path) -> None:
         console.type("ne\t")
         console.expect("xt")
         console.type("\r")
-        console.expect("E13: the breakpoint is there already, or isn't there")
+        console.expect("E13: no breakpoint stands there")
         console.type("\x1b[200~break next+4\nrun\npolicy ones\x1b[201~\r")
         console.expect("A breakpoint stands at 0x1001c")
         console.expect("ok")

@@ -63,6 +63,10 @@ def refusal_in_words(line: str, answer: Refused) -> list[str]:
             told = f"there is no command {word}"
         case "E04":
             told = f"{misfit(line, COMMANDS[own].form)}; the form is {COMMANDS[own].form}"
+        case "E08":
+            told = f"there is no image {words_of(line)[1]}"
+        case "E13":
+            told = "no breakpoint stands there" if word == "unbreak" else "a breakpoint stands there already"
         case "E09":
             told = _IMAGE_FAULTS[str(answer)]
         case "E15":
