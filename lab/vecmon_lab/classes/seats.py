@@ -7,7 +7,7 @@ from dataclasses import dataclass, field
 
 from ..assembler.commands import log_entries
 from ..guest.guest import Guest
-from ..machine.answers import is_refusal, is_stop, read, told
+from ..machine.answers import is_refusal, is_stop, told
 from ..machine.lines import DIGITS, is_look, words_of
 from ..machine.session import Session
 from ..page.state import ABSENT, RowChoice, State, Watch, look_at, with_rows
@@ -67,9 +67,9 @@ class Seats:
 
     def follow(self, line: str, answer: Sequence[str]) -> None:
         """Takes up what a user's line says of the user's memory."""
-        if line[0] in self.users:
+        if line[0] in self.users and not is_refusal(answer):
             seat = self.users[line[0]]
-            seat.watch.follow(line, read(answer))
+            seat.watch.follow(line)
             if _begins_anew(line, answer):
                 seat.rows = RowChoice()
 
@@ -81,11 +81,12 @@ class Seats:
     def look(self, session: Session, done: Sequence[Done], digits: Iterable[str]) -> dict[str, tuple[State, State]]:
         """The states of users after what was done: all that is known, and what pages show of it."""
         lines, states = [line for line, _ in done], {}
+        said = [each for _, answer in done for each in told(answer)]
         for digit in digits:
             seat = self.users[digit]
             anew = any(line[0] == digit and _begins_anew(line, answer) for line, answer in done)
             before = ABSENT if anew else seat.state
-            own = [said for _, answer in done for whom, said in told(answer) if whom == digit]
+            own = [each for whom, each in said if whom == digit]
             single = lines == [f"{digit} step 1"] and before["run"] == "stopped"
             carried_out = before["code"].get(before["pc"], "")[9:] if single else ""
             is_done = not all(map(is_look, lines))

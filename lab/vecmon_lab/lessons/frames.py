@@ -87,7 +87,9 @@ class _Maker:
         if line in self._script.statements and isinstance(answer, Refused):
             raise refused_statement(self._script, line, answer)
         if line[0] in DIGITS:
-            self._watches.setdefault(line[0], Watch()).follow(line, answer)
+            watch = self._watches.setdefault(line[0], Watch())
+            if not isinstance(answer, Refused):
+                watch.follow(line)
         log += log_entries(line, parts)
         answers += told(parts)
 

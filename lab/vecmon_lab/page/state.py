@@ -16,7 +16,6 @@ from ..machine.answers import (
     Memory,
     Output,
     Position,
-    Refused,
     ScalarRegisters,
     Stop,
     VectorRegister,
@@ -78,10 +77,8 @@ class Watch:
         self.named: set[int] = set()  # addresses of rows that lines named
         self.trace: Sequence[int] = []  # as it was when it was looked at last
 
-    def follow(self, line: str, answer: Answer) -> None:
-        """Takes up the places that a user's line names, if it was accepted."""
-        if isinstance(answer, Refused):
-            return
+    def follow(self, line: str) -> None:
+        """Takes up the places that a user's line names, which was accepted."""
         match words_of(line):
             case ["enter"] | ["leave"] | ["load", _]:
                 for places in (self.code, self.pages, self.named):
