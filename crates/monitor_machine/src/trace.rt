@@ -93,7 +93,8 @@ fn make_room<A: Allocator>(ring: &mut HeapCircularBuffer<u64, A>, recent: &mut A
 /// Puts the recent addresses into the ring.
 #[inline(never)]
 fn settle<A: Allocator>(ring: &mut HeapCircularBuffer<u64, A>, recent: &mut ArrayVec<u64, BATCH>)
-    ensures ring { ring.new ≡ buffer (keep_last ring.old.capacity (ring.old.items ++ recent.old.items)) ring.old.capacity }
+    ensures ring { ring.new
+        ≡ buffer (keep_last ring.old.capacity (ring.old.items ++ recent.old.items)) ring.old.capacity }
     ensures recent { recent.new.items ≡ [] }
 {
     ring.extend_from_slice(recent.as_slice());
