@@ -1,10 +1,11 @@
-//! Loads and stores (Unprivileged ISA 20191213, sections 2.6 and 5.3).
-ghost use Rattle.std.specs.Prelude.{◌≡◌, Ok, Err, if◌then◌else◌};
+//! Loads and stores (Unprivileged ISA 20191213, sections 2.6 and 5.3). Those narrower than a register stand out of
+//! line, so that the others stay in line wherever a step is made.
+ghost use Rattle.std.specs.Prelude.{◌≡◌, ◌↔◌, IsOk, OnErr, OnOk, Ok, Err, if◌then◌else◌, length, true};
 ghost use Rattle.std.specs.Int.{byte_len, w8, w16, w32, w64};
-ghost use Rattle.rv_model.specs.declared.memory.Access.TheVariants.{Load};
+ghost use Rattle.rv_model.specs.declared.memory.Access.TheVariants.{Load, Store};
 ghost use Rattle.rv_model.specs.scalar.LoadsAndStores.{extended, load_width, number_at};
 ghost use Rattle.rv_model.specs.scalar.Arithmetic.{sum};
-ghost use Rattle.rv_model.specs.memory.Memory.{can_access};
+ghost use Rattle.rv_model.specs.memory.Memory.{can_access, put_bytes};
 ghost use Rattle.rv_model.specs.step.ScalarStep.{load_step, store_step};
 ghost use Rattle.hart.specs.States.{LeadsScalar};
 
@@ -24,7 +25,7 @@ pub(crate) fn access_address(base: u64, immediate: u64) -> u64
 }
 
 /// The byte at an address.
-#[inline(always)]
+#[inline(never)]
 fn read_8<M: UserBytes>(memory: &M, addr: u64) -> Result<u8, Fault>
     ensures { result ≡ (if can_access Load (M.memory memory.now) addr 1
         then Ok (number_at w8 (M.memory memory.now) addr) else Err (record { addr = addr })) }
@@ -35,7 +36,7 @@ fn read_8<M: UserBytes>(memory: &M, addr: u64) -> Result<u8, Fault>
 }
 
 /// The number of two bytes at an address.
-#[inline(always)]
+#[inline(never)]
 fn read_16<M: UserBytes>(memory: &M, addr: u64) -> Result<u16, Fault>
     ensures { result ≡ (if can_access Load (M.memory memory.now) addr 2
         then Ok (number_at w16 (M.memory memory.now) addr) else Err (record { addr = addr })) }
@@ -46,7 +47,7 @@ fn read_16<M: UserBytes>(memory: &M, addr: u64) -> Result<u16, Fault>
 }
 
 /// The number of four bytes at an address.
-#[inline(always)]
+#[inline(never)]
 fn read_32<M: UserBytes>(memory: &M, addr: u64) -> Result<u32, Fault>
     ensures { result ≡ (if can_access Load (M.memory memory.now) addr 4
         then Ok (number_at w32 (M.memory memory.now) addr) else Err (record { addr = addr })) }
@@ -121,6 +122,17 @@ pub(crate) fn load<M: UserBytes>(
     }
 }
 
+/// Writes fewer bytes than a register has from an address on, or changes nothing.
+#[inline(never)]
+fn write_narrow<M: UserBytes>(addr: u64, bytes: &[u8], memory: &mut M) -> Result<(), Fault>
+    ensures ok { IsOk result ↔ (can_access Store (M.memory memory.old) addr (length bytes.now) ≡ true) }
+    ensures value { OnOk result (M.memory memory.new ≡ put_bytes (M.memory memory.old) addr bytes.now) }
+    ensures others { OnOk result (memory.new ≡ M.with_memory memory.old (M.memory memory.new)) }
+    ensures unchanged { OnErr result (memory.new ≡ memory.old) }
+{
+    memory.write(addr, Access::Store, bytes)
+}
+
 /// A store of the lowest bytes of a value, which is refused where one of its bytes may not be written.
 #[inline(always)]
 pub(crate) fn store<M: UserBytes>(
@@ -136,9 +148,9 @@ pub(crate) fn store<M: UserBytes>(
 {
     let bytes = value.to_le_bytes();
     let written = match op {
-        StoreOp::Sb => memory.write(addr, Access::Store, &bytes[..1]),
-        StoreOp::Sh => memory.write(addr, Access::Store, &bytes[..2]),
-        StoreOp::Sw => memory.write(addr, Access::Store, &bytes[..4]),
+        StoreOp::Sb => write_narrow(addr, &bytes[..1], memory),
+        StoreOp::Sh => write_narrow(addr, &bytes[..2], memory),
+        StoreOp::Sw => write_narrow(addr, &bytes[..4], memory),
         StoreOp::Sd => memory.write(addr, Access::Store, &bytes),
     };
     match written {
