@@ -122,17 +122,25 @@ impl Translations {
         set_pages(&mut self.monitor, entries, Access::Monitor);
     }
 
+    /// The pages that may be accessed so.
+    #[inline(always)]
+    fn pages(&self, access: Access) -> &Pages
+        ensures { (entries : List Entry) → Translates entries self.now → AreTranslated entries access result.now }
+    {
+        match access {
+            Access::Fetch => &self.fetch,
+            Access::Load => &self.load,
+            Access::Store => &self.store,
+            Access::Monitor => &self.monitor,
+        }
+    }
+
     /// Where the bytes of an access lie in the frames, if they lie in a page that has its place and may be accessed so.
     #[inline(always)]
     pub(crate) fn place(&self, access: Access, addr: u64, len: usize) -> Option<usize>
         ensures { (entries : List Entry) → Translates entries self.now
             → IfSome result (λ at. LiesAt entries access addr len at) }
     {
-        match access {
-            Access::Fetch => look_up(&self.fetch, addr, len),
-            Access::Load => look_up(&self.load, addr, len),
-            Access::Store => look_up(&self.store, addr, len),
-            Access::Monitor => look_up(&self.monitor, addr, len),
-        }
+        look_up(self.pages(access), addr, len)
     }
 }
