@@ -162,14 +162,14 @@ class Console:
         if isinstance(answer, Refused):
             self._screen.say(*refusal_in_words(line, answer), kind="refused")
         else:
-            self._screen.say(*lines if has_user else self._shown(answer))
+            self._screen.say(*lines if has_user else self._shown(answer, lines))
         if isinstance(answer, Loaded):
             self._symbols = self._image_symbols
         if words[0] in ("load", "setpc"):
             self.tell_place()
 
-    def _shown(self, answer: Answer) -> Iterable[str]:
-        """An answer as the console shows it."""
+    def _shown(self, answer: Answer, lines: Sequence[str]) -> Iterable[str]:
+        """An answer, and its lines, as the console shows it."""
         registers = self._stepper.registers
         match answer:
             case ScalarRegisters():
@@ -185,7 +185,7 @@ class Console:
                 return [f"{self._place(word.address)}  {word.text}" for word in words]
             case Addresses(_, addresses):
                 return map(self._place, addresses)
-        return [str(answer)]
+        return [line[2:] for line in lines]
 
     def _run(self) -> None:
         """The program runs to its next stop, or until Ctrl-C."""

@@ -13,7 +13,17 @@ import re
 from ..assembler.commands import refusal_in_words
 from ..guest.guest import Guest, started
 from ..instructions.accesses import LINE_BYTES
-from ..machine.answers import CONTROL, ControlRegisters, Done, Memory, Refused, ScalarRegisters, Stop, VectorRegister
+from ..machine.answers import (
+    CONTROL,
+    ControlRegisters,
+    Done,
+    Memory,
+    Refused,
+    ScalarRegisters,
+    Stop,
+    VectorRegister,
+    read,
+)
 from ..machine.lines import BadLine, is_look, words_of
 from .packets import Link
 
@@ -135,10 +145,11 @@ class Target:
         if not is_look(f"1 {line}") and words_of(f"1 {line}")[:1] != ["policy"]:
             return "monitor takes policy and lines that look, as regs, vreg, dis and trace; gdb does the rest\n"
         try:
-            (answer,) = self._guest.ask(line)
+            lines = self._guest.session.do(f"1 {line}")
         except BadLine as error:
             return f"{error}\n"
-        return "\n".join([*refusal_in_words(f"1 {line}", answer), ""]) if isinstance(answer, Refused) else f"{answer}\n"
+        answer, rows = read(lines), [part[2:] for part in lines]
+        return "\n".join([*(refusal_in_words(f"1 {line}", answer) if isinstance(answer, Refused) else rows), ""])
 
     def _do(self, command: str) -> str:
         """What gdb is told after a command."""

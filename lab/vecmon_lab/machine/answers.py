@@ -2,7 +2,7 @@
 
 No other module knows a column. A user's answer is one line, but for an accepted `regs` (9 lines) and an accepted
 `dis ADDR N` (N lines). An operator's answer is the stop lines of the slices that it granted, and then a line that
-begins with `*`. Each answer is printed (`str`) as the machine printed it, without the digits of users.
+begins with `*`.
 """
 
 import functools
@@ -52,9 +52,6 @@ class Done:
 
     word: str
 
-    def __str__(self) -> str:
-        return self.word
-
 
 @dataclass(frozen=True)
 class Loaded:
@@ -62,9 +59,6 @@ class Loaded:
 
     pc: int
     pages: int
-
-    def __str__(self) -> str:
-        return f"loaded pc={self.pc:016x} pages={self.pages}"
 
 
 @dataclass(frozen=True)
@@ -74,9 +68,6 @@ class Memory:
     address: int
     data: bytes
 
-    def __str__(self) -> str:
-        return f"peek {self.address:016x} {self.data.hex()}"
-
 
 @dataclass(frozen=True)
 class ScalarRegisters:
@@ -84,10 +75,6 @@ class ScalarRegisters:
 
     pc: int
     x: Sequence[int]
-
-    def __str__(self) -> str:
-        cells = [f"x{number} {value:016x}" for number, value in enumerate(self.x)]
-        return "\n".join([f"pc {self.pc:016x}", *(" ".join(cells[at : at + 4]) for at in range(0, 32, 4))])
 
 
 @dataclass(frozen=True)
@@ -102,9 +89,6 @@ class VectorRegister:
     def elements(self) -> list[int]:
         """The elements, element 0 first."""
         return elements_in(self.data, self.width)
-
-    def __str__(self) -> str:
-        return " ".join([f"v{self.number}", *(f"{value:0{self.width // 4}x}" for value in self.elements)])
 
 
 @dataclass(frozen=True)
@@ -142,10 +126,6 @@ class ControlRegisters(VectorView):
         """The registers by name, in the order of the line."""
         return {name: getattr(self, name) for name in CONTROL}
 
-    def __str__(self) -> str:
-        words = (f"{name}={value:{'016x' if name == 'vtype' else 'd'}}" for name, value in self.named().items())
-        return " ".join(words)
-
 
 CONTROL = ("vl", "vtype", "vstart", "vxrm", "vxsat")
 
@@ -158,18 +138,12 @@ class Word:
     word: int
     text: str = ""
 
-    def __str__(self) -> str:
-        return f"{self.address:016x} {self.word:08x}" + (f" {self.text}" if self.text else "")
-
 
 @dataclass(frozen=True)
 class Listing:
     """Words one behind another."""
 
     words: Sequence[Word]
-
-    def __str__(self) -> str:
-        return "\n".join(map(str, self.words))
 
 
 @dataclass(frozen=True)
@@ -178,9 +152,6 @@ class Addresses:
 
     name: str
     addresses: Sequence[int]
-
-    def __str__(self) -> str:
-        return " ".join([self.name, *(f"{address:016x}" for address in self.addresses)])
 
 
 @dataclass(frozen=True)
@@ -227,9 +198,6 @@ class Output:
 
     data: bytes
 
-    def __str__(self) -> str:
-        return f"out {len(self.data)} {self.data.hex()}".rstrip()
-
 
 @dataclass(frozen=True)
 class Granted:
@@ -238,9 +206,6 @@ class Granted:
     slices: int
     stops: Sequence[tuple[str, Stop]] = ()
 
-    def __str__(self) -> str:
-        return f"granted {self.slices}"
-
 
 @dataclass(frozen=True)
 class Users:
@@ -248,18 +213,12 @@ class Users:
 
     runs: dict[str, str]
 
-    def __str__(self) -> str:
-        return " ".join(["list", *(f"{digit}:{run}" for digit, run in self.runs.items())])
-
 
 @dataclass(frozen=True)
 class Switches:
     """How the vector unit was switched, by name: saves, restores, inits, and whose state it holds, or 0: owner."""
 
     counts: dict[str, int]
-
-    def __str__(self) -> str:
-        return " ".join(f"{name} {count}" for name, count in self.counts.items())
 
 
 Answer = (
