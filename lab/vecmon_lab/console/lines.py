@@ -15,7 +15,7 @@ from ..guest.guest import Guest
 from ..guest.symbols import Symbols
 from ..instructions.accesses import PAGE_BYTES
 from ..instructions.reasons import describe_stop
-from ..lessons.script import read_source, refused_statement
+from ..lessons.script import read_source, send
 from ..machine.answers import (
     Addresses,
     Answer,
@@ -71,13 +71,10 @@ class Console:
     def source(self, path: pathlib.Path) -> None:
         """The user's machine begins anew with a source. Raises LabError and OSError, and then it is as before."""
         script = read_source(path.read_text("utf-8", "replace"), str(path))
+        commands = [line[2:] for line in script.steps[0].lines]
         with Session(find_program()) as trial:
-            for line in script.steps[0].lines:
-                answer = read(trial.do(line))
-                if isinstance(answer, Refused):
-                    raise refused_statement(script, line, answer)
-        for line in ["1 stop", "1 leave", *script.steps[0].lines]:
-            self._guest.session.do(line)
+            send(Guest(trial), commands, script)
+        self._guest.ask("stop", "leave", *commands)
         self._symbols = Symbols.of_labels(script.labels)
         self._look()
 

@@ -6,10 +6,9 @@ from collections.abc import Iterator, Sequence
 from dataclasses import dataclass, replace
 
 from .. import LabError
-from ..assembler.commands import refusal_in_words
 from ..guest.guest import IMAGE_BYTES, QUANTUM, STACK_END, STACK_POINTER, Guest, pokes
-from ..lessons.script import Script, read_source, refused_statement
-from ..machine.answers import Refused, ScalarRegisters
+from ..lessons.script import Script, read_source, send
+from ..machine.answers import ScalarRegisters
 from ..machine.lines import check_line, words_of
 from ..machine.program import check_flags
 from ..machine.session import Session
@@ -93,11 +92,11 @@ def attempt(program: pathlib.Path, answer: Answer, exercise: Exercise, case: Cas
         if answer.commands is None:
             guest.start("image")
         else:
-            _ask(guest, ["enter", *answer.commands], answer.source)
+            send(guest, ["enter", *answer.commands], answer.source)
         guest.ask("stop")  # where a script's last line is `go`
         guest.empty_buffer()
         output.clear()
-        _ask(guest, list(_inputs(exercise, case)))
+        send(guest, list(_inputs(exercise, case)))
         before, stop = _results(guest, case.expected, b""), guest.go(exercise.ticks)
         if stop is None or stop.kind not in ("ebreak", "exit"):
             raise LabError(guest.explain(stop) if stop else f"it hasn't ended after {exercise.ticks:,} ticks")
@@ -113,15 +112,6 @@ def _inputs(exercise: Exercise, case: Case) -> Iterator[str]:
     turned = int.from_bytes(bytes([TURNED]) * 8, "little")
     registers = {name: value ^ turned for name, value in case.expected.registers.items()} | dict(case.registers)
     yield from (f"set {name} {value:x}" for name, value in registers.items())
-
-
-def _ask(guest: Guest, commands: Sequence[str], source: Script | None = None) -> None:
-    """Sends commands. Raises LabError where one is refused."""
-    for command, told in zip(commands, guest.ask(*commands)):
-        if isinstance(told, Refused):
-            if source and f"1 {command}" in source.statements:
-                raise refused_statement(source, f"1 {command}", told)
-            raise LabError(f"{command[:60]}: {refusal_in_words(f'1 {command}', told)[-1]}")
 
 
 def _results(guest: Guest, expected: Results, output: bytes) -> Results:
