@@ -155,10 +155,9 @@ def _place(where: str, entries: object, by_reference: bool) -> Place:
             raise LabError(f"{where}: {address} is no address of a place in memory, which is below 2^48")
         case _:
             raise LabError(f"{where}: a place in memory is a table with `at`, its address, and not {entries}")
-    if not 0 < len(place.data) <= PLACE_BYTES:
-        raise LabError(
-            f"{where}: a place has 1 to {PLACE_BYTES:,} bytes, and the one at {address:#x} {len(place.data):,}"
-        )
+    size = len(place.data)
+    if not 0 < size <= PLACE_BYTES:
+        raise LabError(f"{where}: a place has 1 to {PLACE_BYTES:,} bytes, and the one at {address:#x} {size:,}")
     return place
 
 

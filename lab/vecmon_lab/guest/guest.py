@@ -23,7 +23,6 @@ from ..machine.answers import (
     Stop,
     read,
 )
-from ..machine.lines import is_look
 from ..machine.program import check_flags, find_program
 from ..machine.session import TOGETHER, Session
 from ..tables.table import read_table
@@ -54,8 +53,7 @@ class Guest:
         answers = list[Answer]()
         for at in range(0, len(commands), TOGETHER):
             lines = [f"{self.user} {command}" for command in commands[at : at + TOGETHER]]
-            send = self.session.look_all if all(map(is_look, lines)) else self.session.do_all
-            answers += map(read, send(lines))
+            answers += map(read, self.session.do_all(lines))
         return answers
 
     def told(self, command: str, kind: type[Told]) -> Told:

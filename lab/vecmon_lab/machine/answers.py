@@ -29,6 +29,7 @@ def _pattern(form: str, who: str = "[1-8*]") -> re.Pattern[str]:
 
 _STOP_LINE = _pattern("STOP", "[1-8]")
 _LINES = {command: _pattern(form) for command, form in read_table("answers")}
+_COUNTS = {"regs": 9, "* slices": 0, "* run": 0}  # of lines, where it isn't one; 0 where stops stand before it
 
 
 class OutOfStep(LabError):
@@ -320,11 +321,7 @@ def is_whole(line: str, answer: Sequence[str]) -> bool:
 def _shape(line: str) -> tuple[re.Pattern[str] | None, int]:
     """What matches a line of the answer, if it is accepted, and how many lines it has; 0 where stops stand before."""
     words = words_of(line)
-    command, count = ("* " if line[0] == "*" else "") + "".join(words[:1]), 1
-    if command in ("* slices", "* run"):
-        count = 0
-    elif words == ["regs"]:
-        count = 9
-    elif command == "dis" and len(words) == 3 and words[2].isdecimal():
-        count = max(1, int(words[2]))
-    return _LINES.get(command), count
+    command = ("* " if line[0] == "*" else "") + "".join(words[:1])
+    if command == "dis" and len(words) == 3 and words[2].isdecimal():
+        return _LINES[command], max(1, int(words[2]))
+    return _LINES.get(command), _COUNTS.get(command, 1)
