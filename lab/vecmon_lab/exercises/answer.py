@@ -5,7 +5,7 @@ import re
 from collections.abc import Iterator, Sequence
 from dataclasses import dataclass, replace
 
-from .. import LabError
+from .. import LabError, mistakes_in
 from ..guest.guest import IMAGE_BYTES, QUANTUM, STACK_END, STACK_POINTER, Guest, pokes
 from ..lessons.script import Script, read_source, send
 from ..machine.answers import ScalarRegisters
@@ -59,7 +59,7 @@ def _script_commands(text: str) -> list[str]:
     """The commands of a script, which are those of one user. Lines that begin with # are sentences. Raises LabError."""
     lines = [(number, line) for number, line in enumerate(text.split("\n"), 1) if line and not line.startswith("#")]
     for number, line in lines:
-        try:
+        with mistakes_in(f"line {number}"):
             if not re.match("[1-8*] ", line):
                 raise LabError(
                     f"{line[:40]!r} has no user's digit and space before it; a source's name ends in .s or .S"
@@ -69,8 +69,6 @@ def _script_commands(text: str) -> list[str]:
                 raise LabError("an answer has no line of the operator's, and no enter, leave or load")
             if line[0] != lines[0][1][0]:
                 raise LabError(f"an answer has lines of one user, here of {lines[0][1][0]}")
-        except LabError as error:
-            raise LabError(f"line {number}: {error}") from error
     return [line[2:] for _, line in lines]
 
 
@@ -126,11 +124,9 @@ def settled(program: pathlib.Path, exercise: Exercise) -> Exercise:
     """The exercise with what its reference leaves as what is expected. Raises LabError where a case can't be given."""
     reference, cases = Answer(pathlib.Path(), [f"setpc {RETURN:x}"]), []  # it returns at once
     for case in exercise.cases:
-        try:
+        with mistakes_in(f"{exercise.title}, {case.name}"):
             if exercise.reference:
                 reference = read_answer(exercise.reference)
             _, results = attempt(program, reference, exercise, case)
-        except LabError as error:
-            raise LabError(f"{exercise.title}, {case.name}: {error}") from error
         cases.append(replace(case, expected=results) if exercise.reference else case)
     return replace(exercise, cases=cases)

@@ -7,7 +7,7 @@ import struct
 from collections.abc import Callable, Iterator, Sequence
 from typing import TypeVar
 
-from .. import LabError
+from .. import LabError, mistakes_in
 from ..instructions.accesses import LINE_BYTES
 from ..instructions.reasons import describe_stop
 from ..machine.answers import (
@@ -200,11 +200,9 @@ def started(
             raise LabError(f"{path} has more than {IMAGE_BYTES:,} bytes")
     with Session(find_program(), {"image": path}, quantum=quantum) as session:
         guest = Guest(session, write=write)
-        try:
+        with mistakes_in(path):
             check_flags(path)
             guest.start("image", policy, arguments)
-        except LabError as error:
-            raise LabError(f"{path}: {error}") from error
         yield guest
 
 
