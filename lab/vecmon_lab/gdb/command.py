@@ -138,7 +138,8 @@ class Target:
             return self._do(f"vset v{number - FIRST_VECTOR} {digits}")
         if number >= FIRST_CONTROL:
             return REFUSED
-        return self._do(f"setpc {_turned(digits)}" if number == PC else f"set x{number} {_turned(digits)}")
+        value = bytes.fromhex(digits)[::-1].hex()
+        return self._do(f"setpc {value}" if number == PC else f"set x{number} {value}")
 
     def _monitor(self, line: str) -> str:
         """The answer to gdb's `monitor LINE`, for a line of the user's that only looks, or sets the policy."""
@@ -155,8 +156,3 @@ class Target:
         """What gdb is told after a command."""
         (answer,) = self._guest.ask(command)
         return "OK" if isinstance(answer, Done) or answer == THERE_ALREADY else str(answer)
-
-
-def _turned(digits: str) -> str:
-    """The digits of a number, two a byte, in the other order of bytes."""
-    return bytes.fromhex(digits)[::-1].hex()
