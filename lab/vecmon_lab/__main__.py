@@ -7,25 +7,10 @@ import sys
 from typing import NoReturn
 
 from . import LabError
+from .tables.table import read_table
 
-# By name the module, which has `add_arguments(parser)`, and `run(arguments)`, which answers the status; and a sentence.
-COMMANDS: dict[str, tuple[str, str]] = {
-    "lesson": ("lessons.lesson", "a page that steps back and forth through a script or an assembler source"),
-    "tour": ("lessons.tour", "the ten lessons of the tour"),
-    "class": ("classes.command", "a page for each of eight students or more, and one for their teacher"),
-    "solo": ("classes.solo", "one student's part of a class, as a script of its own"),
-    "compare": ("runs.compare", "an image with agnostic elements kept and as ones, and in slices of three lengths"),
-    "profile": ("runs.profile", "where an image spends its instructions, and what it makes of its vectors' elements"),
-    "run": ("runs.run", "an image to its end, as a plain program; a trace of it; counts of its instructions"),
-    "console": ("console.command", "a prompt at one user's machine"),
-    "gdb": ("gdb.command", "a machine with an image, for gdb's target remote"),
-    "vectors": (
-        "vectors.command",
-        "golden results of single instructions, for tests of an emulator, a core or a compiler",
-    ),
-    "grade": ("exercises.grade", "which answers to an exercise are right, and where each other one goes wrong first"),
-    "check": ("check", "whether the program answers README's first script, and on what program and lab stand"),
-}
+COMMANDS = {name: (module, sentence) for name, module, sentence in read_table("lab_commands")}
+"""By name the module, which has `add_arguments(parser)`, and `run(arguments)`, which answers the status; a sentence."""
 
 
 class _Parser(argparse.ArgumentParser):

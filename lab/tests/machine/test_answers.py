@@ -7,6 +7,7 @@ from collections.abc import Iterator
 import pytest
 
 from support.places import TOP
+from support.printed import printed
 from vecmon_lab.machine.answers import Granted, Stop, read, told
 
 PATTERN = re.compile(
@@ -24,7 +25,7 @@ def test_stored_answers_are_printed_as_they_were() -> None:
     kinds = Counter[str]()
     for answer in stored_answers():
         said = read(answer)
-        assert [f"{answer[0][0]} {part}" for part in str(said).split("\n")] == answer
+        assert [f"{answer[0][0]} {part}" for part in printed(said).split("\n")] == answer
         kinds[type(said).__name__] += 1
     assert kinds.total() > 100_000 and len(kinds) == 16
 

@@ -82,9 +82,9 @@ def test_counts_of_a_program() -> None:
     with started(SUM) as guest:
         counts, _ = count(guest)
     assert sum(place.times for place in counts.places.values()) == 250
-    assert counts.places[0x11240] == Place("vle32.v v10, (x11)", times=7, ticks=100, active=100, masked=0, tail=12)
-    assert counts.places[0x11248] == Place("vadd.vv v8, v8, v10", times=7, ticks=7, active=100, masked=0, tail=12)
-    assert counts.places[0x111E0] == Place("vs2r.v v16, (x11)", times=6, ticks=384, active=384, masked=0, tail=0)
+    assert counts.places[0x11240] == Place("vle32.v v10, (x11)", times=7, ticks=100, elements=(100, 0, 12))
+    assert counts.places[0x11248] == Place("vadd.vv v8, v8, v10", times=7, ticks=7, elements=(100, 0, 12))
+    assert counts.places[0x111E0] == Place("vs2r.v v16, (x11)", times=6, ticks=384, elements=(384, 0, 0))
     assert counts.places[0x1124C] == Place("sub x10, x10, x12", times=7, ticks=7)
     assert counts.ticks == 250 + 93 + 378
     assert counts.lengths["e32,m2,ta,ma", 4] == counts.lengths["e32,m2,tu,ma", 4] == 1

@@ -15,7 +15,7 @@ from ..guest.guest import Guest
 from ..guest.symbols import Symbols
 from ..instructions.accesses import PAGE_BYTES
 from ..instructions.reasons import describe_stop
-from ..lessons.script import read_source, refused_statement
+from ..lessons.script import read_source, send
 from ..machine.answers import (
     Addresses,
     Answer,
@@ -71,13 +71,10 @@ class Console:
     def source(self, path: pathlib.Path) -> None:
         """The user's machine begins anew with a source. Raises LabError and OSError, and then it is as before."""
         script = read_source(path.read_text("utf-8", "replace"), str(path))
+        commands = [line[2:] for line in script.steps[0].lines]
         with Session(find_program()) as trial:
-            for line in script.steps[0].lines:
-                answer = read(trial.do(line))
-                if isinstance(answer, Refused):
-                    raise refused_statement(script, line, answer)
-        for line in ["1 stop", "1 leave", *script.steps[0].lines]:
-            self._guest.session.do(line)
+            send(Guest(trial), commands, script)
+        self._guest.ask("stop", "leave", *commands)
         self._symbols = Symbols.of_labels(script.labels)
         self._look()
 
@@ -162,14 +159,14 @@ class Console:
         if isinstance(answer, Refused):
             self._screen.say(*refusal_in_words(line, answer), kind="refused")
         else:
-            self._screen.say(*lines if has_user else self._shown(answer))
+            self._screen.say(*lines if has_user else self._shown(answer, lines))
         if isinstance(answer, Loaded):
             self._symbols = self._image_symbols
         if words[0] in ("load", "setpc"):
             self.tell_place()
 
-    def _shown(self, answer: Answer) -> Iterable[str]:
-        """An answer as the console shows it."""
+    def _shown(self, answer: Answer, lines: Sequence[str]) -> Iterable[str]:
+        """An answer, and its lines, as the console shows it."""
         registers = self._stepper.registers
         match answer:
             case ScalarRegisters():
@@ -185,7 +182,7 @@ class Console:
                 return [f"{self._place(word.address)}  {word.text}" for word in words]
             case Addresses(_, addresses):
                 return map(self._place, addresses)
-        return [str(answer)]
+        return [line[2:] for line in lines]
 
     def _run(self) -> None:
         """The program runs to its next stop, or until Ctrl-C."""

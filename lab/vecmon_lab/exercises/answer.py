@@ -5,11 +5,10 @@ import re
 from collections.abc import Iterator, Sequence
 from dataclasses import dataclass, replace
 
-from .. import LabError
-from ..assembler.commands import refusal_in_words
+from .. import LabError, mistakes_in
 from ..guest.guest import IMAGE_BYTES, QUANTUM, STACK_END, STACK_POINTER, Guest, pokes
-from ..lessons.script import Script, read_source, refused_statement
-from ..machine.answers import Refused, ScalarRegisters
+from ..lessons.script import Script, read_source, send
+from ..machine.answers import ScalarRegisters
 from ..machine.lines import check_line, words_of
 from ..machine.program import check_flags
 from ..machine.session import Session
@@ -60,7 +59,7 @@ def _script_commands(text: str) -> list[str]:
     """The commands of a script, which are those of one user. Lines that begin with # are sentences. Raises LabError."""
     lines = [(number, line) for number, line in enumerate(text.split("\n"), 1) if line and not line.startswith("#")]
     for number, line in lines:
-        try:
+        with mistakes_in(f"line {number}"):
             if not re.match("[1-8*] ", line):
                 raise LabError(
                     f"{line[:40]!r} has no user's digit and space before it; a source's name ends in .s or .S"
@@ -70,8 +69,6 @@ def _script_commands(text: str) -> list[str]:
                 raise LabError("an answer has no line of the operator's, and no enter, leave or load")
             if line[0] != lines[0][1][0]:
                 raise LabError(f"an answer has lines of one user, here of {lines[0][1][0]}")
-        except LabError as error:
-            raise LabError(f"line {number}: {error}") from error
     return [line[2:] for _, line in lines]
 
 
@@ -93,11 +90,11 @@ def attempt(program: pathlib.Path, answer: Answer, exercise: Exercise, case: Cas
         if answer.commands is None:
             guest.start("image")
         else:
-            _ask(guest, ["enter", *answer.commands], answer.source)
+            send(guest, ["enter", *answer.commands], answer.source)
         guest.ask("stop")  # where a script's last line is `go`
         guest.empty_buffer()
         output.clear()
-        _ask(guest, list(_inputs(exercise, case)))
+        send(guest, list(_inputs(exercise, case)))
         before, stop = _results(guest, case.expected, b""), guest.go(exercise.ticks)
         if stop is None or stop.kind not in ("ebreak", "exit"):
             raise LabError(guest.explain(stop) if stop else f"it hasn't ended after {exercise.ticks:,} ticks")
@@ -115,15 +112,6 @@ def _inputs(exercise: Exercise, case: Case) -> Iterator[str]:
     yield from (f"set {name} {value:x}" for name, value in registers.items())
 
 
-def _ask(guest: Guest, commands: Sequence[str], source: Script | None = None) -> None:
-    """Sends commands. Raises LabError where one is refused."""
-    for command, told in zip(commands, guest.ask(*commands)):
-        if isinstance(told, Refused):
-            if source and f"1 {command}" in source.statements:
-                raise refused_statement(source, f"1 {command}", told)
-            raise LabError(f"{command[:60]}: {refusal_in_words(f'1 {command}', told)[-1]}")
-
-
 def _results(guest: Guest, expected: Results, output: bytes) -> Results:
     """What stands in the places where something is expected."""
     x = guest.told("regs", ScalarRegisters).x
@@ -136,11 +124,9 @@ def settled(program: pathlib.Path, exercise: Exercise) -> Exercise:
     """The exercise with what its reference leaves as what is expected. Raises LabError where a case can't be given."""
     reference, cases = Answer(pathlib.Path(), [f"setpc {RETURN:x}"]), []  # it returns at once
     for case in exercise.cases:
-        try:
+        with mistakes_in(f"{exercise.title}, {case.name}"):
             if exercise.reference:
                 reference = read_answer(exercise.reference)
             _, results = attempt(program, reference, exercise, case)
-        except LabError as error:
-            raise LabError(f"{exercise.title}, {case.name}: {error}") from error
         cases.append(replace(case, expected=results) if exercise.reference else case)
     return replace(exercise, cases=cases)

@@ -8,7 +8,7 @@ from collections.abc import Mapping, Sequence
 from dataclasses import dataclass, replace
 from types import SimpleNamespace
 
-from .. import LabError
+from .. import LabError, mistakes_in
 from ..tables.table import read_table
 
 OURS = pathlib.Path(__file__).with_name("given")
@@ -79,10 +79,8 @@ def read_exercise(folder: pathlib.Path) -> Exercise:
     path = (folder if folder.exists() else OURS / folder.name) / "exercise.toml"
     if not path.is_file():
         raise LabError(f"{folder} is no exercise: there is no file {folder / 'exercise.toml'}")
-    try:
+    with mistakes_in(path, tomllib.TOMLDecodeError, UnicodeDecodeError):
         entries = tomllib.loads(path.read_text("utf-8"))
-    except (tomllib.TOMLDecodeError, UnicodeDecodeError) as error:
-        raise LabError(f"{path}: {error}") from error
     defaults = {"title": folder.name, "set_up": [], "limits": {}, "reference": "", "cases": []}
     table = _taken(str(path), entries, defaults)
     limits = _taken(f"{path}: limits", table.limits, {"ticks": TICKS, "output": OUTPUT_BYTES})
@@ -155,10 +153,9 @@ def _place(where: str, entries: object, by_reference: bool) -> Place:
             raise LabError(f"{where}: {address} is no address of a place in memory, which is below 2^48")
         case _:
             raise LabError(f"{where}: a place in memory is a table with `at`, its address, and not {entries}")
-    if not 0 < len(place.data) <= PLACE_BYTES:
-        raise LabError(
-            f"{where}: a place has 1 to {PLACE_BYTES:,} bytes, and the one at {address:#x} {len(place.data):,}"
-        )
+    size = len(place.data)
+    if not 0 < size <= PLACE_BYTES:
+        raise LabError(f"{where}: a place has 1 to {PLACE_BYTES:,} bytes, and the one at {address:#x} {size:,}")
     return place
 
 

@@ -13,7 +13,17 @@ import re
 from ..assembler.commands import refusal_in_words
 from ..guest.guest import Guest, started
 from ..instructions.accesses import LINE_BYTES
-from ..machine.answers import CONTROL, ControlRegisters, Done, Memory, Refused, ScalarRegisters, Stop, VectorRegister
+from ..machine.answers import (
+    CONTROL,
+    ControlRegisters,
+    Done,
+    Memory,
+    Refused,
+    ScalarRegisters,
+    Stop,
+    VectorRegister,
+    read,
+)
 from ..machine.lines import BadLine, is_look, words_of
 from .packets import Link
 
@@ -128,24 +138,21 @@ class Target:
             return self._do(f"vset v{number - FIRST_VECTOR} {digits}")
         if number >= FIRST_CONTROL:
             return REFUSED
-        return self._do(f"setpc {_turned(digits)}" if number == PC else f"set x{number} {_turned(digits)}")
+        value = bytes.fromhex(digits)[::-1].hex()
+        return self._do(f"setpc {value}" if number == PC else f"set x{number} {value}")
 
     def _monitor(self, line: str) -> str:
         """The answer to gdb's `monitor LINE`, for a line of the user's that only looks, or sets the policy."""
         if not is_look(f"1 {line}") and words_of(f"1 {line}")[:1] != ["policy"]:
             return "monitor takes policy and lines that look, as regs, vreg, dis and trace; gdb does the rest\n"
         try:
-            (answer,) = self._guest.ask(line)
+            lines = self._guest.session.do(f"1 {line}")
         except BadLine as error:
             return f"{error}\n"
-        return "\n".join([*refusal_in_words(f"1 {line}", answer), ""]) if isinstance(answer, Refused) else f"{answer}\n"
+        answer, rows = read(lines), [part[2:] for part in lines]
+        return "\n".join([*(refusal_in_words(f"1 {line}", answer) if isinstance(answer, Refused) else rows), ""])
 
     def _do(self, command: str) -> str:
         """What gdb is told after a command."""
         (answer,) = self._guest.ask(command)
         return "OK" if isinstance(answer, Done) or answer == THERE_ALREADY else str(answer)
-
-
-def _turned(digits: str) -> str:
-    """The digits of a number, two a byte, in the other order of bytes."""
-    return bytes.fromhex(digits)[::-1].hex()

@@ -22,7 +22,7 @@ from ..machine.answers import (
 from .guest import Guest
 
 WORDS_AT_ONCE = 16  # that a look shows
-SCALARS = [f"x{number}" for number in range(32)]
+NAMES = [*(f"x{number}" for number in range(32)), *CONTROL]  # of scalar and control registers
 ECALL = 0x73  # the word
 CONTROLLING = (OP_V, SYSTEM, LOAD_FP, STORE_FP)  # opcodes of what may write control registers
 NO_REGISTER = (0x63, 0x23, 0x0F, OP_V, LOAD_FP, STORE_FP)  # those of what writes no scalar register, but for
@@ -106,6 +106,10 @@ class Registers:
         """The same registers, which later looks don't change."""
         return Registers(self.x, self.control, bytearray(self.v))
 
+    def values(self) -> list[int]:
+        """The scalar registers and the control registers, in the order of NAMES."""
+        return [*self.x, *self.control.named().values()]
+
     def groups(self, operand: Operand) -> Iterator[tuple[int, list[int]]]:
         """The first register of each of an operand's groups, and the elements of the group."""
         for register in range(operand.registers.start, min(operand.registers.stop, 32), operand.group):
@@ -181,15 +185,10 @@ class Stepper:
 
     def _changes_since(self, before: Registers, targets: Sequence[Operand]) -> list[Change]:
         """The registers that aren't as they were, of vector registers those of some operands alone."""
-        now = self.registers
-        pairs = [
-            *zip(SCALARS, before.x, now.x),
-            *zip(CONTROL, before.control.named().values(), now.control.named().values()),
-        ]
-        changes: list[Change] = [RegisterChange(*pair) for pair in pairs if pair[1] != pair[2]]
-        for target in targets:
-            changes += _element_changes(target, before, now)
-        return changes
+        pairs = zip(NAMES, before.values(), self.registers.values())
+        changed = [RegisterChange(name, old, new) for name, old, new in pairs if old != new]
+        elements = (_element_changes(target, before, self.registers) for target in targets)
+        return [*changed, *itertools.chain(*elements)]
 
 
 def _looks(word: int, targets: Sequence[Operand]) -> list[str]:

@@ -7,7 +7,7 @@ import struct
 from collections.abc import Callable, Iterator, Sequence
 from typing import TypeVar
 
-from .. import LabError
+from .. import LabError, mistakes_in
 from ..instructions.accesses import LINE_BYTES
 from ..instructions.reasons import describe_stop
 from ..machine.answers import (
@@ -23,7 +23,6 @@ from ..machine.answers import (
     Stop,
     read,
 )
-from ..machine.lines import is_look
 from ..machine.program import check_flags, find_program
 from ..machine.session import TOGETHER, Session
 from ..tables.table import read_table
@@ -54,8 +53,7 @@ class Guest:
         answers = list[Answer]()
         for at in range(0, len(commands), TOGETHER):
             lines = [f"{self.user} {command}" for command in commands[at : at + TOGETHER]]
-            send = self.session.look_all if all(map(is_look, lines)) else self.session.do_all
-            answers += map(read, send(lines))
+            answers += map(read, self.session.do_all(lines))
         return answers
 
     def told(self, command: str, kind: type[Told]) -> Told:
@@ -202,11 +200,9 @@ def started(
             raise LabError(f"{path} has more than {IMAGE_BYTES:,} bytes")
     with Session(find_program(), {"image": path}, quantum=quantum) as session:
         guest = Guest(session, write=write)
-        try:
+        with mistakes_in(path):
             check_flags(path)
             guest.start("image", policy, arguments)
-        except LabError as error:
-            raise LabError(f"{path}: {error}") from error
         yield guest
 
 

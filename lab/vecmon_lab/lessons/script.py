@@ -1,11 +1,13 @@
 """What a lesson's file says: the lines for the monitor, and the author's sentences, which begin with `#`."""
 
 import re
-from collections.abc import Iterator
+from collections.abc import Sequence
 from dataclasses import dataclass, field
 
 from .. import LabError
+from ..assembler.commands import refusal_in_words
 from ..assembler.source import Program, SourceError, Statement, assemble, refusal
+from ..guest.guest import Guest
 from ..machine.answers import Refused
 from ..machine.lines import is_look, words_of
 
@@ -90,6 +92,15 @@ def refused_statement(script: Script, line: str, answer: Refused) -> LabError:
     if answer.code == "E15":
         return _mistake(script.source, refusal(statement, int(answer.detail)))
     return LabError(f"{script.source}:{statement.line}: the machine answers {answer.code} to {statement.text}")
+
+
+def send(guest: Guest, commands: Sequence[str], source: Script | None = None) -> None:
+    """Sends commands, of a source where one is named. Raises LabError where one is refused."""
+    for command, answer in zip(commands, guest.ask(*commands)):
+        if isinstance(answer, Refused):
+            if source and f"1 {command}" in source.statements:
+                raise refused_statement(source, f"1 {command}", answer)
+            raise LabError(f"{command[:60]}: {refusal_in_words(f'1 {command}', answer)[-1]}")
 
 
 def _mistake(name: str, error: SourceError) -> LabError:

@@ -2,7 +2,7 @@
 
 No other module knows a column. A user's answer is one line, but for an accepted `regs` (9 lines) and an accepted
 `dis ADDR N` (N lines). An operator's answer is the stop lines of the slices that it granted, and then a line that
-begins with `*`. Each answer is printed (`str`) as the machine printed it, without the digits of users.
+begins with `*`.
 """
 
 import functools
@@ -29,6 +29,7 @@ def _pattern(form: str, who: str = "[1-8*]") -> re.Pattern[str]:
 
 _STOP_LINE = _pattern("STOP", "[1-8]")
 _LINES = {command: _pattern(form) for command, form in read_table("answers")}
+_COUNTS = {"regs": 9, "* slices": 0, "* run": 0}  # of lines, where it isn't one; 0 where stops stand before it
 
 
 class OutOfStep(LabError):
@@ -52,9 +53,6 @@ class Done:
 
     word: str
 
-    def __str__(self) -> str:
-        return self.word
-
 
 @dataclass(frozen=True)
 class Loaded:
@@ -62,9 +60,6 @@ class Loaded:
 
     pc: int
     pages: int
-
-    def __str__(self) -> str:
-        return f"loaded pc={self.pc:016x} pages={self.pages}"
 
 
 @dataclass(frozen=True)
@@ -74,9 +69,6 @@ class Memory:
     address: int
     data: bytes
 
-    def __str__(self) -> str:
-        return f"peek {self.address:016x} {self.data.hex()}"
-
 
 @dataclass(frozen=True)
 class ScalarRegisters:
@@ -84,10 +76,6 @@ class ScalarRegisters:
 
     pc: int
     x: Sequence[int]
-
-    def __str__(self) -> str:
-        cells = [f"x{number} {value:016x}" for number, value in enumerate(self.x)]
-        return "\n".join([f"pc {self.pc:016x}", *(" ".join(cells[at : at + 4]) for at in range(0, 32, 4))])
 
 
 @dataclass(frozen=True)
@@ -102,9 +90,6 @@ class VectorRegister:
     def elements(self) -> list[int]:
         """The elements, element 0 first."""
         return elements_in(self.data, self.width)
-
-    def __str__(self) -> str:
-        return " ".join([f"v{self.number}", *(f"{value:0{self.width // 4}x}" for value in self.elements)])
 
 
 @dataclass(frozen=True)
@@ -142,10 +127,6 @@ class ControlRegisters(VectorView):
         """The registers by name, in the order of the line."""
         return {name: getattr(self, name) for name in CONTROL}
 
-    def __str__(self) -> str:
-        words = (f"{name}={value:{'016x' if name == 'vtype' else 'd'}}" for name, value in self.named().items())
-        return " ".join(words)
-
 
 CONTROL = ("vl", "vtype", "vstart", "vxrm", "vxsat")
 
@@ -158,18 +139,12 @@ class Word:
     word: int
     text: str = ""
 
-    def __str__(self) -> str:
-        return f"{self.address:016x} {self.word:08x}" + (f" {self.text}" if self.text else "")
-
 
 @dataclass(frozen=True)
 class Listing:
     """Words one behind another."""
 
     words: Sequence[Word]
-
-    def __str__(self) -> str:
-        return "\n".join(map(str, self.words))
 
 
 @dataclass(frozen=True)
@@ -178,9 +153,6 @@ class Addresses:
 
     name: str
     addresses: Sequence[int]
-
-    def __str__(self) -> str:
-        return " ".join([self.name, *(f"{address:016x}" for address in self.addresses)])
 
 
 @dataclass(frozen=True)
@@ -227,9 +199,6 @@ class Output:
 
     data: bytes
 
-    def __str__(self) -> str:
-        return f"out {len(self.data)} {self.data.hex()}".rstrip()
-
 
 @dataclass(frozen=True)
 class Granted:
@@ -238,9 +207,6 @@ class Granted:
     slices: int
     stops: Sequence[tuple[str, Stop]] = ()
 
-    def __str__(self) -> str:
-        return f"granted {self.slices}"
-
 
 @dataclass(frozen=True)
 class Users:
@@ -248,18 +214,12 @@ class Users:
 
     runs: dict[str, str]
 
-    def __str__(self) -> str:
-        return " ".join(["list", *(f"{digit}:{run}" for digit, run in self.runs.items())])
-
 
 @dataclass(frozen=True)
 class Switches:
     """How the vector unit was switched, by name: saves, restores, inits, and whose state it holds, or 0: owner."""
 
     counts: dict[str, int]
-
-    def __str__(self) -> str:
-        return " ".join(f"{name} {count}" for name, count in self.counts.items())
 
 
 Answer = (
@@ -361,11 +321,7 @@ def is_whole(line: str, answer: Sequence[str]) -> bool:
 def _shape(line: str) -> tuple[re.Pattern[str] | None, int]:
     """What matches a line of the answer, if it is accepted, and how many lines it has; 0 where stops stand before."""
     words = words_of(line)
-    command, count = ("* " if line[0] == "*" else "") + "".join(words[:1]), 1
-    if command in ("* slices", "* run"):
-        count = 0
-    elif words == ["regs"]:
-        count = 9
-    elif command == "dis" and len(words) == 3 and words[2].isdecimal():
-        count = max(1, int(words[2]))
-    return _LINES.get(command), count
+    command = ("* " if line[0] == "*" else "") + "".join(words[:1])
+    if command == "dis" and len(words) == 3 and words[2].isdecimal():
+        return _LINES[command], max(1, int(words[2]))
+    return _LINES.get(command), _COUNTS.get(command, 1)

@@ -5,7 +5,7 @@ import pathlib
 import shutil
 import subprocess
 
-from .. import LabError
+from .. import LabError, mistakes_in
 
 BUILT = pathlib.Path(__file__).resolve().parents[3] / "crates" / "vecmon" / "out" / "vecmon"
 HOW_TO_BUILD = (
@@ -52,10 +52,8 @@ def images_of(words: list[str]) -> dict[str, pathlib.Path]:
         if not pathlib.Path(path).is_file():
             raise LabError(f"image {name}: there is no file {path}")
         images[name] = pathlib.Path(path)
-        try:
+        with mistakes_in(f"image {name}"):
             check_flags(images[name])
-        except LabError as error:
-            raise LabError(f"image {name}: {error}") from error
     return images
 
 

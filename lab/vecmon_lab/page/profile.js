@@ -7,12 +7,8 @@ const KINDS = ["active", "masked", "tail"];
 
 /** A cell with a bar of parts, which are shares of the whole cell, each of a class. */
 function bar(kind, parts) {
-  const pieces = parts.map(([name, share]) => {
-    const piece = make("span", name);
-    piece.style.flex = `0 0 ${100 * share}%`;
-    return piece;
-  });
-  return make("td", "bar", make("div", kind, ...pieces));
+  const piece = ([name, share]) => Object.assign(make("span", name), { style: `flex: 0 0 ${100 * share}%` });
+  return make("td", "bar", make("div", kind, ...parts.map(piece)));
 }
 
 const number = (value, kind = "number") => make("td", kind, value.toLocaleString("en"));
@@ -35,8 +31,7 @@ function show(rows, id) {
   for (const row of [...rows].sort(ORDERS[id])) {
     const name = row.place.replace(/\+0x[0-9a-f]+$/, "");
     if (id === "by-address" && name !== symbol) {
-      const label = make("th", "", name || "no symbol");
-      label.colSpan = 11;
+      const label = Object.assign(make("th", "", name || "no symbol"), { colSpan: 11 });
       body.append(make("tr", "label", label));
     }
     symbol = name;

@@ -7,7 +7,7 @@ from collections.abc import Iterator, Sequence
 from contextlib import ExitStack
 
 from ..arguments import add_image
-from ..guest.changes import Registers, Stepper
+from ..guest.changes import NAMES, Registers, Stepper
 from ..guest.guest import started
 from ..guest.symbols import Symbols
 from ..instructions.accesses import REGISTER_BYTES, vector_instruction
@@ -91,8 +91,7 @@ def _differences(word: int, before: Sequence[Registers], after: Sequence[Registe
 
 def _values(word: int, before: Registers, after: Registers) -> Iterator[tuple[str, int]]:
     """The scalar and control registers by name, and the active elements that an instruction wrote or stored."""
-    yield from ((f"x{number}", value) for number, value in enumerate(after.x))
-    yield from after.control.named().items()
+    yield from zip(NAMES, after.values())
     instruction = vector_instruction(word, before.control.vtype)
     found = elements_of(word, before.control, before.v[:REGISTER_BYTES])
     if instruction is None or found is None or is_whole(word, instruction):

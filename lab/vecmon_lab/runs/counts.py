@@ -23,14 +23,15 @@ class Elements:
 
 @dataclass
 class Place:
-    """What was carried out at an address: how often, in how many ticks, and with how many elements of each kind."""
+    """What was carried out at an address: how often, in how many ticks, and with how many elements.
+
+    elements: those that were active, that were masked off, and of the tail
+    """
 
     text: str
     times: int = 0
     ticks: int = 0
-    active: int = 0
-    masked: int = 0
-    tail: int = 0
+    elements: Sequence[int] = (0, 0, 0)
 
 
 @dataclass
@@ -49,9 +50,8 @@ class Counts:
         ticks = 1
         if elements:
             self.lengths[vtype_text(control.vtype), control.vl] += 1
-            place.active += len(elements.active)
-            place.masked += elements.masked
-            place.tail += elements.tail
+            numbers = (len(elements.active), elements.masked, elements.tail)
+            place.elements = tuple(map(sum, zip(place.elements, numbers)))
             if is_access:  # a fault-only-first load has tried one element more, where it has shortened vl
                 ticks = max(1, len(elements.active) + elements.masked + (vl < control.vl))
         place.times += 1

@@ -58,8 +58,7 @@ def _rows(counts: Counts, symbols: Symbols) -> Iterator[Row]:
     """A row for each address that was carried out, in rising order."""
     for address, place in sorted(counts.places.items()):
         where: Row = [f"{address:x}", symbols.place(address), symbols.line(address), place.text]
-        numbers = (place.active, place.masked, place.tail)
-        elements: Row = [*numbers, _share(numbers)] if sum(numbers) else [""] * 4
+        elements: Row = [*place.elements, _share(place.elements)] if sum(place.elements) else [""] * 4
         yield [*where, place.times, place.ticks, *elements]
 
 
@@ -71,7 +70,7 @@ def _share(elements: Sequence[int]) -> str:
 def _summary(counts: Counts, end: str) -> Iterator[str]:
     """What was carried out in all, and how it ended."""
     places = counts.places.values()
-    elements = [sum(numbers) for numbers in zip(*((place.active, place.masked, place.tail) for place in places))]
+    elements = [sum(numbers) for numbers in zip(*(place.elements for place in places))]
     yield f"{sum(place.times for place in places):,} instructions in {counts.ticks:,} ticks; {end}"
     if sum(elements):
         kinds = "{:,} elements {:,} were active, {:,} masked off and {:,} in the tail".format(sum(elements), *elements)

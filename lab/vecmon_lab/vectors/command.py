@@ -37,9 +37,8 @@ def run(arguments: argparse.Namespace) -> int:
     names = list(table) if arguments.names == ["all"] else arguments.names
     if "all" in names:
         raise LabError("all stands alone: it means each instruction")
-    for name in names:
-        if name not in table:
-            raise LabError(f"there is no instruction {name}: docs/INSTRUCTIONS.md lists them, and all means each one")
+    if odd := [name for name in names if name not in table]:
+        raise LabError(f"there is no instruction {odd[0]}: docs/INSTRUCTIONS.md lists them, and all means each one")
     if arguments.cases is not None and arguments.cases < 1:
         raise LabError("--cases takes a number from 1 up")
     for name in names:
