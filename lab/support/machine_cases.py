@@ -9,7 +9,7 @@ from dataclasses import dataclass
 
 from vecmon_lab.instructions.table import instruction_table
 from vecmon_lab.instructions.words import CONTROL_REGISTERS, LOAD_FP, OP_V, STORE_FP, SUPPORTED, SYSTEM
-from vecmon_lab.machine.answers import VectorView
+from vecmon_lab.machine.answers import ControlRegisters
 
 CODE = 0x10000
 SET_TYPE, SET_VSTART = 0x80A5F057, 0x00861073  # vsetvl x0, x11, x10; csrrw x0, vstart, x12
@@ -90,13 +90,13 @@ def _lines(case: Case) -> Iterator[str]:
     yield "1 step 1"
 
 
-def view_of(answer: str) -> VectorView:
+def view_of(answer: str) -> ControlRegisters:
     """The view in an answer to `vcsr`, with or without the user's digit."""
     values = dict(word.split("=") for word in answer.split() if "=" in word)
-    return VectorView(int(values["vtype"], 16), int(values["vstart"]))
+    return ControlRegisters(vtype=int(values["vtype"], 16), vstart=int(values["vstart"]))
 
 
-def machine_says(program: pathlib.Path, cases: list[Case]) -> list[tuple[VectorView, str]]:
+def machine_says(program: pathlib.Path, cases: list[Case]) -> list[tuple[ControlRegisters, str]]:
     """The state in which the machine carries out each case's word, and its answer to that step, in one process.
 
     Programs may not write the page of the code, so that no store changes it.

@@ -15,6 +15,7 @@ from vecmon_lab.machine.answers import (
     Users,
     VectorRegister,
     Word,
+    elements_in,
 )
 
 
@@ -30,10 +31,10 @@ def printed(answer: Answer) -> str:
         case ScalarRegisters(pc, x):
             cells = [f"x{number} {value:016x}" for number, value in enumerate(x)]
             return "\n".join([f"pc {pc:016x}", *(" ".join(cells[at : at + 4]) for at in range(0, 32, 4))])
-        case VectorRegister(number, width):
-            return " ".join([f"v{number}", *(f"{value:0{width // 4}x}" for value in answer.elements)])
+        case VectorRegister(number, width, data):
+            return " ".join([f"v{number}", *(f"{value:0{width // 4}x}" for value in elements_in(data, width))])
         case ControlRegisters():
-            named = answer.named() | {"vtype": f"{answer.vtype:016x}"}
+            named = vars(answer) | {"vtype": f"{answer.vtype:016x}"}
             return " ".join(f"{name}={value}" for name, value in named.items())
         case Word(address, word, text):
             return f"{address:016x} {word:08x} {text}".rstrip()

@@ -12,14 +12,15 @@ from support.machine_cases import machine_says, random_case, view_of
 from support.places import DOCS
 from vecmon_lab.instructions.reasons import describe_stop, illegal_reasons
 from vecmon_lab.instructions.words import CONTROL_REGISTERS
-from vecmon_lab.machine.answers import Position, Stop, VectorView, read
+from vecmon_lab.machine.answers import ControlRegisters, Position, Stop, read
 
-VILL = VectorView(1 << 63, 0)
+VILL = ControlRegisters()
 
 
-def view(sew: int, lmul: str, vstart: int = 0) -> VectorView:
+def view(sew: int, lmul: str, vstart: int = 0) -> ControlRegisters:
     """The state with a vector type, by its element width and its group multiplier as assembler text has it."""
-    return VectorView(
+    return ControlRegisters(
+        0,
         (8, 16, 32, 64).index(sew) << 3 | {"m1": 0, "m2": 1, "m4": 2, "m8": 3, "mf8": 5, "mf4": 6, "mf2": 7}[lmul],
         vstart,
     )
@@ -50,7 +51,7 @@ BOTH_END = "they may overlap only where both end with the same register."
 NO_TYPE = "The vector type is vill: no vset instruction has set one that is supported."
 V0_READ = "It reads a mask from v0, so v0 can't be its destination."
 
-REASONS: list[tuple[str, VectorView, list[str]]] = [
+REASONS: list[tuple[str, ControlRegisters, list[str]]] = [
     # sections 3.4.4 and 3.7: vill, vstart
     ("vadd.vv v1, v2, v3", VILL, [NO_TYPE]),
     ("vle8.v v8, (x10)", VILL, [NO_TYPE]),
@@ -60,7 +61,7 @@ REASONS: list[tuple[str, VectorView, list[str]]] = [
     ("vs8r.v v8, (x10)", VILL, []),
     ("vsetvli x5, x10, 1024", VILL, []),
     ("vredsum.vs v1, v2, v3", view(32, "m1", 3), ["vstart is 3, and vredsum has to begin with element 0."]),
-    ("vcpop.m x5, v2", VectorView(1 << 63, 1), [NO_TYPE, "vstart is 1, and vcpop has to begin with element 0."]),
+    ("vcpop.m x5, v2", ControlRegisters(vstart=1), [NO_TYPE, "vstart is 1, and vcpop has to begin with element 0."]),
     ("vmsbf.m v1, v2", view(8, "m1", 7), ["vstart is 7, and vmsbf has to begin with element 0."]),
     ("vcompress.vm v1, v2, v3", view(8, "m1", 7), ["vstart is 7, and vcompress has to begin with element 0."]),
     ("vadd.vv v1, v2, v3", view(8, "m1", 7), []),
@@ -374,5 +375,5 @@ def test_every_stop_line_of_the_manuals_has_a_sentence() -> None:
 
 
 def test_a_view_is_read_from_vcsr() -> None:
-    assert view_of("1 vl=3 vtype=00000000000000c8 vstart=2 vxrm=0 vxsat=0") == VectorView(0xC8, 2)
+    assert view_of("1 vl=3 vtype=00000000000000c8 vstart=2 vxrm=0 vxsat=0") == ControlRegisters(0, 0xC8, 2)
     assert view_of("vl=0 vtype=8000000000000000 vstart=0 vxrm=0 vxsat=0") == VILL

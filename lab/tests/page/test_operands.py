@@ -10,7 +10,7 @@ import pytest
 from support.machine_cases import encodings, with_operands
 from vecmon_lab.instructions.reasons import illegal_reasons
 from vecmon_lab.instructions.words import SUPPORTED, decode
-from vecmon_lab.machine.answers import VectorView
+from vecmon_lab.machine.answers import ControlRegisters
 from vecmon_lab.machine.session import Session
 from vecmon_lab.page.modules import join_modules
 from vecmon_lab.page.operands import ShownOperand as Shown
@@ -63,7 +63,7 @@ def test_operands_are_those_of_the_words(browser: "Chrome", session: Session) ->
     words = [with_operands(dict(encodings())[name], draws.getrandbits(32)) for name in names for _ in range(12)]
     cases = []
     for word, text in zip(words, texts_of(session, words), strict=True):
-        view, operands = VectorView(draws.choice(SUPPORTED), 0), shown_operands(word)
+        view, operands = ControlRegisters(vtype=draws.choice(SUPPORTED)), shown_operands(word)
         named = [int(number) for number in re.findall(r"[ ,]v(\d+)", text)]
         assert (text, sorted(operand.register for operand in operands)) == (text, sorted(named))
         if not illegal_reasons(word, view):
@@ -91,7 +91,7 @@ def texts_of(session: Session, words: Sequence[int]) -> Iterator[str]:
         yield from (line[28:] for line in session.look(f"1 dis 0 {len(some)}"))
 
 
-def covered(word: int, view: VectorView) -> dict[int, set[tuple[bool, int]]]:
+def covered(word: int, view: ControlRegisters) -> dict[int, set[tuple[bool, int]]]:
     """The registers of a word's operands: whether they are written, and the width of their elements, 1 for a mask."""
     instruction = decode(word, view.sew, view.lmul)
     assert instruction

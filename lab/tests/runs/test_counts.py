@@ -46,7 +46,7 @@ def test_elements(
 ) -> None:
     """Bits 1, 2, 4 and 15 of v0 are set."""
     word = _word(session, text)
-    control = ControlRegisters(TYPES[vtype], vstart, vl, vxrm=0, vxsat=0)
+    control = ControlRegisters(vl, TYPES[vtype], vstart)
     elements = elements_of(word, control, bytes([0x16, 0x80]) + bytes(30))
     assert elements is not None
     assert (list(elements.active), elements.masked, elements.tail) == (active, masked, tail)

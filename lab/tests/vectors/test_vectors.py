@@ -11,12 +11,12 @@ import pytest
 
 from support.places import DATA
 from vecmon_lab.instructions.table import instruction_table
+from vecmon_lab.machine.answers import VILL, ControlRegisters
 from vecmon_lab.machine.session import Session
 from vecmon_lab.vectors import on_qemu
 from vecmon_lab.vectors.cases import Case, draw_case, plan
 from vecmon_lab.vectors.command import carry_out, golden_results
 
-VILL = 1 << 63
 E8, E16 = 0xC0, 0xC8  # with LMUL 1, ta, ma
 
 
@@ -28,44 +28,50 @@ def changes(session: Session, name: str, case: Case) -> dict[str, Any]:
 
 def test_elements_wrap_and_the_tail_stays(session: Session) -> None:
     register = bytes([0, 1, 128, 255]) + bytes(28)
-    case = Case(0x021FB157, E8, vl=3, v={1: register, 2: b"\x55" * 32})  # vadd.vi v2, v1, -1
+    case = Case(0x021FB157, ControlRegisters(3, E8), v={1: register, 2: b"\x55" * 32})  # vadd.vi v2, v1, -1
     after = {"pc": "10804", "v": {2: "ff007f" + "55" * 29}}
     assert changes(session, "vadd.vi", case) == {"end": "ran", "after": after}
 
 
 def test_a_store_changes_bytes(session: Session) -> None:
-    case = Case(0x00532223, VILL, x={5: 0x1122334455667788, 6: 0x20000}, memory={0x20004: b"\x88\0\0\0"})
+    case = Case(0x00532223, ControlRegisters(), x={5: 0x1122334455667788, 6: 0x20000}, memory={0x20004: b"\x88\0\0\0"})
     after = {"pc": "10804", "memory": {"20005": "776655"}}  # sw x5, 4(x6), whose first byte was there already
     assert changes(session, "sw", case) == {"end": "ran", "after": after}
 
 
 def test_a_load_faults_where_no_page_is(session: Session) -> None:
-    case = Case(0xFFC32283, VILL, x={6: 0x22002})  # lw x5, -4(x6)
+    case = Case(0xFFC32283, ControlRegisters(), x={6: 0x22002})  # lw x5, -4(x6)
     assert changes(session, "lw", case) == {"end": "fault", "cause": 5, "value": "21ffe", "after": {}}
 
 
 def test_a_store_faults_at_its_second_element(session: Session) -> None:
-    case = Case(0x020350A7, E16, vl=2, x={6: 0x20FFE}, v={1: b"\x01\x02\x03\x04" + bytes(28)})  # vse16.v v1, (x6)
+    case = Case(
+        0x020350A7, ControlRegisters(2, E16), x={6: 0x20FFE}, v={1: b"\x01\x02\x03\x04" + bytes(28)}
+    )  # vse16.v v1, (x6)
     after = {"vstart": 1, "memory": {"20ffe": "0102"}}
     assert changes(session, "vse16.v", case) == {"end": "fault", "cause": 7, "value": "21000", "after": after}
 
 
 def test_a_fault_only_first_load_is_shortened(session: Session) -> None:
-    case = Case(0x03030087, E8, vl=4, x={6: 0x21FFE}, memory={0x21FFE: b"ab"})  # vle8ff.v v1, (x6)
+    case = Case(0x03030087, ControlRegisters(4, E8), x={6: 0x21FFE}, memory={0x21FFE: b"ab"})  # vle8ff.v v1, (x6)
     after = {"pc": "10804", "vl": 2, "v": {1: "6162" + "00" * 30}}
     assert changes(session, "vle8ff.v", case) == {"end": "ran", "after": after}
 
 
 def test_calls_put_out_and_end(session: Session) -> None:
-    write = Case(0x73, VILL, x={17: 64, 10: 1, 11: 0x20010, 12: 3}, memory={0x20010: b"abc"})
+    write = Case(0x73, ControlRegisters(), x={17: 64, 10: 1, 11: 0x20010, 12: 3}, memory={0x20010: b"abc"})
     after = {"pc": "10804", "x": {10: "3"}, "output": "616263"}
     assert changes(session, "ecall", write) == {"end": "ran", "after": after}
-    assert changes(session, "ecall", Case(0x73, VILL, x={17: 93, 10: 260})) == {"end": "exit", "status": 4, "after": {}}
-    assert changes(session, "ebreak", Case(0x00100073, VILL)) == {"end": "ebreak", "after": {}}
+    assert changes(session, "ecall", Case(0x73, ControlRegisters(), x={17: 93, 10: 260})) == {
+        "end": "exit",
+        "status": 4,
+        "after": {},
+    }
+    assert changes(session, "ebreak", Case(0x00100073, ControlRegisters())) == {"end": "ebreak", "after": {}}
 
 
 def test_agnostic_elements_become_ones_if_that_is_asked_for(session: Session) -> None:
-    case = Case(0x021FB157, E8, vl=1, v={2: bytes(32)})  # vadd.vi v2, v1, -1
+    case = Case(0x021FB157, ControlRegisters(1, E8), v={2: bytes(32)})  # vadd.vi v2, v1, -1
     golden = carry_out(session, instruction_table()["vadd.vi"], case, "ones")
     assert golden["after"] == {"pc": "10804", "v": {2: "ff" * 32}}
 
@@ -75,10 +81,11 @@ def test_results_are_those_that_qemu_gave(session: Session) -> None:
     lines = (DATA / "golden_vectors.jsonl").read_text("ascii").splitlines()
     for line in lines:
         recorded = json.loads(line)
-        numbers = {name: recorded[name] for name in ("vl", "vstart", "vxrm", "vxsat")}
+        numbers = [recorded[name] for name in ("vstart", "vxrm", "vxsat")]
+        control = ControlRegisters(recorded["vl"], int(recorded["vtype"], 16), *numbers)
         x = {int(number): int(value, 16) for number, value in recorded["x"].items()}
         v = {int(number): bytes.fromhex(value) for number, value in recorded["v"].items()}
-        case = Case(int(recorded["word"], 16), int(recorded["vtype"], 16), **numbers, x=x, v=v)
+        case = Case(int(recorded["word"], 16), control, x, v)
         golden = json.loads(json.dumps(carry_out(session, instruction_table()[recorded["name"]], case)))
         assert golden == recorded
     assert len(lines) == 28

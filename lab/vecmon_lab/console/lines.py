@@ -28,7 +28,6 @@ from ..machine.answers import (
     ScalarRegisters,
     Stop,
     VectorRegister,
-    VectorView,
     read,
 )
 from ..machine.lines import is_look
@@ -130,7 +129,7 @@ class Console:
         form = COMMANDS[name].form.split() if name in COMMANDS else [name]
         words = line.split(None, max(len(form) - 1, 1))
         vtype, (_, pc) = self._stepper.registers.control.vtype, self._state()
-        number, sew = min(8, (PAGE_BYTES - pc % PAGE_BYTES) // 4), VectorView(vtype & 0x3F, 0).sew
+        number, sew = min(8, (PAGE_BYTES - pc % PAGE_BYTES) // 4), ControlRegisters(vtype=vtype & 0x3F).sew
         words += LEFT_OUT.get(name, "").format(pc=pc, number=number, sew=sew).split()[len(words) - 1 :]
         return words[:1] + [self._named(word, kind) for word, kind in zip(words[1:], [*form[1:], ""])]
 

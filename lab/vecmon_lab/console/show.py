@@ -6,7 +6,7 @@ from fractions import Fraction
 
 from ..guest.changes import Change, RegisterChange, vtype_text
 from ..instructions.accesses import ROW_BYTES
-from ..machine.answers import ControlRegisters, Memory, ScalarRegisters, VectorRegister
+from ..machine.answers import ControlRegisters, Memory, ScalarRegisters, VectorRegister, elements_in
 from ..tables.table import read_table
 
 COLOURS = {"tail": "2", "masked": "35", "changed": "33", "refused": "31"}
@@ -43,7 +43,8 @@ class Screen:
 
     def element_rows(self, register: VectorRegister, control: ControlRegisters, mask: int | None) -> Iterator[str]:
         """The elements of a register, some to a row; those of the tail, and those that a mask has off, have colours."""
-        name, values = f"v{register.number}", [f"{value:0{register.width // 4}x}" for value in register.elements]
+        name, elements = f"v{register.number}", elements_in(register.data, register.width)
+        values = [f"{value:0{register.width // 4}x}" for value in elements]
         group = max(1, int(Fraction(register.width, control.sew) * control.lmul))
         first = register.number % group * len(values)
         texts = [self.paint(value, _lie(first + place, control, mask)) for place, value in enumerate(values)]

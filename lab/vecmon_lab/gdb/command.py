@@ -129,8 +129,8 @@ class Target:
         if number >= FIRST_VECTOR:
             (told,) = self._guest.ask(f"vreg v{number - FIRST_VECTOR} 8")
             return told.data.hex() if isinstance(told, VectorRegister) else REFUSED
-        values = self._guest.told("vcsr", ControlRegisters).named()
-        return values[CONTROL[number - FIRST_CONTROL]].to_bytes(8, "little").hex()
+        values: list[int] = [*vars(self._guest.told("vcsr", ControlRegisters)).values()]
+        return values[number - FIRST_CONTROL].to_bytes(8, "little").hex()
 
     def _write_register(self, number: int, digits: str) -> str:
         """Writes a register; the control registers can't be written from outside."""

@@ -16,7 +16,6 @@ from ..machine.answers import (
     ScalarRegisters,
     Stop,
     VectorRegister,
-    VectorView,
     elements_in,
 )
 from .guest import Guest
@@ -108,7 +107,7 @@ class Registers:
 
     def values(self) -> list[int]:
         """The scalar registers and the control registers, in the order of NAMES."""
-        return [*self.x, *self.control.named().values()]
+        return [*self.x, *vars(self.control).values()]
 
     def groups(self, operand: Operand) -> Iterator[tuple[int, list[int]]]:
         """The first register of each of an operand's groups, and the elements of the group."""
@@ -125,7 +124,7 @@ class Stepper:
 
     def __init__(self, guest: Guest, is_brief: bool = False) -> None:
         self.guest, self._is_brief = guest, is_brief
-        self.registers = Registers([0] * 32, ControlRegisters(1 << 63, 0, 0, 0, 0), bytearray(32 * REGISTER_BYTES))
+        self.registers = Registers([0] * 32, ControlRegisters(), bytearray(32 * REGISTER_BYTES))
         self.look()
 
     def look(self) -> list[Change]:
@@ -134,7 +133,7 @@ class Stepper:
         before = self.registers.copy()
         looks = ["regs", "vcsr", *(f"vreg v{number} 64" for number in range(32))]
         self._take_in(self.guest.ask(*looks))
-        sew = VectorView(self.registers.control.vtype & 0x3F, 0).sew
+        sew = ControlRegisters(vtype=self.registers.control.vtype & 0x3F).sew
         singles = [Operand("destination", sew, Fraction(1), False, 1, range(32))]
         return self._changes_since(before, singles)
 
@@ -229,6 +228,6 @@ def vtype_text(vtype: int) -> str:
     """A vector type as assembler text has it, without spaces: `e32,m2,ta,ma`; or `vill`."""
     if vtype >> 63:
         return "vill"
-    view = VectorView(vtype, 0)
+    view = ControlRegisters(vtype=vtype)
     group = f"m{view.lmul}" if view.lmul >= 1 else f"mf{view.lmul.denominator}"
     return f"e{view.sew},{group},{'ta' if vtype >> 6 & 1 else 'tu'},{'ma' if vtype >> 7 & 1 else 'mu'}"

@@ -3,7 +3,7 @@
 import functools
 from collections.abc import Iterable, Iterator, Sequence
 
-from ..machine.answers import ControlRegisters, VectorView
+from ..machine.answers import ControlRegisters
 from .words import STORE, STORE_FP, NoInstruction, Operand, VectorInstruction, decode
 
 UNIT_STRIDE, STRIDED = 0, 2  # mop; 1 and 3 are indexed
@@ -17,7 +17,7 @@ Span = tuple[int, int]
 @functools.lru_cache(maxsize=4096)
 def vector_instruction(word: int, vtype: int) -> VectorInstruction | None:
     """The vector instruction that a word is under a vector type; None where it is another one, or none."""
-    view = VectorView(vtype, 0)
+    view = ControlRegisters(vtype=vtype)
     try:
         return decode(word, view.sew, view.lmul)
     except NoInstruction:

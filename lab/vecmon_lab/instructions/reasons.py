@@ -6,14 +6,14 @@ An instruction is illegal where the RISC-V "V" manual, version 1.0, reserves it,
 from collections.abc import Iterator, Sequence
 from fractions import Fraction
 
-from ..machine.answers import Place, VectorView
+from ..machine.answers import ControlRegisters, Place
 from ..tables.table import read_table
 from .words import VECTOR_ACCESSES, NoInstruction, Operand, Trait, VectorInstruction, decode, listed
 
 ELEN = 64
 
 
-def illegal_reasons(word: int, view: VectorView) -> list[str]:
+def illegal_reasons(word: int, view: ControlRegisters) -> list[str]:
     """Why a word is illegal in this state, a sentence each, the most telling first; empty where it is legal."""
     try:
         instruction = decode(word, view.sew, view.lmul)
@@ -22,7 +22,7 @@ def illegal_reasons(word: int, view: VectorView) -> list[str]:
     return [] if instruction is None else list(dict.fromkeys(_vector_reasons(instruction, view)))
 
 
-def _vector_reasons(instruction: VectorInstruction, view: VectorView) -> Iterator[str]:
+def _vector_reasons(instruction: VectorInstruction, view: ControlRegisters) -> Iterator[str]:
     if view.vtype >> 63 and Trait.UNTYPED not in instruction.traits:
         yield "The vector type is vill: no vset instruction has set one that is supported."
     else:
@@ -33,7 +33,7 @@ def _vector_reasons(instruction: VectorInstruction, view: VectorView) -> Iterato
         yield f"vstart is {view.vstart}, and {instruction.name} has to begin with element 0."
 
 
-def _operand_reasons(instruction: VectorInstruction, view: VectorView) -> Iterator[str]:
+def _operand_reasons(instruction: VectorInstruction, view: ControlRegisters) -> Iterator[str]:
     for operand in instruction.operands:
         yield from _size_reasons(operand, view)
     sized = [operand for operand in instruction.operands if not any(_size_reasons(operand, view))]
@@ -48,7 +48,7 @@ def _operand_reasons(instruction: VectorInstruction, view: VectorView) -> Iterat
             yield from _overlap_reasons(instruction, target, source)
 
 
-def _size_reasons(operand: Operand, view: VectorView) -> Iterator[str]:
+def _size_reasons(operand: Operand, view: ControlRegisters) -> Iterator[str]:
     """Widths and multipliers out of their range."""
     would, part = f"The {operand.noun} would have", Fraction(operand.eew, view.sew)
     if operand.eew > ELEN:
@@ -62,7 +62,7 @@ def _size_reasons(operand: Operand, view: VectorView) -> Iterator[str]:
         yield f"{fields} fields of {operand.group} registers each are {count}, and 8 is the most."
 
 
-def _place_reasons(operands: Sequence[Operand], view: VectorView) -> Iterator[str]:
+def _place_reasons(operands: Sequence[Operand], view: ControlRegisters) -> Iterator[str]:
     """Groups that begin at a register where none may, by what says so; and those that end past the last register."""
     misplaced: dict[tuple[str, int], dict[str, None]] = {}
     for operand in operands:
@@ -110,14 +110,14 @@ def _bits(operand: Operand) -> str:
     return "1 bit" if operand.eew == 1 else f"{operand.eew} bits"
 
 
-def _emul(operand: Operand, view: VectorView) -> str:
+def _emul(operand: Operand, view: ControlRegisters) -> str:
     return f"EMUL {operand.emul} (EEW {operand.eew} / SEW {view.sew} x LMUL {view.lmul})"
 
 
 _SENTENCES = dict(read_table("stops"))
 
 
-def describe_stop(where: Place, word: int | None = None, view: VectorView | None = None, text: str = "") -> str:
+def describe_stop(where: Place, word: int | None = None, view: ControlRegisters | None = None, text: str = "") -> str:
     """A stop, or an answer to `step`, `go`, `stop` or `state`, in sentences.
 
     word, text: the word at the program counter, and its canonical text

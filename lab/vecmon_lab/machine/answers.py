@@ -29,6 +29,7 @@ def _pattern(form: str, who: str = "[1-8*]") -> re.Pattern[str]:
 
 _STOP_LINE = _pattern("STOP", "[1-8]")
 _LINES = {command: _pattern(form) for command, form in read_table("answers")}
+VILL = 1 << 63  # vtype where no type is set
 _COUNTS = {"regs": 9, "* slices": 0, "* run": 0}  # of lines, where it isn't one; 0 where stops stand before it
 
 
@@ -86,18 +87,16 @@ class VectorRegister:
     width: int
     data: bytes
 
-    @property
-    def elements(self) -> list[int]:
-        """The elements, element 0 first."""
-        return elements_in(self.data, self.width)
-
 
 @dataclass(frozen=True)
-class VectorView:
-    """What legality reads of a vector state: vtype, as `vcsr` shows it, and vstart. vl has no part in it."""
+class ControlRegisters:
+    """The vector control registers, in the order of the line. Legality reads vtype and vstart alone."""
 
-    vtype: int
-    vstart: int
+    vl: int = 0
+    vtype: int = VILL
+    vstart: int = 0
+    vxrm: int = 0
+    vxsat: int = 0
 
     @property
     def sew(self) -> int:
@@ -115,20 +114,7 @@ class VectorView:
         return 0 if self.vtype >> 63 else int(256 * self.lmul / self.sew)
 
 
-@dataclass(frozen=True)
-class ControlRegisters(VectorView):
-    """The vector control registers."""
-
-    vl: int
-    vxrm: int
-    vxsat: int
-
-    def named(self) -> dict[str, int]:
-        """The registers by name, in the order of the line."""
-        return {name: getattr(self, name) for name in CONTROL}
-
-
-CONTROL = ("vl", "vtype", "vstart", "vxrm", "vxsat")
+CONTROL = tuple(vars(ControlRegisters()))
 
 
 @dataclass(frozen=True)
@@ -269,7 +255,7 @@ def read(answer: Sequence[str]) -> Answer:
         return ScalarRegisters(int(pc[5:], 16), [int(value, 16) for value in values])
     if first[:3] == "vl=":
         vl, vtype, vstart, vxrm, vxsat = (word.partition("=")[2] for word in words)
-        return ControlRegisters(int(vtype, 16), int(vstart), int(vl), int(vxrm), int(vxsat))
+        return ControlRegisters(int(vl), int(vtype, 16), int(vstart), int(vxrm), int(vxsat))
     if first[:1] == "v":
         width = 256 // len(others)
         data = b"".join(int(element, 16).to_bytes(width // 8, "little") for element in others)

@@ -24,7 +24,7 @@ from ..instructions.words import (
     Operand,
     decode,
 )
-from ..machine.answers import VectorView
+from ..machine.answers import VILL, ControlRegisters
 
 CODE, PC = 0x10000, 0x10800
 """The page of the code, and where the instruction stands."""
@@ -32,7 +32,6 @@ CODE, PC = 0x10000, 0x10800
 DATA, READ_ONLY, DATA_END = 0x20000, 0x21000, 0x22000
 """Where two pages of data begin and end, of which the second can only be read."""
 
-VILL = 1 << 63
 _LOADS, _STORES = (LOAD, LOAD_FP), (STORE, STORE_FP)
 _PLACES = {"rd": 7, "vd": 7, "rs1": 15, "vs1": 15, "rs2": 20, "vs2": 20, "csr": 20, "vtypei": 20}  # lowest bits
 _MASKABLE = "[, v0.t]"
@@ -56,11 +55,7 @@ class Case:
     """A word and the state before it. Registers and bytes that aren't named are 0; memory is runs of bytes by address."""
 
     word: int
-    vtype: int
-    vl: int = 0
-    vstart: int = 0
-    vxrm: int = 0
-    vxsat: int = 0
+    control: ControlRegisters
     x: dict[int, int] = field(default_factory=dict)
     v: dict[int, bytes] = field(default_factory=dict)
     memory: dict[int, bytes] = field(default_factory=dict)
@@ -134,7 +129,8 @@ def draw_case(row: Row, number: int, seed: int) -> Case:
     policies = 0 if kind.vtype == VILL else draws.randrange(4) << 6
     most = view.vlmax
     vl = draws.choice((most, most, min(most, 1), draws.randrange(most + 1), draws.randrange(most + 1)))
-    case = Case(word, kind.vtype | policies, vl, view.vstart, draws.randrange(4), draws.randrange(2))
+    vtype, vxrm, vxsat = kind.vtype | policies, draws.randrange(4), draws.randrange(2)
+    case = Case(word, ControlRegisters(vl, vtype, view.vstart, vxrm, vxsat))
     operands = _operands(row, word, view)
     _fill_scalars(case, row, draws)
     _fill_vectors(case, operands, draws)
@@ -153,22 +149,24 @@ def _is_strided(row: Row) -> bool:
     return row.opcode in VECTOR_ACCESSES and "rs2" in row.fields()
 
 
-def _operands(row: Row, word: int, view: VectorView) -> list[Operand]:
+def _operands(row: Row, word: int, view: ControlRegisters) -> list[Operand]:
     """The vector register operands, and the mask."""
     instruction = decode(word, view.sew, view.lmul) if _is_vector(row) else None
     mask = [Operand("mask", 1, Fraction(1), True, 1, range(1))] if instruction and instruction.is_masked else []
     return instruction.operands + mask if instruction else []
 
 
-def _draw_word(row: Row, kind: Kind, draws: _Draws, steps: Sequence[int] = (1, 2, 4, 8)) -> tuple[int, VectorView]:
+def _draw_word(
+    row: Row, kind: Kind, draws: _Draws, steps: Sequence[int] = (1, 2, 4, 8)
+) -> tuple[int, ControlRegisters]:
     """A word of the row and a state that are legal together, or illegal; any where some dozens of draws find none.
 
     steps: of one of these numbers the numbers of vector registers are multiples
     """
     for _ in range(_DRAWS):
-        vlmax = VectorView(kind.vtype, 0).vlmax
+        vlmax = ControlRegisters(vtype=kind.vtype).vlmax
         starts = (0, 0, 0, 0, 0, 0, draws.randrange(4), draws.randrange(vlmax + 1), draws.randrange(256))
-        view = VectorView(kind.vtype, draws.choice(starts))
+        view = ControlRegisters(vtype=kind.vtype, vstart=draws.choice(starts))
         word, step = draws.getrandbits(32), draws.choice(steps)
         if _MASKABLE in row.operands:
             word = word & ~(1 << 25) | (not kind.is_masked) << 25
@@ -213,7 +211,7 @@ def _fill_vectors(case: Case, operands: list[Operand], draws: _Draws) -> None:
         case.v = {number: draws.randbytes(32) for number in (0, first.start - 1, first.stop) if 0 <= number < 32}
     for operand in operands:
         is_offset = operand.noun == "index" and case.word & 0x7F in VECTOR_ACCESSES
-        limit = _REACH if is_offset else VectorView(case.vtype, 0).vlmax + 2
+        limit = _REACH if is_offset else case.control.vlmax + 2
         case.v |= {n: draws.elements(operand.eew, limit, is_offset) for n in operand.registers if n < 32}
 
 
@@ -222,9 +220,9 @@ def _fill_memory(case: Case, row: Row, operands: list[Operand], is_astray: bool,
     base = 11 if row.name == "ecall" else case.register("rs1")
     distance, before, after = 0, 0, 256
     if _is_strided(row):
-        stride = draws.stride(case.vl)
+        stride = draws.stride(case.control.vl)
         case.x[case.register("rs2")] = stride % (1 << 64)
-        before, after = max(0, -stride * case.vl), max(0, stride * case.vl) + 64
+        before, after = max(0, -stride * case.control.vl), max(0, stride * case.control.vl) + 64
     elif any(operand.noun == "index" for operand in operands):
         after = _REACH + 64
     elif "imm" in row.fields():

@@ -88,7 +88,8 @@ def carry_out(session: Session, row: Row, case: Case, policy: str = "keep") -> d
 
 def _set_up(case: Case, pages: dict[int, str], policy: str) -> Iterator[str]:
     """The lines that make the state before a case."""
-    control = {10: case.vl, 11: case.vtype, 12: case.vxrm, 13: case.vxsat, 14: case.vstart}
+    vl, vtype, vstart, vxrm, vxsat = vars(case.control).values()
+    control = {10: vl, 11: vtype, 12: vxrm, 13: vxsat, 14: vstart}
     yield "enter"
     yield f"policy {policy}"
     yield from (f"map {address:x} 1 {permissions}" for address, permissions in pages.items())
@@ -104,6 +105,6 @@ def _set_up(case: Case, pages: dict[int, str], policy: str) -> Iterator[str]:
 
 def _named(pc: int, registers: Registers) -> tuple[dict[str, object], dict[str, dict[int, str]]]:
     """pc and the control registers by the names that lines have; x and v by number."""
-    control: dict[str, object] = {"pc": f"{pc:x}", **registers.control.named(), "vtype": f"{registers.control.vtype:x}"}
+    control: dict[str, object] = {"pc": f"{pc:x}", **vars(registers.control), "vtype": f"{registers.control.vtype:x}"}
     x = {number: f"{value:x}" for number, value in enumerate(registers.x) if number}
     return control, {"x": x, "v": {number: registers.v[32 * number : 32 * number + 32].hex() for number in range(32)}}
