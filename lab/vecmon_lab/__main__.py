@@ -24,8 +24,7 @@ def main() -> int:
     """Carries out the command that the program's words name; its status is 2, after one line, for bad input."""
     try:
         arguments = arguments_of(sys.argv[1:])
-        status: int = arguments.run(arguments)
-        return status
+        return int(arguments.run(arguments))
     except KeyboardInterrupt:
         return 130
     except LabError as error:

@@ -43,9 +43,8 @@ class Screen:
 
     def element_rows(self, register: VectorRegister, control: ControlRegisters, mask: int | None) -> Iterator[str]:
         """The elements of a register, some to a row; those of the tail, and those that a mask has off, have colours."""
-        name, elements = f"v{register.number}", elements_in(register.data, register.width)
-        values = [f"{value:0{register.width // 4}x}" for value in elements]
-        group = max(1, int(Fraction(register.width, control.sew) * control.lmul))
+        values = [f"{value:0{register.width // 4}x}" for value in elements_in(register.data, register.width)]
+        name, group = f"v{register.number}", max(1, int(Fraction(register.width, control.sew) * control.lmul))
         first = register.number % group * len(values)
         texts = [self.paint(value, _lie(first + place, control, mask)) for place, value in enumerate(values)]
         room = 1 << (ELEMENTS_WIDTH // (register.width // 4 + 1)).bit_length() - 1

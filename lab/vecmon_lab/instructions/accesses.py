@@ -1,6 +1,7 @@
 """The vector instruction that a word is, and where a store writes, by the registers before it."""
 
 import functools
+import itertools
 from collections.abc import Iterable, Iterator, Sequence
 
 from ..machine.answers import ControlRegisters
@@ -64,13 +65,7 @@ def _vector_spans(
 
 def _joined(spans: Iterable[Span]) -> list[Span]:
     """Spans that hold these, one in each block of 256 bytes, which lies in one page."""
-    blocks: dict[int, list[int]] = {}
-    rows = {row for address, length in spans for row in _rows(address % (1 << 64), length)}
-    for row in sorted(rows):
-        blocks.setdefault(row * ROW_BYTES // LINE_BYTES, []).append(row)
-    return [(held[0] * ROW_BYTES, (held[-1] + 1 - held[0]) * ROW_BYTES) for held in blocks.values()]
-
-
-def _rows(address: int, length: int) -> range:
-    """The numbers of the rows of 16 bytes that a span touches."""
-    return range(address // ROW_BYTES, (address + length - 1) // ROW_BYTES + 1)
+    ends = ((address % (1 << 64), address % (1 << 64) + length - 1) for address, length in spans)
+    rows = {row for first, last in ends for row in range(first // ROW_BYTES, last // ROW_BYTES + 1)}
+    held = [list(each) for _, each in itertools.groupby(sorted(rows), lambda row: row * ROW_BYTES // LINE_BYTES)]
+    return [(each[0] * ROW_BYTES, (each[-1] + 1 - each[0]) * ROW_BYTES) for each in held]

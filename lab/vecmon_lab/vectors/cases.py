@@ -125,7 +125,7 @@ def draw_case(row: Row, number: int, seed: int) -> Case:
     """The case of this number of an instruction."""
     kinds, draws = plan(row, seed), _Draws(f"{seed} {row.name} {number}")
     kind = kinds[number % len(kinds)]
-    word, view = _draw_word(row, kind, draws)
+    word, view = _draw_word(row, kind, draws, (1, 2, 4, 8))
     policies = 0 if kind.vtype == VILL else draws.randrange(4) << 6
     most = view.vlmax
     vl = draws.choice((most, most, min(most, 1), draws.randrange(most + 1), draws.randrange(most + 1)))
@@ -156,9 +156,7 @@ def _operands(row: Row, word: int, view: ControlRegisters) -> list[Operand]:
     return instruction.operands + mask if instruction else []
 
 
-def _draw_word(
-    row: Row, kind: Kind, draws: _Draws, steps: Sequence[int] = (1, 2, 4, 8)
-) -> tuple[int, ControlRegisters]:
+def _draw_word(row: Row, kind: Kind, draws: _Draws, steps: Sequence[int]) -> tuple[int, ControlRegisters]:
     """A word of the row and a state that are legal together, or illegal; any where some dozens of draws find none.
 
     steps: of one of these numbers the numbers of vector registers are multiples
