@@ -10,11 +10,8 @@ const ADDRESS_DELAY = 300; // ms: a browser takes only so many new addresses in 
 
 class Lesson {
   constructor({ frames, labels }) {
-    this.frames = frames;
-    this.labels = labels;
+    Object.assign(this, { frames, labels, states: [], user: "" }); // user: chosen to be shown; else it is the line's
     whenFormsChange(() => this.show(this.place));
-    this.user = ""; // the user chosen to be shown; without one it is the line's
-    this.states = [];
     let states = {};
     for (const frame of frames) this.states.push((states = patched(states, frame.states)));
     this.entries = frames.flatMap((frame) => frame.log);
@@ -41,17 +38,12 @@ class Lesson {
     byId("place").addEventListener("input", () => this.show(Number(byId("place").value)));
     document.addEventListener("keydown", (event) => this.pressed(event));
     byId("users").hidden = this.users.length < 2;
-    ["", ...this.users].forEach((user) => byId("users").append(this.userButton(user)));
-  }
-
-  userButton(user) {
-    const button = make("button", "", user ? `user ${user}` : "the line's user");
-    button.dataset.user = user;
-    button.addEventListener("click", () => {
-      this.user = user;
-      this.show(this.place);
-    });
-    return button;
+    for (const user of ["", ...this.users]) {
+      const button = make("button", "", user ? `user ${user}` : "the line's user");
+      button.dataset.user = user;
+      button.addEventListener("click", () => ((this.user = user), this.show(this.place)));
+      byId("users").append(button);
+    }
   }
 
   pressed(event) {
