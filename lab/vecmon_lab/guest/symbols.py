@@ -89,7 +89,9 @@ class Symbols:
 
 
 def _symbols(elf: "ELFFile") -> Iterator[tuple[int, int, int, str]]:
-    """The address of each symbol, how much it tells, the end of its section or 0, and its name."""
+    """The address of each symbol, how much it tells, the end of its section or 0 outside of it, and its name."""
+    allocated = [(at, each) for at, each in enumerate(elf.iter_sections()) if each["sh_flags"] & ALLOCATED]
+    bounds = {at: (each["sh_addr"], each["sh_addr"] + each["sh_size"]) for at, each in allocated}
     for section in elf.iter_sections():
         if section["sh_type"] not in ("SHT_SYMTAB", "SHT_DYNSYM"):
             continue
@@ -98,16 +100,8 @@ def _symbols(elf: "ELFFile") -> Iterator[tuple[int, int, int, str]]:
             if kind not in NAMING or index == "SHN_UNDEF" or not symbol.name or symbol.name.startswith(MAPPING):
                 continue
             rank = 3 * (kind != "STT_NOTYPE") + (BINDINGS.index(bind) if bind in BINDINGS else 0)
-            end = _section_end(elf, index, symbol["st_value"]) if isinstance(index, int) else 0
-            yield symbol["st_value"], rank, end, symbol.name
-
-
-def _section_end(elf: "ELFFile", index: int, address: int) -> int:
-    """The end of the section of a symbol, if the symbol stands in it; else 0."""
-    section = elf.get_section(index)
-    start: int = section["sh_addr"]
-    end = start + int(section["sh_size"])
-    return end if section["sh_flags"] & ALLOCATED and start <= address < end else 0
+            start, end = bounds.get(index, (0, 0))
+            yield symbol["st_value"], rank, end if start <= symbol["st_value"] < end else 0, symbol.name
 
 
 def _source_rows(elf: "ELFFile") -> Iterator[tuple[int, str]]:
