@@ -5,8 +5,8 @@ import pathlib
 import re
 import signal
 import textwrap
+import threading
 from collections.abc import Iterable, Sequence
-from types import FrameType
 
 from .. import LabError
 from ..assembler.commands import COMMANDS, help_on, refusal_in_words
@@ -53,16 +53,16 @@ class Console:
         self._guest, self._screen = guest, screen
         self._symbols = self._image_symbols = symbols
         self._stepper = Stepper(guest)
-        self._is_interrupted = False
+        self._interrupt = threading.Event()  # set by Ctrl-C
         self._has_mask = False  # whether v0 is the mask of the instruction that was stepped last
 
     def do(self, entry: str) -> None:
         """Carries out the lines of an entry, up to the one during which Ctrl-C comes; that stops the program alone."""
-        before = signal.signal(signal.SIGINT, self._interrupt)
-        self._is_interrupted = False
+        before = signal.signal(signal.SIGINT, lambda *_: self._interrupt.set())
+        self._interrupt.clear()
         try:
             for line in filter(None, map(str.strip, entry.split("\n"))):
-                if self.is_open and not self._is_interrupted and not line.startswith("#"):
+                if self.is_open and not self._interrupt.is_set() and not line.startswith("#"):
                     self._carry_out(line)
         finally:
             signal.signal(signal.SIGINT, before)
@@ -95,9 +95,6 @@ class Console:
         if run == "stopped":
             line = self._symbols.line(pc)
             self._screen.say(f"=> {self._place(pc)}  {self._stepper.fetch(pc)[1]}" + (f"  ({line})" if line else ""))
-
-    def _interrupt(self, number: int, frame: FrameType | None) -> None:
-        self._is_interrupted = True
 
     def _carry_out(self, line: str) -> None:
         """Carries out a line; what is wrong with it is told."""
@@ -188,7 +185,7 @@ class Console:
         if self._state()[0] == "absent":
             return self._monitor(["go"])
         self._guest.ask("stop")  # it may have gone on in slices of the operator's
-        stop = self._guest.go(None, lambda: self._is_interrupted)
+        stop = self._guest.go(None, self._interrupt.is_set)
         self._has_mask = False
         self._screen.say(self._guest.explain(stop) if stop else describe_stop(Position("stopped", self._guest.pc)))
         self._screen.say(*_change_rows(self._look()), kind="changed")
@@ -199,8 +196,8 @@ class Console:
         breaks = self._guest.told("breaks", Addresses).addresses
         for count in range(number):
             pc = self._guest.pc
-            if self._is_interrupted or count and pc in breaks:
-                where = Position("stopped", pc) if self._is_interrupted else Stop("break", pc)
+            if self._interrupt.is_set() or count and pc in breaks:
+                where = Position("stopped", pc) if self._interrupt.is_set() else Stop("break", pc)
                 self._screen.say(describe_stop(where))
                 break
             carried = self._stepper.step()

@@ -7,6 +7,7 @@ from fractions import Fraction
 from ..guest.changes import Change, RegisterChange, vtype_text
 from ..instructions.accesses import ROW_BYTES
 from ..machine.answers import ControlRegisters, Memory, ScalarRegisters, VectorRegister, elements_in
+from ..output import write_out
 from ..tables.table import read_table
 
 COLOURS = {"tail": "2", "masked": "35", "changed": "33", "refused": "31"}
@@ -26,8 +27,7 @@ class Screen:
     def write(self, data: bytes) -> None:
         """Puts out what the program has put out, as it is."""
         sys.stdout.flush()
-        sys.stdout.buffer.write(data)
-        sys.stdout.buffer.flush()
+        write_out(data)
         self._is_new_line = data.endswith(b"\n")
 
     def say(self, *rows: str, kind: str = "") -> None:

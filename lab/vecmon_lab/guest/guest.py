@@ -101,12 +101,9 @@ class Guest:
         return None
 
     def step(self) -> Stop | None:
-        """Carries out one instruction; the stop, if it stops instead. A full output buffer is emptied before."""
-        while True:
-            stop, _ = self.step_between([], [])
-            if stop is None or stop.kind != "outfull":
-                return stop
-            self.empty_buffer()
+        """Carries out one instruction; the stop, if it stops instead. The output buffer is emptied before."""
+        self.empty_buffer()
+        return self.step_between([], [])[0]
 
     def step_between(self, before: Sequence[str], after: Sequence[str]) -> tuple[Stop | None, list[Answer]]:
         """As `step`, with looks before and after it that go to the machine together; and the answers to all looks.

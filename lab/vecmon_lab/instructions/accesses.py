@@ -36,9 +36,8 @@ def stored_spans(word: int, x: Sequence[int], control: ControlRegisters, v: byte
         offset = (word >> 25 << 5 | word >> 7 & 31) ^ 0x800
         return _joined([(base + offset - 0x800, 1 << (word >> 12 & 3))])
     instruction = vector_instruction(word, control.vtype) if opcode == STORE_FP else None
-    if instruction is None:
-        return []
-    return _joined(_vector_spans(word, base, x[word >> 20 & 31], control, v, instruction.operands))
+    spans = _vector_spans(word, base, x[word >> 20 & 31], control, v, instruction.operands) if instruction else ()
+    return _joined(spans)
 
 
 def _vector_spans(

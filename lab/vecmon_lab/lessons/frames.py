@@ -101,7 +101,8 @@ class _Maker:
             ends = not isinstance(part[0][1], Position) or place == number or f"{part[0][1].pc:x}" in state["breaks"]
             self._look([line], [*part, *answers] if ends else part, state["code"].get(state["pc"], "")[9:])
             own_log = ([] if place > 1 else log[:1]) + (log[1:] if ends else [])
-            note = step.note if place == 1 and step.note else self._instruction_note(user)
+            told_of = int(self._states[user].get("instruction", "0"), 16)  # whose sentence the source may have
+            note = step.note if place == 1 and step.note else self._script.notes.get(told_of, "")
             shown = line if number == 1 else f"{line}: instruction {place}"
             self._add_frame(Step([shown]), user, own_log, note)
             if ends:
@@ -116,10 +117,6 @@ class _Maker:
             if user in users or "*" in users:
                 own, before = [answer for whom, answer in answers if whom == user], self._states.get(user, ABSENT)
                 self._states[user] = look_at(Guest(self._single, int(user)), watch, before, own, carried_out)
-
-    def _instruction_note(self, user: str) -> str:
-        """The author's sentence before the instruction of the source that a user carried out."""
-        return self._script.notes.get(int(self._states[user].get("instruction", "0"), 16), "")
 
     def _add_frame(self, step: Step, user: str, log: list[str], note: str) -> None:
         line, more = step.lines[0] if step.lines else "", sum(not is_look(line) for line in step.lines[1:])
