@@ -129,8 +129,7 @@ def draw_case(row: Row, number: int, seed: int) -> Case:
     policies = 0 if kind.vtype == VILL else draws.randrange(4) << 6
     most = view.vlmax
     vl = draws.choice((most, most, min(most, 1), draws.randrange(most + 1), draws.randrange(most + 1)))
-    vtype, vxrm, vxsat = kind.vtype | policies, draws.randrange(4), draws.randrange(2)
-    case = Case(word, ControlRegisters(vl, vtype, view.vstart, vxrm, vxsat))
+    case = Case(word, ControlRegisters(vl, kind.vtype | policies, view.vstart, draws.randrange(4), draws.randrange(2)))
     operands = _operands(row, word, view)
     _fill_scalars(case, row, draws)
     _fill_vectors(case, operands, draws)
