@@ -15,7 +15,6 @@ export class Connection {
   open() {
     const socket = new WebSocket(`${location.protocol.replace("http", "ws")}//${location.host}/socket`);
     this.socket = socket;
-    this.isReady = false;
     const on = (kind, heard) => socket.addEventListener(kind, (event) => this.socket === socket && heard(event));
     on("open", () => socket.send(JSON.stringify({ code: this.code })));
     on("message", (event) => this.hear(JSON.parse(event.data)));
