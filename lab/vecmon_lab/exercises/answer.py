@@ -61,9 +61,8 @@ def _script_commands(text: str) -> list[str]:
     for number, line in lines:
         with mistakes_in(f"line {number}"):
             if not re.match("[1-8*] ", line):
-                raise LabError(
-                    f"{line[:40]!r} has no user's digit and space before it; a source's name ends in .s or .S"
-                )
+                hint = "a source's name ends in .s or .S"
+                raise LabError(f"{line[:40]!r} has no user's digit and space before it; {hint}")
             check_line(line)
             if line[0] == "*" or words_of(line)[:1] in (["enter"], ["leave"], ["load"]):
                 raise LabError("an answer has no line of the operator's, and no enter, leave or load")

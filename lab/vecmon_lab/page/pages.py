@@ -21,10 +21,8 @@ class Page:
         self._template = string.Template(frame.replace("$body", body).replace("$machine", machine))
         self._style = "".join(page_file(style) for style in ("page.css", f"{name}.css") if (FILES / style).exists())
         self._script = join_modules(name, page_file)
-        self.policy = (
-            f"default-src 'none'; img-src data:; style-src {_digest(self._style)}; script-src {_digest(self._script)}; "
-            "base-uri 'none'; form-action 'none'"
-        )
+        own = f"style-src {_digest(self._style)}; script-src {_digest(self._script)}"
+        self.policy = f"default-src 'none'; img-src data:; {own}; base-uri 'none'; form-action 'none'"
 
     def text(self, title: str, data: str = "", policy: str = "") -> str:
         """The page in HTML, with what its script shows, and with its policy where no server sends it."""

@@ -206,9 +206,8 @@ def with_rows(state: State, rows: set[str]) -> State:
 def _take_registers(guest: Guest, state: State) -> ControlRegisters:
     """Takes scalar registers, vector control registers and breakpoints into a state."""
     scalar, control, breaks = guest.ask("regs", "vcsr", "breaks")
-    assert (
-        isinstance(scalar, ScalarRegisters) and isinstance(control, ControlRegisters) and isinstance(breaks, Addresses)
-    )
+    assert isinstance(scalar, ScalarRegisters) and isinstance(control, ControlRegisters)
+    assert isinstance(breaks, Addresses)
     state["x"] = {str(number): f"{value:x}" for number, value in enumerate(scalar.x)}
     state["vtype"] = f"{control.vtype:x}"
     state["vl"], state["vstart"] = control.vl, control.vstart
