@@ -79,8 +79,7 @@ def carry_out(session: Session, row: Row, case: Case, policy: str = "keep") -> d
         is_fault = stop.kind == "fault"
         golden |= {"cause": stop.cause, "value": f"{stop.value:x}"} if is_fault else {"status": stop.number}
     changes: dict[str, object] = {name: value for name, value in after.items() if value != before[name]}
-    for kind, values in left.items():
-        changes[kind] = {number: value for number, value in values.items() if value != held[kind][number]}
+    changes |= {kind: {n: it for n, it in values.items() if it != held[kind][n]} for kind, values in left.items()}
     stored = {f"{DATA + first:x}": new[first:last].hex() for first, last in runs(old, new)}
     changes |= {"memory": stored, "output": output.hex()}
     return golden | {"after": {key: value for key, value in changes.items() if value not in ({}, "")}}
