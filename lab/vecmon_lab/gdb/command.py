@@ -85,7 +85,7 @@ class Target:
             case ("s" | "S"), _:
                 return self._stopped(self._guest.step(), TRAPPED)
             case "g", _:
-                return "".join(self._scalars())
+                return "".join(self._scalars()[:FIRST_CONTROL])
             case "p", [number]:
                 return self._register(int(number, 16))
             case "P", [number, digits]:
@@ -118,19 +118,17 @@ class Target:
         return self._last
 
     def _scalars(self) -> list[str]:
-        """The registers x0 to x31 and pc."""
-        registers = self._guest.told("regs", ScalarRegisters)
-        return [value.to_bytes(8, "little").hex() for value in (*registers.x, registers.pc)]
+        """The registers before the vector registers: x0 to x31, pc, and the control registers."""
+        registers, control = self._guest.told("regs", ScalarRegisters), self._guest.told("vcsr", ControlRegisters)
+        values = (*registers.x, registers.pc, *vars(control).values())
+        return [value.to_bytes(8, "little").hex() for value in values]
 
     def _register(self, number: int) -> str:
         """The register of a number."""
-        if number < FIRST_CONTROL:
+        if number < FIRST_VECTOR:
             return self._scalars()[number]
-        if number >= FIRST_VECTOR:
-            (told,) = self._guest.ask(f"vreg v{number - FIRST_VECTOR} 8")
-            return told.data.hex() if isinstance(told, VectorRegister) else REFUSED
-        values: list[int] = [*vars(self._guest.told("vcsr", ControlRegisters)).values()]
-        return values[number - FIRST_CONTROL].to_bytes(8, "little").hex()
+        (told,) = self._guest.ask(f"vreg v{number - FIRST_VECTOR} 8")
+        return told.data.hex() if isinstance(told, VectorRegister) else REFUSED
 
     def _write_register(self, number: int, digits: str) -> str:
         """Writes a register; the control registers can't be written from outside."""

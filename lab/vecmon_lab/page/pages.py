@@ -43,9 +43,7 @@ def merge_patch(old: Mapping[str, object], new: Mapping[str, object]) -> dict[st
     for key, value in new.items():
         before = old.get(key)
         if value != before:
-            patch[key] = value
-            if isinstance(value, dict) and isinstance(before, dict):
-                patch[key] = merge_patch(before, value)
+            patch[key] = merge_patch(before, value) if isinstance(value, dict) and isinstance(before, dict) else value
     return patch
 
 

@@ -170,8 +170,7 @@ class RowChoice:
     """
 
     def __init__(self) -> None:
-        self._weights: Counter[str] = Counter()
-        self._seen: set[str] = set()
+        self._weights: Counter[str] = Counter()  # of each row that was there: 2 once it has changed, 0 while it is zero
         self._last: dict[str, str] = {}
 
     def add(self, state: State) -> None:
@@ -179,18 +178,15 @@ class RowChoice:
         if "memory" not in state or state["memory"] is self._last:
             return
         for row, digits in state["memory"].items():
-            if digits != self._last.get(row, digits):
-                self._weights[row] = 2
-            elif digits.strip("0"):
-                self._weights[row] = max(self._weights[row], 1)
+            has_changed = digits != self._last.get(row, digits)
+            self._weights[row] = max(self._weights[row], 2 if has_changed else int(digits.strip("0") != ""))
         self._last = state["memory"]
-        self._seen.update(self._last)
 
     def rows(self, watch: Watch) -> set[str]:
         """The addresses of the rows that tell most."""
         listing = {f"{address // ROW_BYTES * ROW_BYTES:x}" for address in watch.code}
-        weights = Counter({row: weight for row, weight in self._weights.items() if row not in listing})
-        weights.update({f"{row:x}": 3 for row in watch.named if f"{row:x}" in self._seen})
+        weights = Counter({row: weight for row, weight in self._weights.items() if weight and row not in listing})
+        weights.update({f"{row:x}": 3 for row in watch.named if f"{row:x}" in self._weights})
         return {row for row, _ in weights.most_common(MOST_ROWS)}
 
 
