@@ -28,6 +28,8 @@ class StandIn:
         self.size, self.lines, self.digest, self.losses = 0, 0, "", list[str]()
 
     def do_all(self, lines: Sequence[str]) -> list[list[str]]:
+        if all(map(is_look, lines)):
+            return [self.look(line) for line in lines]
         self.go.acquire()
         assert self.path.read_text("ascii").endswith("".join(f"{line}\n" for line in lines))
         self.order.append(lines[0][0])
@@ -36,9 +38,6 @@ class StandIn:
     def look(self, line: str) -> list[str]:
         assert is_look(line)
         return [f"{line[0]} E05"]
-
-    def look_all(self, lines: list[str]) -> list[list[str]]:
-        return [self.look(line) for line in lines]
 
     def end(self) -> None:
         ...
