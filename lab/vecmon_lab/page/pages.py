@@ -26,8 +26,7 @@ class Page:
 
     def text(self, title: str, data: str = "", policy: str = "") -> str:
         """The page in HTML, with what its script shows, and with its policy where no server sends it."""
-        texts = {"title": title, "style": self._style, "script": self._script, "data": data, "policy": policy}
-        return self._template.substitute(texts)
+        return self._template.substitute(title=title, style=self._style, script=self._script, data=data, policy=policy)
 
 
 def lone_page(name: str, title: str, data: object) -> str:
