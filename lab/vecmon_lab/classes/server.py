@@ -28,6 +28,12 @@ UNKNOWN = 500  # connections without a whole request, and sockets without a code
 SOCKETS = 8  # of a seat; of the teacher twice as many
 READ_SECONDS = 20.0  # in which a tab has to take a message
 WRONG_CODE_SECONDS = 0.5
+HEADERS = {
+    "Cache-Control": "no-store",
+    "Referrer-Policy": "no-referrer",
+    "X-Content-Type-Options": "nosniff",
+    "Cross-Origin-Opener-Policy": "same-origin",
+}
 HOST = re.compile(r"(?:\[([0-9a-fA-F:.]+)\]|([A-Za-z0-9.-]+))(?::[0-9]+)?")
 CLOSED, CROWDED = 4403, 4429  # why a socket is closed: its code is none, or none any more; the seat has too many
 
@@ -99,15 +105,7 @@ class Server:
         host = request.headers.get("Host", "")
         own = f"{self._page.policy}; frame-ancestors 'none'; connect-src 'self'"
         sockets = f" ws://{host} wss://{host}" if response.status == 200 else ""
-        response.headers.update(
-            {
-                "Content-Security-Policy": own + sockets,
-                "Cache-Control": "no-store",
-                "Referrer-Policy": "no-referrer",
-                "X-Content-Type-Options": "nosniff",
-                "Cross-Origin-Opener-Policy": "same-origin",
-            }
-        )
+        response.headers.update({"Content-Security-Policy": own + sockets} | HEADERS)
 
     async def _get_page(self, request: web.Request) -> web.Response:
         return web.Response(text=self._page.text("vecmon class"), content_type="text/html")
@@ -261,11 +259,8 @@ def _announce(host: str, port: int, code: str) -> None:
         shown = socket.gethostname()
     print(f"teacher: http://{shown}:{port}/#{code}", flush=True)
     if host not in ("127.0.0.1", "::1", "localhost"):
-        print(
-            f"vecmon-lab: warning: whoever reaches {host} reaches the class, and nothing is encrypted: "
-            "use it in a network that you trust (docs/CLASS.md)",
-            file=sys.stderr,
-        )
+        warning = f"whoever reaches {host} reaches the class, and nothing is encrypted"
+        print(f"vecmon-lab: warning: {warning}: use it in a network that you trust (docs/CLASS.md)", file=sys.stderr)
 
 
 def _transcript(command: list[str], script: bytes) -> bytes:
