@@ -15,7 +15,7 @@ from ..machine.session import Session
 from .cases import CODE, DATA, DATA_END, PC, READ_ONLY, Case, draw_case, plan, touches_memory
 
 _CASES_OF_A_SESSION = 500
-_PROLOGUE = "5770b5807310a6007390960073108700"  # vsetvl x0, x10, x11; csrrw x0, and vxrm, x12; vxsat, x13; vstart, x14
+_PROLOGUE = "5770b5807390a6007310970073108600"  # vsetvl x0, x10, x11; csrrw x0, and vxrm, x13; vxsat, x14; vstart, x12
 
 
 def add_arguments(parser: argparse.ArgumentParser) -> None:
@@ -87,8 +87,7 @@ def carry_out(session: Session, row: Row, case: Case, policy: str = "keep") -> d
 
 def _set_up(case: Case, pages: dict[int, str], policy: str) -> Iterator[str]:
     """The lines that make the state before a case."""
-    vl, vtype, vstart, vxrm, vxsat = vars(case.control).values()
-    control = {10: vl, 11: vtype, 12: vxrm, 13: vxsat, 14: vstart}
+    control = dict(enumerate(vars(case.control).values(), 10))
     yield "enter"
     yield f"policy {policy}"
     yield from (f"map {address:x} 1 {permissions}" for address, permissions in pages.items())
