@@ -33,9 +33,17 @@ ONE = [(8, "m1")]
 
 KINDS = {
     "add t1, t2, t3": ONE,
+    "addi t1, t2, 3": ONE,
+    "slli t1, t2, 3": ONE,
     "mul t1, t2, t3": ONE,
+    "div t1, t2, t3": ONE,
+    "jal t1, . + 4": ONE,
+    "bne t2, t3, . + 4": ONE,
     "ld t1, 0(s2)": ONE,
+    "lw t1, 0(s2)": ONE,
+    "lbu t1, 0(s2)": ONE,
     "sd t1, 0(s2)": ONE,
+    "sw t1, 0(s2)": ONE,
     "vsetvli t1, a0, e{sew}, {lmul}, ta, ma": ALL,
     "vadd.vv v8, v16, v24": ALL,
     "vadd.vv v8, v16, v24, v0.t": ALL,
@@ -87,6 +95,8 @@ _start:
     vsetvli x0, a0, e8, m8, ta, ma
     li t1, 0x55
     vmv.v.x v0, t1
+    li t2, 1000003
+    li t3, 7
     vid.v v16
     vmv.v.i v24, 3
     vmv.v.i v8, 1
