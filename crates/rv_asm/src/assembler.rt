@@ -1,9 +1,7 @@
 //! The word that a text spells, and the canonical text of a word.
-ghost use Rattle.std.specs.Prelude.{◌≡◌, ◌≤◌, ◌+◌, ◌*◌, ◌++◌, length, Ok, Err, IfOk, IfErr, codes};
+ghost use Rattle.std.specs.Prelude.{◌≡◌, ◌≤◌, ◌+◌, ◌*◌, ◌++◌, length, Ok, Err, IfOk, IfErr};
 ghost use Rattle.arrayvec.specs.ArrayString.{array_string_len};
 ghost use Rattle.rv_model.specs.assembler.Table.{spelled, canonical, operands_text};
-ghost use Rattle.rv_model.specs.assembler.Numbers.{hex_digits};
-ghost use Rattle.rv_model.specs.assembler.Naming.{HasName, IsNamed};
 
 use crate::fault::AsmFault;
 use crate::operands::{put_operands, read_operands};
@@ -43,11 +41,6 @@ pub fn text_of(word: u32, text: &mut Text)
     ensures text { text.new.bytes ≡ canonical word }
     // Assembling the text gives the word again.
     ensures again { spelled text.new.bytes ≡ Ok word }
-    // Every instruction has its name, but for fences other than `fence`; any other word is `.word`
-    // and 8 digits.
-    ensures named { HasName word → IsNamed word text.new.bytes }
-    ensures directive { ¬ (HasName word)
-        → text.new.bytes ≡ codes ".word 0x" ++ hex_digits 8 word }
 {
     text.clear();
     let Mnemonic(name, form, _) = row_at(row_of_word(word));

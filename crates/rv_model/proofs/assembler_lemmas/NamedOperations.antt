@@ -26,15 +26,14 @@ use Rattle.rv_model.specs.instructions.BitFields.{field, flag}
 use Rattle.rv_model.specs.lending.Families.{filled}
 use Rattle.rv_model.specs.instructions.Sources.{form_of}
 use Rattle.rv_model.specs.instructions.Table.{Row, table, scan}
-use Rattle.rv_model.specs.assembler.Fields.{fixed_mask}
-use Rattle.rv_model.specs.assembler.Naming.{HasBitsOf, NamesOperation}
 use Rattle.rv_model.specs.assembler.OperationNames.{mnemonic, unit_name, direction_letters, order_letters, segment_text, source_letter, vector_suffix, width_digits}
 use Rattle.rv_model.specs.instructions.Operations.{carry_entry, vector_entry}
-use Rattle.rv_model.specs.assembler.Table.{bits_at, name_at, row_at, slots_at, slots_of, unpadded}
 use Rattle.rv_model.proofs.instruction_lemmas.RoundTrips.{template_of}
 use Rattle.rv_model.proofs.instruction_lemmas.Scans.{In, found, table_apart}
 use Rattle.rv_model.proofs.instruction_lemmas.Words.{form_source_of}
 use Rattle.rv_model.proofs.assembler_lemmas.Naming.{all_at, bits_of_name, covers_all, in_names, names, pattern_of_row, row_of_name}
+use Rattle.rv_model.specs.lending.NameTable.{fixed_mask, HasBitsOf, bits_at, name_at, row_at, slots_at, slots_of, unpadded}
+use Rattle.rv_model.proofs.assembler_lemmas.ListedTexts.{NamesOperation}
 
 -- ---- the bits that a name tells besides the operation
 

@@ -1,5 +1,5 @@
--- The canonical text of an instruction has its name, that of any other word is `.word` and digits
-use Rattle.std.proofs.Common.{◌≡◌, ◌≢◌, ◌⊎◌, ℕ, ◌/◌, ◌%◌, ◌^◌, ◌<◌, true, false, nat_lt, List, ◌++◌, length, get_or, position, unwrap_or, Option, Some, None, refl, sym, ap, subst, ◌∙◌, arith, inl, inr, lit<}
+-- By the code's table, the text of an instruction has its name, that of any other word is `.word` and digits
+use Rattle.std.proofs.Common.{◌≡◌, ◌≢◌, ◌⊎◌, ℕ, ◌/◌, ◌%◌, ◌^◌, ◌<◌, true, nat_lt, List, ◌++◌, length, get_or, position, unwrap_or, Option, Some, None, refl, sym, ap, subst, ◌∙◌, arith, inl, inr, lit<}
 use Rattle.std.specs.Prelude.{IsSome, IsNone, codes}
 use Rattle.std.specs.List.{position_or_len}
 use Rattle.std.specs.Int.Bits.{bit_and}
@@ -10,14 +10,14 @@ use Rattle.std.proofs.lemmas.List.{append-nil}
 use Rattle.rv_model.specs.declared.instructions.instruction.Instr.{Instr}
 use Rattle.rv_model.specs.declared.assembler.mnemonics.TheConstants.{MNEMONICS, NAME_COUNT, ROW_COUNT}
 use Rattle.rv_model.specs.assembler.Numbers.{hex_digits}
-use Rattle.rv_model.specs.assembler.Fields.{fixed_mask}
-use Rattle.rv_model.specs.assembler.Table.{slots_of, row_at, name_at, slots_at, row_of_word, printed_operands, text_at, canonical}
-use Rattle.rv_model.specs.assembler.Naming.{IsFence, HasBitsOf, HasName, IsNamed}
+use Rattle.rv_model.specs.assembler.Table.{printed_operands}
 use Rattle.rv_model.specs.instructions.Table.{table, scan}
 use Rattle.rv_model.proofs.instruction_lemmas.Scans.{some_row, found, table_apart}
 use Rattle.rv_model.proofs.assembler_lemmas.NamedOperations.{names_operation}
-use Rattle.rv_asm.proofs.WordLaws.{has_bits, row_matches}
-use Rattle.rv_model.proofs.assembler_lemmas.Naming.{Pattern, names, none, named_count, in_names, name_at_row, bits_of_name, HasNameOf, word_of_row_has_name, name_of_row, fence_named, no_word_of_two_names}
+use Rattle.rv_model.proofs.assembler_lemmas.RowOfWord.{has_bits, row_matches}
+use Rattle.rv_model.proofs.assembler_lemmas.Naming.{Pattern, names, none, named_count, in_names, name_at_row, bits_of_name, HasNameOf, word_of_row_has_name, name_of_row, fence_named}
+use Rattle.rv_model.specs.lending.NameTable.{fixed_mask, slots_of, row_at, name_at, slots_at, row_of_word}
+use Rattle.rv_model.proofs.assembler_lemmas.ListedTexts.{text_at, listed_canonical, IsFence, HasName, IsNamed}
 
 none_is_not_some : (i : Instr) → None ≡ Some i → ⊥
 none_is_not_some i e = cc
@@ -77,8 +77,8 @@ word_with_name_is_named w h =
           word_with_bits_is_named w (word_of_row_has_name r.0 w r.1 r.2 other)
     ]
 
-pub is_named : (w : ℕ) → HasName w → IsNamed w (canonical w)
-unfolding canonical
+pub is_named : (w : ℕ) → HasName w → IsNamed w (listed_canonical w)
+unfolding listed_canonical
 is_named w h =
     let lt = word_with_name_is_named w h in
     let is = (row_matches w).bits in
@@ -110,7 +110,7 @@ only_directive_is_left : (row : ℕ) → row < ROW_COUNT → (row < NAME_COUNT �
 only_directive_is_left row lt h = omega (arith, h)
 
 -- `.word` and 8 hexadecimal digits
-abbrev directive_text : ℕ → List ℕ
+abbrev pub directive_text : ℕ → List ℕ
 directive_text word = codes ".word 0x" ++ hex_digits 8 word
 
 text_of_directive : (w : ℕ) → w < 2 ^ 32 → text_at NAME_COUNT w ≡ directive_text w
@@ -119,16 +119,6 @@ text_of_directive w small =
     let is : w / 2 ^ 0 % 2 ^ 32 ≡ w = omega arith in
     ap (λ (t : List ℕ). codes ".word " ++ t) (append-nil (codes "0x" ++ hex_digits 8 (w / 2 ^ 0 % 2 ^ 32))) ∙ ap (λ (v : ℕ). codes ".word 0x" ++ hex_digits 8 v) is
 
-pub is_directive : (w : ℕ) → w < 2 ^ 32 → (HasName w → ⊥) → canonical w ≡ directive_text w
-unfolding canonical
+pub is_directive : (w : ℕ) → w < 2 ^ 32 → (HasName w → ⊥) → listed_canonical w ≡ directive_text w
+unfolding listed_canonical
 is_directive w small h = ap (λ (row : ℕ). text_at row w) (only_directive_is_left (row_of_word w) (row_matches w).within (word_without_name_is_not_named w small (no_name_by w (scan table w) refl h))) ∙ text_of_directive w small
-
-pub one_name : (w row other : ℕ) → row < NAME_COUNT → other < NAME_COUNT → HasBitsOf row w → HasBitsOf other w → row ≡ other
-one_name w row other lt less is also =
-    elim (cases_lt row other) [
-      | inl before ↦ absurd (no_word_of_two_names row other w before (in_names other less) (bits_of_name row w lt is) (bits_of_name other w less also))
-      | inr le ↦ elim (cases_lt other row) [
-        | inl before ↦ absurd (no_word_of_two_names other row w before (in_names row lt) (bits_of_name other w less also) (bits_of_name row w lt is))
-        | inr ge ↦ omega arith
-      ]
-    ]
