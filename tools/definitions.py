@@ -26,7 +26,7 @@ MODEL = CRATES / "rv_model/specs"
 HEADLINE = "monitor_script::run.headline"
 
 USE = re.compile(
-    r"^ *((?:ghost |pub |unfoldable )*)use Rattle\.(\w+)\.(?:specs|proofs)\.([\w.]+?)(?:\.\{([^}]*)\}| as (\w+))",
+    r"^ *(?:ghost |pub |unfoldable )*use Rattle\.(\w+)\.(?:specs|proofs)\.([\w.]+?)(?:\.\{([^}]*)\}| as (\w+))",
     re.MULTILINE,
 )
 RUST_USE = re.compile(r"^ *(?:pub )?use (\w+)::(?:[\w:]*::)?(?:\{([^}]*)\}|(\w+));", re.MULTILINE)
@@ -69,7 +69,7 @@ def key(name: str) -> str:
 def taken(text: str) -> dict[str, Name]:
     """What each word that a text takes from elsewhere is."""
     found: dict[str, Name] = {}
-    for _, crate, module, names, alias in USE.findall(text):
+    for crate, module, names, alias in USE.findall(text):
         for name in filter(None, map(str.strip, names.split(","))):
             original, _, here = name.partition(" as ")
             found[key(here or original)] = Name(crate, module, original)
@@ -116,9 +116,10 @@ def resolved(name: Name) -> Name:
     if name.module.startswith(("declared.", "contracts.")):
         return declared(name)[0]
     _, owners, scope = module_of(name.crate, name.module)
-    if name.name in owners:
-        return Name(name.crate, name.module, owners[name.name])
-    return resolved(scope[name.name]) if name.name in scope else name
+    word = key(name.name)
+    if word in owners:
+        return Name(name.crate, name.module, owners[word])
+    return resolved(scope[word]) if word in scope else name
 
 
 def met(text: Text) -> Iterator[Name]:
@@ -153,11 +154,8 @@ def text_of(name: Name) -> Text | None:
     )
     if not found:
         return None
-    constants = (
-        re.findall(r"^(?:pub(?:\(\w+\))? )?(?:const|static) (\w+)", source_of(path), re.MULTILINE)
-        if is_constant(name)
-        else []
-    )
+    constant = r"^(?:pub(?:\(\w+\))? )?(?:const|static) (\w+)"
+    constants = re.findall(constant, source_of(path), re.MULTILINE) if is_constant(name) else []
     return Text(path, found[0], {it: Name(name.crate, name.module, it) for it in constants})
 
 
@@ -208,17 +206,19 @@ def closure(start: Iterable[Name], part: Part = Part()) -> dict[Name, Text]:
     return found
 
 
-# One command of one user, that carries out `vadd.vv`; without how commands are spelt and refused, the operator's lines, how the vector
-# unit is counted, which instructions are legal, how many ticks one takes, and how the crates hold all this
-ADDITION = Part(
-    frozenset(
-        "Kind.Of Event.Command Cmd.Running RunningCommand.Step Instr.Vector VectorInstr.Arith VectorOp.Binary BinaryOp.Vadd Source.V Form.V VEnd.Done".split()
-    ),
-    frozenset(
-        "type commands.Operator commands.Commands.parse commands.Commands.of_absent machine.UserMachine.refuses machine.Script.common "
-        "machine.Grants machine.World.unit_after machine.VectorUnit legality.Legality step.VectorStep.vector_ticks commands.Running.stop_line".split()
-    ),
+# One command of one user, that carries out `vadd.vv`
+CASES = (
+    "Kind.Of Event.Command Cmd.Running RunningCommand.Step Instr.Vector VectorInstr.Arith VectorOp.Binary BinaryOp.Vadd "
+    "Source.V Form.V VEnd.Done"
 )
+# How commands are spelt and refused, the operator's lines, how the vector unit is counted, which instructions are legal, how many ticks
+# one takes, and how the crates hold all this
+LEFT_OUT = (
+    "type commands.Operator commands.Commands.parse commands.Commands.of_absent commands.Running.stop_line "
+    "machine.UserMachine.refuses machine.Script.common machine.Grants machine.World.unit_after machine.VectorUnit "
+    "legality.Legality step.VectorStep.vector_ticks"
+)
+ADDITION = Part(frozenset(CASES.split()), frozenset(LEFT_OUT.split()))
 
 
 # ---- contracts
@@ -321,12 +321,8 @@ def types_of(crate: str) -> dict[str, Text]:
 def exported(crate: str) -> Iterator[Contract]:
     """The contracts of the items that a crate hands out."""
     library = re.sub(r"//.*", "", source_of(CRATES / crate / "src/lib.rt"))
-    names = {
-        it
-        for _, several, one in re.findall(r"^pub use ([\w:]*?)::(?:\{([^}]*)\}|(\w+));", library, re.MULTILINE)
-        for it in WORD.findall(several or one)
-    }
-    handed = {word for _, word in names}
+    uses = re.findall(r"^pub use [\w:]*?::(?:\{([^}]*)\}|(\w+));", library, re.MULTILINE)
+    handed = {word for several, one in uses for _, word in WORD.findall(several or one)}
     modules = set(re.findall(r"^pub mod (\w+)", library, re.MULTILINE))
     for it in contracts(crate):
         part = it.text.path.relative_to(CRATES / crate / "src").parts[0].removesuffix(".rt")
