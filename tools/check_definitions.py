@@ -1,9 +1,10 @@
 #!/usr/bin/env python3
-"""Compares what the pages say of definitions with what `tools/definitions.py` counts: `tools/check_definitions.py`, at the top of the
-repository.
+"""Compares what the pages say of definitions with what `tools/definitions.py` counts: `tools/check_definitions.py [OUTPUT]`, at the top
+of the repository.
 
 In docs/DEFINITIONS.md: the lines and the files of each row of the hour's table and of the table of all modules, and each sum that is
-said. In docs/GUARANTEES.md: the modules of the kit whose names contracts and definitions cite. The status is 1 where something differs.
+said. In docs/GUARANTEES.md: the modules of the kit whose names contracts and definitions cite; and, where OUTPUT is a file with what
+`rt ci` printed when it proved `vecmon`, the kit's crates and how many C functions it rests on. The status is 1 where something differs.
 """
 
 import re
@@ -90,9 +91,27 @@ def wrong_kit(page: str) -> Iterator[str]:
             yield f"of {crate} these modules are cited: {', '.join(f'`{it}`' for it in sorted(is_so.get(crate, set())))}"
 
 
+def wrong_axioms(page: str, output: str) -> Iterator[str]:
+    """What is wrong of the C functions and the kit's crates; nothing where `vecmon` wasn't proved anew."""
+    proved = output.partition("\nrt: vecmon proved\n")
+    report = proved[0].rpartition(" proved\n")[2] if proved[1] else ""
+    for crate, reached, all_of_it in re.findall(
+        r"^axioms (\w+): .*\((\d+) of the (\d+) declared\)$", report, re.MULTILINE
+    ):
+        if f"{reached} of the {all_of_it} of `{crate}`" not in page:
+            yield f"the proof of vecmon rests on {reached} of the {all_of_it} of `{crate}`"
+    for crate in re.findall(r"^statements (\w+):", report, re.MULTILINE):
+        if not (counted.CRATES / crate).exists() and f"`{crate}`" not in page.partition("\n## Trusted\n")[2]:
+            yield f"vecmon stands on the kit's `{crate}`"
+
+
 def main() -> int:
+    output = Path(sys.argv[1]).read_text(encoding="utf-8") if len(sys.argv) > 1 else ""
     guide, guarantees = (Path("docs", it).read_text(encoding="utf-8") for it in ("DEFINITIONS.md", "GUARANTEES.md"))
-    found = {"DEFINITIONS.md": [*wrong_hour(guide), *wrong_modules(guide)], "GUARANTEES.md": [*wrong_kit(guarantees)]}
+    found = {
+        "DEFINITIONS.md": [*wrong_hour(guide), *wrong_modules(guide)],
+        "GUARANTEES.md": [*wrong_kit(guarantees), *wrong_axioms(guarantees, output)],
+    }
     for page, faults in found.items():
         for fault in faults:
             print(f"docs/{page}: {fault}")
