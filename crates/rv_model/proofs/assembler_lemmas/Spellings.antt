@@ -6,10 +6,9 @@ use Rattle.std.specs.List.{list_all}
 use Rattle.std.specs.Option.{option_map, option_map_or, IsSomeAnd}
 use Rattle.std.specs.Str.{bytes_eq}
 use Rattle.std.specs.Int.Bits.{bit_and}
-use Rattle.std.proofs.lemmas.Bool.{and_parts, and_from, eqb-true, eq-eqb}
+use Rattle.std.proofs.lemmas.Bool.{and_parts, and_from, true≢false}
 use Rattle.std.proofs.lemmas.List.Quantifiers.{position-Some}
-use Rattle.std.proofs.lemmas.List.{append-nil, get_or-map}
-use Rattle.rv_model.specs.assembler.Numbers.{hex_digits}
+use Rattle.std.proofs.lemmas.List.{get_or-map}
 use Rattle.std.proofs.lemmas.Slice.Eq.{bytes_eq-Decides}
 use Rattle.rv_model.specs.declared.assembler.forms.Form.TheVariants as form
 use Rattle.rv_model.specs.declared.assembler.forms.Slot.{Slot}
@@ -23,9 +22,9 @@ use Rattle.rv_model.specs.assembler.Tokens.{Token, tokens, in_run, begins_run, w
 use Rattle.rv_model.specs.assembler.Table.{Spelling, spellings, spelling_of, directive, read_operands, spelled_by, spelled, text_by, operands_text, printed_operands, has_name, canonical}
 use Rattle.rv_model.specs.lending.NameTable.{slots_of, unpadded, row_named, row_at, bits_at, slots_at, name_at}
 use Rattle.rv_model.proofs.assembler_lemmas.Found.{found_is, found_passes}
-use Rattle.rv_model.proofs.assembler_lemmas.ListedTexts.{text_at, listed_by, listed, listed_canonical, IsFence, HasName, IsNamed}
+use Rattle.rv_model.proofs.assembler_lemmas.ListedTexts.{text_at, listed_by, listed, listed_canonical, HasName, IsNamed}
 use Rattle.rv_model.proofs.assembler_lemmas.NamedOperands.{has_slots}
-use Rattle.rv_model.proofs.assembler_lemmas.NamedWords.{directive_text, is_directive, is_named}
+use Rattle.rv_model.proofs.assembler_lemmas.NamedWords.{is_directive, is_named}
 
 -- ---- the two tables have the same names, with the same slots and bits
 
@@ -165,16 +164,6 @@ NoName w = HasName w → ⊥
 abbrev pub spelling_by : Bool → Option Instr → Spelling
 spelling_by named i = cond named (option_map_or spelling_of i directive) directive
 
-named_by_fence : (fence full : Bool) (w : ℕ) → nat_eq (bit_and w 0x707f) 0x0f ≡ fence → nat_eq w 0x0ff0000f ≡ full → cond fence full true ≡ true → IsFence w → w ≡ 0x0ff0000f
-named_by_fence false full w f e h is = absurd (let t = eq-eqb (bit_and w 0x707f) 0x0f is in cc)
-named_by_fence true full w f e h is = eqb-true w 0x0ff0000f (e ∙ h)
-
-fence_unnamed : (fence full : Bool) (w : ℕ) → nat_eq (bit_and w 0x707f) 0x0f ≡ fence → nat_eq w 0x0ff0000f ≡ full → cond fence full true ≡ false → NoName w
-fence_unnamed false full w f e h has = cc
-fence_unnamed true true w f e h has = cc
-fence_unnamed true false w f e h has =
-    let t = eq-eqb w 0x0ff0000f (has.1 (eqb-true (bit_and w 0x707f) 0x0f f)) in cc
-
 no_some : (o : Option Instr) → o ≡ None → IsSome o → ⊥
 no_some None e h = cc
 no_some (Some i) e h = cc
@@ -186,11 +175,11 @@ some_is : (i : Instr) → IsSome (Some i)
 some_is i = refl
 
 named_or_not : (w : ℕ) (named : Bool) (i : Option Instr) → has_name w ≡ named → scan table w ≡ i → HasName w ⊎ (NoName w × (spelling_by named i ≡ directive))
-named_or_not w false i e f = inr (fence_unnamed (nat_eq (bit_and w 0x707f) 0x0f) (nat_eq w 0x0ff0000f) w refl refl e, refl)
+named_or_not w false i e f = inr (λ has. true≢false (sym has.1 ∙ e), refl)
 named_or_not w true None e f = inr (unnamed_none w f, refl)
 named_or_not w true (Some i) e f =
     let P : Option Instr → Type 0 = λ o. IsSome o in
-    inl (subst P (sym f) (some_is i), named_by_fence (nat_eq (bit_and w 0x707f) 0x0f) (nat_eq w 0x0ff0000f) w refl refl e)
+    inl (subst P (sym f) (some_is i), e)
 
 pub cases_named : (w : ℕ) → HasName w ⊎ (NoName w × (spelling_by (has_name w) (scan table w) ≡ directive))
 cases_named w = named_or_not w (has_name w) (scan table w) refl refl
@@ -198,10 +187,6 @@ cases_named w = named_or_not w (has_name w) (scan table w) refl refl
 pub canonical_directive : (w : ℕ) → NoName w × (spelling_by (has_name w) (scan table w) ≡ directive) → canonical w ≡ text_by directive w
 unfolding canonical
 canonical_directive w h = ap (λ (s : Spelling). text_by s w) h.1
-
-has_name_true : (fence full : Bool) (w : ℕ) → nat_eq (bit_and w 0x707f) 0x0f ≡ fence → nat_eq w 0x0ff0000f ≡ full → HasName w → cond fence full true ≡ true
-has_name_true false full w f e has = refl
-has_name_true true full w f e has = sym e ∙ eq-eqb w 0x0ff0000f (has.1 (eqb-true (bit_and w 0x707f) 0x0f f))
 
 text_of_some : (w row : ℕ) (o : Option Instr) → IsSomeAnd o (λ i. mnemonic i ≡ name_at row) → IsSomeAnd o (λ i. slots i ≡ slots_at row) → text_by (option_map_or spelling_of o directive) w ≡ text_at row w
 unfolding text_at
@@ -212,21 +197,14 @@ by_its_name : (w : ℕ) → HasName w → IsNamed w (listed_canonical w) → can
 unfolding canonical
 by_its_name w has named =
     let row = named.0 in
-    let e = has_name_true (nat_eq (bit_and w 0x707f) 0x0f) (nat_eq w 0x0ff0000f) w refl refl has in
-    ap (λ (b : Bool). text_by (spelling_by b (scan table w)) w) e ∙ text_of_some w row (scan table w) named.3 (has_slots row w named.1 named.2) ∙ sym named.4
+    ap (λ (b : Bool). text_by (spelling_by b (scan table w)) w) has.1 ∙ text_of_some w row (scan table w) named.3 (has_slots row w named.1 named.2) ∙ sym named.4
 
 pub canonical_named : (w : ℕ) → HasName w → IsNamed w (canonical w)
 canonical_named w has = subst (IsNamed w) (sym (by_its_name w has (is_named w has))) (is_named w has)
-
-text_of_word : (w : ℕ) → w < 2 ^ 32 → text_by directive w ≡ directive_text w
-unfolding printed_operands
-text_of_word w small =
-    let is : w / 2 ^ 0 % 2 ^ 32 ≡ w = omega arith in
-    ap (λ (t : List ℕ). codes ".word " ++ t) (append-nil (codes "0x" ++ hex_digits 8 (w / 2 ^ 0 % 2 ^ 32))) ∙ ap (λ (v : ℕ). codes ".word 0x" ++ hex_digits 8 v) is
 
 -- a word has the same text by both
 pub canonical_is_listed : (w : ℕ) → w < 2 ^ 32 → canonical w ≡ listed_canonical w
 canonical_is_listed w small = elim (cases_named w) [
   | inl has ↦ by_its_name w has (is_named w has)
-  | inr no_name ↦ canonical_directive w no_name ∙ text_of_word w small ∙ sym (is_directive w small no_name.0)
+  | inr no_name ↦ canonical_directive w no_name ∙ sym (is_directive w small no_name.0)
 ]
