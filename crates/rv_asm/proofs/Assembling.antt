@@ -1,14 +1,15 @@
 -- What a text spells, from its name and its operands; and the parts of a canonical text by the code's table
-use Rattle.std.proofs.Common.{◌≡◌, ℕ, ◌+◌, List, [], ◌∷◌, ◌++◌, length, Option, Some, None, Result, Ok, Err, sym, ap, ap₂, ◌∙◌}
+use Rattle.std.proofs.Common.{◌≡◌, ℕ, ◌+◌, ◌<◌, ◌^◌, List, [], ◌∷◌, ◌++◌, length, Option, Some, None, Result, Ok, Err, sym, ap, ap₂, ◌∙◌}
 use Rattle.std.specs.Option.{option_map_or}
 use Rattle.std.specs.Prelude.{IfOk, IfErr}
 use Rattle.rv_model.specs.assembler.Tokens.{Token}
 use Rattle.rv_model.specs.declared.assembler.forms.Slot.{Slot}
 use Rattle.rv_model.specs.declared.assembler.mnemonics.Mnemonic.{Mnemonic}
-use Rattle.rv_model.specs.assembler.Table.{read_operands, operands_text}
+use Rattle.rv_model.specs.assembler.Table.{read_operands, operands_text, spelling}
 use Rattle.rv_asm.specs.Places.{rest, Answers}
 use Rattle.rv_asm.specs.declared.fault.AsmFault.{AsmFault}
 use Rattle.rv_model.specs.lending.NameTable.{slots_of, unpadded, row_named, row_at, name_at, slots_at, bits_at, row_of_word}
+use Rattle.rv_model.proofs.assembler_lemmas.Spellings.{spelling_is_listed}
 use Rattle.rv_model.proofs.assembler_lemmas.ListedTexts.{listed_by, listed, text_at, listed_canonical}
 
 -- the operands' tokens, under the row of the name
@@ -44,3 +45,9 @@ canonical_parts word row m slots start named whole r is with_slots a b c =
     ∙ ap₂ (λ (t : List ℕ) (ss : List Slot). t ++ operands_text ss word) (b ∙ ap (λ (t : List ℕ). t ++ unpadded m.0) a) with_slots
     ∙ ap (λ (n : Mnemonic). unpadded n.0 ++ operands_text (slots_of n.1) word) is
     ∙ ap (λ (k : ℕ). text_at k word) r
+
+pub slots_of_row : (word row : ℕ) (m : Mnemonic) (slots : List Slot) → word < 2 ^ 32 → row ≡ row_of_word word → m ≡ row_at row → slots ≡ slots_of m.1
+    → slots ≡ (spelling word).slots
+unfolding slots_at
+slots_of_row word row m slots small r is with_slots =
+    with_slots ∙ ap (λ (n : Mnemonic). slots_of n.1) is ∙ ap slots_at r ∙ sym (spelling_is_listed word small)

@@ -53,7 +53,7 @@ fn move_slots(source: SourceKind) -> &'static [Slot]
 }
 
 /// The slots of a form.
-pub fn slots_of(form: Form) -> &'static [Slot]
+pub(crate) fn slots_of(form: Form) -> &'static [Slot]
     ensures slots { result.now ≡ slots_of form }
     ensures few { length result.now ≤ 8 }
 {
@@ -96,7 +96,7 @@ pub fn slots_of(form: Form) -> &'static [Slot]
 
 /// Ones at the bits that a form leaves to the name.
 #[tactic(auto, unfolding(rv_model::specs::lending::NameTable::fixed_mask))]
-pub fn fixed_mask(form: Form) -> u32
+pub(crate) fn fixed_mask(form: Form) -> u32
     ensures { result ≡ fixed_mask (slots_of form) }
 {
     match form {

@@ -76,7 +76,7 @@ fence_without_name false full w f e h = absurd cc
 fence_without_name true true w f e h = absurd cc
 fence_without_name true false w f e h = (eqb-true (bit_and w 0x707f) 0x0f f, λ is. true≢false (sym (eq-eqb w 0x0ff0000f is) ∙ e))
 
-word_with_name_is_named : (w : ℕ) → HasName w → row_of_word w < NAME_COUNT
+pub word_with_name_is_named : (w : ℕ) → HasName w → row_of_word w < NAME_COUNT
 word_with_name_is_named w h =
     elim (cases_fence w) [
       | inl fence ↦ let P : ℕ → Type 0 = λ k. row_of_word k < NAME_COUNT in subst P (sym (fence_with_name (nat_eq (bit_and w 0x707f) 0x0f) (nat_eq w 0x0ff0000f) w refl refl h.1 fence)) full_fence_is_named
@@ -111,8 +111,12 @@ word_without_name_is_not_named w small (inr fence) lt =
     let n = has_name_of w lt in
     fence.1 (fence_named n.0 w small n.1 n.2 fence.0)
 
-only_directive_is_left : (row : ℕ) → row < ROW_COUNT → (row < NAME_COUNT → ⊥) → row ≡ NAME_COUNT
-only_directive_is_left row lt h = omega (arith, h)
+last_row : (row : ℕ) → row < ROW_COUNT → (row < NAME_COUNT → ⊥) → row ≡ NAME_COUNT
+last_row row lt h = omega (arith, h)
+
+pub only_directive_is_left : (w : ℕ) → w < 2 ^ 32 → (HasName w → ⊥) → row_of_word w ≡ NAME_COUNT
+only_directive_is_left w small h =
+    last_row (row_of_word w) (row_matches w).within (word_without_name_is_not_named w small (no_name_by w (scan table w) (has_name w) refl refl h))
 
 text_of_directive : (w : ℕ) → text_at NAME_COUNT w ≡ text_by directive w
 unfolding text_at name_at slots_at row_at
@@ -120,4 +124,4 @@ text_of_directive w = refl
 
 pub is_directive : (w : ℕ) → w < 2 ^ 32 → (HasName w → ⊥) → listed_canonical w ≡ text_by directive w
 unfolding listed_canonical
-is_directive w small h = ap (λ (row : ℕ). text_at row w) (only_directive_is_left (row_of_word w) (row_matches w).within (word_without_name_is_not_named w small (no_name_by w (scan table w) (has_name w) refl refl h))) ∙ text_of_directive w
+is_directive w small h = ap (λ (row : ℕ). text_at row w) (only_directive_is_left w small h) ∙ text_of_directive w

@@ -13,18 +13,19 @@ use Rattle.std.proofs.lemmas.Slice.Eq.{bytes_eq-Decides}
 use Rattle.rv_model.specs.declared.assembler.forms.Form.TheVariants as form
 use Rattle.rv_model.specs.declared.assembler.forms.Slot.{Slot}
 use Rattle.rv_model.specs.declared.assembler.mnemonics.Mnemonic.{Mnemonic}
-use Rattle.rv_model.specs.declared.assembler.mnemonics.TheConstants.{MNEMONICS}
+use Rattle.rv_model.specs.declared.assembler.mnemonics.TheConstants.{MNEMONICS, NAME_COUNT}
 use Rattle.rv_model.specs.declared.instructions.instruction.Instr.{Instr}
 use Rattle.rv_model.specs.instructions.Table.{scan, table}
 use Rattle.rv_model.specs.assembler.OperationNames.{mnemonic}
 use Rattle.rv_model.specs.assembler.TextLayouts.{slots}
 use Rattle.rv_model.specs.assembler.Tokens.{Token, tokens, in_run, begins_run, with_first_byte}
-use Rattle.rv_model.specs.assembler.Table.{Spelling, spellings, spelling_of, directive, read_operands, spelled_by, spelled, text_by, operands_text, printed_operands, has_name, canonical}
-use Rattle.rv_model.specs.lending.NameTable.{slots_of, unpadded, row_named, row_at, bits_at, slots_at, name_at}
+use Rattle.rv_model.specs.assembler.Table.{Spelling, spellings, spelling_of, directive, read_operands, spelled_by, spelled, text_by, operands_text, printed_operands, has_name, spelling, canonical}
+use Rattle.rv_model.specs.lending.NameTable.{slots_of, unpadded, row_named, row_at, bits_at, slots_at, name_at, row_of_word}
 use Rattle.rv_model.proofs.assembler_lemmas.Found.{found_is, found_passes}
 use Rattle.rv_model.proofs.assembler_lemmas.ListedTexts.{text_at, listed_by, listed, listed_canonical, HasName, IsNamed}
 use Rattle.rv_model.proofs.assembler_lemmas.NamedOperands.{has_slots}
-use Rattle.rv_model.proofs.assembler_lemmas.NamedWords.{is_directive, is_named}
+use Rattle.rv_model.proofs.assembler_lemmas.NamedWords.{is_directive, is_named, only_directive_is_left, word_with_name_is_named}
+use Rattle.rv_model.proofs.assembler_lemmas.RowOfWord.{row_matches}
 
 -- ---- the two tables have the same names, with the same slots and bits
 
@@ -207,4 +208,21 @@ pub canonical_is_listed : (w : ℕ) → w < 2 ^ 32 → canonical w ≡ listed_ca
 canonical_is_listed w small = elim (cases_named w) [
   | inl has ↦ by_its_name w has (is_named w has)
   | inr no_name ↦ canonical_directive w no_name ∙ sym (is_directive w small no_name.0)
+]
+
+slots_of_some : (row : ℕ) (o : Option Instr) → IsSomeAnd o (λ i. slots i ≡ slots_at row) → (option_map_or spelling_of o directive).slots ≡ slots_at row
+slots_of_some row None h = absurd h
+slots_of_some row (Some i) h = h
+
+slots_of_directive : slots_at NAME_COUNT ≡ directive.slots
+unfolding slots_at row_at
+slots_of_directive = refl
+
+-- and the same slots
+pub spelling_is_listed : (w : ℕ) → w < 2 ^ 32 → (spelling w).slots ≡ slots_at (row_of_word w)
+spelling_is_listed w small = elim (cases_named w) [
+  | inl has ↦
+      ap (λ (b : Bool). (spelling_by b (scan table w)).slots) has.1
+      ∙ slots_of_some (row_of_word w) (scan table w) (has_slots (row_of_word w) w (word_with_name_is_named w has) (row_matches w).bits)
+  | inr no_name ↦ ap (λ (s : Spelling). s.slots) no_name.1 ∙ sym slots_of_directive ∙ sym (ap slots_at (only_directive_is_left w small no_name.0))
 ]

@@ -87,6 +87,10 @@ text_by s w = s.name ++ operands_text s.slots w
 abbrev pub has_name : ℕ → Bool
 has_name w = if nat_eq (bit_and w 0x707f) (coded 0x0f 0) then nat_eq w 0x0ff0000f else true
 
+-- the name and the slots of a word: those of its instruction, where that has a name
+abbrev pub spelling : ℕ → Spelling
+spelling w = if has_name w then option_map_or spelling_of (scan table w) directive else directive
+
 -- the canonical text of a word
 unfoldable pub canonical : ℕ → List ℕ
-canonical w = text_by (if has_name w then option_map_or spelling_of (scan table w) directive else directive) w
+canonical w = text_by (spelling w) w
