@@ -22,7 +22,7 @@ use Rattle.rv_model.specs.lending.Families.{filled}
 use Rattle.rv_model.specs.lending.NameTable.{HasBitsOf, bits_at, row_at, slots_at, slots_of}
 use Rattle.rv_model.specs.instructions.Sources.{form_of, source_of}
 use Rattle.rv_model.specs.instructions.Table.{Row, table, scan}
-use Rattle.rv_model.specs.assembler.TextLayouts.{arith_slots, carry_out_slots, carry_slots, second, slots}
+use Rattle.rv_model.specs.assembler.InstructionTexts.{arith_slots, carry_out_slots, carry_slots, second, slots}
 use Rattle.rv_model.proofs.instruction_lemmas.Scans.{In}
 use Rattle.rv_model.proofs.instruction_lemmas.RoundTrips.{template_of}
 use Rattle.rv_model.proofs.instruction_lemmas.Words.{form_source_of}

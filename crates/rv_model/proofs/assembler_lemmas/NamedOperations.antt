@@ -26,7 +26,7 @@ use Rattle.rv_model.specs.instructions.BitFields.{field, flag}
 use Rattle.rv_model.specs.lending.Families.{filled}
 use Rattle.rv_model.specs.instructions.Sources.{form_of}
 use Rattle.rv_model.specs.instructions.Table.{Row, table, scan}
-use Rattle.rv_model.specs.assembler.OperationNames.{mnemonic, unit_name, direction_letters, order_letters, segment_text, source_letter, vector_suffix, width_digits}
+use Rattle.rv_model.specs.assembler.InstructionTexts.{mnemonic, unit_name, direction_letters, order_letters, segment_text, source_letter, vector_suffix, width_digits}
 use Rattle.rv_model.specs.instructions.Operations.{carry_entry, vector_entry}
 use Rattle.rv_model.proofs.instruction_lemmas.RoundTrips.{template_of}
 use Rattle.rv_model.proofs.instruction_lemmas.Scans.{In, found, table_apart}

@@ -16,8 +16,7 @@ use Rattle.rv_model.specs.declared.assembler.mnemonics.Mnemonic.{Mnemonic}
 use Rattle.rv_model.specs.declared.assembler.mnemonics.TheConstants.{MNEMONICS, NAME_COUNT}
 use Rattle.rv_model.specs.declared.instructions.instruction.Instr.{Instr}
 use Rattle.rv_model.specs.instructions.Table.{scan, table}
-use Rattle.rv_model.specs.assembler.OperationNames.{mnemonic}
-use Rattle.rv_model.specs.assembler.TextLayouts.{slots}
+use Rattle.rv_model.specs.assembler.InstructionTexts.{mnemonic, slots}
 use Rattle.rv_model.specs.assembler.Tokens.{Token, tokens, in_run, begins_run, with_first_byte}
 use Rattle.rv_model.specs.assembler.Table.{Spelling, spellings, spelling_of, directive, read_operands, spelled_by, spelled, text_by, operands_text, printed_operands, has_name, spelling, canonical}
 use Rattle.rv_model.specs.lending.NameTable.{slots_of, unpadded, row_named, row_at, bits_at, slots_at, name_at, row_of_word}

@@ -20,8 +20,8 @@ use Rattle.rv_model.specs.instructions.Sources.{form_of, source_of}
 use Rattle.rv_model.specs.instructions.Table.{Row, table, scan}
 use Rattle.rv_model.proofs.instruction_lemmas.Scans.{In, some_row}
 use Rattle.rv_model.proofs.instruction_lemmas.RoundTrips.{template_of}
-use Rattle.rv_model.specs.assembler.TextLayouts.{slots}
-use Rattle.rv_model.specs.assembler.TextLayouts as layout
+use Rattle.rv_model.specs.assembler.InstructionTexts.{slots}
+use Rattle.rv_model.specs.assembler.InstructionTexts as layout
 use Rattle.rv_model.specs.assembler.Operands.{TextOperand, V, Mask, SlotsHoldOperands, arith_operands, carry_operands, multiply_add_operands, operand_in, second, text_operands, usual_operands}
 
 abbrev operands_in : ℕ → List Slot → List TextOperand

@@ -1,4 +1,4 @@
--- The operands of each instruction's text by the fields of the instruction: what its slots (`TextLayouts`, where the manual's sections
+-- The operands of each instruction's text by the fields of the instruction: what its slots (`InstructionTexts`, where the manual's sections
 -- stand) hold, in their order. Nothing else rests on this: it is for a law
 use Rattle.std.specs.Prelude.{ℕ, ◌≡◌, ◌==◌, List, [], ◌∷◌, flat_map, Bool, true, false, if◌then◌else◌, IfSome}
 use Rattle.rv_model.specs.instructions.Types.{VectorOp, Source}
@@ -13,7 +13,7 @@ use Rattle.rv_model.specs.elements.FixedPoint.{has_unsigned_shift}
 use Rattle.rv_model.specs.instructions.Table.{scan, table}
 use Rattle.rv_model.specs.assembler.Slots.{scale}
 use Rattle.rv_model.specs.assembler.Fields.{value_of, bit_count}
-use Rattle.rv_model.specs.assembler.TextLayouts.{slots}
+use Rattle.rv_model.specs.assembler.InstructionTexts.{slots}
 
 -- an operand of a text, with what it is in the instruction
 pub data TextOperand : Type 0 where

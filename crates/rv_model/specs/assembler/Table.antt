@@ -15,8 +15,7 @@ use Rattle.rv_model.specs.instructions.Table.{scan, table}
 use Rattle.rv_model.specs.assembler.Tokens.{Token, tokens}
 use Rattle.rv_model.specs.assembler.Slots.{◌>>=◌, read, printed}
 use Rattle.rv_model.specs.assembler.Fields.{placed, value_of}
-use Rattle.rv_model.specs.assembler.TextLayouts.{slots}
-use Rattle.rv_model.specs.assembler.OperationNames.{mnemonic}
+use Rattle.rv_model.specs.assembler.InstructionTexts.{slots, mnemonic}
 
 -- what bit 25 may be where it is in the name: of vmadc and vmsbc
 abbrev pub flags_named : VectorOp → List Bool
