@@ -59,7 +59,7 @@ same_fields : (w v : ℕ) → bit_and w (7 * 2 ^ 29) ≡ bit_and v (7 * 2 ^ 29) 
 same_fields w v h = omega (arith, h, and_high w 3 29, and_high v 3 29)
 
 abbrev vector_name : VectorOp → Form → Bool → List ℕ
-vector_name op f vm = (vector_entry op).name ++ vector_suffix op f vm
+vector_name op f vm = (vector_entry op).0 ++ vector_suffix op f vm
 
 vector_same : (op : VectorOp) (f : Form) (w v : ℕ) → bit_and w (told_by_operation op) ≡ bit_and v (told_by_operation op) → vector_name op f (flag w) ≡ vector_name op f (flag v)
 vector_same (vector_op.CarryOut op) f w v h = ap (λ (vm : Bool). vector_name (vector_op.CarryOut op) f vm) (same_flag w v h)
@@ -74,7 +74,7 @@ same_name (instr.Vector (Arith arith vd vs2 vm)) w v h =
     ∙ ap (λ (g : Form). vector_name arith.0 g (flag v)) (sym (form_source_of f (field 15 5 v)))
 same_name (instr.Vector (Carry carry vd vs2)) w v h =
     let f = form_of carry.1 in
-    ap (λ (g : Form). (carry_entry carry.0).name ++ codes ".v" ++ source_letter g ++ codes "m") (form_source_of f (field 15 5 w) ∙ sym (form_source_of f (field 15 5 v)))
+    ap (λ (g : Form). (carry_entry carry.0).0 ++ codes ".v" ++ source_letter g ++ codes "m") (form_source_of f (field 15 5 w) ∙ sym (form_source_of f (field 15 5 v)))
 same_name (instr.Vector (Move source vd)) w v h =
     let f = form_of source in
     ap (λ (g : Form). codes "vmv.v." ++ source_letter g) (form_source_of f (field 15 5 w) ∙ sym (form_source_of f (field 15 5 v)))

@@ -128,37 +128,37 @@ base = Open ∷ Scalar Rs1 ∷ Close ∷ []
 
 abbrev pub spelt : Instr → List ℕ × List Slot
 -- `lui rd, imm`: RV32I, "Integer Register-Immediate Instructions"
-spelt (instr.Scalar (Upper op rd imm)) = ((upper_entry op).name, Scalar Rd ∷ Comma ∷ Unsigned unsigned.Upper ∷ [])
+spelt (instr.Scalar (Upper op rd imm)) = ((upper_entry op).0, Scalar Rd ∷ Comma ∷ Unsigned unsigned.Upper ∷ [])
 -- `jal rd, offset`: RV32I, "Unconditional Jumps"; the distance from the instruction, with 21 bits, the lowest of them 0
 spelt (instr.Scalar (Jump rd imm)) = (codes "jal", Scalar Rd ∷ Comma ∷ Signed signed.Jump ∷ [])
 -- `jalr rd, offset(rs1)`: RV32I, "Unconditional Jumps"
 spelt (instr.Scalar (JumpRegister rd rs1 imm)) = (codes "jalr", Scalar Rd ∷ Comma ∷ Signed signed.Immediate ∷ base)
 -- `beq rs1, rs2, offset`: RV32I, "Conditional Branches"; the distance from the instruction, with 13 bits, the lowest of them 0
-spelt (instr.Scalar (Branch op rs1 rs2 imm)) = ((branch_entry op).name, Scalar Rs1 ∷ Comma ∷ Scalar Rs2 ∷ Comma ∷ Signed signed.Branch ∷ [])
+spelt (instr.Scalar (Branch op rs1 rs2 imm)) = ((branch_entry op).0, Scalar Rs1 ∷ Comma ∷ Scalar Rs2 ∷ Comma ∷ Signed signed.Branch ∷ [])
 -- `ld rd, offset(rs1)`: RV32I and RV64I, "Load and Store Instructions"
-spelt (instr.Scalar (Load op rd rs1 imm)) = ((load_entry op).name, Scalar Rd ∷ Comma ∷ Signed signed.Immediate ∷ base)
+spelt (instr.Scalar (Load op rd rs1 imm)) = ((load_entry op).0, Scalar Rd ∷ Comma ∷ Signed signed.Immediate ∷ base)
 -- `sd rs2, offset(rs1)`: RV32I and RV64I, "Load and Store Instructions"
-spelt (instr.Scalar (Store op rs1 rs2 imm)) = ((store_entry op).name, Scalar Rs2 ∷ Comma ∷ Signed signed.Store ∷ base)
+spelt (instr.Scalar (Store op rs1 rs2 imm)) = ((store_entry op).0, Scalar Rs2 ∷ Comma ∷ Signed signed.Store ∷ base)
 -- `addi rd, rs1, imm`: RV32I and RV64I, "Integer Register-Immediate Instructions"
 spelt (instr.Scalar (RegisterImmediate op rd rs1 imm)) =
-    ((immediate_entry op).name, Scalar Rd ∷ Comma ∷ Scalar Rs1 ∷ Comma ∷ Signed signed.Immediate ∷ [])
+    ((immediate_entry op).0, Scalar Rd ∷ Comma ∷ Scalar Rs1 ∷ Comma ∷ Signed signed.Immediate ∷ [])
 -- `slli rd, rs1, shamt`: RV64I, "Integer Register-Immediate Instructions"
 spelt (instr.Scalar (ShiftImmediate op rd rs1 shamt)) =
-    ((shift_immediate_entry op).name, Scalar Rd ∷ Comma ∷ Scalar Rs1 ∷ Comma ∷ Unsigned unsigned.Shift ∷ [])
+    ((shift_immediate_entry op).0, Scalar Rd ∷ Comma ∷ Scalar Rs1 ∷ Comma ∷ Unsigned unsigned.Shift ∷ [])
 -- `slliw rd, rs1, shamt`: RV64I, "Integer Register-Immediate Instructions"
 spelt (instr.Scalar (ShiftImmediateWord op rd rs1 shamt)) =
-    ((shift_immediate_word_entry op).name, Scalar Rd ∷ Comma ∷ Scalar Rs1 ∷ Comma ∷ Unsigned unsigned.ShiftWord ∷ [])
+    ((shift_immediate_word_entry op).0, Scalar Rd ∷ Comma ∷ Scalar Rs1 ∷ Comma ∷ Unsigned unsigned.ShiftWord ∷ [])
 -- `add rd, rs1, rs2`: RV32I and RV64I, "Integer Register-Register Operations"; M
-spelt (instr.Scalar (RegisterRegister op rd rs1 rs2)) = ((register_entry op).name, Scalar Rd ∷ Comma ∷ Scalar Rs1 ∷ Comma ∷ Scalar Rs2 ∷ [])
+spelt (instr.Scalar (RegisterRegister op rd rs1 rs2)) = ((register_entry op).0, Scalar Rd ∷ Comma ∷ Scalar Rs1 ∷ Comma ∷ Scalar Rs2 ∷ [])
 -- `fence` alone: RV32I, "Memory Ordering Instructions"
 spelt (instr.Scalar (Fence rd rs1 ordering)) = (codes "fence", [])
 -- `ecall`: RV32I, "Environment Call and Breakpoints"
-spelt (instr.Scalar (System op)) = ((system_entry op).name, [])
+spelt (instr.Scalar (System op)) = ((system_entry op).0, [])
 -- `csrrw rd, csr, rs1`: Zicsr, "CSR Instructions"
-spelt (instr.Csr (Register op rd rs1 csr)) = ((csr_entry op).name, Scalar Rd ∷ Comma ∷ slot.Csr ∷ Comma ∷ Scalar Rs1 ∷ [])
+spelt (instr.Csr (Register op rd rs1 csr)) = ((csr_entry op).0, Scalar Rd ∷ Comma ∷ slot.Csr ∷ Comma ∷ Scalar Rs1 ∷ [])
 -- `csrrwi rd, csr, uimm`: Zicsr, "CSR Instructions"
 spelt (instr.Csr (Immediate op rd imm csr)) =
-    ((csr_immediate_entry op).name, Scalar Rd ∷ Comma ∷ slot.Csr ∷ Comma ∷ Unsigned unsigned.Immediate ∷ [])
+    ((csr_immediate_entry op).0, Scalar Rd ∷ Comma ∷ slot.Csr ∷ Comma ∷ Unsigned unsigned.Immediate ∷ [])
 -- `vsetvli rd, rs1, vtypei`: V, "Configuration-Setting Instructions"
 spelt (instr.Vector (SetVli rd rs1 vtype)) = (codes "vsetvli", Scalar Rd ∷ Comma ∷ Scalar Rs1 ∷ Comma ∷ slot.VectorType ∷ [])
 -- `vsetivli rd, uimm, vtypei`: V, "Configuration-Setting Instructions"
@@ -168,11 +168,11 @@ spelt (instr.Vector (SetIvli rd avl vtype)) =
 spelt (instr.Vector (SetVl rd rs1 rs2)) = (codes "vsetvl", Scalar Rd ∷ Comma ∷ Scalar Rs1 ∷ Comma ∷ Scalar Rs2 ∷ [])
 -- `vadd.vv vd, vs2, vs1, vm` and the like: by the operation, above
 spelt (instr.Vector (Arith arith vd vs2 vm)) =
-    ((vector_entry arith.0).name ++ vector_suffix arith.0 (form_of arith.1) vm, arith_slots arith.0 (form_of arith.1) vm)
+    ((vector_entry arith.0).0 ++ vector_suffix arith.0 (form_of arith.1) vm, arith_slots arith.0 (form_of arith.1) vm)
 -- `vadc.vvm vd, vs2, vs1, v0`: V, "Vector Integer Add-with-Carry / Subtract-with-Borrow Instructions", "Vector Integer
 -- Merge Instructions"
 spelt (instr.Vector (Carry carry vd vs2)) =
-    ((carry_entry carry.0).name ++ codes ".v" ++ source_letter (form_of carry.1) ++ codes "m", carry_slots (form_of carry.1))
+    ((carry_entry carry.0).0 ++ codes ".v" ++ source_letter (form_of carry.1) ++ codes "m", carry_slots (form_of carry.1))
 -- `vmv.v.v vd, vs1`: V, "Vector Integer Move Instructions"
 spelt (instr.Vector (Move source vd)) =
     (codes "vmv.v." ++ source_letter (form_of source), Vector Rd ∷ Comma ∷ second false (form_of source) ∷ [])
@@ -180,15 +180,15 @@ spelt (instr.Vector (Move source vd)) =
 spelt (instr.Vector (WholeMove count vd vs2)) =
     (codes "vmv" ++ hex_digit (register_count count) ∷ codes "r.v", Vector Rd ∷ Comma ∷ Vector Rs2 ∷ [])
 -- `vmand.mm vd, vs2, vs1`: V, "Vector Mask-Register Logical Instructions"
-spelt (instr.Vector (MaskLogic op vd vs1 vs2)) = ((mask_logic_entry op).name, Vector Rd ∷ Comma ∷ Vector Rs2 ∷ Comma ∷ Vector Rs1 ∷ [])
+spelt (instr.Vector (MaskLogic op vd vs1 vs2)) = ((mask_logic_entry op).0, Vector Rd ∷ Comma ∷ Vector Rs2 ∷ Comma ∷ Vector Rs1 ∷ [])
 -- `vcompress.vm vd, vs2, vs1`: V, "Vector Compress Instruction"
 spelt (instr.Vector (Compress vd vs1 vs2)) = (codes "vcompress.vm", Vector Rd ∷ Comma ∷ Vector Rs2 ∷ Comma ∷ Vector Rs1 ∷ [])
 -- `vcpop.m rd, vs2, vm`: V, "Vector count population in mask vcpop.m", "vfirst find-first-set mask bit"
-spelt (instr.Vector (MaskToScalar op rd vs2 vm)) = ((mask_to_scalar_entry op).name, Scalar Rd ∷ Comma ∷ Vector Rs2 ∷ Mask ∷ [])
+spelt (instr.Vector (MaskToScalar op rd vs2 vm)) = ((mask_to_scalar_entry op).0, Scalar Rd ∷ Comma ∷ Vector Rs2 ∷ Mask ∷ [])
 -- `vzext.vf2 vd, vs2, vm`: V, "Vector Integer Extension"
-spelt (instr.Vector (Extend op vd vs2 vm)) = ((extend_entry op).name, Vector Rd ∷ Comma ∷ Vector Rs2 ∷ Mask ∷ [])
+spelt (instr.Vector (Extend op vd vs2 vm)) = ((extend_entry op).0, Vector Rd ∷ Comma ∷ Vector Rs2 ∷ Mask ∷ [])
 -- `vmsbf.m vd, vs2, vm`: V, "vmsbf.m set-before-first mask bit" and the like, "Vector Iota Instruction"
-spelt (instr.Vector (MaskUnary op vd vs2 vm)) = ((mask_unary_entry op).name, Vector Rd ∷ Comma ∷ Vector Rs2 ∷ Mask ∷ [])
+spelt (instr.Vector (MaskUnary op vd vs2 vm)) = ((mask_unary_entry op).0, Vector Rd ∷ Comma ∷ Vector Rs2 ∷ Mask ∷ [])
 -- `vid.v vd, vm`: V, "Vector Element Index Instruction"
 spelt (instr.Vector (ElementIndex vd vm)) = (codes "vid.v", Vector Rd ∷ Mask ∷ [])
 -- `vmv.x.s rd, vs2`: V, "Integer Scalar Move Instructions"
