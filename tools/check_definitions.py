@@ -83,7 +83,7 @@ def wrong_kit(page: str) -> Iterator[str]:
         for crate, modules in re.findall(r"^\| `(\w+)` \| (.*) \|$", section, re.MULTILINE)
     }
     is_so: dict[str, set[str]] = {}
-    for crate, module in counted.modules_of_kit(counted.definitions()):
+    for crate, module in counted.modules_of_kit(counted.definitions(())):
         if not module.startswith("declared."):
             is_so.setdefault(crate, set()).add(module)
     for crate in sorted(said.keys() | is_so.keys()):

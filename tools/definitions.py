@@ -6,7 +6,7 @@ items cite beyond these, with all that it rests on: definitions of `lending` and
 lines that the headline rests on, those that are read for one vector addition, and the modules of the kit that are cited.
 
 With names it prints, file by file, what they rest on: `monitor_script::run` is a contract, `monitor_script::run.headline` one of its
-clauses, `step.Step.step` a definition of `rv_model`. With `--case`, clauses for siblings of these variants are left out.
+clauses, `step.Step.step` a definition of `rv_model`. With `--case`, clauses and rows for siblings of these variants are left out.
 
 Blank lines, comments and `use` lines aren't counted; the lines that name a module's files are. Of `src` constants
 are counted, and types aren't: definitions name their variants and fields.
@@ -15,7 +15,7 @@ are counted, and types aren't: definitions name their variants and fields.
 import re
 import sys
 from collections import defaultdict
-from collections.abc import Iterable, Iterator
+from collections.abc import Container, Iterable, Iterator
 from dataclasses import dataclass, field
 from functools import cache
 from itertools import takewhile
@@ -37,6 +37,7 @@ ITEM = re.compile(
     r"(?:pub(?:\(\w+\))? )?(?:const )?(fn|trait|struct|enum|impl|const|static|type)\b (?:[\w:]+ for )?(\w+)"
 )
 CLAUSE = re.compile(r"\s*(?:requires|ensures\*?) ?(\w*)")
+OWN = ("invariant", "coded")
 
 
 @dataclass(frozen=True, order=True)
@@ -163,24 +164,44 @@ def is_constant(name: Name) -> bool:
     return name.module.startswith("declared") and name.name.isupper()
 
 
+def pieces_of(text: str) -> Iterator[str]:
+    """The clauses of a definition; of a table, which has a row behind each `++` at the beginning of a line, its rows."""
+    is_table = "\n    ++ " in text
+    piece: list[str] = []
+    for line in text.split("\n"):
+        is_row = is_table and (line.startswith("    ++ ") or bool(piece) and piece[-1].endswith(" ="))
+        if piece and (is_row or not line.startswith(" ")):
+            yield "\n".join(piece)
+            piece = []
+        piece.append(line)
+    yield "\n".join(piece)
+
+
 def of_cases(text: Text, cases: frozenset[str]) -> Text:
-    """A definition without the clauses that are for siblings of these variants."""
+    """A definition without the clauses that are for siblings of these variants, and without the rows that are for siblings alone."""
     kept: list[str] = []
-    keep = True
-    for line in text.text.split("\n"):
-        if not line.startswith(" "):
-            head = line.partition(" = ")[0] if " : " not in line else ""
-            keep = all(is_asked(it, cases) for it in met(Text(text.path, head, text.scope)))
-        if keep:
-            kept.append(line)
+    is_clause_kept = True
+    for piece in pieces_of(text.text):
+        first = piece.split("\n")[0]
+        if is_row := piece.startswith(" "):
+            keep = is_for(met(Text(text.path, piece, text.scope)), cases)
+        else:
+            head = first.partition(" = ")[0] if " : " not in first else ""
+            keep = is_clause_kept = all(is_for([it], cases) for it in met(Text(text.path, head, text.scope)))
+        if keep and (is_clause_kept or not is_row):
+            kept.append(piece)
     return Text(text.path, "\n".join(kept), text.scope)
 
 
-def is_asked(name: Name, cases: frozenset[str]) -> bool:
-    """Whether no sibling of a variant is among the cases, or it is itself."""
-    owner, variant = declared(name) if name.module.startswith("declared.") else (resolved(name), name.name)
-    asked = {it.partition(".")[2] for it in cases if it.partition(".")[0] == owner.name}
-    return variant is None or variant == owner.name or not asked or variant in asked
+def is_for(names: Iterable[Name], cases: frozenset[str]) -> bool:
+    """Whether of each type of which these names have variants, and the cases too, one is in both."""
+    found: defaultdict[str, set[str]] = defaultdict(set)
+    for name in names:
+        owner, variant = declared(name) if name.module.startswith("declared.") else (resolved(name), name.name)
+        if variant is not None and variant != owner.name:
+            found[owner.name].add(variant)
+    asked = {owner: {it.partition(".")[2] for it in cases if it.startswith(f"{owner}.")} for owner in found}
+    return all(not asked[owner] or asked[owner] & variants for owner, variants in found.items())
 
 
 @dataclass(frozen=True)
@@ -312,7 +333,7 @@ def types_of(crate: str) -> dict[str, Text]:
     """What the values of a crate's types are, and what the ghosts of its traits are of."""
     found: dict[str, Text] = {}
     for it in contracts(crate):
-        if it.ghost not in ("", "invariant", "coded"):
+        if it.ghost not in ("", *OWN):
             there = found.get(it.name, Text(it.text.path, ""))
             found[it.name] = Text(there.path, there.text + it.text.text, there.scope | it.text.scope)
     return found
@@ -387,13 +408,15 @@ def module_files() -> dict[str, dict[str, int]]:
     }
 
 
-def others() -> dict[Name, Text]:
-    """What exported contracts of all crates cite, with what it rests on."""
+def others(left_out: Container[str] = OWN) -> dict[Name, Text]:
+    """What exported contracts of all crates cite, with what it rests on. A type's invariant, which its crate is proved to keep, and how
+    its values are stored are left out, as the type's own: no contract says more or less by them."""
     crates = sorted(it.name for it in CRATES.iterdir() if not re.match("test_|bench_|draws", it.name))
-    return closure({name for crate in crates for it in exported(crate) for name in met(it.text)})
+    handed = (it for crate in crates for it in exported(crate) if it.ghost not in left_out)
+    return closure({name for it in handed for name in met(it.text)})
 
 
-def definitions() -> dict[Name, Text]:
+def definitions(left_out: Container[str] = OWN) -> dict[Name, Text]:
     """All definitions of `rv_model` but those of `lending`, and what exported contracts cite, with what they rest on."""
     modules = [".".join(it.relative_to(MODEL).with_suffix("").parts) for it in MODEL.rglob("*.antt")]
     model = [
@@ -402,7 +425,7 @@ def definitions() -> dict[Name, Text]:
         if not it.startswith("lending")
         for name in module_of("rv_model", it)[0]
     ]
-    return closure(model) | others()
+    return closure(model) | others(left_out)
 
 
 def by_part(files: dict[Path, int]) -> dict[str, int]:
@@ -448,7 +471,7 @@ def print_all() -> None:
     headline, read = files_of(closure(start_of(HEADLINE))), addition()
     print(f"{sum(headline.values()):6,}  in {len(headline)} files: what the headline rests on")
     print(f"{sum(read.values()):6,}  in {len(read)} files: from the headline to vadd.vv")
-    kit = modules_of_kit(found)
+    kit = modules_of_kit(definitions(()))
     for crate in sorted({it for it, _ in kit}):
         print(f"kit's {crate}: {', '.join(f'{module} {names}' for (it, module), names in kit.items() if it == crate)}")
 
