@@ -2,10 +2,9 @@
 #![tactic(auto, unfolding(rv_model::specs::step::Step::executed, rv_model::specs::step::Step::dirties))]
 
 ghost use Rattle.std.specs.Prelude.{◌≡◌, ◌||◌, List, bit_and, ℕ};
-ghost use Rattle.rv_decode.specs.Irregular.{irregular, other_accesses};
+ghost use Rattle.rv_decode.specs.Groups.{rows_where, is_irregular_instr, is_unit_stride, is_other_access};
 ghost use Rattle.rv_model.specs.declared.vector.policy.Policy.{Policy};
 ghost use Rattle.rv_model.specs.instructions.Table.{scan, table};
-ghost use Rattle.rv_model.specs.lending.Families.{rows, Units};
 ghost use Rattle.rv_model.specs.memory.Memory.{Memory};
 ghost use Rattle.rv_model.specs.step.Hart.{ends_after, hart_state};
 ghost use Rattle.rv_model.specs.step.VectorStep.{access_cause, after_vector, is_legal_end};
@@ -16,10 +15,7 @@ use crate::retirement::retire;
 use crate::ticks::{Found, access_ticks};
 use crate::vectors::Vectors;
 use crate::view::StepTerms;
-use rv_decode::{
-    decode_irregular, decode_registers, decode_regular, decode_strided_or_indexed,
-    decode_unit_stride, is_register_access,
-};
+use rv_decode::{decode_irregular, decode_other_access, decode_regular, decode_unit_stride};
 use rv_model::{Cause, Scalar, Seat, StepEnd, VEnd};
 use vec_unit::{exec_access, exec_arith, exec_operation, exec_other_access};
 use vector_memory::UserBytes;
@@ -90,7 +86,7 @@ pub(crate) fn execute_irregular<M: UserBytes, V: Vectors>(
 ) -> usize
     requires ready { V.ready vectors.old }
     requires opcode { bit_and word 0x7f ≡ 0x57 }
-    requires row { scan table word ≡ scan irregular word }
+    requires row { scan table word ≡ scan (rows_where is_irregular_instr) word }
     requires end { end.old ≡ StepEnd.Ran }
     ensures model { Executes M.memory V.lent terms word scalar.old memory.old vectors.old
         scalar.new memory.new vectors.new end.new result }
@@ -148,7 +144,7 @@ pub(crate) fn execute_access<M: UserBytes, V: Vectors>(
     end: &mut StepEnd,
 ) -> usize
     requires ready { V.ready vectors.old }
-    requires row { scan table word ≡ scan (rows Units) word }
+    requires row { scan table word ≡ scan (rows_where is_unit_stride) word }
     requires end { end.old ≡ StepEnd.Ran }
     ensures model { Executes M.memory V.lent terms word scalar.old memory.old vectors.old
         scalar.new memory.new vectors.new end.new result }
@@ -181,18 +177,14 @@ pub(crate) fn execute_other_access<M: UserBytes, V: Vectors>(
     end: &mut StepEnd,
 ) -> usize
     requires ready { V.ready vectors.old }
-    requires row { scan table word ≡ scan other_accesses word }
+    requires row { scan table word ≡ scan (rows_where is_other_access) word }
     requires end { end.old ≡ StepEnd.Ran }
     ensures model { Executes M.memory V.lent terms word scalar.old memory.old vectors.old
         scalar.new memory.new vectors.new end.new result }
     ensures memory { memory.new ≡ M.with_memory memory.old (M.memory memory.new) }
     ensures vectors { Seats M.memory V.ready V.lent V.back terms word scalar.old memory.old vectors.old vectors.new }
 {
-    let decoded = if is_register_access(word) {
-        decode_registers(word)
-    } else {
-        decode_strided_or_indexed(word)
-    };
+    let decoded = decode_other_access(word);
     let Some(access) = &decoded else {
         *end = illegal(word, scalar);
         return 1;

@@ -8,7 +8,7 @@ use Rattle.std.proofs.lemmas.Nat.Bits.{bit_at_ones, bit_at_ones_above}
 use Rattle.std.proofs.lemmas.Simd.{get_or-chunk, get_or-put_chunk_above, get_or-put_chunk_at, get_or-replicate, length-chunk}
 use lib.Lanes.{chunk, number_l, put_chunk}
 use Rattle.rv_model.specs.elements.Elements.{element}
-use Rattle.rv_model.specs.elements.Permutations.{gathered}
+use Rattle.rv_model.specs.elements.PermutationResults.{gathered}
 use Rattle.rv_model.proofs.element_lemmas.Reads.{element-take}
 
 -- ---- bytes

@@ -2,7 +2,7 @@
 ghost use Rattle.std.specs.Prelude.{◌≡◌, ◌+◌, ◌-◌, ◌*◌, ◌/◌, ◌%◌, ◌^◌, ◌<◌, ◌≤◌, ◌==◌, ◌&&◌, ℕ, List, length, nat_lt};
 ghost use Rattle.std.specs.Prelude.{not, slice_index};
 ghost use Rattle.rv_model.specs.elements.Elements.{element, mask_bit};
-ghost use Rattle.rv_model.specs.elements.Permutations.{packed};
+ghost use Rattle.rv_model.specs.elements.PermutationResults.{packed};
 ghost use Rattle.rv_model.specs.lending.Writes.{Writes};
 ghost use Rattle.rv_model.specs.vector.Configuration.{width_bytes};
 

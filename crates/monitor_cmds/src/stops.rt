@@ -1,6 +1,6 @@
 //! How a program stops, and where it stands then.
 ghost use Rattle.std.specs.Prelude.{◌≡◌, [], ◌∷◌, ◌++◌, ◌+◌, ◌≤◌, length, codes, decimal};
-ghost use Rattle.rv_model.specs.step.Causes.{cause_number};
+ghost use Rattle.rv_model.specs.step.Hart.{cause_number};
 ghost use Rattle.rv_model.specs.commands.Printing.{hex16, stop_line};
 ghost use Rattle.rv_model.specs.text.Lines.{text};
 ghost use Rattle.monitor_cmds.specs.Tag.{tag_byte};

@@ -1,3 +1,2 @@
 pub mod GroupLending
-pub mod Irregular
 pub mod Roles

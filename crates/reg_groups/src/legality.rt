@@ -8,7 +8,7 @@ ghost use Rattle.rv_model.specs.legality.OperandShapes.{group, mask, v0};
 ghost use Rattle.rv_model.specs.legality.RegisterOperands.{are_legal, is_group};
 ghost use Rattle.rv_model.specs.vector.Configuration.{group_type, sew_width};
 ghost use Rattle.rv_model.specs.vector.Groups.{registers_type};
-ghost use Rattle.reg_groups.specs.Irregular.{is_irregular};
+ghost use Rattle.rv_model.specs.lending.Irregular.{is_irregular};
 ghost use Rattle.reg_groups.specs.Roles.{is_apart_from_mask, is_mask_outside};
 
 use crate::agreement::is_group;

@@ -3,7 +3,6 @@ pub mod FieldLaws
 pub mod FormLaws
 pub mod Loop
 pub mod NameLaws
-pub mod NamedWords
 pub mod NumberLaws
 pub mod RowLaws
 pub mod SlotLaws

@@ -5,9 +5,8 @@ use Rattle.std.proofs.lemmas.Bool.{agree_below_at, and_parts, ltb-true, eqb-true
 use Rattle.rv_model.specs.assembler.Tokens.{Token, tokens}
 use Rattle.rv_model.specs.instructions.BitFields.{Part, sum_of, mask_of}
 use Rattle.rv_model.specs.declared.assembler.forms.Slot.{Slot}
-use Rattle.rv_model.specs.assembler.Fields.{fixed_mask}
 use Rattle.rv_model.specs.declared.assembler.mnemonics.TheConstants.{ROW_COUNT}
-use Rattle.rv_model.specs.assembler.Table.{row_named, row_at, name_at, slots_at, bits_at, read_operands, spelled_by, spelled, operands_text, printed_operands, text_at}
+use Rattle.rv_model.specs.assembler.Table.{read_operands, operands_text, printed_operands}
 use Rattle.rv_model.proofs.instruction_lemmas.Parts.{share_none, rebuilt}
 use Rattle.rv_asm.specs.Spans.{spans}
 use Rattle.rv_asm.proofs.Assembling.{spelled_with}
@@ -15,6 +14,8 @@ use Rattle.rv_asm.proofs.Tokens.{all_run}
 use Rattle.rv_asm.proofs.FieldLaws.{operand_parts, operand_parts_of_word}
 use Rattle.rv_asm.proofs.SlotLaws.{run_is_one_token}
 use Rattle.rv_asm.proofs.FormLaws.{is_form, form_again}
+use Rattle.rv_model.specs.lending.NameTable.{fixed_mask, row_named, row_at, name_at, slots_at, bits_at}
+use Rattle.rv_model.proofs.assembler_lemmas.ListedTexts.{listed_by, listed, text_at}
 
 abbrev is_row : ℕ → Option ℕ → Bool
 is_row row None = false
@@ -86,14 +87,14 @@ name_then_operands end bits w name [] run some f = (tokens (1 + length name) [],
 name_then_operands end bits w name (s ∷ ss) run some f =
     (tokens (1 + length name + 1) (printed_operands (s ∷ ss) w), run_is_one_token 1 name (32 ∷ printed_operands (s ∷ ss) w) run some refl, form_again (s ∷ ss) w (1 + length name + 1) end bits f)
 
-pub text_again : (row w : ℕ) → row < ROW_COUNT → w < 2 ^ 32 → bit_and w (fixed_mask (slots_at row)) ≡ bits_at row → spelled (text_at row w) ≡ Ok w
-unfolding spelled text_at
+pub text_again : (row w : ℕ) → row < ROW_COUNT → w < 2 ^ 32 → bit_and w (fixed_mask (slots_at row)) ≡ bits_at row → listed (text_at row w) ≡ Ok w
+unfolding listed text_at
 text_again row w lt small is =
     let r = row_facts row lt in
     let ss = slots_at row in
     let end = length (text_at row w) + 1 in
     let s = name_then_operands end (bits_at row) w (name_at row) ss r.run r.some r.form in
-    ap (spelled_by end) s.1
+    ap (listed_by end) s.1
     ∙ ap (spelled_with end (record { column = 1; text = name_at row }) s.0) r.found
     ∙ s.2
     ∙ ap (λ (n : ℕ). Ok n) (ap₂ (λ (b : ℕ) (ps : List Part). sum_of b ps) (sym is) (operand_parts_of_word ss w) ∙ rebuilt w (fixed_mask ss) (operand_parts ss 0) small r.apart r.full)

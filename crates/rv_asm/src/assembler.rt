@@ -1,16 +1,15 @@
 //! The word that a text spells, and the canonical text of a word.
-ghost use Rattle.std.specs.Prelude.{◌≡◌, ◌≤◌, ◌+◌, ◌*◌, ◌++◌, length, Ok, Err, IfOk, IfErr, codes};
+ghost use Rattle.std.specs.Prelude.{◌≡◌, ◌≤◌, ◌+◌, ◌*◌, ◌++◌, length, Ok, Err, IfOk, IfErr};
 ghost use Rattle.arrayvec.specs.ArrayString.{array_string_len};
-ghost use Rattle.rv_model.specs.assembler.Table.{spelled, canonical, operands_text};
-ghost use Rattle.rv_model.specs.assembler.Numbers.{hex_digits};
-ghost use Rattle.rv_model.specs.assembler.Naming.{HasName, IsNamed};
+ghost use Rattle.rv_model.specs.assembler.Table.{spelled, spelling, canonical, operands_text};
+ghost use Rattle.rv_model.specs.lending.NameTable.{fixed_mask, slots_of};
 
 use crate::fault::AsmFault;
 use crate::operands::{put_operands, read_operands};
 use crate::print::{Text, put_name};
-use crate::table::{row_at, row_named, row_of_word, slots_of};
+use crate::table::{fixed_mask, row_at, row_named, row_of_word, slots_of};
 use crate::token::take;
-use rv_model::assembler::forms::Slot;
+use rv_model::assembler::forms::{Form, Slot};
 use rv_model::assembler::mnemonics::Mnemonic;
 
 /// The word that a text spells: the name of an instruction and its operands, or `.word` and a
@@ -43,14 +42,31 @@ pub fn text_of(word: u32, text: &mut Text)
     ensures text { text.new.bytes ≡ canonical word }
     // Assembling the text gives the word again.
     ensures again { spelled text.new.bytes ≡ Ok word }
-    // Every instruction has its name, but for fences other than `fence`; any other word is `.word`
-    // and 8 digits.
-    ensures named { HasName word → IsNamed word text.new.bytes }
-    ensures directive { ¬ (HasName word)
-        → text.new.bytes ≡ codes ".word 0x" ++ hex_digits 8 word }
 {
     text.clear();
     let Mnemonic(name, form, _) = row_at(row_of_word(word));
     put_name(&name, text);
     put_operands_text(slots_of(form), word, text);
+}
+
+/// The form of a word's canonical text.
+fn form_of(word: u32) -> Form
+    ensures { slots_of result ≡ (spelling word).slots }
+{
+    let Mnemonic(_, form, _) = row_at(row_of_word(word));
+    form
+}
+
+/// What stands behind the name in the canonical text of a word.
+pub fn slots_of_word(word: u32) -> &'static [Slot]
+    ensures { result.now ≡ (spelling word).slots }
+{
+    slots_of(form_of(word))
+}
+
+/// Ones at the bits of a word that no operand of its text fills.
+pub fn name_mask(word: u32) -> u32
+    ensures { result ≡ fixed_mask (spelling word).slots }
+{
+    fixed_mask(form_of(word))
 }

@@ -4,7 +4,6 @@
 mod assembler;
 mod fault;
 mod field;
-mod laws;
 mod name;
 mod number;
 mod operands;
@@ -14,8 +13,6 @@ mod table;
 mod token;
 mod vector_type;
 
-pub use assembler::{assemble, text_of};
+pub use assembler::{assemble, name_mask, slots_of_word, text_of};
 pub use fault::AsmFault;
-pub use laws::one_name;
 pub use print::Text;
-pub use table::{fixed_mask, slots_of};

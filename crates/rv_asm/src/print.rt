@@ -4,7 +4,7 @@ ghost use Rattle.arrayvec.specs.ArrayString.{array_string_len};
 ghost use Rattle.rv_model.specs.assembler.Numbers.{hex_digit, hex_digits};
 ghost use Rattle.rv_model.specs.assembler.Slots.{vtype_named, vtype_text, signed_text, printed};
 ghost use Rattle.rv_model.specs.lending.Slots.{value_count};
-ghost use Rattle.rv_model.specs.assembler.Table.{unpadded};
+ghost use Rattle.rv_model.specs.lending.NameTable.{unpadded};
 
 use crate::read::{half, step};
 use arrayvec::ArrayString;

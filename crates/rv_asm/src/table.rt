@@ -2,10 +2,9 @@
 ghost use Rattle.std.specs.Prelude.{ℕ, ◌≡◌, ◌≤◌, ◌<◌, ◌^◌, ◌+◌, ◌-◌, ◌++◌, length, replicate, IfSome, position};
 ghost use Rattle.std.specs.Prelude.{unwrap_or, nat_eq, bit_and, slice_index};
 ghost use Rattle.std.specs.Str.{bytes_eq};
-ghost use Rattle.rv_model.specs.assembler.Fields.{fixed_mask};
 ghost use Rattle.rv_model.specs.declared.assembler.mnemonics.TheConstants.{ROW_COUNT};
 ghost use Rattle.rv_asm.specs.Spans.{spans};
-ghost use Rattle.rv_model.specs.assembler.Table.{slots_of, row_named, row_of_word, row_at, slots_at, bits_at};
+ghost use Rattle.rv_model.specs.lending.NameTable.{fixed_mask, slots_of, row_named, row_of_word, row_at, slots_at, bits_at};
 
 use rv_model::assembler::forms::{
     BRANCH, CARRY_IMMEDIATE, CARRY_SCALAR, CARRY_VECTOR, CSR, CSR_IMMEDIATE, ELEMENT_INDEX, Form,
@@ -54,7 +53,7 @@ fn move_slots(source: SourceKind) -> &'static [Slot]
 }
 
 /// The slots of a form.
-pub fn slots_of(form: Form) -> &'static [Slot]
+pub(crate) fn slots_of(form: Form) -> &'static [Slot]
     ensures slots { result.now ≡ slots_of form }
     ensures few { length result.now ≤ 8 }
 {
@@ -96,8 +95,8 @@ pub fn slots_of(form: Form) -> &'static [Slot]
 }
 
 /// Ones at the bits that a form leaves to the name.
-#[tactic(auto, unfolding(rv_model::specs::assembler::Fields::fixed_mask))]
-pub fn fixed_mask(form: Form) -> u32
+#[tactic(auto, unfolding(rv_model::specs::lending::NameTable::fixed_mask))]
+pub(crate) fn fixed_mask(form: Form) -> u32
     ensures { result ≡ fixed_mask (slots_of form) }
 {
     match form {
@@ -149,7 +148,7 @@ fn row_padded(name: &[u8; 16]) -> Option<usize>
 }
 
 /// The row with this name.
-#[tactic(auto, unfolding(rv_model::specs::assembler::Table::row_named))]
+#[tactic(auto, unfolding(rv_model::specs::lending::NameTable::row_named))]
 pub(crate) fn row_named(name: &[u8]) -> Option<usize>
     ensures within { IfSome result (λ row. row < ROW_COUNT) }
     ensures first { result ≡ row_named name.now }

@@ -1,2 +1,2 @@
-pub mod Irregular
+pub mod Groups
 pub mod Opcodes

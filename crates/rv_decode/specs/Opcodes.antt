@@ -1,17 +1,8 @@
 -- The groups of instructions by the opcodes of their words (Unprivileged ISA 20191213, chapter 24; V extension, "Vector Instruction
 -- Formats").
 use Rattle.std.specs.Prelude.{ℕ, Bool, true, false, not, nat_eq, ◌||◌}
-use Rattle.rv_model.specs.declared.instructions.instruction.Instr.{Instr}
-use Rattle.rv_model.specs.declared.instructions.instruction.Instr.TheVariants as instr
 use Rattle.rv_model.specs.declared.instructions.scalar.ScalarInstr.{ScalarInstr}
 use Rattle.rv_model.specs.declared.instructions.scalar.ScalarInstr.TheVariants.{System}
-use Rattle.rv_model.specs.declared.instructions.vector.VectorInstr.{VectorInstr}
-use Rattle.rv_model.specs.declared.instructions.vector.VectorInstr.TheVariants.{Arith}
-
--- OP-V: vector operations without a line of their own in the manual's table, and the setting of vector types
-abbrev pub is_irregular : VectorInstr → Bool
-is_irregular (Arith arith vd vs2 vm) = false
-is_irregular _ = true
 
 -- any opcode but SYSTEM: scalar instructions but for calls and breakpoints
 abbrev pub is_scalar : ScalarInstr → Bool

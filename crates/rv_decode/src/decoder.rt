@@ -4,13 +4,14 @@ ghost use Rattle.std.specs.Prelude.{if◌then◌else◌};
 ghost use Rattle.rv_model.specs.declared.instructions.operations.Form.TheVariants as form;
 ghost use Rattle.rv_model.specs.instructions.Operations.{major_bits};
 ghost use Rattle.rv_model.specs.instructions.Layout.{word_of};
-ghost use Rattle.rv_decode.specs.Opcodes.{is_irregular, is_scalar, is_scalar_opcode};
-ghost use Rattle.rv_decode.specs.Irregular.{irregular, other_accesses};
+ghost use Rattle.rv_decode.specs.Groups.{rows_where, is_irregular_instr, is_unit_stride, is_other_access, is_csr};
+ghost use Rattle.rv_decode.specs.Opcodes.{is_scalar, is_scalar_opcode};
+ghost use Rattle.rv_model.specs.lending.Irregular.{is_irregular};
 ghost use Rattle.rv_model.specs.instructions.Table.{Row, IsRow, scan, table};
-ghost use Rattle.rv_model.specs.lending.Families.{rows, RegisterImmediates, ShiftImmediates, ShiftImmediateWords, Csrs};
-ghost use Rattle.rv_model.specs.lending.Families.{CsrImmediates, SetVlis, SetIvlis, SetVls, Carries, Moves, WholeMoves};
+ghost use Rattle.rv_model.specs.lending.Families.{rows, RegisterImmediates, ShiftImmediates, ShiftImmediateWords};
+ghost use Rattle.rv_model.specs.lending.Families.{SetVlis, SetIvlis, SetVls, Carries, Moves, WholeMoves};
 ghost use Rattle.rv_model.specs.lending.Families.{MaskLogics, Compresses, MasksToScalar, Extends, MaskUnaries};
-ghost use Rattle.rv_model.specs.lending.Families.{ElementIndices, MovesToScalar, Units, Strideds, Indexeds, WholeLoads};
+ghost use Rattle.rv_model.specs.lending.Families.{ElementIndices, MovesToScalar, Strideds, Indexeds, WholeLoads};
 ghost use Rattle.rv_model.specs.lending.Families.{WholeStores, MaskMemories};
 
 use crate::scalar::{
@@ -53,13 +54,13 @@ fn word_immediates(word: u32) -> Option<ScalarInstr>
 
 /// The vector operation that a word of OP-V is, if it is one with a line of its own in the table: by funct3, which says
 /// the place of that line.
-#[tactic(auto, using(crate::proofs::Irregular::regular_steps))]
+#[tactic(auto, using(crate::proofs::Groups::regular_steps))]
 #[inline(always)]
 pub fn decode_regular(word: u32) -> Option<ArithOperation>
     requires { bit_and word 0x7f ≡ 0x57 }
     ensures some { IfSome result (λ o. scan table word
         ≡ Some (Instr.Vector (VectorInstr.Arith o.arith o.vd o.vs2 o.unmasked))) }
-    ensures none { IfNone result (scan table word ≡ scan irregular word) }
+    ensures none { IfNone result (scan table word ≡ scan (rows_where is_irregular_instr) word) }
 {
     match word & 0x707f {
         0x0057 => arith(word, Major::Opi, Form::V),
@@ -123,7 +124,7 @@ fn mask_or_index(word: u32) -> Option<VectorInstr>
 }
 
 /// OPMVV, by funct6.
-#[tactic(auto, using(crate::proofs::Irregular::mask_steps))]
+#[tactic(auto, using(crate::proofs::Groups::mask_steps))]
 fn mask_or_unary(word: u32) -> Option<VectorInstr>
     ensures row { option_map Instr.Vector result
         ≡ scan
@@ -157,11 +158,11 @@ fn set_vector_length(word: u32) -> Option<VectorInstr>
 }
 
 /// The vector operation that a word of OP-V is which `decode_regular` doesn't know.
-#[tactic(auto, using(crate::proofs::Irregular::irregular_steps))]
+#[tactic(auto, using(crate::proofs::Groups::irregular_steps))]
 #[inline(always)]
 pub fn decode_irregular(word: u32) -> Option<VectorInstr>
     requires { bit_and word 0x7f ≡ 0x57 }
-    ensures row { option_map Instr.Vector result ≡ scan irregular word }
+    ensures row { option_map Instr.Vector result ≡ scan (rows_where is_irregular_instr) word }
     ensures group { IfSome result (λ i. is_irregular i ≡ true) }
 {
     match word & 0x707f {
@@ -177,11 +178,11 @@ pub fn decode_irregular(word: u32) -> Option<VectorInstr>
 
 /// Whether a word of OP-V has a funct6 of which all operations have no line of their own in the table: where it isn't
 /// known, `decode_regular` tells.
-#[tactic(auto, using(crate::proofs::Irregular::funct6_steps))]
+#[tactic(auto, using(crate::proofs::Groups::funct6_steps))]
 #[inline(always)]
 pub fn has_irregular_funct6(word: u32) -> bool
     requires { bit_and word 0x7f ≡ 0x57 }
-    ensures { result ≡ true → scan table word ≡ scan irregular word }
+    ensures { result ≡ true → scan table word ≡ scan (rows_where is_irregular_instr) word }
 {
     // The first three bits of these are 010, and those of most operations aren't.
     if word >> 29 != 0b010 {
@@ -198,31 +199,32 @@ pub fn has_irregular_funct6(word: u32) -> bool
 
 /// Whether a word of LOAD-FP or STORE-FP may be an access of unit stride that the vector length bounds, by mop and by
 /// lumop or sumop.
-#[tactic(auto, using(crate::proofs::Irregular::unit_steps))]
+#[tactic(auto, using(crate::proofs::Groups::unit_steps))]
 #[inline(always)]
 pub fn is_unit_stride(word: u32) -> bool
     requires { (bit_and word 0x7f ≡ 0x07) ⊎ (bit_and word 0x7f ≡ 0x27) }
-    ensures units { result ≡ true → scan table word ≡ scan (rows Units) word }
-    ensures others { result ≡ false → scan table word ≡ scan other_accesses word }
+    ensures units { result ≡ true → scan table word ≡ scan (rows_where is_unit_stride) word }
+    ensures others { result ≡ false → scan table word ≡ scan (rows_where is_other_access) word }
 {
     word & 0x0c80_0000 == 0
 }
 
 /// The unit-stride load or store that a word is.
+#[tactic(auto, using(crate::proofs::Groups::units))]
 #[inline(always)]
 pub fn decode_unit_stride(word: u32) -> Option<AccessInstr>
-    ensures { option_map Instr.Access result ≡ scan (rows Units) word }
+    ensures { option_map Instr.Access result ≡ scan (rows_where is_unit_stride) word }
 {
     unit(word)
 }
 
 /// Whether a word that isn't of unit stride may be a load or store of whole registers or of a mask, by mop.
-#[tactic(auto, using(crate::proofs::Irregular::register_steps))]
+#[tactic(auto, using(crate::proofs::Groups::register_steps))]
 #[inline(always)]
-pub fn is_register_access(word: u32) -> bool
-    ensures registers { result ≡ true → scan other_accesses word
+fn is_register_access(word: u32) -> bool
+    ensures registers { result ≡ true → scan (rows_where is_other_access) word
         ≡ scan (rows WholeLoads ++ rows WholeStores ++ rows MaskMemories) word }
-    ensures elements { result ≡ false → scan other_accesses word ≡ scan (rows Strideds ++ rows Indexeds) word }
+    ensures elements { result ≡ false → scan (rows_where is_other_access) word ≡ scan (rows Strideds ++ rows Indexeds) word }
 {
     word & 0x0c00_0000 == 0
 }
@@ -230,7 +232,7 @@ pub fn is_register_access(word: u32) -> bool
 /// The load or store of whole registers or of a mask that a word is.
 #[tactic(auto, using(rv_model::proofs::instruction_lemmas::Scans::scan_append))]
 #[inline(always)]
-pub fn decode_registers(word: u32) -> Option<AccessInstr>
+fn decode_registers(word: u32) -> Option<AccessInstr>
     ensures { option_map Instr.Access result ≡ scan (rows WholeLoads ++ rows WholeStores ++ rows MaskMemories) word }
 {
     if let Some(instr) = whole_load(word) {
@@ -245,13 +247,25 @@ pub fn decode_registers(word: u32) -> Option<AccessInstr>
 /// The strided or indexed load or store that a word is.
 #[tactic(auto, using(rv_model::proofs::instruction_lemmas::Scans::scan_append))]
 #[inline(always)]
-pub fn decode_strided_or_indexed(word: u32) -> Option<AccessInstr>
+fn decode_strided_or_indexed(word: u32) -> Option<AccessInstr>
     ensures { option_map Instr.Access result ≡ scan (rows Strideds ++ rows Indexeds) word }
 {
     if let Some(instr) = strided(word) {
         return Some(instr);
     }
     indexed(word)
+}
+
+/// The load or store that a word is which isn't of unit stride.
+#[inline(always)]
+pub fn decode_other_access(word: u32) -> Option<AccessInstr>
+    ensures { option_map Instr.Access result ≡ scan (rows_where is_other_access) word }
+{
+    if is_register_access(word) {
+        decode_registers(word)
+    } else {
+        decode_strided_or_indexed(word)
+    }
 }
 
 /// The vector operation that a word of OP-V is.
@@ -278,28 +292,25 @@ fn access(word: u32) -> Option<Instr>
     if is_unit_stride(word) {
         return Some(Instr::Access(decode_unit_stride(word)?));
     }
-    if is_register_access(word) {
-        return Some(Instr::Access(decode_registers(word)?));
-    }
-    Some(Instr::Access(decode_strided_or_indexed(word)?))
+    Some(Instr::Access(decode_other_access(word)?))
 }
 
 /// The call or breakpoint that a word of SYSTEM is, if it is one.
-#[tactic(auto, using(crate::proofs::Irregular::call_steps))]
+#[tactic(auto, using(crate::proofs::Groups::call_steps))]
 #[inline(always)]
 pub fn decode_call(word: u32) -> Option<SystemOp>
     requires { bit_and word 0x7f ≡ 0x73 }
     ensures some { IfSome result (λ op. scan table word ≡ Some (Instr.Scalar (ScalarInstr.System op))) }
-    ensures none { IfNone result (scan table word ≡ scan (rows Csrs ++ rows CsrImmediates) word) }
+    ensures none { IfNone result (scan table word ≡ scan (rows_where is_csr) word) }
 {
     system(word)
 }
 
 /// The access of a control register that a word of SYSTEM is which `decode_call` doesn't know.
-#[tactic(auto, using(rv_model::proofs::instruction_lemmas::Scans::scan_append))]
+#[tactic(auto, using(crate::proofs::Groups::csrs, rv_model::proofs::instruction_lemmas::Scans::scan_append))]
 #[inline(always)]
 pub fn decode_csr(word: u32) -> Option<CsrInstr>
-    requires { scan table word ≡ scan (rows Csrs ++ rows CsrImmediates) word }
+    requires { scan table word ≡ scan (rows_where is_csr) word }
     ensures { option_map Instr.Csr result ≡ scan table word }
 {
     if let Some(instr) = csr(word) {

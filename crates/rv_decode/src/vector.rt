@@ -2,7 +2,7 @@
 #![tactic(auto, unfolding(rv_model::specs::instructions::Table::scan, rv_model::specs::lending::Families::rows))]
 
 ghost use Rattle.std.specs.Prelude.{◌≡◌, IfSome, bit_and, option_map, true};
-ghost use Rattle.rv_decode.specs.Opcodes.{is_irregular};
+ghost use Rattle.rv_model.specs.lending.Irregular.{is_irregular};
 ghost use Rattle.rv_model.specs.instructions.Operations.{major_bits};
 ghost use Rattle.rv_model.specs.instructions.Table.{scan};
 ghost use Rattle.rv_model.specs.lending.Families.{rows, SetVlis, SetIvlis, SetVls, WholeMoves, MaskLogics, Compresses};

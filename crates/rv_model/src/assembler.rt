@@ -3,4 +3,4 @@ pub mod forms;
 mod laws;
 pub mod mnemonics;
 
-pub use laws::{names_of_operations, operands_of_names};
+pub use laws::operands_of_instructions;

@@ -1,7 +1,7 @@
 //! Prints the list of instructions: each name with the text of its operands and its encoding, by families. The file
 //! `titles` has the text above the list and the titles of the families, each line behind the family's first name and a
 //! `|`.
-use rv_asm::{fixed_mask, slots_of};
+use rv_asm::{name_mask, slots_of_word};
 use rv_model::assembler::forms::{Place, SignedField, Slot, UnsignedField};
 use rv_model::assembler::mnemonics::{MNEMONICS, Mnemonic};
 use std::io;
@@ -55,18 +55,18 @@ fn print_encoding(rt: &impl Print, mask: u32, bits: u32) -> io::Result<()> {
 
 /// Prints a row of the list.
 fn print_row(rt: &impl Print, row: &Mnemonic) -> io::Result<()> {
-    let Mnemonic(name, form, bits) = *row;
+    let Mnemonic(name, _, bits) = *row;
     print!(rt; "| `")?;
     for byte in name.trim_ascii_end() {
         print!(rt; "{}", char::from(*byte))?;
     }
     let mut gap = " ";
-    for slot in slots_of(form) {
+    for slot in slots_of_word(bits) {
         print!(rt; "{gap}{}", operand(slot))?;
         gap = "";
     }
     print!(rt; "` | `")?;
-    print_encoding(rt, fixed_mask(form), bits)?;
+    print_encoding(rt, name_mask(bits), bits)?;
     println!(rt; "` |")
 }
 

@@ -5,7 +5,7 @@ ghost use Rattle.rv_model.specs.vector.Configuration.{group_type, lmul_eighths, 
 ghost use Rattle.rv_model.specs.elements.Elements.{element};
 ghost use Rattle.rv_model.specs.elements.Formulas.{ones};
 ghost use Rattle.rv_model.specs.elements.PermutationResults.{with_packed};
-ghost use Rattle.rv_model.specs.elements.Permutations.{is_packed_or_filled, packed, packed_or_ones};
+ghost use Rattle.rv_model.specs.elements.PermutationResults.{is_packed_or_filled, packed, packed_or_ones};
 ghost use Rattle.rv_model.specs.lending.Writes.{Writes};
 ghost use Rattle.rv_model.specs.lending.GroupBounds.{HoldsBody, IsInside};
 ghost use Rattle.rv_model.specs.vector.Registers.{register_of};

@@ -5,7 +5,7 @@ ghost use Rattle.rv_model.specs.step.Hart.{hart_state};
 ghost use Rattle.rv_model.specs.step.Resumes.{InstructionGoesOn};
 ghost use Rattle.rv_model.specs.step.VectorStep.{is_vector, operation_step, vector_ends, vector_executed};
 ghost use Rattle.rv_model.specs.legality.Legality.{is_legal};
-ghost use Rattle.reg_groups.specs.Irregular.{is_irregular};
+ghost use Rattle.rv_model.specs.lending.Irregular.{is_irregular};
 
 use crate::arithmetic::{perform_arith, perform_extension};
 use crate::extend::ExtendOperation;

@@ -10,7 +10,7 @@ ghost use Rattle.rv_model.specs.elements.PermutationResults.{
   scalar_operand,
   source_type,
 };
-ghost use Rattle.rv_model.specs.elements.Permutations.{gathered};
+ghost use Rattle.rv_model.specs.elements.PermutationResults.{gathered};
 ghost use Rattle.rv_model.specs.lending.GroupBounds.{HasIndices, HoldsBody, IsInside};
 ghost use Rattle.vec_unit.specs.Results.{with_written};
 

@@ -3,7 +3,7 @@ ghost use Rattle.std.specs.Prelude.{◌≡◌, ◌*◌, false, true};
 ghost use Rattle.rv_model.specs.elements.Arithmetic.{group_element, with_results};
 ghost use Rattle.rv_model.specs.vector.Groups.{register_count, whole_type};
 ghost use Rattle.rv_model.specs.lending.GroupBounds.{HoldsBody, IsInside};
-ghost use Rattle.rv_model.specs.step.PermutationStep.{whole_body};
+ghost use Rattle.rv_model.specs.step.VectorStep.{whole_body};
 ghost use Rattle.rv_model.specs.vector.Registers.{register_of};
 
 use crate::destination::{Agnostic, Destination, write_group};

@@ -1,5 +1,5 @@
 -- The canonical text of a word has no newline.
-use Rattle.std.proofs.Common.{◌≡◌, ℕ, zero, suc, Option, Some, None, ◌+◌, ◌-◌, ◌*◌, ◌/◌, ◌%◌, ◌<◌, ◌≤◌, List, [], ◌∷◌, Bool, true, false, refl, ap, arith, eqb, inl, inr}
+use Rattle.std.proofs.Common.{◌≡◌, ℕ, zero, suc, Option, Some, None, ◌+◌, ◌-◌, ◌*◌, ◌/◌, ◌%◌, ◌<◌, ◌≤◌, List, [], ◌∷◌, Bool, true, false, refl, sym, ap, subst, arith, eqb, inl, inr}
 use Rattle.std.specs.Option.{option_map_or}
 use Rattle.std.specs.Prelude.{not, codes, decimal, ◌==◌, nat_lt}
 use Rattle.std.proofs.Math.ListN.{get_or-eq_default}
@@ -13,7 +13,7 @@ use Rattle.rv_model.specs.declared.assembler.mnemonics.TheConstants.{MNEMONICS, 
 use Rattle.rv_model.specs.assembler.Fields.{value_of}
 use Rattle.rv_model.specs.assembler.Numbers.{hex_digit, hex_digits}
 use Rattle.rv_model.specs.assembler.Slots.{half, signed_text, vtype_named, vtype_text, printed, scale}
-use Rattle.rv_model.specs.assembler.Table.{unpadded, row_at, name_at, slots_at, row_of_word, operands_text, printed_operands, text_at, canonical}
+use Rattle.rv_model.specs.assembler.Table.{operands_text, printed_operands, canonical}
 use Rattle.rv_model.proofs.text_lemmas.Newlines.{is_line, IsLine}
 use Rattle.rv_model.specs.declared.vector.control_register.ControlRegister.{ControlRegister}
 use Rattle.rv_model.specs.declared.vector.types.Sew.{Sew}
@@ -26,6 +26,9 @@ use Rattle.rv_model.specs.vector.TypeRules.{lmul_with_number, sew_with_number}
 use Rattle.rv_model.proofs.assembler_lemmas.Found.{found_passes}
 use Rattle.rv_model.proofs.Choices.{of_either}
 use Rattle.rv_model.proofs.text_lemmas.Pieces.{is_line-append, Piece, ◌▸◌, number, decimal_line}
+use Rattle.rv_model.specs.lending.NameTable.{unpadded, row_at, name_at, slots_at}
+use Rattle.rv_model.proofs.assembler_lemmas.ListedTexts.{text_at, IsNamed}
+use Rattle.rv_model.proofs.assembler_lemmas.Spellings.{canonical_directive, canonical_named, cases_named}
 
 no_newline_in_hex_digit : (d : ℕ) → IsLine (hex_digit d ∷ [])
 no_newline_in_hex_digit d = of_either (λ c. IsLine (c ∷ [])) (nat_lt d 10) _ _ (small d) (large d)
@@ -136,9 +139,16 @@ no_newline_in_name row = elim (cases_lt row ROW_COUNT) [
   | inr le ↦ no_newline_past_table row le
 ]
 
+no_newline_in_named : (w : ℕ) (text : List ℕ) → IsNamed w text → IsLine text
+unfolding text_at
+no_newline_in_named w text named =
+    let row = named.0 in
+    subst IsLine (sym named.4) (is_line-append (name_at row) (operands_text (slots_at row) w) (no_newline_in_name row) (no_newline_in_operands_text (slots_at row) w))
+
 -- the canonical text of a word is in one line
 pub canonical_line : (word : ℕ) → IsLine (canonical word)
-unfolding canonical text_at
-canonical_line word =
-    let row = row_of_word word in
-    is_line-append (name_at row) (operands_text (slots_at row) word) (no_newline_in_name row) (no_newline_in_operands_text (slots_at row) word)
+unfolding canonical
+canonical_line word = elim (cases_named word) [
+  | inl named ↦ no_newline_in_named word (canonical word) (canonical_named word named)
+  | inr none ↦ subst IsLine (sym (canonical_directive word none)) (is_line-append (codes ".word") (operands_text (Word ∷ []) word) refl (no_newline_in_operands_text (Word ∷ []) word))
+]

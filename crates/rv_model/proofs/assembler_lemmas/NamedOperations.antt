@@ -26,15 +26,14 @@ use Rattle.rv_model.specs.instructions.BitFields.{field, flag}
 use Rattle.rv_model.specs.lending.Families.{filled}
 use Rattle.rv_model.specs.instructions.Sources.{form_of}
 use Rattle.rv_model.specs.instructions.Table.{Row, table, scan}
-use Rattle.rv_model.specs.assembler.Fields.{fixed_mask}
-use Rattle.rv_model.specs.assembler.Naming.{HasBitsOf, NamesOperation}
-use Rattle.rv_model.specs.assembler.OperationNames.{mnemonic, unit_name, direction_letters, order_letters, segment_text, source_letter, vector_suffix, width_digits}
+use Rattle.rv_model.specs.assembler.InstructionTexts.{mnemonic, unit_name, direction_letters, order_letters, segment_text, source_letter, vector_suffix, width_digits}
 use Rattle.rv_model.specs.instructions.Operations.{carry_entry, vector_entry}
-use Rattle.rv_model.specs.assembler.Table.{bits_at, name_at, row_at, slots_at, slots_of, unpadded}
 use Rattle.rv_model.proofs.instruction_lemmas.RoundTrips.{template_of}
 use Rattle.rv_model.proofs.instruction_lemmas.Scans.{In, found, table_apart}
 use Rattle.rv_model.proofs.instruction_lemmas.Words.{form_source_of}
 use Rattle.rv_model.proofs.assembler_lemmas.Naming.{all_at, bits_of_name, covers_all, in_names, names, pattern_of_row, row_of_name}
+use Rattle.rv_model.specs.lending.NameTable.{fixed_mask, HasBitsOf, bits_at, name_at, row_at, slots_at, slots_of, unpadded}
+use Rattle.rv_model.proofs.assembler_lemmas.ListedTexts.{NamesOperation}
 
 -- ---- the bits that a name tells besides the operation
 
@@ -60,7 +59,7 @@ same_fields : (w v : ℕ) → bit_and w (7 * 2 ^ 29) ≡ bit_and v (7 * 2 ^ 29) 
 same_fields w v h = omega (arith, h, and_high w 3 29, and_high v 3 29)
 
 abbrev vector_name : VectorOp → Form → Bool → List ℕ
-vector_name op f vm = (vector_entry op).name ++ vector_suffix op f vm
+vector_name op f vm = (vector_entry op).0 ++ vector_suffix op f vm
 
 vector_same : (op : VectorOp) (f : Form) (w v : ℕ) → bit_and w (told_by_operation op) ≡ bit_and v (told_by_operation op) → vector_name op f (flag w) ≡ vector_name op f (flag v)
 vector_same (vector_op.CarryOut op) f w v h = ap (λ (vm : Bool). vector_name (vector_op.CarryOut op) f vm) (same_flag w v h)
@@ -75,7 +74,7 @@ same_name (instr.Vector (Arith arith vd vs2 vm)) w v h =
     ∙ ap (λ (g : Form). vector_name arith.0 g (flag v)) (sym (form_source_of f (field 15 5 v)))
 same_name (instr.Vector (Carry carry vd vs2)) w v h =
     let f = form_of carry.1 in
-    ap (λ (g : Form). (carry_entry carry.0).name ++ codes ".v" ++ source_letter g ++ codes "m") (form_source_of f (field 15 5 w) ∙ sym (form_source_of f (field 15 5 v)))
+    ap (λ (g : Form). (carry_entry carry.0).0 ++ codes ".v" ++ source_letter g ++ codes "m") (form_source_of f (field 15 5 w) ∙ sym (form_source_of f (field 15 5 v)))
 same_name (instr.Vector (Move source vd)) w v h =
     let f = form_of source in
     ap (λ (g : Form). codes "vmv.v." ++ source_letter g) (form_source_of f (field 15 5 w) ∙ sym (form_source_of f (field 15 5 v)))

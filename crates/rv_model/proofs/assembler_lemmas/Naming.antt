@@ -10,12 +10,11 @@ use Rattle.std.proofs.lemmas.List.{get_or-map, get_or-take}
 use Rattle.rv_model.specs.declared.assembler.forms.Form.TheVariants as form
 use Rattle.rv_model.specs.declared.assembler.mnemonics.Mnemonic.{Mnemonic}
 use Rattle.rv_model.specs.declared.assembler.mnemonics.TheConstants.{MNEMONICS, NAME_COUNT}
-use Rattle.rv_model.specs.assembler.Fields.{fixed_mask}
-use Rattle.rv_model.specs.assembler.Table.{slots_of, row_at, slots_at, bits_at}
 use Rattle.rv_model.specs.instructions.Table.{Row, Matches, table}
-use Rattle.rv_model.specs.assembler.Naming.{IsFence, HasBitsOf}
 use Rattle.rv_model.proofs.instruction_lemmas.Parts.{and_sum}
 use Rattle.rv_model.proofs.instruction_lemmas.Scans.{In, all_in}
+use Rattle.rv_model.specs.lending.NameTable.{fixed_mask, slots_of, row_at, slots_at, bits_at, HasBitsOf}
+use Rattle.rv_model.proofs.assembler_lemmas.ListedTexts.{IsFence}
 
 -- a mask, and what the bits in it are
 abbrev pub Pattern : Type 0
@@ -99,18 +98,6 @@ row_covered r = is_fence (pattern_of_row r) || covered names (splits (has_mask (
 each_is_covered : list_all row_covered table ≡ true
 unfolding names table fixed_mask
 each_is_covered = refl
-
--- no word has the bits of both
-abbrev apart : Pattern → Pattern → Bool
-apart p q = not (nat_eq (bit_and p.1 q.0) (bit_and q.1 p.0))
-
-abbrev all_apart : List Pattern → Bool
-all_apart [] = true
-all_apart (p ∷ ps) = list_all (apart p) ps && all_apart ps
-
-names_apart : all_apart names ≡ true
-unfolding names fixed_mask
-names_apart = refl
 
 -- ---- what these tests tell
 
@@ -250,18 +237,3 @@ fence_named n w small lt is fence =
           ap (λ x. bit_and x 0x707f) (sym is) ∙ and_assoc 0x707f w name.0 ∙ ap (bit_and w) (and_comm name.0 0x707f) ∙ sym (and_assoc name.0 w 0x707f) ∙ ap (λ x. bit_and x name.0) fence in
           absurd (not_both same (eq-eqb (bit_and name.1 0x707f) (bit_and 0x0f name.0) e) (other_of_or exact (not same) h other))
     ]
-
-apart_at : (ps : List Pattern) (n m : ℕ) → all_apart ps ≡ true → n < m → m < length ps → apart (get_or ps n (0, 0)) (get_or ps m (0, 0)) ≡ true
-apart_at [] n m h less lt = absurd (omega arith)
-apart_at (p ∷ ps) n zero h less lt = absurd (omega arith)
-apart_at (p ∷ ps) zero (suc m) h less lt = all_at (apart p) ps m (0, 0) (and_parts (list_all (apart p) ps) (all_apart ps) h).0 (omega arith)
-apart_at (p ∷ ps) (suc n) (suc m) h less lt = apart_at ps n m (and_parts (list_all (apart p) ps) (all_apart ps) h).1 (omega arith) (omega arith)
-
--- no word has the bits of two names
-pub no_word_of_two_names : (n m w : ℕ) → n < m → m < length names → bit_and w (get_or names n (0, 0)).0 ≡ (get_or names n (0, 0)).1 → bit_and w (get_or names m (0, 0)).0 ≡ (get_or names m (0, 0)).1 → ⊥
-no_word_of_two_names n m w less lt is also =
-    let p = get_or names n (0, 0) in
-    let q = get_or names m (0, 0) in
-    let e : bit_and p.1 q.0 ≡ bit_and q.1 p.0 =
-    ap (λ x. bit_and x q.0) (sym is) ∙ and_assoc q.0 w p.0 ∙ ap (bit_and w) (and_comm p.0 q.0) ∙ sym (and_assoc p.0 w q.0) ∙ ap (λ x. bit_and x p.0) also in
-    not_both (nat_eq (bit_and p.1 q.0) (bit_and q.1 p.0)) (eq-eqb (bit_and p.1 q.0) (bit_and q.1 p.0) e) (apart_at names n m names_apart less lt)

@@ -11,7 +11,7 @@ use Rattle.rv_model.specs.declared.step.step_end.Stop.TheVariants as stop
 use Rattle.rv_model.specs.commands.Printing.{listed, refused, stop_line}
 use Rattle.rv_model.specs.images.Faults.{fault_name}
 use Rattle.rv_model.specs.machine.UserMachine.{Private, Outcome, refuses}
-use Rattle.rv_model.specs.step.Causes.{cause_number}
+use Rattle.rv_model.specs.step.Hart.{cause_number}
 use Rattle.rv_model.proofs.text_lemmas.Newlines.{is_line, IsLine, are_lines, AreLines}
 use Rattle.rv_model.proofs.text_lemmas.Pieces.{Piece, ◌▸◌, hexadecimal, number, space}
 

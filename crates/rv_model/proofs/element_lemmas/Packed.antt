@@ -14,8 +14,7 @@ use lib.Lanes.{put_chunk}
 use Rattle.rv_model.specs.vector.Configuration.{GroupType, width_bytes}
 use Rattle.rv_model.specs.elements.Elements.{in_range, mask_bit}
 use Rattle.rv_model.specs.elements.Formulas.{ones}
-use Rattle.rv_model.specs.elements.PermutationResults.{with_packed}
-use Rattle.rv_model.specs.elements.Permutations.{is_packed_or_filled, packed, packed_or_ones}
+use Rattle.rv_model.specs.elements.PermutationResults.{with_packed, is_packed_or_filled, packed, packed_or_ones}
 use Rattle.rv_model.specs.lending.Writes.{Writes}
 use Rattle.rv_model.specs.vector.Registers.{group_of, with_group}
 use Rattle.rv_model.proofs.element_lemmas.Ranges.{range_more}

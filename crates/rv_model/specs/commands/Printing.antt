@@ -7,7 +7,7 @@ use Rattle.rv_model.specs.declared.commands.refusal.Refusal.TheVariants.{Unknown
 use Rattle.rv_model.specs.declared.step.step_end.Stop.{Stop}
 use Rattle.rv_model.specs.declared.step.step_end.Stop.TheVariants as stop
 use Rattle.rv_model.specs.images.Faults.{fault_name}
-use Rattle.rv_model.specs.step.Causes.{cause_number}
+use Rattle.rv_model.specs.step.Hart.{cause_number}
 
 -- 16 hexadecimal digits, the highest first
 unfoldable pub hex16 : ℕ → List ℕ

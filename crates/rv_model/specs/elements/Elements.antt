@@ -48,15 +48,12 @@ is_active body i = in_body body i && is_enabled body i
 abbrev pub some_active : Body → (ℕ → Bool) → Bool
 some_active body test = list_any (λ i. is_active body i && test i) (range_with_len 0 body.end)
 
--- the elements that become all ones, by flags: those that are masked off, of the body but not let through, and those of the tail,
--- which are past the body
-abbrev pub is_filled : Body → Bool → Bool → ℕ → Bool
-is_filled body fill_masked_off fill_tail i =
-    (fill_masked_off && (in_body body i && not (is_enabled body i))) || (fill_tail && nat_le body.end i)
-
--- the elements of a destination that change; all others are undisturbed
+-- the elements of a destination that change: the active ones, and by flags those that become all ones, which are masked off, of the
+-- body but not let through, or of the tail, past the body; all others are undisturbed
 abbrev pub is_changed : Body → Bool → Bool → ℕ → Bool
-is_changed body fill_masked_off fill_tail i = is_active body i || is_filled body fill_masked_off fill_tail i
+is_changed body fill_masked_off fill_tail i =
+    is_active body i
+    || ((fill_masked_off && (in_body body i && not (is_enabled body i))) || (fill_tail && nat_le body.end i))
 
 -- what they become: active ones the result, the others all ones
 abbrev pub result_or_ones : Body → (ℕ → ℕ) → ℕ → ℕ → ℕ

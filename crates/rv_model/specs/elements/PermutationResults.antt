@@ -1,6 +1,6 @@
 -- What a permutation leaves in the vector registers ("V" Vector Extension 1.0, chapter 16). The operands are those of the state
 -- that it finds.
-use Rattle.std.specs.Prelude.{ℕ, ◌+◌, ◌-◌, ◌%◌, ◌^◌, ◌==◌, Bool, List, max, if◌then◌else◌}
+use Rattle.std.specs.Prelude.{ℕ, ◌+◌, ◌-◌, ◌%◌, ◌^◌, ◌==◌, Bool, List, max, if◌then◌else◌, ◌&&◌, ◌||◌, nat_le, nat_lt, length, map, slice_index}
 use Rattle.std.specs.Int.{w16}
 use mir.Val.{bits}
 use Rattle.rv_model.specs.instructions.Types.{PermuteOp, Source}
@@ -9,15 +9,33 @@ use Rattle.rv_model.specs.declared.instructions.source.Source.TheVariants as sou
 use Rattle.rv_model.specs.declared.scalar.Scalar.{Scalar}
 use Rattle.rv_model.specs.vector.Types.{VType}
 use Rattle.rv_model.specs.elements.Arithmetic.{group_element}
-use Rattle.rv_model.specs.elements.Elements.{Body}
+use Rattle.rv_model.specs.elements.Elements.{Body, mask_bit}
 use Rattle.rv_model.specs.elements.Formulas.{ones}
-use Rattle.rv_model.specs.elements.Permutations.{gathered, is_packed_or_filled, packed_or_ones}
 use Rattle.rv_model.specs.elements.Writes.{written}
 use Rattle.rv_model.specs.vector.Groups.{single_type, with_width}
 use Rattle.rv_model.specs.instructions.Immediates.{sign_extended}
 use Rattle.rv_model.specs.scalar.Registers.{read_register}
 use Rattle.rv_model.specs.vector.Configuration.{GroupType, element_count, sew_bits, sew_width, width_bytes}
 use Rattle.rv_model.specs.vector.Registers.{group_of, with_group}
+use Rattle.std.specs.List.{filter, range_with_len}
+
+-- gathers, and vslidedown: the element at an index, and 0 from the limit of the source on, which is VLMAX and not vl (sections
+-- 16.3.2 and 16.4)
+abbrev pub gathered : ℕ → (ℕ → ℕ) → ℕ → ℕ
+gathered limit element index = if nat_lt index limit then element index else 0
+
+-- vcompress: the elements before vl whose bit is set, in their order (section 16.5)
+abbrev pub packed : List ℕ → (ℕ → ℕ) → ℕ → List ℕ
+packed select element end = map element (filter (mask_bit select) (range_with_len 0 end))
+
+-- the elements of the destination that change, by vl: the first ones, which take those that are packed, and those of the tail where it
+-- becomes all ones. Those between the two keep.
+abbrev pub is_packed_or_filled : List ℕ → ℕ → Bool → ℕ → Bool
+is_packed_or_filled numbers end fill_tail j = nat_lt j (length numbers) || (fill_tail && nat_le end j)
+
+-- what they become
+abbrev pub packed_or_ones : List ℕ → ℕ → ℕ → ℕ
+packed_or_ones numbers ones j = if nat_lt j (length numbers) then slice_index numbers j else ones
 
 -- ---- slides and gathers
 

@@ -1,5 +1,5 @@
--- The name of each operation and the bits that it fixes in its word, as the manual's tables have them: opcode at bits 6 to 0,
--- funct3 at 14 to 12, funct7 at 31 to 25
+-- The entry of each operation in the manual's tables: its name, and the bits that it fixes in its word: opcode at bits 6 to 0, funct3 at
+-- 14 to 12, funct7 at 31 to 25
 use Rattle.std.specs.Prelude.{ℕ, ◌+◌, ◌*◌, ◌^◌, List, codes}
 use Rattle.rv_model.specs.instructions.Types.{UpperOp, BranchOp, LoadOp, StoreOp, ImmediateOp, ShiftImmediateOp, ShiftImmediateWordOp, RegisterOp, SystemOp, CsrOp, CsrImmediateOp, MaskLogicOp, MaskToScalarOp, ExtendOp, MaskUnaryOp, Eew, UnitOp, Direction, Order, RegisterCount}
 use Rattle.rv_model.specs.declared.instructions.operations.UpperOp.TheVariants as upper
@@ -24,15 +24,6 @@ use Rattle.rv_model.specs.declared.instructions.operations.Direction.TheVariants
 use Rattle.rv_model.specs.declared.instructions.operations.Order.TheVariants as order
 use Rattle.rv_model.specs.declared.instructions.operations.RegisterCount.TheVariants as count
 
--- what the listings say of an operation: its name, and its code: the bits that it fixes, or its line
-pub record Entry (A : Type 0) : Type 0 where
-  pub name : List ℕ
-  pub code : A
-
--- that of an operation with fixed bits
-abbrev pub entry : List ℕ → ℕ → Entry ℕ
-entry name bits = record { name = name; code = bits }
-
 -- opcode and funct3
 abbrev pub coded : ℕ → ℕ → ℕ
 coded opcode funct3 = opcode + funct3 * 2 ^ 12
@@ -48,142 +39,142 @@ vector_coded funct3 funct6 unmasked vs1 = coded 0x57 funct3 + funct6 * 2 ^ 26 + 
 -- ---- RV64I (Unprivileged ISA, "RV32I" and "RV64I", with the opcode map of "RV32/64G Instruction Set Listings")
 
 -- LUI, AUIPC
-abbrev pub upper_entry : UpperOp → Entry ℕ
-upper_entry upper.Lui = entry (codes "lui") 0x37
-upper_entry upper.Auipc = entry (codes "auipc") 0x17
+abbrev pub upper_entry : UpperOp → List ℕ × ℕ
+upper_entry upper.Lui = (codes "lui", 0x37)
+upper_entry upper.Auipc = (codes "auipc", 0x17)
 
 -- BRANCH
-abbrev pub branch_entry : BranchOp → Entry ℕ
-branch_entry branch.Beq = entry (codes "beq") (coded 0x63 0)
-branch_entry branch.Bne = entry (codes "bne") (coded 0x63 1)
-branch_entry branch.Blt = entry (codes "blt") (coded 0x63 4)
-branch_entry branch.Bge = entry (codes "bge") (coded 0x63 5)
-branch_entry branch.Bltu = entry (codes "bltu") (coded 0x63 6)
-branch_entry branch.Bgeu = entry (codes "bgeu") (coded 0x63 7)
+abbrev pub branch_entry : BranchOp → List ℕ × ℕ
+branch_entry branch.Beq = (codes "beq", coded 0x63 0)
+branch_entry branch.Bne = (codes "bne", coded 0x63 1)
+branch_entry branch.Blt = (codes "blt", coded 0x63 4)
+branch_entry branch.Bge = (codes "bge", coded 0x63 5)
+branch_entry branch.Bltu = (codes "bltu", coded 0x63 6)
+branch_entry branch.Bgeu = (codes "bgeu", coded 0x63 7)
 
 -- LOAD
-abbrev pub load_entry : LoadOp → Entry ℕ
-load_entry load.Lb = entry (codes "lb") (coded 0x03 0)
-load_entry load.Lh = entry (codes "lh") (coded 0x03 1)
-load_entry load.Lw = entry (codes "lw") (coded 0x03 2)
-load_entry load.Ld = entry (codes "ld") (coded 0x03 3)
-load_entry load.Lbu = entry (codes "lbu") (coded 0x03 4)
-load_entry load.Lhu = entry (codes "lhu") (coded 0x03 5)
-load_entry load.Lwu = entry (codes "lwu") (coded 0x03 6)
+abbrev pub load_entry : LoadOp → List ℕ × ℕ
+load_entry load.Lb = (codes "lb", coded 0x03 0)
+load_entry load.Lh = (codes "lh", coded 0x03 1)
+load_entry load.Lw = (codes "lw", coded 0x03 2)
+load_entry load.Ld = (codes "ld", coded 0x03 3)
+load_entry load.Lbu = (codes "lbu", coded 0x03 4)
+load_entry load.Lhu = (codes "lhu", coded 0x03 5)
+load_entry load.Lwu = (codes "lwu", coded 0x03 6)
 
 -- STORE
-abbrev pub store_entry : StoreOp → Entry ℕ
-store_entry store.Sb = entry (codes "sb") (coded 0x23 0)
-store_entry store.Sh = entry (codes "sh") (coded 0x23 1)
-store_entry store.Sw = entry (codes "sw") (coded 0x23 2)
-store_entry store.Sd = entry (codes "sd") (coded 0x23 3)
+abbrev pub store_entry : StoreOp → List ℕ × ℕ
+store_entry store.Sb = (codes "sb", coded 0x23 0)
+store_entry store.Sh = (codes "sh", coded 0x23 1)
+store_entry store.Sw = (codes "sw", coded 0x23 2)
+store_entry store.Sd = (codes "sd", coded 0x23 3)
 
 -- OP-IMM and OP-IMM-32 with an immediate of 12 bits
-abbrev pub immediate_entry : ImmediateOp → Entry ℕ
-immediate_entry immediate.Addi = entry (codes "addi") (coded 0x13 0)
-immediate_entry immediate.Slti = entry (codes "slti") (coded 0x13 2)
-immediate_entry immediate.Sltiu = entry (codes "sltiu") (coded 0x13 3)
-immediate_entry immediate.Xori = entry (codes "xori") (coded 0x13 4)
-immediate_entry immediate.Ori = entry (codes "ori") (coded 0x13 6)
-immediate_entry immediate.Andi = entry (codes "andi") (coded 0x13 7)
-immediate_entry immediate.Addiw = entry (codes "addiw") (coded 0x1b 0)
+abbrev pub immediate_entry : ImmediateOp → List ℕ × ℕ
+immediate_entry immediate.Addi = (codes "addi", coded 0x13 0)
+immediate_entry immediate.Slti = (codes "slti", coded 0x13 2)
+immediate_entry immediate.Sltiu = (codes "sltiu", coded 0x13 3)
+immediate_entry immediate.Xori = (codes "xori", coded 0x13 4)
+immediate_entry immediate.Ori = (codes "ori", coded 0x13 6)
+immediate_entry immediate.Andi = (codes "andi", coded 0x13 7)
+immediate_entry immediate.Addiw = (codes "addiw", coded 0x1b 0)
 
 -- OP-IMM with a shift amount of six bits
-abbrev pub shift_immediate_entry : ShiftImmediateOp → Entry ℕ
-shift_immediate_entry shift_immediate.Slli = entry (codes "slli") (register_coded 0x13 1 0x00)
-shift_immediate_entry shift_immediate.Srli = entry (codes "srli") (register_coded 0x13 5 0x00)
-shift_immediate_entry shift_immediate.Srai = entry (codes "srai") (register_coded 0x13 5 0x20)
+abbrev pub shift_immediate_entry : ShiftImmediateOp → List ℕ × ℕ
+shift_immediate_entry shift_immediate.Slli = (codes "slli", register_coded 0x13 1 0x00)
+shift_immediate_entry shift_immediate.Srli = (codes "srli", register_coded 0x13 5 0x00)
+shift_immediate_entry shift_immediate.Srai = (codes "srai", register_coded 0x13 5 0x20)
 
 -- OP-IMM-32 with a shift amount of five bits
-abbrev pub shift_immediate_word_entry : ShiftImmediateWordOp → Entry ℕ
-shift_immediate_word_entry shift_immediate_word.Slliw = entry (codes "slliw") (register_coded 0x1b 1 0x00)
-shift_immediate_word_entry shift_immediate_word.Srliw = entry (codes "srliw") (register_coded 0x1b 5 0x00)
-shift_immediate_word_entry shift_immediate_word.Sraiw = entry (codes "sraiw") (register_coded 0x1b 5 0x20)
+abbrev pub shift_immediate_word_entry : ShiftImmediateWordOp → List ℕ × ℕ
+shift_immediate_word_entry shift_immediate_word.Slliw = (codes "slliw", register_coded 0x1b 1 0x00)
+shift_immediate_word_entry shift_immediate_word.Srliw = (codes "srliw", register_coded 0x1b 5 0x00)
+shift_immediate_word_entry shift_immediate_word.Sraiw = (codes "sraiw", register_coded 0x1b 5 0x20)
 
 -- OP and OP-32, with the "M" extension
-abbrev pub register_entry : RegisterOp → Entry ℕ
-register_entry register.Add = entry (codes "add") (register_coded 0x33 0 0x00)
-register_entry register.Sub = entry (codes "sub") (register_coded 0x33 0 0x20)
-register_entry register.Sll = entry (codes "sll") (register_coded 0x33 1 0x00)
-register_entry register.Slt = entry (codes "slt") (register_coded 0x33 2 0x00)
-register_entry register.Sltu = entry (codes "sltu") (register_coded 0x33 3 0x00)
-register_entry register.Xor = entry (codes "xor") (register_coded 0x33 4 0x00)
-register_entry register.Srl = entry (codes "srl") (register_coded 0x33 5 0x00)
-register_entry register.Sra = entry (codes "sra") (register_coded 0x33 5 0x20)
-register_entry register.Or = entry (codes "or") (register_coded 0x33 6 0x00)
-register_entry register.And = entry (codes "and") (register_coded 0x33 7 0x00)
-register_entry register.Mul = entry (codes "mul") (register_coded 0x33 0 0x01)
-register_entry register.Mulh = entry (codes "mulh") (register_coded 0x33 1 0x01)
-register_entry register.Mulhsu = entry (codes "mulhsu") (register_coded 0x33 2 0x01)
-register_entry register.Mulhu = entry (codes "mulhu") (register_coded 0x33 3 0x01)
-register_entry register.Div = entry (codes "div") (register_coded 0x33 4 0x01)
-register_entry register.Divu = entry (codes "divu") (register_coded 0x33 5 0x01)
-register_entry register.Rem = entry (codes "rem") (register_coded 0x33 6 0x01)
-register_entry register.Remu = entry (codes "remu") (register_coded 0x33 7 0x01)
-register_entry register.Addw = entry (codes "addw") (register_coded 0x3b 0 0x00)
-register_entry register.Subw = entry (codes "subw") (register_coded 0x3b 0 0x20)
-register_entry register.Sllw = entry (codes "sllw") (register_coded 0x3b 1 0x00)
-register_entry register.Srlw = entry (codes "srlw") (register_coded 0x3b 5 0x00)
-register_entry register.Sraw = entry (codes "sraw") (register_coded 0x3b 5 0x20)
-register_entry register.Mulw = entry (codes "mulw") (register_coded 0x3b 0 0x01)
-register_entry register.Divw = entry (codes "divw") (register_coded 0x3b 4 0x01)
-register_entry register.Divuw = entry (codes "divuw") (register_coded 0x3b 5 0x01)
-register_entry register.Remw = entry (codes "remw") (register_coded 0x3b 6 0x01)
-register_entry register.Remuw = entry (codes "remuw") (register_coded 0x3b 7 0x01)
+abbrev pub register_entry : RegisterOp → List ℕ × ℕ
+register_entry register.Add = (codes "add", register_coded 0x33 0 0x00)
+register_entry register.Sub = (codes "sub", register_coded 0x33 0 0x20)
+register_entry register.Sll = (codes "sll", register_coded 0x33 1 0x00)
+register_entry register.Slt = (codes "slt", register_coded 0x33 2 0x00)
+register_entry register.Sltu = (codes "sltu", register_coded 0x33 3 0x00)
+register_entry register.Xor = (codes "xor", register_coded 0x33 4 0x00)
+register_entry register.Srl = (codes "srl", register_coded 0x33 5 0x00)
+register_entry register.Sra = (codes "sra", register_coded 0x33 5 0x20)
+register_entry register.Or = (codes "or", register_coded 0x33 6 0x00)
+register_entry register.And = (codes "and", register_coded 0x33 7 0x00)
+register_entry register.Mul = (codes "mul", register_coded 0x33 0 0x01)
+register_entry register.Mulh = (codes "mulh", register_coded 0x33 1 0x01)
+register_entry register.Mulhsu = (codes "mulhsu", register_coded 0x33 2 0x01)
+register_entry register.Mulhu = (codes "mulhu", register_coded 0x33 3 0x01)
+register_entry register.Div = (codes "div", register_coded 0x33 4 0x01)
+register_entry register.Divu = (codes "divu", register_coded 0x33 5 0x01)
+register_entry register.Rem = (codes "rem", register_coded 0x33 6 0x01)
+register_entry register.Remu = (codes "remu", register_coded 0x33 7 0x01)
+register_entry register.Addw = (codes "addw", register_coded 0x3b 0 0x00)
+register_entry register.Subw = (codes "subw", register_coded 0x3b 0 0x20)
+register_entry register.Sllw = (codes "sllw", register_coded 0x3b 1 0x00)
+register_entry register.Srlw = (codes "srlw", register_coded 0x3b 5 0x00)
+register_entry register.Sraw = (codes "sraw", register_coded 0x3b 5 0x20)
+register_entry register.Mulw = (codes "mulw", register_coded 0x3b 0 0x01)
+register_entry register.Divw = (codes "divw", register_coded 0x3b 4 0x01)
+register_entry register.Divuw = (codes "divuw", register_coded 0x3b 5 0x01)
+register_entry register.Remw = (codes "remw", register_coded 0x3b 6 0x01)
+register_entry register.Remuw = (codes "remuw", register_coded 0x3b 7 0x01)
 
 -- SYSTEM with no operands: the whole word
-abbrev pub system_entry : SystemOp → Entry ℕ
-system_entry system.Ecall = entry (codes "ecall") 0x00000073
-system_entry system.Ebreak = entry (codes "ebreak") 0x00100073
+abbrev pub system_entry : SystemOp → List ℕ × ℕ
+system_entry system.Ecall = (codes "ecall", 0x00000073)
+system_entry system.Ebreak = (codes "ebreak", 0x00100073)
 
 -- ---- Zicsr (Unprivileged ISA, "Zicsr", CSR Instructions)
 
 -- SYSTEM with a scalar register
-abbrev pub csr_entry : CsrOp → Entry ℕ
-csr_entry csr.Csrrw = entry (codes "csrrw") (coded 0x73 1)
-csr_entry csr.Csrrs = entry (codes "csrrs") (coded 0x73 2)
-csr_entry csr.Csrrc = entry (codes "csrrc") (coded 0x73 3)
+abbrev pub csr_entry : CsrOp → List ℕ × ℕ
+csr_entry csr.Csrrw = (codes "csrrw", coded 0x73 1)
+csr_entry csr.Csrrs = (codes "csrrs", coded 0x73 2)
+csr_entry csr.Csrrc = (codes "csrrc", coded 0x73 3)
 
 -- SYSTEM with an immediate
-abbrev pub csr_immediate_entry : CsrImmediateOp → Entry ℕ
-csr_immediate_entry csr_immediate.Csrrwi = entry (codes "csrrwi") (coded 0x73 5)
-csr_immediate_entry csr_immediate.Csrrsi = entry (codes "csrrsi") (coded 0x73 6)
-csr_immediate_entry csr_immediate.Csrrci = entry (codes "csrrci") (coded 0x73 7)
+abbrev pub csr_immediate_entry : CsrImmediateOp → List ℕ × ℕ
+csr_immediate_entry csr_immediate.Csrrwi = (codes "csrrwi", coded 0x73 5)
+csr_immediate_entry csr_immediate.Csrrsi = (codes "csrrsi", coded 0x73 6)
+csr_immediate_entry csr_immediate.Csrrci = (codes "csrrci", coded 0x73 7)
 
 -- ---- vector operations with fewer operands (V extension, "Vector Instruction Listing"): funct3, funct6, bit 25
 -- where it is fixed, vs1 where it is
 
 -- "Vector Mask-Register Logical Instructions"
-abbrev pub mask_logic_entry : MaskLogicOp → Entry ℕ
-mask_logic_entry mask_logic.Vmandn = entry (codes "vmandn.mm") (vector_coded 2 0x18 1 0)
-mask_logic_entry mask_logic.Vmand = entry (codes "vmand.mm") (vector_coded 2 0x19 1 0)
-mask_logic_entry mask_logic.Vmor = entry (codes "vmor.mm") (vector_coded 2 0x1a 1 0)
-mask_logic_entry mask_logic.Vmxor = entry (codes "vmxor.mm") (vector_coded 2 0x1b 1 0)
-mask_logic_entry mask_logic.Vmorn = entry (codes "vmorn.mm") (vector_coded 2 0x1c 1 0)
-mask_logic_entry mask_logic.Vmnand = entry (codes "vmnand.mm") (vector_coded 2 0x1d 1 0)
-mask_logic_entry mask_logic.Vmnor = entry (codes "vmnor.mm") (vector_coded 2 0x1e 1 0)
-mask_logic_entry mask_logic.Vmxnor = entry (codes "vmxnor.mm") (vector_coded 2 0x1f 1 0)
+abbrev pub mask_logic_entry : MaskLogicOp → List ℕ × ℕ
+mask_logic_entry mask_logic.Vmandn = (codes "vmandn.mm", vector_coded 2 0x18 1 0)
+mask_logic_entry mask_logic.Vmand = (codes "vmand.mm", vector_coded 2 0x19 1 0)
+mask_logic_entry mask_logic.Vmor = (codes "vmor.mm", vector_coded 2 0x1a 1 0)
+mask_logic_entry mask_logic.Vmxor = (codes "vmxor.mm", vector_coded 2 0x1b 1 0)
+mask_logic_entry mask_logic.Vmorn = (codes "vmorn.mm", vector_coded 2 0x1c 1 0)
+mask_logic_entry mask_logic.Vmnand = (codes "vmnand.mm", vector_coded 2 0x1d 1 0)
+mask_logic_entry mask_logic.Vmnor = (codes "vmnor.mm", vector_coded 2 0x1e 1 0)
+mask_logic_entry mask_logic.Vmxnor = (codes "vmxnor.mm", vector_coded 2 0x1f 1 0)
 
 -- VWXUNARY0 on a mask: "Vector count population in mask vcpop.m", "vfirst find-first-set mask bit"
-abbrev pub mask_to_scalar_entry : MaskToScalarOp → Entry ℕ
-mask_to_scalar_entry mask_to_scalar.Vcpop = entry (codes "vcpop.m") (vector_coded 2 0x10 0 16)
-mask_to_scalar_entry mask_to_scalar.Vfirst = entry (codes "vfirst.m") (vector_coded 2 0x10 0 17)
+abbrev pub mask_to_scalar_entry : MaskToScalarOp → List ℕ × ℕ
+mask_to_scalar_entry mask_to_scalar.Vcpop = (codes "vcpop.m", vector_coded 2 0x10 0 16)
+mask_to_scalar_entry mask_to_scalar.Vfirst = (codes "vfirst.m", vector_coded 2 0x10 0 17)
 
 -- VXUNARY0: "Vector Integer Extension"
-abbrev pub extend_entry : ExtendOp → Entry ℕ
-extend_entry extend.VzextVf8 = entry (codes "vzext.vf8") (vector_coded 2 0x12 0 2)
-extend_entry extend.VsextVf8 = entry (codes "vsext.vf8") (vector_coded 2 0x12 0 3)
-extend_entry extend.VzextVf4 = entry (codes "vzext.vf4") (vector_coded 2 0x12 0 4)
-extend_entry extend.VsextVf4 = entry (codes "vsext.vf4") (vector_coded 2 0x12 0 5)
-extend_entry extend.VzextVf2 = entry (codes "vzext.vf2") (vector_coded 2 0x12 0 6)
-extend_entry extend.VsextVf2 = entry (codes "vsext.vf2") (vector_coded 2 0x12 0 7)
+abbrev pub extend_entry : ExtendOp → List ℕ × ℕ
+extend_entry extend.VzextVf8 = (codes "vzext.vf8", vector_coded 2 0x12 0 2)
+extend_entry extend.VsextVf8 = (codes "vsext.vf8", vector_coded 2 0x12 0 3)
+extend_entry extend.VzextVf4 = (codes "vzext.vf4", vector_coded 2 0x12 0 4)
+extend_entry extend.VsextVf4 = (codes "vsext.vf4", vector_coded 2 0x12 0 5)
+extend_entry extend.VzextVf2 = (codes "vzext.vf2", vector_coded 2 0x12 0 6)
+extend_entry extend.VsextVf2 = (codes "vsext.vf2", vector_coded 2 0x12 0 7)
 
 -- VMUNARY0 on a mask: "vmsbf.m set-before-first mask bit" and the like, "Vector Iota Instruction"
-abbrev pub mask_unary_entry : MaskUnaryOp → Entry ℕ
-mask_unary_entry (mask_unary.Scan mask_scan.Vmsbf) = entry (codes "vmsbf.m") (vector_coded 2 0x14 0 1)
-mask_unary_entry (mask_unary.Scan mask_scan.Vmsof) = entry (codes "vmsof.m") (vector_coded 2 0x14 0 2)
-mask_unary_entry (mask_unary.Scan mask_scan.Vmsif) = entry (codes "vmsif.m") (vector_coded 2 0x14 0 3)
-mask_unary_entry mask_unary.Viota = entry (codes "viota.m") (vector_coded 2 0x14 0 16)
+abbrev pub mask_unary_entry : MaskUnaryOp → List ℕ × ℕ
+mask_unary_entry (mask_unary.Scan mask_scan.Vmsbf) = (codes "vmsbf.m", vector_coded 2 0x14 0 1)
+mask_unary_entry (mask_unary.Scan mask_scan.Vmsof) = (codes "vmsof.m", vector_coded 2 0x14 0 2)
+mask_unary_entry (mask_unary.Scan mask_scan.Vmsif) = (codes "vmsif.m", vector_coded 2 0x14 0 3)
+mask_unary_entry mask_unary.Viota = (codes "viota.m", vector_coded 2 0x14 0 16)
 
 -- ---- vector memory (V extension, "Vector Load/Store Instruction Encoding": nf 31 to 29, mew 28, mop 27 to 26, width
 -- 14 to 12)

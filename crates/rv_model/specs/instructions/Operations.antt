@@ -4,7 +4,7 @@ use Rattle.std.specs.Prelude.{ℕ, ◌+◌, ◌*◌, ◌^◌, Bool, true, false,
 use Rattle.rv_model.specs.instructions.Types.{Line, Major, Forms, Form, VectorOp, CarryOp}
 use Rattle.rv_model.specs.declared.instructions.operations.Major.TheVariants.{Opi, Opm}
 use Rattle.rv_model.specs.declared.instructions.operations.Forms.TheVariants.{V, X, Vx, Xi, Vxi}
-use Rattle.rv_model.specs.instructions.FixedBits.{Entry, coded}
+use Rattle.rv_model.specs.instructions.FixedBits.{coded}
 use Rattle.rv_model.specs.declared.instructions.operations.Form.TheVariants as form
 use Rattle.rv_model.specs.declared.instructions.operations.VectorOp.TheVariants.{Binary, CarryOut, Compare, FixedPoint, NarrowShift, Clip, Widen, WideSource, MultiplyAdd, WidenMultiplyAdd, Reduce, WidenReduce, Permute}
 use Rattle.rv_model.specs.declared.instructions.operations.BinaryOp.TheVariants.{Vadd, Vsub, Vrsub, Vminu, Vmin, Vmaxu, Vmax, Vand, Vor, Vxor, Vsll, Vsrl, Vsra, Vdivu, Vdiv, Vremu, Vrem, Vmulhu, Vmul, Vmulhsu, Vmulh}
@@ -23,12 +23,12 @@ use Rattle.rv_model.specs.declared.instructions.operations.PermuteOp.TheVariants
 use Rattle.rv_model.specs.declared.instructions.operations.CarryOp.TheVariants.{Vadc, Vsbc, Vmerge}
 
 -- a line of OPIVV, OPIVX and OPIVI, and the name without what stands behind the dot
-abbrev pub opi : List ℕ → ℕ → Forms → Entry Line
-opi name funct6 forms = record { name = name; code = record { major = Opi; funct6 = funct6; forms = forms } }
+abbrev pub opi : List ℕ → ℕ → Forms → List ℕ × Line
+opi name funct6 forms = (name, record { major = Opi; funct6 = funct6; forms = forms })
 
 -- a line of OPMVV and OPMVX, and the name
-abbrev pub opm : List ℕ → ℕ → Forms → Entry Line
-opm name funct6 forms = record { name = name; code = record { major = Opm; funct6 = funct6; forms = forms } }
+abbrev pub opm : List ℕ → ℕ → Forms → List ℕ × Line
+opm name funct6 forms = (name, record { major = Opm; funct6 = funct6; forms = forms })
 
 -- whether a form is one of these
 abbrev pub has_form : Forms → Form → Bool
@@ -41,8 +41,8 @@ has_form Xi form.I = true
 has_form Vxi f = true
 has_form _ f = false
 
--- the entry of each operation that may be masked
-abbrev pub vector_entry : VectorOp → Entry Line
+-- the entry of each operation that may be masked: its name, and its line
+abbrev pub vector_entry : VectorOp → List ℕ × Line
 -- "Vector Integer Arithmetic Instructions", one width
 vector_entry (Binary Vadd) = opi (codes "vadd") 0x00 Vxi
 vector_entry (Binary Vsub) = opi (codes "vsub") 0x02 Vx
@@ -157,17 +157,17 @@ vector_ops =
     ++ map Permute (Vrgather ∷ Vrgatherei16 ∷ Vslideup ∷ Vslidedown ∷ Vslide1up ∷ Vslide1down ∷ [])
 
 -- "Vector Integer Add-with-Carry / Subtract-with-Borrow Instructions", "Vector Integer Merge Instructions"
-abbrev pub carry_entry : CarryOp → Entry Line
+abbrev pub carry_entry : CarryOp → List ℕ × Line
 carry_entry Vadc = opi (codes "vadc") 0x10 Vxi
 carry_entry Vsbc = opi (codes "vsbc") 0x12 Vx
 carry_entry Vmerge = opi (codes "vmerge") 0x17 Vxi
 
 -- the line of an operation
 abbrev pub line : VectorOp → Line
-line op = (vector_entry op).code
+line op = (vector_entry op).1
 
 abbrev pub carry_line : CarryOp → Line
-carry_line op = (carry_entry op).code
+carry_line op = (carry_entry op).1
 
 -- opcode and funct3 of a half of the opcode map, by form; where the second half would have an immediate, the configuration-setting
 -- instructions stand

@@ -12,49 +12,49 @@ use Rattle.rv_model.specs.declared.instructions.operations.VectorOp.TheVariants 
 use Rattle.rv_model.specs.declared.instructions.operations.Major.TheVariants.{Opi}
 
 abbrev pub upper_bits : UpperOp → ℕ
-upper_bits op = (upper_entry op).code
+upper_bits op = (upper_entry op).1
 
 abbrev pub branch_bits : BranchOp → ℕ
-branch_bits op = (branch_entry op).code
+branch_bits op = (branch_entry op).1
 
 abbrev pub load_bits : LoadOp → ℕ
-load_bits op = (load_entry op).code
+load_bits op = (load_entry op).1
 
 abbrev pub store_bits : StoreOp → ℕ
-store_bits op = (store_entry op).code
+store_bits op = (store_entry op).1
 
 abbrev pub immediate_op_bits : ImmediateOp → ℕ
-immediate_op_bits op = (immediate_entry op).code
+immediate_op_bits op = (immediate_entry op).1
 
 abbrev pub shift_immediate_bits : ShiftImmediateOp → ℕ
-shift_immediate_bits op = (shift_immediate_entry op).code
+shift_immediate_bits op = (shift_immediate_entry op).1
 
 abbrev pub shift_immediate_word_bits : ShiftImmediateWordOp → ℕ
-shift_immediate_word_bits op = (shift_immediate_word_entry op).code
+shift_immediate_word_bits op = (shift_immediate_word_entry op).1
 
 abbrev pub register_op_bits : RegisterOp → ℕ
-register_op_bits op = (register_entry op).code
+register_op_bits op = (register_entry op).1
 
 abbrev pub system_bits : SystemOp → ℕ
-system_bits op = (system_entry op).code
+system_bits op = (system_entry op).1
 
 abbrev pub csr_bits : CsrOp → ℕ
-csr_bits op = (csr_entry op).code
+csr_bits op = (csr_entry op).1
 
 abbrev pub csr_immediate_bits : CsrImmediateOp → ℕ
-csr_immediate_bits op = (csr_immediate_entry op).code
+csr_immediate_bits op = (csr_immediate_entry op).1
 
 abbrev pub mask_logic_bits : MaskLogicOp → ℕ
-mask_logic_bits op = (mask_logic_entry op).code
+mask_logic_bits op = (mask_logic_entry op).1
 
 abbrev pub mask_to_scalar_bits : MaskToScalarOp → ℕ
-mask_to_scalar_bits op = (mask_to_scalar_entry op).code
+mask_to_scalar_bits op = (mask_to_scalar_entry op).1
 
 abbrev pub extend_bits : ExtendOp → ℕ
-extend_bits op = (extend_entry op).code
+extend_bits op = (extend_entry op).1
 
 abbrev pub mask_unary_bits : MaskUnaryOp → ℕ
-mask_unary_bits op = (mask_unary_entry op).code
+mask_unary_bits op = (mask_unary_entry op).1
 
 -- a line of one half of the opcode map
 abbrev pub line_at : Major → ℕ → Forms → Line

@@ -1,4 +1,4 @@
--- What instructions work on, and how one ends.
+-- What instructions work on, and how one ends; the numbers of the causes of faults (Privileged Architecture 20211203, section 4.1.8).
 use Rattle.std.specs.Prelude.{ℕ, List}
 pub use Rattle.rv_model.specs.declared.vector.policy.Policy.{Policy}
 pub use Rattle.rv_model.specs.declared.scalar.Scalar.{Scalar}
@@ -8,6 +8,7 @@ use Rattle.rv_model.specs.declared.step.step_end.StepEnd.TheVariants.{Ran, Fault
 pub use Rattle.rv_model.specs.declared.vector.state.VState.{VState}
 pub use Rattle.rv_model.specs.memory.Memory.{Memory}
 use Rattle.rv_model.specs.scalar.Registers.{advanced, with_register}
+use Rattle.rv_model.specs.declared.step.step_end.Cause.TheVariants.{MisalignedTarget, FetchAccess, IllegalInstruction, LoadAccess, StoreAccess}
 
 -- what instructions read and change: registers, vector state, memory, the output buffer, and the policy that they go by
 pub record HartState : Type 0 where
@@ -46,3 +47,11 @@ retires scalar s = ends Ran (record s { scalar = advanced scalar })
 -- the instruction ran, gave a register this value, and the next one follows it
 abbrev pub gives : ℕ → ℕ → HartState → Stepped
 gives rd value s = retires (with_register rd value s.scalar) s
+
+-- the number of a cause
+abbrev pub cause_number : Cause → ℕ
+cause_number MisalignedTarget = 0
+cause_number FetchAccess = 1
+cause_number IllegalInstruction = 2
+cause_number LoadAccess = 5
+cause_number StoreAccess = 7

@@ -23,15 +23,41 @@ use Rattle.rv_model.specs.step.MemoryStep.{access_end, after_access, filled_type
 use Rattle.rv_model.specs.step.Hart.{Cause, HartState, Scalar, Stepped, VState, ends_after, faults}
 use Rattle.rv_model.specs.legality.Legality.{is_legal}
 use Rattle.rv_model.specs.scalar.Registers.{advanced, read_register, with_register}
-use Rattle.rv_model.specs.elements.Arithmetic.{binary_result, body_of, carry_out_result, carry_result, clip_result, clip_saturates_at, compare_result, extend_result, fills_masked_off, fills_tail, fixed_point_result, index_result, iota_result, mask_logic_result, multiply_add_result, narrow_shift_result, reduce_result, saturates_at, second_element, wide_source_result, widen_multiply_add_result, widen_reduce_result, widen_result, with_first_result, with_mask_results, with_results}
-use Rattle.rv_model.specs.vector.Configuration.{GroupType, group_type, sew_bits}
-use Rattle.rv_model.specs.vector.Groups.{part_type, wide_type}
-use Rattle.rv_model.specs.elements.Elements.{some_active}
-use Rattle.rv_model.specs.elements.PermutationResults.{moved_to_scalar}
-use Rattle.rv_model.specs.step.PermutationStep.{compressed, permuted, whole_moved}
+use Rattle.rv_model.specs.elements.Arithmetic.{binary_result, body_of, carry_out_result, carry_result, clip_result, clip_saturates_at, compare_result, extend_result, fills_masked_off, fills_tail, fixed_point_result, index_result, iota_result, mask_logic_result, multiply_add_result, narrow_shift_result, reduce_result, saturates_at, second_element, wide_source_result, widen_multiply_add_result, widen_reduce_result, widen_result, with_first_result, with_mask_results, with_results, group_element}
+use Rattle.rv_model.specs.vector.Configuration.{GroupType, group_type, sew_bits, element_count}
+use Rattle.rv_model.specs.vector.Groups.{part_type, wide_type, whole_type}
+use Rattle.rv_model.specs.elements.Elements.{some_active, Body}
+use Rattle.rv_model.specs.elements.PermutationResults.{moved_to_scalar, permute_body, permute_result, with_packed, packed}
 use Rattle.rv_model.specs.elements.Masks.{first_set, mask_scan_formula, mask_to_scalar_formula}
 use Rattle.rv_model.specs.vector.Registers.{register_of}
 use Rattle.rv_model.specs.vector.TypeRules.{requested}
+use Rattle.rv_model.specs.declared.instructions.operations.PermuteOp.{PermuteOp}
+use Rattle.rv_model.specs.declared.instructions.operations.RegisterCount.{RegisterCount}
+
+-- slides and gathers. The tail is filled as of any instruction, also where a slide's offset is past the body.
+abbrev pub permuted : VType → PermuteOp → Source → ℕ → ℕ → Bool → HartState → List ℕ
+permuted t op source vd vs2 unmasked s =
+    let body = body_of unmasked s.vector in
+    with_results (group_type t) vd (permute_body op source s.scalar body) (fills_masked_off s.policy t body)
+    (fills_tail s.policy t body) (permute_result (group_type t) op body.end vs2 source s.vector.file s.scalar) s.vector.file
+
+-- vcompress; the bits of vs1 say which elements are packed
+abbrev pub compressed : VType → ℕ → ℕ → ℕ → HartState → List ℕ
+compressed t vd vs1 vs2 s =
+    let body = body_of true s.vector in
+    let file = s.vector.file in
+    with_packed (group_type t) vd body.end (fills_tail s.policy t body)
+    (packed (register_of file vs1) (group_element (group_type t) file vs2) body.end) file
+
+-- the elements of whole registers from vstart on, whatever vl is
+abbrev pub whole_body : GroupType → VState → Body
+whole_body g v = record (body_of true v) { end = element_count g }
+
+-- vmv1r.v and the like, which have no tail (section 16.6)
+abbrev pub whole_moved : VType → RegisterCount → ℕ → ℕ → HartState → List ℕ
+whole_moved t count vd vs2 s =
+    let g = whole_type t count in
+    with_results g vd (whole_body g s.vector) false false (group_element g s.vector.file vs2) s.vector.file
 
 -- whether an instruction is one of the vector extension; those of control registers are not
 abbrev pub is_vector : Instr → Bool

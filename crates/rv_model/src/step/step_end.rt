@@ -1,6 +1,6 @@
 //! How one instruction ends.
 ghost use Rattle.std.specs.Prelude.{◌≡◌};
-ghost use Rattle.rv_model.specs.step.Causes.{cause_number};
+ghost use Rattle.rv_model.specs.step.Hart.{cause_number};
 
 /// Why an instruction faults (Privileged Architecture 20211203, section 4.1.8, "scause").
 #[derive(Clone, Copy, Debug, PartialEq, Eq)]

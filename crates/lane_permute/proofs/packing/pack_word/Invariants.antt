@@ -1,6 +1,6 @@
 use Rattle.std.proofs.Common.{ℕ, List, ◌≤◌, ◌≡◌, length, nat_lt, slice_index}
 use Rattle.rv_model.specs.elements.Elements.{element}
-use Rattle.rv_model.specs.elements.Permutations.{packed}
+use Rattle.rv_model.specs.elements.PermutationResults.{packed}
 use Rattle.rv_model.specs.lending.Writes.{Writes}
 use Rattle.rv_model.specs.vector.Configuration.{width_bytes}
 use Rattle.rv_model.proofs.element_lemmas.Packed.{PackedTo}

@@ -1,6 +1,6 @@
 use Rattle.std.proofs.Common.{◌≡◌, ◌≤◌, ◌+◌, ◌++◌, length, drop}
-use Rattle.rv_model.specs.assembler.Table.{unpadded}
 use Rattle.rv_asm.proofs.print.put_name.Given as goal
+use Rattle.rv_model.specs.lending.NameTable.{unpadded}
 
 abbrev pub invariant-loop-byte : goal.invariant-loop-byte
 invariant-loop-byte l = record {

@@ -1,7 +1,7 @@
 use Rattle.std.proofs.Common.{refl}
-use Rattle.rv_model.specs.assembler.Table.{row_at, slots_at, bits_at}
 use Rattle.rv_asm.proofs.RowLaws.{row_facts, byte_is_ascii}
 use Rattle.rv_asm.proofs.table.row_at.Goals as goal
+use Rattle.rv_model.specs.lending.NameTable.{row_at, slots_at, bits_at}
 
 pub returns : goal.returns
 unfolding row_at slots_at bits_at

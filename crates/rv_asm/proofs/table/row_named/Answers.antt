@@ -3,8 +3,8 @@ use Rattle.std.specs.Prelude.{position, ◌++◌, ◌-◌, replicate}
 use Rattle.std.specs.Str.{bytes_eq}
 use Rattle.std.proofs.lemmas.Bool.{cond-false, le-ltb}
 use Rattle.rv_model.specs.declared.assembler.mnemonics.TheConstants.{MNEMONICS}
-use Rattle.rv_model.specs.assembler.Table.{row_named}
 use Rattle.rv_asm.proofs.table.row_named.Goals as goal
+use Rattle.rv_model.specs.lending.NameTable.{row_named}
 
 pub returns-clause-first : goal.returns-clause-first
 unfolding row_named

@@ -1,5 +1,5 @@
 use Rattle.std.proofs.Common.{◌∙◌, sym, arith}
-use Rattle.rv_decode.proofs.Irregular.{no_irregular}
+use Rattle.rv_decode.proofs.Groups.{no_irregular}
 use Rattle.rv_decode.proofs.Scan.{no_place}
 use Rattle.rv_decode.proofs.decoder.decode_regular.Goals as goal
 

@@ -1,5 +1,5 @@
 use Rattle.std.proofs.Common.{◌∙◌, arith}
-use Rattle.rv_decode.proofs.Irregular.{mask_other}
+use Rattle.rv_decode.proofs.Groups.{mask_other}
 use Rattle.rv_decode.proofs.decoder.mask_or_unary.Goals as goal
 
 pub returns-in_default-clause-row : goal.returns-in_default-clause-row

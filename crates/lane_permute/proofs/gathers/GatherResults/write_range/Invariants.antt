@@ -1,7 +1,7 @@
 use Rattle.std.proofs.Common.{nat_lt}
 use mathlib.Core.Bool.{◌&&◌}
 use Rattle.rv_model.specs.elements.Elements.{element, in_range}
-use Rattle.rv_model.specs.elements.Permutations.{gathered}
+use Rattle.rv_model.specs.elements.PermutationResults.{gathered}
 use Rattle.rv_model.specs.lending.Writes.{Writes}
 use Rattle.rv_model.specs.vector.Configuration.{width_bytes}
 use Rattle.lane_permute.proofs.gathers.GatherResults.write_range.Given as goal

@@ -1,7 +1,7 @@
 use Rattle.std.proofs.Common.{ℕ, List, ◌+◌, ◌-◌, ◌^◌, ◌<◌, ◌≤◌, ◌≡◌, arith, le-ltb, lt-ltb, max, min, refl, sym, ◌∙◌}
 use Rattle.std.proofs.Math.Nat.{zero-mod}
 use Rattle.rv_model.specs.elements.Elements.{element}
-use Rattle.rv_model.specs.elements.Permutations.{gathered}
+use Rattle.rv_model.specs.elements.PermutationResults.{gathered}
 use Rattle.rv_model.specs.vector.Configuration.{width_bytes}
 use Rattle.lane_permute.proofs.Blocks.{then_filled}
 use Rattle.lane_permute.proofs.slides.SlideDownResults.write_range.Goals as goal

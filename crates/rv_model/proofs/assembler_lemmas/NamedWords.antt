@@ -1,23 +1,21 @@
--- The canonical text of an instruction has its name, that of any other word is `.word` and digits
-use Rattle.std.proofs.Common.{◌≡◌, ◌≢◌, ◌⊎◌, ℕ, ◌/◌, ◌%◌, ◌^◌, ◌<◌, true, false, nat_lt, List, ◌++◌, length, get_or, position, unwrap_or, Option, Some, None, refl, sym, ap, subst, ◌∙◌, arith, inl, inr, lit<}
-use Rattle.std.specs.Prelude.{IsSome, IsNone, codes}
+-- By the code's table, the text of an instruction has its name, that of any other word is `.word` and digits
+use Rattle.std.proofs.Common.{◌≡◌, ◌≢◌, ◌⊎◌, ℕ, ◌^◌, ◌<◌, Bool, true, false, cond, nat_eq, nat_lt, length, get_or, position, unwrap_or, Option, Some, None, refl, sym, ap, subst, ◌∙◌, arith, inl, inr, lit<}
+use Rattle.std.specs.Prelude.{IsSome, IsNone}
 use Rattle.std.specs.List.{position_or_len}
 use Rattle.std.specs.Int.Bits.{bit_and}
-use Rattle.std.proofs.lemmas.Bool.{cases_lt, cond-true, lt-ltb, eq-eqb, true≢false}
+use Rattle.std.proofs.lemmas.Bool.{cases_lt, cond-true, lt-ltb, eq-eqb, eqb-true, true≢false}
 use Rattle.std.proofs.lemmas.Bool.Decides.{eqb_tells}
 use Rattle.std.proofs.lemmas.List.Sums.{fails_before_first}
-use Rattle.std.proofs.lemmas.List.{append-nil}
 use Rattle.rv_model.specs.declared.instructions.instruction.Instr.{Instr}
 use Rattle.rv_model.specs.declared.assembler.mnemonics.TheConstants.{MNEMONICS, NAME_COUNT, ROW_COUNT}
-use Rattle.rv_model.specs.assembler.Numbers.{hex_digits}
-use Rattle.rv_model.specs.assembler.Fields.{fixed_mask}
-use Rattle.rv_model.specs.assembler.Table.{slots_of, row_at, name_at, slots_at, row_of_word, printed_operands, text_at, canonical}
-use Rattle.rv_model.specs.assembler.Naming.{IsFence, HasBitsOf, HasName, IsNamed}
+use Rattle.rv_model.specs.assembler.Table.{text_by, directive, has_name}
 use Rattle.rv_model.specs.instructions.Table.{table, scan}
 use Rattle.rv_model.proofs.instruction_lemmas.Scans.{some_row, found, table_apart}
 use Rattle.rv_model.proofs.assembler_lemmas.NamedOperations.{names_operation}
-use Rattle.rv_asm.proofs.WordLaws.{has_bits, row_matches}
-use Rattle.rv_model.proofs.assembler_lemmas.Naming.{Pattern, names, none, named_count, in_names, name_at_row, bits_of_name, HasNameOf, word_of_row_has_name, name_of_row, fence_named, no_word_of_two_names}
+use Rattle.rv_model.proofs.assembler_lemmas.RowOfWord.{has_bits, row_matches}
+use Rattle.rv_model.proofs.assembler_lemmas.Naming.{Pattern, names, none, named_count, in_names, name_at_row, bits_of_name, HasNameOf, word_of_row_has_name, name_of_row, fence_named}
+use Rattle.rv_model.specs.lending.NameTable.{fixed_mask, slots_of, row_at, name_at, slots_at, row_of_word}
+use Rattle.rv_model.proofs.assembler_lemmas.ListedTexts.{text_at, listed_canonical, IsFence, HasName, IsNamed}
 
 none_is_not_some : (i : Instr) → None ≡ Some i → ⊥
 none_is_not_some i e = cc
@@ -67,18 +65,29 @@ none_from_is_none : (o : Option Instr) → IsNone o → o ≡ None
 none_from_is_none None h = refl
 none_from_is_none (Some i) h = cc
 
-word_with_name_is_named : (w : ℕ) → HasName w → row_of_word w < NAME_COUNT
+-- of the fences that of all memory and devices alone has a name
+fence_with_name : (fence full : Bool) (w : ℕ) → nat_eq (bit_and w 0x707f) 0x0f ≡ fence → nat_eq w 0x0ff0000f ≡ full → cond fence full true ≡ true → IsFence w → w ≡ 0x0ff0000f
+fence_with_name false full w f e h is = absurd (let t = eq-eqb (bit_and w 0x707f) 0x0f is in cc)
+fence_with_name true full w f e h is = eqb-true w 0x0ff0000f (e ∙ h)
+
+-- and every other instruction has one
+fence_without_name : (fence full : Bool) (w : ℕ) → nat_eq (bit_and w 0x707f) 0x0f ≡ fence → nat_eq w 0x0ff0000f ≡ full → cond fence full true ≡ false → IsFence w × (w ≢ 0x0ff0000f)
+fence_without_name false full w f e h = absurd cc
+fence_without_name true true w f e h = absurd cc
+fence_without_name true false w f e h = (eqb-true (bit_and w 0x707f) 0x0f f, λ is. true≢false (sym (eq-eqb w 0x0ff0000f is) ∙ e))
+
+pub word_with_name_is_named : (w : ℕ) → HasName w → row_of_word w < NAME_COUNT
 word_with_name_is_named w h =
     elim (cases_fence w) [
-      | inl fence ↦ let P : ℕ → Type 0 = λ k. row_of_word k < NAME_COUNT in subst P (sym (h.1 fence)) full_fence_is_named
+      | inl fence ↦ let P : ℕ → Type 0 = λ k. row_of_word k < NAME_COUNT in subst P (sym (fence_with_name (nat_eq (bit_and w 0x707f) 0x0f) (nat_eq w 0x0ff0000f) w refl refl h.1 fence)) full_fence_is_named
       | inr other ↦
           let i = some_from_is_some (scan table w) h.0 in
           let r = some_row table w i.0 i.1 in
           word_with_bits_is_named w (word_of_row_has_name r.0 w r.1 r.2 other)
     ]
 
-pub is_named : (w : ℕ) → HasName w → IsNamed w (canonical w)
-unfolding canonical
+pub is_named : (w : ℕ) → HasName w → IsNamed w (listed_canonical w)
+unfolding listed_canonical
 is_named w h =
     let lt = word_with_name_is_named w h in
     let is = (row_matches w).bits in
@@ -88,14 +97,10 @@ is_named w h =
 abbrev HasNoName : ℕ → Type 0
 HasNoName word = IsNone (scan table word) ⊎ (IsFence word × (word ≢ 0x0ff0000f))
 
-no_name_by : (w : ℕ) (o : Option Instr) → scan table w ≡ o → (HasName w → ⊥) → HasNoName w
-no_name_by w None e h = inl (subst (λ (o : Option Instr). IsNone o) (sym e) refl)
-no_name_by w (Some i) e h =
-    let some : IsSome (scan table w) = subst (λ (o : Option Instr). IsSome o) (sym e) refl in
-    elim (cases_fence w) [
-      | inl fence ↦ inr (fence, λ is. h (some, λ f. is))
-      | inr other ↦ absurd (h (some, λ f. absurd (other f)))
-    ]
+no_name_by : (w : ℕ) (o : Option Instr) (named : Bool) → scan table w ≡ o → has_name w ≡ named → (HasName w → ⊥) → HasNoName w
+no_name_by w None named e n h = inl (subst (λ (o : Option Instr). IsNone o) (sym e) refl)
+no_name_by w (Some i) true e n h = absurd (h (subst (λ (o : Option Instr). IsSome o) (sym e) refl, n))
+no_name_by w (Some i) false e n h = inr (fence_without_name (nat_eq (bit_and w 0x707f) 0x0f) (nat_eq w 0x0ff0000f) w refl refl n)
 
 word_without_name_is_not_named : (w : ℕ) → w < 2 ^ 32 → HasNoName w → row_of_word w < NAME_COUNT → ⊥
 word_without_name_is_not_named w small (inl no_row) lt =
@@ -106,29 +111,17 @@ word_without_name_is_not_named w small (inr fence) lt =
     let n = has_name_of w lt in
     fence.1 (fence_named n.0 w small n.1 n.2 fence.0)
 
-only_directive_is_left : (row : ℕ) → row < ROW_COUNT → (row < NAME_COUNT → ⊥) → row ≡ NAME_COUNT
-only_directive_is_left row lt h = omega (arith, h)
+last_row : (row : ℕ) → row < ROW_COUNT → (row < NAME_COUNT → ⊥) → row ≡ NAME_COUNT
+last_row row lt h = omega (arith, h)
 
--- `.word` and 8 hexadecimal digits
-abbrev directive_text : ℕ → List ℕ
-directive_text word = codes ".word 0x" ++ hex_digits 8 word
+pub only_directive_is_left : (w : ℕ) → w < 2 ^ 32 → (HasName w → ⊥) → row_of_word w ≡ NAME_COUNT
+only_directive_is_left w small h =
+    last_row (row_of_word w) (row_matches w).within (word_without_name_is_not_named w small (no_name_by w (scan table w) (has_name w) refl refl h))
 
-text_of_directive : (w : ℕ) → w < 2 ^ 32 → text_at NAME_COUNT w ≡ directive_text w
-unfolding text_at name_at slots_at row_at printed_operands
-text_of_directive w small =
-    let is : w / 2 ^ 0 % 2 ^ 32 ≡ w = omega arith in
-    ap (λ (t : List ℕ). codes ".word " ++ t) (append-nil (codes "0x" ++ hex_digits 8 (w / 2 ^ 0 % 2 ^ 32))) ∙ ap (λ (v : ℕ). codes ".word 0x" ++ hex_digits 8 v) is
+text_of_directive : (w : ℕ) → text_at NAME_COUNT w ≡ text_by directive w
+unfolding text_at name_at slots_at row_at
+text_of_directive w = refl
 
-pub is_directive : (w : ℕ) → w < 2 ^ 32 → (HasName w → ⊥) → canonical w ≡ directive_text w
-unfolding canonical
-is_directive w small h = ap (λ (row : ℕ). text_at row w) (only_directive_is_left (row_of_word w) (row_matches w).within (word_without_name_is_not_named w small (no_name_by w (scan table w) refl h))) ∙ text_of_directive w small
-
-pub one_name : (w row other : ℕ) → row < NAME_COUNT → other < NAME_COUNT → HasBitsOf row w → HasBitsOf other w → row ≡ other
-one_name w row other lt less is also =
-    elim (cases_lt row other) [
-      | inl before ↦ absurd (no_word_of_two_names row other w before (in_names other less) (bits_of_name row w lt is) (bits_of_name other w less also))
-      | inr le ↦ elim (cases_lt other row) [
-        | inl before ↦ absurd (no_word_of_two_names other row w before (in_names row lt) (bits_of_name other w less also) (bits_of_name row w lt is))
-        | inr ge ↦ omega arith
-      ]
-    ]
+pub is_directive : (w : ℕ) → w < 2 ^ 32 → (HasName w → ⊥) → listed_canonical w ≡ text_by directive w
+unfolding listed_canonical
+is_directive w small h = ap (λ (row : ℕ). text_at row w) (only_directive_is_left w small h) ∙ text_of_directive w

@@ -15,7 +15,7 @@ use Rattle.rv_model.specs.instructions.Table.{Row, table, scan}
 use Rattle.rv_model.specs.lending.Families.{Family, rows, Systems, Csrs, CsrImmediates, Ariths, Carries, Moves, WholeMoves, MaskLogics, Compresses, MasksToScalar, Extends, MaskUnaries, ElementIndices, MovesToScalar, MovesToVector, SetVlis, SetIvlis, SetVls, Units, Strideds, Indexeds, WholeLoads, WholeStores, MaskMemories}
 use Rattle.rv_model.proofs.instruction_lemmas.Scans.{scan_append, scan_narrow, same_narrow, narrowed, no_scan, DiffersFrom}
 use Rattle.rv_model.specs.declared.instructions.arith_operation.ArithOperation.{ArithOperation}
-use Rattle.rv_decode.specs.Irregular.{irregular, other_accesses}
+use Rattle.rv_decode.specs.Groups.{rows_where, is_irregular_instr, is_unit_stride, is_other_access, is_csr}
 use Rattle.rv_decode.proofs.Scan.{at_access, at_73, at_0057, at_2057, at_3057, at_4057, at_6057, at_7057, places}
 
 -- what a decoder finds among the first rows is found among all
@@ -54,38 +54,38 @@ instr_of o = instr.Vector (Arith o.arith o.vd o.vs2 o.unmasked)
 -- ---- the irregular rows of each place
 
 pub irregular_0057 : (word : ℕ) → bit_and word 0x707f ≡ 0x0057
-    → scan irregular word ≡ scan (rows (Carries form.V) ++ rows (Moves form.V)) word
-unfolding irregular table rows
-irregular_0057 word is = same_narrow 0x707f 0x0057 word is irregular _ refl
+    → scan (rows_where is_irregular_instr) word ≡ scan (rows (Carries form.V) ++ rows (Moves form.V)) word
+unfolding rows_where table rows
+irregular_0057 word is = same_narrow 0x707f 0x0057 word is (rows_where is_irregular_instr) _ refl
 
 pub irregular_4057 : (word : ℕ) → bit_and word 0x707f ≡ 0x4057
-    → scan irregular word ≡ scan (rows (Carries form.X) ++ rows (Moves form.X)) word
-unfolding irregular table rows
-irregular_4057 word is = same_narrow 0x707f 0x4057 word is irregular _ refl
+    → scan (rows_where is_irregular_instr) word ≡ scan (rows (Carries form.X) ++ rows (Moves form.X)) word
+unfolding rows_where table rows
+irregular_4057 word is = same_narrow 0x707f 0x4057 word is (rows_where is_irregular_instr) _ refl
 
 pub irregular_3057 : (word : ℕ) → bit_and word 0x707f ≡ 0x3057
-    → scan irregular word ≡ scan (rows (Carries form.I) ++ rows (Moves form.I) ++ rows WholeMoves) word
-unfolding irregular table rows
-irregular_3057 word is = same_narrow 0x707f 0x3057 word is irregular _ refl
+    → scan (rows_where is_irregular_instr) word ≡ scan (rows (Carries form.I) ++ rows (Moves form.I) ++ rows WholeMoves) word
+unfolding rows_where table rows
+irregular_3057 word is = same_narrow 0x707f 0x3057 word is (rows_where is_irregular_instr) _ refl
 
 pub irregular_2057 : (word : ℕ) → bit_and word 0x707f ≡ 0x2057
-    → scan irregular word ≡ scan (rows MaskLogics ++ rows Compresses ++ rows MasksToScalar ++ rows Extends ++ rows MaskUnaries ++ rows ElementIndices ++ rows MovesToScalar) word
-unfolding irregular table rows
-irregular_2057 word is = same_narrow 0x707f 0x2057 word is irregular _ refl
+    → scan (rows_where is_irregular_instr) word ≡ scan (rows MaskLogics ++ rows Compresses ++ rows MasksToScalar ++ rows Extends ++ rows MaskUnaries ++ rows ElementIndices ++ rows MovesToScalar) word
+unfolding rows_where table rows
+irregular_2057 word is = same_narrow 0x707f 0x2057 word is (rows_where is_irregular_instr) _ refl
 
 pub irregular_6057 : (word : ℕ) → bit_and word 0x707f ≡ 0x6057
-    → scan irregular word ≡ scan (rows MovesToVector) word
-unfolding irregular table rows
-irregular_6057 word is = same_narrow 0x707f 0x6057 word is irregular _ refl
+    → scan (rows_where is_irregular_instr) word ≡ scan (rows MovesToVector) word
+unfolding rows_where table rows
+irregular_6057 word is = same_narrow 0x707f 0x6057 word is (rows_where is_irregular_instr) _ refl
 
 pub irregular_7057 : (word : ℕ) → bit_and word 0x707f ≡ 0x7057
-    → scan irregular word ≡ scan (rows SetVlis ++ rows SetIvlis ++ rows SetVls) word
-unfolding irregular table rows
-irregular_7057 word is = same_narrow 0x707f 0x7057 word is irregular _ refl
+    → scan (rows_where is_irregular_instr) word ≡ scan (rows SetVlis ++ rows SetIvlis ++ rows SetVls) word
+unfolding rows_where table rows
+irregular_7057 word is = same_narrow 0x707f 0x7057 word is (rows_where is_irregular_instr) _ refl
 
-pub no_irregular : (word : ℕ) → DiffersFrom places (bit_and word 0x707f) → scan irregular word ≡ None
-unfolding irregular table
-no_irregular word h = no_scan 0x707f places word irregular refl h
+pub no_irregular : (word : ℕ) → DiffersFrom places (bit_and word 0x707f) → scan (rows_where is_irregular_instr) word ≡ None
+unfolding rows_where table
+no_irregular word h = no_scan 0x707f places word (rows_where is_irregular_instr) refl h
 
 -- ---- regular operations
 
@@ -96,7 +96,7 @@ abbrev pub IsRegular : ℕ → Option ArithOperation → Type 0
 IsRegular word found = IfSome found (λ o. scan table word ≡ Some (instr.Vector (Arith o.arith o.vd o.vs2 o.unmasked)))
 
 abbrev pub IsIrregular : ℕ → Option ArithOperation → Type 0
-IsIrregular word found = IfNone found (scan table word ≡ scan irregular word)
+IsIrregular word found = IfNone found (scan table word ≡ scan (rows_where is_irregular_instr) word)
 
 pub some_0057 : (word : ℕ) (found : Option ArithOperation) → bit_and word 0x707f ≡ 0x0057 → FindsRegular (Ariths Opi form.V) word found → IsRegular word found
 unfolding rows
@@ -104,7 +104,7 @@ some_0057 word found is e = first_found instr_of found (scan table word) (rows (
 
 pub none_0057 : (word : ℕ) (found : Option ArithOperation) → bit_and word 0x707f ≡ 0x0057 → FindsRegular (Ariths Opi form.V) word found → IsIrregular word found
 unfolding rows
-none_0057 word found is e = first_missed instr_of found (scan table word) (scan irregular word) (rows (Ariths Opi form.V)) (rows (Carries form.V) ++ rows (Moves form.V)) word (at_0057 word is) (irregular_0057 word is) e
+none_0057 word found is e = first_missed instr_of found (scan table word) (scan (rows_where is_irregular_instr) word) (rows (Ariths Opi form.V)) (rows (Carries form.V) ++ rows (Moves form.V)) word (at_0057 word is) (irregular_0057 word is) e
 
 pub some_4057 : (word : ℕ) (found : Option ArithOperation) → bit_and word 0x707f ≡ 0x4057 → FindsRegular (Ariths Opi form.X) word found → IsRegular word found
 unfolding rows
@@ -112,7 +112,7 @@ some_4057 word found is e = first_found instr_of found (scan table word) (rows (
 
 pub none_4057 : (word : ℕ) (found : Option ArithOperation) → bit_and word 0x707f ≡ 0x4057 → FindsRegular (Ariths Opi form.X) word found → IsIrregular word found
 unfolding rows
-none_4057 word found is e = first_missed instr_of found (scan table word) (scan irregular word) (rows (Ariths Opi form.X)) (rows (Carries form.X) ++ rows (Moves form.X)) word (at_4057 word is) (irregular_4057 word is) e
+none_4057 word found is e = first_missed instr_of found (scan table word) (scan (rows_where is_irregular_instr) word) (rows (Ariths Opi form.X)) (rows (Carries form.X) ++ rows (Moves form.X)) word (at_4057 word is) (irregular_4057 word is) e
 
 pub some_3057 : (word : ℕ) (found : Option ArithOperation) → bit_and word 0x707f ≡ 0x3057 → FindsRegular (Ariths Opi form.I) word found → IsRegular word found
 unfolding rows
@@ -120,7 +120,7 @@ some_3057 word found is e = first_found instr_of found (scan table word) (rows (
 
 pub none_3057 : (word : ℕ) (found : Option ArithOperation) → bit_and word 0x707f ≡ 0x3057 → FindsRegular (Ariths Opi form.I) word found → IsIrregular word found
 unfolding rows
-none_3057 word found is e = first_missed instr_of found (scan table word) (scan irregular word) (rows (Ariths Opi form.I)) (rows (Carries form.I) ++ rows (Moves form.I) ++ rows WholeMoves) word (at_3057 word is) (irregular_3057 word is) e
+none_3057 word found is e = first_missed instr_of found (scan table word) (scan (rows_where is_irregular_instr) word) (rows (Ariths Opi form.I)) (rows (Carries form.I) ++ rows (Moves form.I) ++ rows WholeMoves) word (at_3057 word is) (irregular_3057 word is) e
 
 pub some_2057 : (word : ℕ) (found : Option ArithOperation) → bit_and word 0x707f ≡ 0x2057 → FindsRegular (Ariths Opm form.V) word found → IsRegular word found
 unfolding rows
@@ -128,7 +128,7 @@ some_2057 word found is e = first_found instr_of found (scan table word) (rows (
 
 pub none_2057 : (word : ℕ) (found : Option ArithOperation) → bit_and word 0x707f ≡ 0x2057 → FindsRegular (Ariths Opm form.V) word found → IsIrregular word found
 unfolding rows
-none_2057 word found is e = first_missed instr_of found (scan table word) (scan irregular word) (rows (Ariths Opm form.V)) (rows MaskLogics ++ rows Compresses ++ rows MasksToScalar ++ rows Extends ++ rows MaskUnaries ++ rows ElementIndices ++ rows MovesToScalar) word (at_2057 word is) (irregular_2057 word is) e
+none_2057 word found is e = first_missed instr_of found (scan table word) (scan (rows_where is_irregular_instr) word) (rows (Ariths Opm form.V)) (rows MaskLogics ++ rows Compresses ++ rows MasksToScalar ++ rows Extends ++ rows MaskUnaries ++ rows ElementIndices ++ rows MovesToScalar) word (at_2057 word is) (irregular_2057 word is) e
 
 pub some_6057 : (word : ℕ) (found : Option ArithOperation) → bit_and word 0x707f ≡ 0x6057 → FindsRegular (Ariths Opm form.X) word found → IsRegular word found
 unfolding rows
@@ -136,28 +136,28 @@ some_6057 word found is e = first_found instr_of found (scan table word) (rows (
 
 pub none_6057 : (word : ℕ) (found : Option ArithOperation) → bit_and word 0x707f ≡ 0x6057 → FindsRegular (Ariths Opm form.X) word found → IsIrregular word found
 unfolding rows
-none_6057 word found is e = first_missed instr_of found (scan table word) (scan irregular word) (rows (Ariths Opm form.X)) (rows MovesToVector) word (at_6057 word is) (irregular_6057 word is) e
+none_6057 word found is e = first_missed instr_of found (scan table word) (scan (rows_where is_irregular_instr) word) (rows (Ariths Opm form.X)) (rows MovesToVector) word (at_6057 word is) (irregular_6057 word is) e
 
-pub none_7057 : (word : ℕ) → bit_and word 0x707f ≡ 0x7057 → scan table word ≡ scan irregular word
+pub none_7057 : (word : ℕ) → bit_and word 0x707f ≡ 0x7057 → scan table word ≡ scan (rows_where is_irregular_instr) word
 none_7057 word is = at_7057 word is ∙ sym (irregular_7057 word is)
 
 -- ---- funct6 of irregular operations
 
-pub funct6_10 : (word : ℕ) → bit_and word 0x7f ≡ 0x57 → bit_and word 0xfc000000 ≡ 0x40000000 → scan table word ≡ scan irregular word
-unfolding irregular table rows
-funct6_10 word opcode is = narrow_both 0x7f 0x57 0xfc000000 0x40000000 word opcode is table irregular refl
+pub funct6_10 : (word : ℕ) → bit_and word 0x7f ≡ 0x57 → bit_and word 0xfc000000 ≡ 0x40000000 → scan table word ≡ scan (rows_where is_irregular_instr) word
+unfolding rows_where table rows
+funct6_10 word opcode is = narrow_both 0x7f 0x57 0xfc000000 0x40000000 word opcode is table (rows_where is_irregular_instr) refl
 
-pub funct6_12 : (word : ℕ) → bit_and word 0x7f ≡ 0x57 → bit_and word 0xfc000000 ≡ 0x48000000 → scan table word ≡ scan irregular word
-unfolding irregular table rows
-funct6_12 word opcode is = narrow_both 0x7f 0x57 0xfc000000 0x48000000 word opcode is table irregular refl
+pub funct6_12 : (word : ℕ) → bit_and word 0x7f ≡ 0x57 → bit_and word 0xfc000000 ≡ 0x48000000 → scan table word ≡ scan (rows_where is_irregular_instr) word
+unfolding rows_where table rows
+funct6_12 word opcode is = narrow_both 0x7f 0x57 0xfc000000 0x48000000 word opcode is table (rows_where is_irregular_instr) refl
 
-pub funct6_14 : (word : ℕ) → bit_and word 0x7f ≡ 0x57 → bit_and word 0xfc000000 ≡ 0x50000000 → scan table word ≡ scan irregular word
-unfolding irregular table rows
-funct6_14 word opcode is = narrow_both 0x7f 0x57 0xfc000000 0x50000000 word opcode is table irregular refl
+pub funct6_14 : (word : ℕ) → bit_and word 0x7f ≡ 0x57 → bit_and word 0xfc000000 ≡ 0x50000000 → scan table word ≡ scan (rows_where is_irregular_instr) word
+unfolding rows_where table rows
+funct6_14 word opcode is = narrow_both 0x7f 0x57 0xfc000000 0x50000000 word opcode is table (rows_where is_irregular_instr) refl
 
-pub funct6_17 : (word : ℕ) → bit_and word 0x7f ≡ 0x57 → bit_and word 0xfc000000 ≡ 0x5c000000 → scan table word ≡ scan irregular word
-unfolding irregular table rows
-funct6_17 word opcode is = narrow_both 0x7f 0x57 0xfc000000 0x5c000000 word opcode is table irregular refl
+pub funct6_17 : (word : ℕ) → bit_and word 0x7f ≡ 0x57 → bit_and word 0xfc000000 ≡ 0x5c000000 → scan table word ≡ scan (rows_where is_irregular_instr) word
+unfolding rows_where table rows
+funct6_17 word opcode is = narrow_both 0x7f 0x57 0xfc000000 0x5c000000 word opcode is table (rows_where is_irregular_instr) refl
 
 -- ---- OPMVV
 
@@ -192,20 +192,25 @@ mask_other word h =
 
 -- ---- accesses
 
-other_rows : other_accesses ≡ rows Strideds ++ rows Indexeds ++ rows WholeLoads ++ rows WholeStores ++ rows MaskMemories
-unfolding other_accesses table rows
+other_rows : rows_where is_other_access ≡ rows Strideds ++ rows Indexeds ++ rows WholeLoads ++ rows WholeStores ++ rows MaskMemories
+unfolding rows_where table rows
 other_rows = refl
+
+pub units : (word : ℕ) → scan (rows_where is_unit_stride) word ≡ scan (rows Units) word
+unfolding rows_where table rows
+units word = refl
 
 -- mop and bit 23 are 0 in each of unit stride, and in no other
 pub units_alone : (word : ℕ) → (bit_and word 0x7f ≡ 0x07) ⊎ (bit_and word 0x7f ≡ 0x27) → bit_and word 0x0c800000 ≡ 0
-    → scan table word ≡ scan (rows Units) word
+    → scan table word ≡ scan (rows_where is_unit_stride) word
 unfolding rows
 units_alone word opcode is =
     at_access word opcode
     ∙ same_narrow 0x0c800000 0 word is (rows Units ++ rows Strideds ++ rows Indexeds ++ rows WholeLoads ++ rows WholeStores ++ rows MaskMemories) (rows Units) refl
+    ∙ sym (units word)
 
 pub others_alone : (word : ℕ) → (bit_and word 0x7f ≡ 0x07) ⊎ (bit_and word 0x7f ≡ 0x27) → bit_and word 0x0c800000 ≢ 0
-    → scan table word ≡ scan other_accesses word
+    → scan table word ≡ scan (rows_where is_other_access) word
 unfolding rows
 others_alone word opcode other =
     at_access word opcode
@@ -214,11 +219,11 @@ others_alone word opcode other =
     ∙ ap (λ t. scan t word) (sym other_rows)
 
 -- of the others, mop is 0 in each of whole registers and masks, and in no other
-pub registers_alone : (word : ℕ) → bit_and word 0x0c000000 ≡ 0 → scan other_accesses word ≡ scan (rows WholeLoads ++ rows WholeStores ++ rows MaskMemories) word
-unfolding other_accesses table rows
-registers_alone word is = same_narrow 0x0c000000 0 word is other_accesses (rows WholeLoads ++ rows WholeStores ++ rows MaskMemories) refl
+pub registers_alone : (word : ℕ) → bit_and word 0x0c000000 ≡ 0 → scan (rows_where is_other_access) word ≡ scan (rows WholeLoads ++ rows WholeStores ++ rows MaskMemories) word
+unfolding rows_where table rows
+registers_alone word is = same_narrow 0x0c000000 0 word is (rows_where is_other_access) (rows WholeLoads ++ rows WholeStores ++ rows MaskMemories) refl
 
-pub distances_alone : (word : ℕ) → bit_and word 0x0c000000 ≢ 0 → scan other_accesses word ≡ scan (rows Strideds ++ rows Indexeds) word
+pub distances_alone : (word : ℕ) → bit_and word 0x0c000000 ≢ 0 → scan (rows_where is_other_access) word ≡ scan (rows Strideds ++ rows Indexeds) word
 unfolding rows
 distances_alone word other =
     ap (λ t. scan t word) other_rows
@@ -226,6 +231,10 @@ distances_alone word other =
     (no_scan 0x0c000000 (0 ∷ []) word _ refl (other, tt))
 
 -- ---- calls and breakpoints
+
+pub csrs : (word : ℕ) → scan (rows_where is_csr) word ≡ scan (rows Csrs ++ rows CsrImmediates) word
+unfolding rows_where table rows
+csrs word = refl
 
 pub call_found : (word : ℕ) (found : Option SystemOp) → bit_and word 0x7f ≡ 0x73
     → option_map (λ op. instr.Scalar (System op)) found ≡ scan (rows Systems) word
@@ -236,10 +245,10 @@ call_found word found is e =
 
 pub call_missed : (word : ℕ) (found : Option SystemOp) → bit_and word 0x7f ≡ 0x73
     → option_map (λ op. instr.Scalar (System op)) found ≡ scan (rows Systems) word
-    → IfNone found (scan table word ≡ scan (rows Csrs ++ rows CsrImmediates) word)
+    → IfNone found (scan table word ≡ scan (rows_where is_csr) word)
 unfolding rows
 call_missed word found is e =
-    first_missed (λ op. instr.Scalar (System op)) found (scan table word) (scan (rows Csrs ++ rows CsrImmediates) word) (rows Systems) (rows Csrs ++ rows CsrImmediates) word (at_73 word is) refl e
+    first_missed (λ op. instr.Scalar (System op)) found (scan table word) (scan (rows_where is_csr) word) (rows Systems) (rows Csrs ++ rows CsrImmediates) word (at_73 word is) (csrs word) e
 
 pub ruleset funct6_steps = (funct6_10, funct6_12, funct6_14, funct6_17)
 

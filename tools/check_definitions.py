@@ -1,0 +1,122 @@
+#!/usr/bin/env python3
+"""Compares what the pages say of definitions with what `tools/definitions.py` counts: `tools/check_definitions.py [OUTPUT]`, at the top
+of the repository.
+
+In docs/DEFINITIONS.md: the lines and the files of each row of the hour's table and of the table of all modules, and each sum that is
+said. In docs/GUARANTEES.md: the modules of the kit whose names contracts and definitions cite; and, where OUTPUT is a file with what
+`rt ci` printed when it proved `vecmon`, the kit's crates and how many C functions it rests on. The status is 1 where something differs.
+"""
+
+import re
+import sys
+from collections.abc import Iterator
+from pathlib import Path
+
+import definitions as counted
+
+
+def rows_of(page: str, title: str) -> Iterator[list[str]]:
+    """The cells of the table below a title, without its head."""
+    section = page.partition(f"\n## {title}\n")[2].partition("\n## ")[0]
+    for line in re.findall(r"^\|(.*)\|$", section, re.MULTILINE)[2:]:
+        yield [cell.strip() for cell in line.split("|")]
+
+
+def files_in(cell: str) -> list[str]:
+    """The files that a cell names: one without a folder lies in that of the file before it."""
+    found, folder = list[str](), ""
+    for name in re.findall(r"`([\w/]+)`", cell):
+        folder = f"{name.rpartition('/')[0]}/" if "/" in name else folder
+        found.append(name if "/" in name else folder + name)
+    return found
+
+
+def number(text: str) -> int:
+    return int(text.replace(",", ""))
+
+
+def wrong_hour(page: str) -> Iterator[str]:
+    read = {
+        str(path.with_suffix("")).removeprefix("rv_model/specs/"): lines for path, lines in counted.addition().items()
+    }
+    named = list[str]()
+    for _, files, lines in rows_of(page, "An hour: the headline and one vector addition"):
+        named += files_in(files)
+        is_so = sum(read.get(it, 0) for it in files_in(files))
+        if number(lines) != is_so:
+            yield f"the hour's row of {files} has {is_so} lines"
+    for name in sorted(read.keys() ^ set(named)):
+        yield f"{name} is {'needed and not named' if name in read else 'named and not needed'} in the hour's table"
+    if f"{sum(read.values())} lines in {len(read)} files" not in page:
+        yield f"the hour has {sum(read.values())} lines in {len(read)} files"
+
+
+def wrong_modules(page: str) -> Iterator[str]:
+    modules = counted.module_files()
+    parts = counted.by_part(counted.files_of(counted.definitions()))
+    for name, lines, files, *_ in rows_of(page, "All of them"):
+        module = modules.get(name.strip("`"))
+        if module and number(lines) != sum(module.values()):
+            yield f"{name} has {sum(module.values())} lines"
+        if module and (others := {it for it in module if module[it] and it != name.strip("`")} ^ set(files_in(files))):
+            yield f"the row of {name} differs in {', '.join(sorted(others))}"
+        if not module:
+            said = dict(re.findall(r"`(\w+)` \((\d+)\)", files))
+            is_so = {
+                it: str(count)
+                for it, count in parts.items()
+                if it in said or name == "of other crates" and it not in ("lending", "src")
+            }
+            if said != is_so or number(lines) != sum(map(int, is_so.values())):
+                yield f"the row {name} has {sum(map(int, is_so.values()))} lines: {', '.join(f'`{it}` ({count})' for it, count in is_so.items())}"
+    total = f"{counted.total_of(modules, parts):,}"
+    headline = counted.files_of(counted.closure(counted.start_of(counted.HEADLINE)))
+    for what in f"In all {total} lines", f"{sum(headline.values()):,} lines in {len(headline)} files":
+        if what not in page:
+            yield f"the page doesn't say: {what}"
+
+
+def wrong_kit(page: str) -> Iterator[str]:
+    section = page.partition("\n## Trusted\n")[2].partition("\n## ")[0]
+    said = {
+        crate: set(re.findall(r"`([\w.]+)`", modules))
+        for crate, modules in re.findall(r"^\| `(\w+)` \| (.*) \|$", section, re.MULTILINE)
+    }
+    is_so: dict[str, set[str]] = {}
+    for crate, module in counted.modules_of_kit(counted.definitions(())):
+        if not module.startswith("declared."):
+            is_so.setdefault(crate, set()).add(module)
+    for crate in sorted(said.keys() | is_so.keys()):
+        if said.get(crate) != is_so.get(crate):
+            yield f"of {crate} these modules are cited: {', '.join(f'`{it}`' for it in sorted(is_so.get(crate, set())))}"
+
+
+def wrong_axioms(page: str, output: str) -> Iterator[str]:
+    """What is wrong of the C functions and the kit's crates; nothing where `vecmon` wasn't proved anew."""
+    proved = output.partition("\nrt: vecmon proved\n")
+    report = proved[0].rpartition(" proved\n")[2] if proved[1] else ""
+    for crate, reached, all_of_it in re.findall(
+        r"^axioms (\w+): .*\((\d+) of the (\d+) declared\)$", report, re.MULTILINE
+    ):
+        if f"{reached} of the {all_of_it} of `{crate}`" not in page:
+            yield f"the proof of vecmon rests on {reached} of the {all_of_it} of `{crate}`"
+    for crate in re.findall(r"^statements (\w+):", report, re.MULTILINE):
+        if not (counted.CRATES / crate).exists() and f"`{crate}`" not in page.partition("\n## Trusted\n")[2]:
+            yield f"vecmon stands on the kit's `{crate}`"
+
+
+def main() -> int:
+    output = Path(sys.argv[1]).read_text(encoding="utf-8") if len(sys.argv) > 1 else ""
+    guide, guarantees = (Path("docs", it).read_text(encoding="utf-8") for it in ("DEFINITIONS.md", "GUARANTEES.md"))
+    found = {
+        "DEFINITIONS.md": [*wrong_hour(guide), *wrong_modules(guide)],
+        "GUARANTEES.md": [*wrong_kit(guarantees), *wrong_axioms(guarantees, output)],
+    }
+    for page, faults in found.items():
+        for fault in faults:
+            print(f"docs/{page}: {fault}")
+    return 1 if any(found.values()) else 0
+
+
+if __name__ == "__main__":
+    sys.exit(main())
