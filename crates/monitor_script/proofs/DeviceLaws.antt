@@ -3,6 +3,7 @@ use Rattle.std.proofs.Common.{◌≡◌, ℕ, ◌<◌, inl, inr, List, [], ◌�
 use Rattle.std.specs.List.{All}
 use Rattle.std.specs.Result.{OnOk}
 use Rattle.std.proofs.lemmas.List.{take-append-le}
+use Rattle.std.proofs.lemmas.Result.{on_ok_weaker}
 use Rattle.std.proofs.lemmas.List.Elements.{All-head, All-tail, All-take}
 use Rattle.monitor_machine.specs.MachineState.{MachineState}
 use Rattle.rv_model.specs.machine.Setup.{Setup}
@@ -19,11 +20,15 @@ use Rattle.monitor_script.proofs.EndedLaws.{from_start_leaves, ended_are}
 pub never_rose : Rose 0 0 → ⊥
 never_rose h = elim h [ inl l ↦ omega arith | inr r ↦ omega arith ]
 
+-- a run ends in one of these ways
+pub each_end : {T P : Type 0} (r : Result T RunFault) → OnOk r P → (r ≡ Err Read → P) → (r ≡ Err TooLong → P) → (r ≡ Err Write → P) → P
+each_end (Ok x) done read long write = done
+each_end (Err Read) done read long write = read refl
+each_end (Err TooLong) done read long write = long refl
+each_end (Err Write) done read long write = write refl
+
 pub only_too_long : {T : Type 0} (r : Result T RunFault) → OnOk r ⊥ → (r ≡ Err Read → ⊥) → (r ≡ Err Write → ⊥) → r ≡ Err TooLong
-only_too_long (Ok x) h p q = absurd h
-only_too_long (Err Read) h p q = absurd (p refl)
-only_too_long (Err TooLong) h p q = refl
-only_too_long (Err Write) h p q = absurd (q refl)
+only_too_long r h p q = each_end r (on_ok_weaker r (λ no. absurd no) h) (λ e. absurd (p e)) (λ e. e) (λ e. absurd (q e))
 
 -- what a reader of known bytes gave up to its end is the whole of them
 pub given_whole : (bytes held script rest : List ℕ) → held ≡ bytes → held ≡ script ++ rest → rest ≡ [] → bytes ≡ script

@@ -96,11 +96,15 @@ after_all-push : (s : Setup) (w : World) (ls : List (List ℕ)) (l : List ℕ) �
 after_all-push s w [] l = refl
 after_all-push s w (x ∷ ls) l = after_all-push s (world_after s w x) ls l
 
+pub told_all-append : (s : Setup) (w : World) (ls more : List (List ℕ)) → told_all s w (ls ++ more) ≡ told_all s w ls ++ told_all s (after_all s w ls) more
+told_all-append s w [] more = refl
+told_all-append s w (x ∷ ls) more =
+    ap (λ (t : List ℕ). told s w x ++ t) (told_all-append s (world_after s w x) ls more)
+    ∙ sym (append_assoc (told s w x) (told_all s (world_after s w x) ls) (told_all s (after_all s (world_after s w x) ls) more))
+
 told_all-push : (s : Setup) (w : World) (ls : List (List ℕ)) (l : List ℕ) → told_all s w (ls ++ l ∷ []) ≡ told_all s w ls ++ told s (after_all s w ls) l
-told_all-push s w [] l = append-nil (told s w l)
-told_all-push s w (x ∷ ls) l =
-    ap (λ (t : List ℕ). told s w x ++ t) (told_all-push s (world_after s w x) ls l)
-    ∙ sym (append_assoc (told s w x) (told_all s (world_after s w x) ls) (told s (after_all s (world_after s w x) ls) l))
+told_all-push s w ls l =
+    told_all-append s w ls (l ∷ []) ∙ ap (λ (t : List ℕ). told_all s w ls ++ t) (append-nil (told s (after_all s w ls) l))
 
 -- byte by byte and then the last line, a script comes to the same as line by line
 pub machine_of_all : (m : MachineState) (s : List ℕ) → after_line (fed m [] s).machine (fed m [] s).line ≡ after_lines m (pieces s)

@@ -85,7 +85,7 @@ output_too_long m0 front piece m line left s =
 
 -- a line whose answer can't be written: whole is what was taken before the line's end
 cut_at : (m0 : MachineState) (text whole : List ℕ) (more : List (List ℕ)) (Ended : Type 0) (m m' : MachineState) (line : List ℕ) (n : ℕ) (Took : List ℕ → Type 0)
-    → pieces (take 16777216 text) ≡ (from_start_leaves m0 whole).before ++ (from_start_leaves m0 whole).last ∷ more → (more ≡ [] → Ended)
+    → pieces (take 16777216 text) ≡ (from_start_leaves m0 whole).before ++ (from_start_leaves m0 whole).last ∷ more → (more ≡ [] → Ended × (length text ≤ 16777216))
     → m ≡ (fed m0 [] whole).machine → line ≡ (fed m0 [] whole).line → m' ≡ after_line m line → n < length (line_output m line)
     → Took ((fed m0 [] whole).output ++ take n (line_output m line)) → CutShort m0 text Ended m'.world Took
 cut_at m0 text whole more Ended m m' line n Took ps last p l e less took =
@@ -113,8 +113,9 @@ pub cut_at_end : (m0 : MachineState) (text : List ℕ) (Ended : Type 0) (m m' : 
     → SoFar m0 text m line left → Ended → m' ≡ after_line m line → n < length (line_output m line)
     → Took ((fed m0 [] text).output ++ take n (line_output m line)) → CutShort m0 text Ended m'.world Took
 cut_at_end m0 text Ended m m' line left n Took s ended e less took =
+    let limit = s.limit in
     cut_at m0 text text [] Ended m m' line n Took
-    (ap pieces (front_limit text left s.limit) ∙ (from_start_leaves m0 text).all) (λ none. ended) s.machine s.line e less took
+    (ap pieces (front_limit text left s.limit) ∙ (from_start_leaves m0 text).all) (λ none. (ended, omega (arith, limit))) s.machine s.line e less took
 
 -- the answer to a line that ends in a piece
 pub cut_in_piece : (m0 : MachineState) (front piece : List ℕ) (Ended : Type 0) (m m' : MachineState) (line : List ℕ) (left : ℕ) (Before Took : List ℕ → Type 0)

@@ -1,18 +1,18 @@
 -- What stands after a write that failed in the middle of a script.
-use Rattle.std.specs.Prelude.{ℕ, ◌≡◌, ◌<◌, List, [], ◌∷◌, ◌++◌, length, take}
+use Rattle.std.specs.Prelude.{ℕ, ◌≡◌, ◌<◌, ◌≤◌, List, [], ◌∷◌, ◌++◌, length, take}
 use Rattle.monitor_machine.specs.MachineState.{MachineState}
 use Rattle.rv_model.specs.machine.Script.{World, after_all, told, told_all, world_after}
 use Rattle.rv_model.specs.text.Lines.{pieces}
 
 -- Of the lines of a text's first 16,777,216 bytes, those before some line have been carried out and answered whole. That line has
--- been carried out, and less than its whole answer went out. It is the last one only where the source came to its end.
+-- been carried out, and less than its whole answer went out. It is the last one only where the source came to its end within them.
 pub record CutShort (machine : MachineState) (text : List ℕ) (ended : Type 0) (now : World) (took : List ℕ → Type 0) : Type 0 where
   pub before : List (List ℕ)
   pub line : List ℕ
   pub more : List (List ℕ)
   pub count : ℕ
   pub lines : pieces (take 16777216 text) ≡ before ++ line ∷ more
-  pub last : more ≡ [] → ended
+  pub last : more ≡ [] → ended × (length text ≤ 16777216)
   pub world : now ≡ world_after machine.setup (after_all machine.setup machine.world before) line
   pub less : count < length (told machine.setup (after_all machine.setup machine.world before) line)
   pub output : took (told_all machine.setup machine.world before ++ take count (told machine.setup (after_all machine.setup machine.world before) line))

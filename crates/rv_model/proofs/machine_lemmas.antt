@@ -1,6 +1,8 @@
--- Laws of machines and scripts: `EventLines` and `Grants` first, then `Headline`, then `Refusals` and
--- `AbsentUsers`.
+-- Laws of machines and scripts: `EventLines` and `Grants` first, then `Headline`, then `Refusals`,
+-- `AbsentUsers` and `ConfiguredUsers`.
 pub mod AbsentUsers
+pub mod Configurations
+pub mod ConfiguredUsers
 pub mod Cuts
 pub mod EventLines
 pub mod Grants

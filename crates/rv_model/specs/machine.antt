@@ -4,8 +4,10 @@
 -- vector unit, as it is counted; then `World` and `Grants`: all
 -- users' machines side by side, and the slices that the operator grants; then `Script`: the whole output; then `Laws`: the
 -- headline and its kin; then `Turns`: that slices in turn are fair; then `Refusals`:
--- that a refusal changes nothing; then `AbsentUsers`: that these have nothing of the vector unit. `Examples` are small scripts.
+-- that a refusal changes nothing; then `AbsentUsers`: that these have nothing of the vector unit; then `ConfiguredUsers`: that
+-- slices add up after any script. `Examples` are small scripts.
 pub mod AbsentUsers
+pub mod ConfiguredUsers
 pub mod Cuts
 pub mod Examples
 pub mod Grants

@@ -1,9 +1,11 @@
 -- What the program's run came to, from the files that it read to the machine that it made.
-use Rattle.std.proofs.Common.{◌≡◌, ◌≢◌, ℕ, List, [], ◌∷◌, Bool, true, false, Option, Some, None, ap, subst, sym, refl, length, map, not, ◌&&◌, ◌||◌, nat_le, nat_lt, if◌then◌else◌, is_some, true≢false, leb-true}
+use Rattle.std.proofs.Common.{◌≡◌, ◌≢◌, ◌∙◌, ℕ, List, [], ◌∷◌, ◌++◌, append-nil, Bool, true, false, Option, Some, None, Result, Ok, Err, ◌⊎◌, inl, inr, ap, subst, sym, refl, length, map, not, ◌&&◌, ◌||◌, nat_le, nat_lt, if◌then◌else◌, is_some, true≢false, leb-true}
 use Rattle.std.specs.Borrow.{Bor}
+use Rattle.std.specs.Io.{StartsWith}
 use Rattle.std.specs.Io.KnownBytes.{Consumes, IsAtEnd}
 use Rattle.std.specs.List.{AllZip, list_all}
 use Rattle.std.specs.Option.{option_map_or}
+use Rattle.std.specs.Prelude.{IfErr, IsErrAnd}
 use Rattle.std.proofs.KnownBytes.{Consumes-whole}
 use Rattle.std.proofs.lemmas.Bool.{and_parts}
 use Rattle.clap.specs.Walk.{Text, texts}
@@ -12,15 +14,21 @@ use Rattle.monitor_machine.specs.MachineState.{MachineState}
 use Rattle.monitor_machine.specs.NewFaults.{are_distinct, is_name, new_fault}
 use Rattle.monitor_machine.specs.declared.image.Image.{Image}
 use Rattle.monitor_machine.specs.declared.new_fault.NewFault.TheVariants as new_faults
-use Rattle.rv_model.specs.machine.Script.{new_world}
+use Rattle.monitor_script.specs.declared.script.RunFault.{RunFault}
+use Rattle.monitor_script.specs.declared.script.RunFault.TheVariants.{Read, TooLong, Write}
+use Rattle.rv_model.specs.machine.Script.{World, new_world, whole, whole_from}
 use Rattle.rv_model.specs.machine.Setup.{Image as NamedImage, Setup}
 use Rattle.vec_monitor.specs.CommandLine.{image_words, quantum_word, script_word, words_fault, IsQuantum}
 use Rattle.vec_monitor.specs.ImageFiles.{named_file, IsFileOf}
 use Rattle.vec_monitor.specs.ImageWords.{IsNameAndPath, IsPathOf}
 use Rattle.vec_monitor.specs.KnownBytes.{AreKnownAs}
-use Rattle.vec_monitor.specs.ProgramRuns.{IsImageOf, RanOptions, RanScript, RanWords}
+use Rattle.vec_monitor.specs.ProgramRuns.{IsImageOf, PutOutPrefix, RanOptions, RanScript, RanWords}
+use Rattle.vec_monitor.specs.Statuses.{program_status}
 use Rattle.vec_monitor.specs.declared.image_files.ImageFile.{ImageFile}
 use Rattle.vec_monitor.specs.declared.image_words.ImagePath.{ImagePath}
+use Rattle.vec_monitor.specs.declared.program_fault.ProgramFault.{ProgramFault}
+use Rattle.vec_monitor.specs.declared.program_fault.ProgramFault.TheVariants.{Run}
+use Rattle.monitor_script.proofs.Prefixes.{begins}
 
 -- ---- known bytes
 
@@ -28,6 +36,47 @@ use Rattle.vec_monitor.specs.declared.image_words.ImagePath.{ImagePath}
 pub all_was_known : (known before after : Option (List ℕ)) (bytes : List ℕ) → before ≡ known → Consumes before after bytes → IsAtEnd after → AreKnownAs known bytes
 all_was_known known before after bytes same given end =
     subst (λ it. AreKnownAs it bytes) same (Consumes-whole before after bytes (λ xs. bytes ≡ xs) given end refl)
+
+-- what may come after the bytes that a reader gave, where its bytes are known; nothing, where it came to their end
+rest_of : (known after : Option (List ℕ)) (text : List ℕ) → Consumes known after text → (rest : List ℕ) × AreKnownAs known (text ++ rest) × (IsAtEnd after → rest ≡ [])
+rest_of None after text given = ([], tt, λ end. refl)
+rest_of (Some xs) None text given = absurd given
+rest_of (Some xs) (Some rest) text given = (rest, sym given, λ end. end)
+
+-- ---- what was put out
+
+-- a run of which some text was read
+pub put_out : (m : MachineState) (known after : Option (List ℕ)) (text output : List ℕ) (took : List ℕ → Type 0) → m.world ≡ new_world → Consumes known after text → took output
+    → ((rest : List ℕ) → (IsAtEnd after → rest ≡ []) → StartsWith (whole_from m.setup m.world (text ++ rest)) output) → PutOutPrefix took m.setup known
+put_out m known after text output took new given taken prefix =
+    let rest = rest_of known after text given in
+    (text ++ rest.0, rest.1, (output, taken, subst (λ (w : World). StartsWith (whole_from m.setup w (text ++ rest.0)) output) new (prefix rest.0 rest.2)))
+
+-- the whole output
+pub put_out_all : (took : List ℕ → Type 0) (setup : Setup) (known : Option (List ℕ)) → RanScript took setup known → PutOutPrefix took setup known
+put_out_all took setup known ran =
+    (ran.script, ran.read, (ran.output, ran.taken, begins (whole setup ran.script) ran.output [] (sym (append-nil ran.output ∙ ran.all))))
+
+-- nothing
+pub put_out_none : (took : List ℕ → Type 0) (setup : Setup) (known : Option (List ℕ)) → took [] → PutOutPrefix took setup known
+put_out_none took setup None none = ([], tt, ([], none, refl))
+put_out_none took setup (Some xs) none = (xs, refl, ([], none, refl))
+
+-- ---- a run that ended with a fault
+
+-- its status is 3 or 5
+run_statuses : (fault : RunFault) → (program_status (Run fault) ≡ 3) ⊎ (program_status (Run fault) ≡ 5)
+run_statuses Read = inl refl
+run_statuses TooLong = inl refl
+run_statuses Write = inr refl
+
+-- so what is said of other statuses says nothing of it
+pub other_status : {T G : Type 0} (r : Result T ProgramFault) (stopped : RunFault) (Q : ℕ → Type 0) → IsErrAnd r (λ fault. fault ≡ Run stopped) → (Q 3 → ⊥) → (Q 5 → ⊥) → IfErr r (λ fault. Q (program_status fault) → G)
+other_status (Ok x) stopped Q is three five = tt
+other_status (Err fault) stopped Q is three five = λ q. absurd (elim (run_statuses stopped) [
+  | inl e ↦ three (subst Q (ap program_status is ∙ e) q)
+  | inr e ↦ five (subst Q (ap program_status is ∙ e) q)
+])
 
 -- ---- images
 
@@ -46,44 +95,48 @@ images_are_small setup faultless =
     new_faults.Quantum new_faults.ImageCount new_faults.ImageName new_faults.ImageSize faultless
 
 -- the images of small files, word by word
-pub images_are : {A : Type 0} (file_bytes : Text → Option (List ℕ)) (words : List (Bor Text)) (paths : List ImagePath) (files : List (ImageFile A))
+pub images_of_words : {A : Type 0} (file_bytes : Text → Option (List ℕ)) (words : List (Bor Text)) (paths : List ImagePath) (files : List (ImageFile A))
     → AllZip IsPathOf words paths → AllZip (IsFileOf file_bytes) paths files → list_all is_small (map named_file files) ≡ true
     → AllZip (IsImageOf file_bytes) (texts words) (map named_file files)
-images_are file_bytes [] [] [] split read small = tt
-images_are file_bytes [] [] (f ∷ fs) split read small = absurd read
-images_are file_bytes [] (p ∷ ps) files split read small = absurd split
-images_are file_bytes (w ∷ ws) [] files split read small = absurd split
-images_are file_bytes (w ∷ ws) (p ∷ ps) [] split read small = absurd read
-images_are file_bytes (w ∷ ws) (p ∷ ps) (f ∷ fs) split read small =
+images_of_words file_bytes [] [] [] split read small = tt
+images_of_words file_bytes [] [] (f ∷ fs) split read small = absurd read
+images_of_words file_bytes [] (p ∷ ps) files split read small = absurd split
+images_of_words file_bytes (w ∷ ws) [] files split read small = absurd split
+images_of_words file_bytes (w ∷ ws) (p ∷ ps) [] split read small = absurd read
+images_of_words file_bytes (w ∷ ws) (p ∷ ps) (f ∷ fs) split read small =
     let parts = and_parts _ _ small in
     let named : IsNameAndPath w.now f.name.now p.path.now = subst (λ name. IsNameAndPath w.now name p.path.now) (sym read.0.0) split.0 in
-    ((p.path.now, named, read.0.1 (leb-true _ _ parts.0)), images_are file_bytes ws ps fs split.1 read.1 parts.1)
+    ((p.path.now, named, read.0.1 (leb-true _ _ parts.0)), images_of_words file_bytes ws ps fs split.1 read.1 parts.1)
 
 -- ---- from the options and the words
 
-pub ran_options : {A : Type 0} (file_bytes : Text → Option (List ℕ)) (input_bytes : Option (List ℕ)) (quantum : ℕ) (script : Option Text) (words : List (Bor Text)) (paths : List ImagePath) (files : List (ImageFile A)) (images : List Image)
-    (machine : MachineState) (took : List ℕ → Type 0) → AllZip IsPathOf words paths → AllZip (IsFileOf file_bytes) paths files → named_images images ≡ map named_file files → new_fault (setup_of quantum images) ≡ None
-    → machine ≡ record { setup = setup_of quantum images; world = new_world } → (machine.world ≡ new_world → RanScript machine.setup (option_map_or file_bytes script input_bytes) took)
-    → RanOptions file_bytes input_bytes quantum script (texts words) took
-ran_options file_bytes input_bytes quantum script words paths files images machine took split read named faultless made ran =
-    let setup : Setup = setup_of quantum images in
+-- the words, paths, files and images, each as it was passed on
+pub ran_options : {A : Type 0} (file_bytes : Text → Option (List ℕ)) (input_bytes : Option (List ℕ)) (quantum : ℕ) (script : Option Text) (words words' : List (Bor Text)) (paths paths' : List ImagePath) (files files' : List (ImageFile A)) (images images' : List Image)
+    (machine : MachineState) (Ran : Setup → Option (List ℕ) → Type 0) → words' ≡ words → AllZip IsPathOf words' paths → paths' ≡ paths → AllZip (IsFileOf file_bytes) paths' files → files' ≡ files → named_images images ≡ map named_file files' → images' ≡ images
+    → new_fault (setup_of quantum images') ≡ None → machine ≡ record { setup = setup_of quantum images'; world = new_world } → (machine.world ≡ new_world → Ran machine.setup (option_map_or file_bytes script input_bytes))
+    → RanOptions file_bytes input_bytes quantum script (texts words) Ran
+ran_options file_bytes input_bytes quantum script words words' paths paths' files files' images images' machine Ran words_are split paths_are read files_are borrowed images_are faultless made ran =
+    let setup : Setup = setup_of quantum images' in
+    let named : named_images images' ≡ map named_file files = ap named_images images_are ∙ (borrowed ∙ ap (map named_file) files_are) in
     let small : list_all is_small (map named_file files) ≡ true = subst (λ them. list_all is_small them ≡ true) named (images_are_small setup faultless) in
     record {
       setup = setup;
       ticks = refl;
-      files = subst (AllZip (IsImageOf file_bytes) (texts words)) (sym named) (images_are file_bytes words paths files split read small);
+      files = subst (AllZip (IsImageOf file_bytes) (texts words)) (sym named)
+          (images_of_words file_bytes words paths files (subst (λ them. AllZip IsPathOf them paths) words_are split)
+          (subst (λ them. AllZip (IsFileOf file_bytes) them files) paths_are read) small);
       faultless = faultless;
-      run = subst (λ (m : MachineState). RanScript m.setup (option_map_or file_bytes script input_bytes) took) made (ran (ap (λ (m : MachineState). m.world) made));
+      run = subst (λ (m : MachineState). Ran m.setup (option_map_or file_bytes script input_bytes)) made (ran (ap (λ (m : MachineState). m.world) made));
     }
 
-pub ran_words : (file_bytes : Text → Option (List ℕ)) (input_bytes : Option (List ℕ)) (words : List Text) (quantum : ℕ) (script : Option Text) (images : List Text) (took : List ℕ → Type 0)
-    → words_fault words ≡ [] → IsQuantum (quantum_word words) quantum → script ≡ script_word words → images ≡ image_words words → RanOptions file_bytes input_bytes quantum script images took
-    → RanWords file_bytes input_bytes words took
-ran_words file_bytes input_bytes words quantum script images took accepted ticks script_is images_are ran =
-    let by_script = subst (λ it. RanOptions file_bytes input_bytes quantum it images took) script_is ran in
+pub ran_words : (file_bytes : Text → Option (List ℕ)) (input_bytes : Option (List ℕ)) (words : List Text) (quantum : ℕ) (script : Option Text) (images : List Text) (Ran : Setup → Option (List ℕ) → Type 0)
+    → words_fault words ≡ [] → IsQuantum (quantum_word words) quantum → script ≡ script_word words → images ≡ image_words words → RanOptions file_bytes input_bytes quantum script images Ran
+    → RanWords file_bytes input_bytes words Ran
+ran_words file_bytes input_bytes words quantum script images Ran accepted ticks script_is images_are ran =
+    let by_script = subst (λ it. RanOptions file_bytes input_bytes quantum it images Ran) script_is ran in
     record {
       accepted = accepted;
       quantum = quantum;
       ticks = ticks;
-      run = subst (λ them. RanOptions file_bytes input_bytes quantum (script_word words) them took) images_are by_script;
+      run = subst (λ them. RanOptions file_bytes input_bytes quantum (script_word words) them Ran) images_are by_script;
     }

@@ -8,7 +8,7 @@ ghost use Rattle.clap.specs.declared.error.kind.ErrorKind.TheVariants.{DisplayHe
 ghost use Rattle.rv_model.specs.machine.Script.{new_world};
 ghost use Rattle.vec_monitor.specs.CommandLine.{image_words, words_fault};
 ghost use Rattle.vec_monitor.specs.ImageWords.{LacksEqualsSign};
-ghost use Rattle.vec_monitor.specs.ProgramRuns.{RanOptions, RanScript, RanWords};
+ghost use Rattle.vec_monitor.specs.ProgramRuns.{PutOutPrefix, RanOptions, RanScript, RanWords};
 ghost use Rattle.vec_monitor.specs.Statuses.{program_status, AreRefused, MayBeRefused};
 ghost use Rattle.vec_monitor.specs.declared.program_fault.ProgramFault.TheVariants.{ImageWord, NoMemory};
 
@@ -23,14 +23,17 @@ use monitor_script::{ReaderSource, RunFault, Sink, WriterSink, run};
 use std::alloc::{Allocator, Global};
 use std::io::{self, Read};
 
-/// Runs the script that a reader gives.
+/// Runs the script that a reader gives. Whether it ends or not, a new machine puts out no more than
+/// a prefix of what the definitions say.
 fn run_reader<F: Read + Drop, K: Sink, A: Allocator>(
     machine: &mut Machine<'_, A>,
     reader: F,
     output: &mut K,
 ) -> Result<(), RunFault>
-    ensures { machine.old.world ≡ new_world → OnOk result (RanScript machine.old.setup
-        (F.remaining reader) (λ told. K.took output.old told output.new)) }
+    ensures ran { machine.old.world ≡ new_world → OnOk result (
+        RanScript (λ told. K.took output.old told output.new) machine.old.setup (F.remaining reader)) }
+    ensures told { machine.old.world ≡ new_world →
+        PutOutPrefix (λ told. K.took output.old told output.new) machine.old.setup (F.remaining reader) }
 {
     run(machine, &mut ReaderSource::new(reader), output)
 }
@@ -42,10 +45,14 @@ fn run_script<I: Inputs, K: Sink, A: Allocator>(
     script: Option<&str>,
     output: &mut K,
 ) -> Result<(), RunFault>
-    ensures { machine.old.world ≡ new_world → OnOk result (RanScript machine.old.setup
+    ensures ran { machine.old.world ≡ new_world → OnOk result (
+        RanScript (λ told. K.took output.old told output.new) machine.old.setup
         (option_map_or (I.file_bytes inputs.now) (option_map (λ path. path.now) script.entry)
-        (I.input_bytes inputs.now))
-        (λ told. K.took output.old told output.new)) }
+        (I.input_bytes inputs.now))) }
+    ensures told { machine.old.world ≡ new_world →
+        PutOutPrefix (λ told. K.took output.old told output.new) machine.old.setup
+        (option_map_or (I.file_bytes inputs.now) (option_map (λ path. path.now) script.entry)
+        (I.input_bytes inputs.now)) }
 {
     match script {
         Some(path) => {
@@ -67,7 +74,13 @@ fn run_options<'a, I: Inputs, K: Sink, A: Allocator + Clone>(
 ) -> Result<(), ProgramFault<'a>>
     ensures ran { OnOk result (RanOptions (I.file_bytes inputs.now) (I.input_bytes inputs.now)
         options.now.quantum (option_map (λ path. path.now) options.now.script)
-        (texts options.now.images.items) (λ told. K.took output.old told output.new)) }
+        (texts options.now.images.items) (RanScript (λ told. K.took output.old told output.new))) }
+    ensures told { K.took output.old [] output.new
+        ⊎ RanOptions (I.file_bytes inputs.now) (I.input_bytes inputs.now)
+        options.now.quantum (option_map (λ path. path.now) options.now.script)
+        (texts options.now.images.items) (PutOutPrefix (λ told. K.took output.old told output.new)) }
+    ensures nothing { IfErr result (λ fault. (program_status fault ≡ 2)
+        ⊎ ((program_status fault ≡ 4) ⊎ (program_status fault ≡ 6)) → K.took output.old [] output.new) }
     ensures usage { IfErr result (λ fault.
         program_status fault ≡ 2 → Any LacksEqualsSign (texts options.now.images.items)) }
     ensures refused { Any LacksEqualsSign (texts options.now.images.items) →
@@ -92,7 +105,12 @@ fn run_words<'a, R: Inputs + Print, K: Sink>(
 ) -> Result<(), ProgramFault<'a>>
     ensures ran { OnOk result (IsAmong DisplayHelp (words_fault (texts words.now))
         ⊎ RanWords (R.file_bytes rt.now) (R.input_bytes rt.now) (texts words.now)
-        (λ told. K.took output.old told output.new)) }
+        (RanScript (λ told. K.took output.old told output.new))) }
+    ensures told { K.took output.old [] output.new
+        ⊎ RanWords (R.file_bytes rt.now) (R.input_bytes rt.now) (texts words.now)
+        (PutOutPrefix (λ told. K.took output.old told output.new)) }
+    ensures nothing { IfErr result (λ fault. (program_status fault ≡ 2)
+        ⊎ ((program_status fault ≡ 4) ⊎ (program_status fault ≡ 6)) → K.took output.old [] output.new) }
     ensures usage { IfErr result (λ fault.
         program_status fault ≡ 2 → MayBeRefused (texts words.now)) }
     ensures refused { AreRefused (texts words.now) →
@@ -134,7 +152,13 @@ pub fn vecmon_into<R: Inputs + Print + Eprint, K: Sink>(
     // script that they name.
     ensures ran { result ≡ 0 → IsAmong DisplayHelp (words_fault (texts words.now))
         ⊎ RanWords (R.file_bytes rt.now) (R.input_bytes rt.now) (texts words.now)
-        (λ told. K.took output.old told output.new) }
+        (RanScript (λ told. K.took output.old told output.new)) }
+    // Whatever it ends with, nothing went to the output, or a prefix of what this machine puts out for
+    // this script. With 2, 4 and 6 nothing did.
+    ensures told { K.took output.old [] output.new
+        ⊎ RanWords (R.file_bytes rt.now) (R.input_bytes rt.now) (texts words.now)
+        (PutOutPrefix (λ told. K.took output.old told output.new)) }
+    ensures nothing { (result ≡ 2) ⊎ ((result ≡ 4) ⊎ (result ≡ 6)) → K.took output.old [] output.new }
     ensures usage { result ≡ 2 → MayBeRefused (texts words.now) }
     ensures refused { AreRefused (texts words.now) → (result ≡ 2) ⊎ (result ≡ 6) }
     ensures images { image_words (texts words.now) ≡ [] → result ≢ 4 }
@@ -150,7 +174,7 @@ pub fn vecmon<R: Inputs + Print + Eprint>(rt: &R, alloc: Global, words: &[&str])
     ensures statuses { (result ≡ 0) ⊎ ((result ≡ 2) ⊎ ((result ≡ 3) ⊎ ((result ≡ 4)
         ⊎ ((result ≡ 5) ⊎ (result ≡ 6))))) }
     ensures ran { result ≡ 0 → IsAmong DisplayHelp (words_fault (texts words.now))
-        ⊎ RanWords (R.file_bytes rt.now) (R.input_bytes rt.now) (texts words.now) (λ _. ⊤) }
+        ⊎ RanWords (R.file_bytes rt.now) (R.input_bytes rt.now) (texts words.now) (RanScript (λ _. ⊤)) }
     ensures usage { result ≡ 2 → MayBeRefused (texts words.now) }
     ensures refused { AreRefused (texts words.now) → (result ≡ 2) ⊎ (result ≡ 6) }
     ensures images { image_words (texts words.now) ≡ [] → result ≢ 4 }

@@ -1,5 +1,5 @@
 -- What any command comes to: it is refused, and leaves the user's machine and the vector unit; or it prints lines, none of which is a refusal.
--- Only `leave` makes a user absent.
+-- Only `leave` makes a user absent, and none leaves a vector length that isn't one of the vector type.
 use Rattle.std.proofs.Common.{◌≡◌, ◌⊎◌, inl, inr, ℕ, zero, suc, ◌+◌, ◌*◌, List, [], ◌∷◌, length, Bool, true, false, ◌&&◌, Option, Some, None, Result, Ok, Err, refl, subst, sym, ap}
 use Rattle.std.specs.Prelude.{⊤, not, map, nat_le, nat_lt, if◌then◌else◌}
 use Rattle.std.specs.List.{range_with_len}
@@ -45,8 +45,10 @@ use Rattle.rv_model.specs.machine.VectorUnit.{VectorUnit, unit_discarded, unused
 use Rattle.rv_model.specs.memory.Memory.{bytes_at, can_access, map_refusal, page_count}
 use Rattle.rv_model.specs.declared.scalar.Scalar.{Scalar}
 use Rattle.rv_model.proofs.Choices.{of_either}
+use Rattle.rv_model.proofs.machine_lemmas.Configurations.{StaysAs, steps_stay}
 use Rattle.rv_model.proofs.text_lemmas.Newlines.{IsLine, AreLines}
 use Rattle.rv_model.specs.vector.Registers.{register_of}
+use Rattle.rv_model.specs.vector.State.{initial_vector}
 use Rattle.rv_model.proofs.command_lemmas.Breakpoints.{no_newline_in_breaks_line}
 use Rattle.rv_model.proofs.command_lemmas.Memory.{no_newline_in_peek_line}
 use Rattle.rv_model.proofs.command_lemmas.Printing.{PrintsLines, one_line, refusal_prints}
@@ -64,11 +66,6 @@ Printed lines = AreLines lines × (are_plain lines ≡ true)
 pub prints : (line : List ℕ) → IsLine line → is_plain line ≡ true → Printed (line ∷ [])
 prints line h plain = (one_line line h, plain_line line plain)
 
--- the user is there
-abbrev pub IsThere : Private → Type 0
-IsThere None = ⊥
-IsThere (Some p) = ⊤
-
 -- refused; or lines, and a fact of what is left
 abbrev Answers : (Private → Type 0) → Private → Outcome → VectorUnit → VectorUnit → Type 0
 Answers Left p o before after = (((reason : Refusal) × (o ≡ refuses p reason)) × (after ≡ before)) ⊎ (Printed o.lines × Left o.next)
@@ -83,34 +80,34 @@ answered Left p o before after (inr lines) = inr (lines.0, tt)
 -- ---- each group of commands, of a user who has entered
 
 -- but for one who leaves
-abbrev Stays : Cmd → Private → Type 0
-Stays (Entering Leave) next = ⊤
-Stays _ next = IsThere next
+abbrev Stays : Present → Cmd → Private → Type 0
+Stays p (Entering Leave) next = ⊤
+Stays p _ next = StaysAs p next
 
 module _ (images : List Image) (user : ℕ) (p : Present) (unit : VectorUnit) where
   abbrev CommandAnswers : Cmd → Type 0
-  CommandAnswers c = Answers (Stays c) (Some p) (of_present images c p) unit (unit_of_present images user c p unit)
+  CommandAnswers c = Answers (Stays p c) (Some p) (of_present images c p) unit (unit_of_present images user c p unit)
 
   -- of those that leave the unit
   abbrev Here : Outcome → Type 0
-  Here o = Answers IsThere (Some p) o unit unit
+  Here o = Answers (StaysAs p) (Some p) o unit unit
 
   refuses_now : (reason : Refusal) → Here (refuses (Some p) reason)
   refuses_now reason = inl ((reason, refl), refl)
 
   mapping_answers : (reason : Option MapRefusal) (pages : Pages) (allowed : Permissions) → Here (mapping reason pages allowed p)
-  mapping_answers None pages allowed = inr ((refl, refl), tt)
+  mapping_answers None pages allowed = inr ((refl, refl), λ is. is)
   mapping_answers (Some reason) pages allowed = refuses_now (why_not_mapped reason)
 
   memory_answers : (c : MemoryCommand) → CommandAnswers (Memory c)
   unfolding of_present memory_command peek_line
   memory_answers (Map pages allowed) = mapping_answers (map_refusal p.hart.memory pages.first pages.count) pages allowed
   memory_answers (Poke addr bytes) =
-      of_either Here (can_access Monitor p.hart.memory addr (length bytes)) _ _ (inr ((refl, refl), tt)) (refuses_now refusal.NotMapped)
+      of_either Here (can_access Monitor p.hart.memory addr (length bytes)) _ _ (inr ((refl, refl), λ is. is)) (refuses_now refusal.NotMapped)
   memory_answers (Peek addr count) =
       let shown = bytes_at p.hart.memory addr count in
       of_either Here (can_access Monitor p.hart.memory addr count) _ _
-      (inr (prints (peek_line addr shown) (no_newline_in_peek_line addr shown) refl, tt)) (refuses_now refusal.NotMapped)
+      (inr (prints (peek_line addr shown) (no_newline_in_peek_line addr shown) refl, λ is. is)) (refuses_now refusal.NotMapped)
 
   register_lines_plain : (n i : ℕ) (s : Scalar) → are_plain (register_lines n i s) ≡ true
   unfolding register_line register_text
@@ -119,35 +116,35 @@ module _ (images : List Image) (user : ℕ) (p : Present) (unit : VectorUnit) wh
 
   registers_answer : (c : RegisterCommand) → CommandAnswers (Registers c)
   unfolding of_present register_command regs_lines vreg_line vcsr_line
-  registers_answer Regs = inr ((regs_lines_are_lines p.hart.scalar, register_lines_plain 8 0 p.hart.scalar), tt)
+  registers_answer Regs = inr ((regs_lines_are_lines p.hart.scalar, register_lines_plain 8 0 p.hart.scalar), λ is. is)
   registers_answer (Vreg register width) =
       let shown = register_of p.hart.vector.file register in
-      inr (prints (vreg_line register width shown) (no_newline_in_vreg_line register width shown) refl, tt)
-  registers_answer Vcsr = inr (prints (vcsr_line p.hart.vector) (no_newline_in_vcsr_line p.hart.vector) refl, tt)
-  registers_answer _ = inr ((refl, refl), tt)
+      inr (prints (vreg_line register width shown) (no_newline_in_vreg_line register width shown) refl, λ is. is)
+  registers_answer Vcsr = inr (prints (vcsr_line p.hart.vector) (no_newline_in_vcsr_line p.hart.vector) refl, λ is. is)
+  registers_answer _ = inr ((refl, refl), λ is. is)
 
   -- an image that is too large is refused, and a smaller one drops the vector state
   sized : (b : Bool) (image : List ℕ)
-      → Answers IsThere (Some p) (if b then refuses (Some p) refusal.Quota else replies (with_image image) (loaded_line (entry_of image) (page_count (memory_of_image image))))
+      → Answers (StaysAs p) (Some p) (if b then refuses (Some p) refusal.Quota else replies (with_image image) (loaded_line (entry_of image) (page_count (memory_of_image image))))
       unit (if not b then unit_discarded user unit else unit)
-  unfolding loaded_line
+  unfolding loaded_line initial_vector
   sized true image = refuses_now refusal.Quota
   sized false image =
       let pages = page_count (memory_of_image image) in
-      inr (prints (loaded_line (entry_of image) pages) (no_newline_in_loaded_line (entry_of image) pages) refl, tt)
+      inr (prints (loaded_line (entry_of image) pages) (no_newline_in_loaded_line (entry_of image) pages) refl, λ is. refl)
 
   loading_answers : (image : List ℕ) (fault : Option ElfFault)
-      → Answers IsThere (Some p) (loading image fault p) unit (if can_be_loaded image fault then unit_discarded user unit else unit)
+      → Answers (StaysAs p) (Some p) (loading image fault p) unit (if can_be_loaded image fault then unit_discarded user unit else unit)
   loading_answers image (Some fault) = refuses_now (refusal.ElfFault fault)
   loading_answers image None = sized (nat_lt 256 (page_count (memory_of_image image))) image
 
-  load_answers : (image : Option (List ℕ)) → Answers IsThere (Some p) (loading_named image p) unit (unit_after_load user image unit)
+  load_answers : (image : Option (List ℕ)) → Answers (StaysAs p) (Some p) (loading_named image p) unit (unit_after_load user image unit)
   load_answers None = refuses_now refusal.ImageName
   load_answers (Some image) = loading_answers image (first_fault image)
 
   assembling_answers : (addr : ℕ) (word : Result ℕ ℕ) → Here (assembling addr word p)
   assembling_answers addr (Err column) = refuses_now (refusal.Assembler column)
-  assembling_answers addr (Ok word) = inr (prints (asm_line addr word) (no_newline_in_asm_line addr word) (asm_plain addr word), tt)
+  assembling_answers addr (Ok word) = inr (prints (asm_line addr word) (no_newline_in_asm_line addr word) (asm_plain addr word), λ is. is)
 
   dis_lines_plain : (addr : ℕ) (shown is : List ℕ) → are_plain (map (λ i. dis_line (addr + 4 * i) (word_in shown i)) is) ≡ true
   dis_lines_plain addr shown [] = refl
@@ -161,15 +158,15 @@ module _ (images : List Image) (user : ℕ) (p : Present) (unit : VectorUnit) wh
   programs_answer (Dis addr count) =
       let shown = bytes_at p.hart.memory addr (4 * count) in
       of_either Here (can_access Monitor p.hart.memory addr (4 * count)) _ _
-      (inr ((dis_lines_are_lines addr count shown, dis_lines_plain addr shown (range_with_len 0 count)), tt)) (refuses_now refusal.NotMapped)
+      (inr ((dis_lines_are_lines addr count shown, dis_lines_plain addr shown (range_with_len 0 count)), λ is. is)) (refuses_now refusal.NotMapped)
 
   breakpoints_answer : (c : BreakpointCommand) → CommandAnswers (Breakpoints c)
   unfolding of_present breakpoint_command breaks_line
   breakpoints_answer (Break addr) =
       of_either Here (nat_le breakpoint_limit (length p.breakpoints)) _ _ (refuses_now refusal.BreakpointLimit)
-      (of_either Here (has_breakpoint p addr) _ _ (refuses_now refusal.Breakpoint) (inr ((refl, refl), tt)))
-  breakpoints_answer (Unbreak addr) = of_either Here (has_breakpoint p addr) _ _ (inr ((refl, refl), tt)) (refuses_now refusal.Breakpoint)
-  breakpoints_answer Breaks = inr (prints (breaks_line p.breakpoints) (no_newline_in_breaks_line p.breakpoints) refl, tt)
+      (of_either Here (has_breakpoint p addr) _ _ (refuses_now refusal.Breakpoint) (inr ((refl, refl), λ is. is)))
+  breakpoints_answer (Unbreak addr) = of_either Here (has_breakpoint p addr) _ _ (inr ((refl, refl), λ is. is)) (refuses_now refusal.Breakpoint)
+  breakpoints_answer Breaks = inr (prints (breaks_line p.breakpoints) (no_newline_in_breaks_line p.breakpoints) refl, λ is. is)
 
   step_line_plain : (n pc : ℕ) (reason : Option Stop) → is_plain (step_line n pc reason) ≡ true
   unfolding step_line
@@ -186,16 +183,16 @@ module _ (images : List Image) (user : ℕ) (p : Present) (unit : VectorUnit) wh
   running_answers (Step n) =
       let run : Halted = steps n true p in
       let pc = run.state.hart.scalar.pc in
-      inr (prints (step_line n pc run.stop) (no_newline_in_step_line n pc run.stop) (step_line_plain n pc run.stop), tt)
-  running_answers Go = inr (prints (running_line p.hart.scalar.pc) (no_newline_in_running_line p.hart.scalar.pc) refl, tt)
+      inr (prints (step_line n pc run.stop) (no_newline_in_step_line n pc run.stop) (step_line_plain n pc run.stop), steps_stay n true p)
+  running_answers Go = inr (prints (running_line p.hart.scalar.pc) (no_newline_in_running_line p.hart.scalar.pc) refl, λ is. is)
   running_answers StopRunning =
-      of_either Here p.running _ _ (inr (prints (stopped_line p.hart.scalar.pc) (no_newline_in_stopped_line p.hart.scalar.pc) refl, tt))
+      of_either Here p.running _ _ (inr (prints (stopped_line p.hart.scalar.pc) (no_newline_in_stopped_line p.hart.scalar.pc) refl, λ is. is))
       (refuses_now refusal.NotRunning)
   running_answers State =
       let pc = p.hart.scalar.pc in
-      inr (prints (state_line p.running pc) (no_newline_in_state_line p.running pc) (state_line_plain p.running pc), tt)
-  running_answers Trace = inr (prints (trace_line p.trace) (no_newline_in_trace_line p.trace) refl, tt)
-  running_answers Out = inr (prints (out_line p.hart.output) (no_newline_in_out_line p.hart.output) refl, tt)
+      inr (prints (state_line p.running pc) (no_newline_in_state_line p.running pc) (state_line_plain p.running pc), λ is. is)
+  running_answers Trace = inr (prints (trace_line p.trace) (no_newline_in_trace_line p.trace) refl, λ is. is)
+  running_answers Out = inr (prints (out_line p.hart.output) (no_newline_in_out_line p.hart.output) refl, λ is. is)
 
   present_answers : (c : Cmd) → CommandAnswers c
   unfolding of_present entering
@@ -207,11 +204,11 @@ module _ (images : List Image) (user : ℕ) (p : Present) (unit : VectorUnit) wh
   present_answers (Breakpoints c) = breakpoints_answer c
   present_answers (Running c) = running_answers c
 
-  still_there : (o : Outcome) (after : VectorUnit) → Answers IsThere (Some p) o unit after → IsThere o.next
-  still_there o after (inl refused) = subst (λ (o : Outcome). IsThere o.next) (sym refused.0.1) tt
+  still_there : (o : Outcome) (after : VectorUnit) → Answers (StaysAs p) (Some p) o unit after → StaysAs p o.next
+  still_there o after (inl refused) = subst (λ (o : Outcome). StaysAs p o.next) (sym refused.0.1) (λ is. is)
   still_there o after (inr lines) = lines.1
 
-  pub stays_there : (c : Cmd) → Stays c (of_present images c p).next
+  pub stays_there : (c : Cmd) → Stays p c (of_present images c p).next
   stays_there (Entering Leave) = tt
   stays_there c = still_there (of_present images c p) (unit_of_present images user c p unit) (present_answers c)
 
@@ -231,7 +228,7 @@ carried_out_answers images user c (Some p) unit = held (p.running && needs_stopp
     held : (b : Bool)
         → Answered (Some p) (if b then refuses (Some p) refusal.Running else of_present images c p) unit (if b then unit else unit_of_present images user c p unit)
     held true = inl ((refusal.Running, refl), refl)
-    held false = answered (Stays c) _ _ _ _ (present_answers images user p unit c)
+    held false = answered (Stays p c) _ _ _ _ (present_answers images user p unit c)
 
 commanded_answers : (images : List Image) (user : ℕ) (p : Private) (r : Parsed) (unit : VectorUnit)
     → Answered p (commanded images p r) unit (unit_after_line images user p r unit)

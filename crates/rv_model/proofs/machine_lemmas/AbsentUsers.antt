@@ -19,20 +19,21 @@ use Rattle.rv_model.specs.commands.Programs.{image_named}
 use Rattle.rv_model.specs.images.Faults.{first_fault}
 use Rattle.rv_model.specs.machine.AbsentUsers.{AbsentUsersHaveNothing, AbsentUsersLeaveTheUnit, HappeningsKeepNothing, HasNothing, ScriptsKeepNothing}
 use Rattle.rv_model.specs.machine.Cuts.{Try, tried_in}
-use Rattle.rv_model.specs.machine.PrivateMachine.{Private, Event, Command, Slice, event, sliced, slice_ends}
-use Rattle.rv_model.specs.machine.Runs.{Halted, ticked}
+use Rattle.rv_model.specs.machine.PrivateMachine.{Private, Event, Command, Slice, event, sliced}
 use Rattle.rv_model.specs.machine.Script.{after_all, after_script, events_of, kind_of, new_world, world_after}
 use Rattle.rv_model.specs.machine.Setup.{Image, Setup}
 use Rattle.rv_model.specs.machine.UnitEvents.{can_be_loaded, tried_steps, unit_after_command, unit_after_event, unit_after_line, unit_after_load, unit_after_registers, unit_after_running, unit_after_tries, unit_after_try, unit_of_absent, unit_of_present}
-use Rattle.rv_model.specs.machine.UserMachine.{Outcome, Present, refuses}
+use Rattle.rv_model.specs.machine.UserMachine.{Present, refuses}
 use Rattle.rv_model.specs.machine.VectorUnit.{VectorUnit, is_marked, is_owned_by, owner_changed, owner_saved, unit_after_instruction, unit_discarded, unit_register_written, unit_touched, with_mark}
 use Rattle.rv_model.specs.machine.World.{World, Happening, after_events, after_one, outcome_of, unit_after, with_unit, user_machine, with_user_machine}
 use Rattle.rv_model.specs.step.Step.{dirties, fetched, touches}
 use Rattle.rv_model.specs.text.Lines.{pieces}
-use Rattle.rv_model.proofs.command_lemmas.Commands.{IsThere, stays_there}
+use Rattle.rv_model.proofs.command_lemmas.Commands.{stays_there}
+use Rattle.rv_model.proofs.machine_lemmas.Configurations.{not_gone}
+use Rattle.rv_model.proofs.machine_lemmas.Cuts.{sliced_stays}
 use Rattle.rv_model.proofs.machine_lemmas.Grants.{AreUsers}
 use Rattle.rv_model.proofs.machine_lemmas.Headline.{length-after, length-after_one, part_after_one, part_other, part_same, users_of}
-use Rattle.rv_model.proofs.Choices.{of_either, of_test, of_bool, of_option}
+use Rattle.rv_model.proofs.Choices.{of_either, of_test, of_bool}
 
 -- ---- marks and owners
 
@@ -211,13 +212,10 @@ module _ (user : ℕ) (low : 1 ≤ user) (high : user ≤ 8) where
 
   -- ---- a user who becomes absent
 
-  there_not : (p : Private) → IsThere p → p ≡ None → ⊥
-  there_not p there none = subst IsThere none there
-
   left : (images : List Image) (p : Present) (c : Cmd) (unit : VectorUnit) → (of_present images c p).next ≡ None
       → HasNothing user (unit_of_present images user c p unit)
   left images p (Entering Leave) unit none = nothing_left unit
-  left images p c unit none = absurd (there_not (of_present images c p).next (stays_there images user p unit c) none)
+  left images p c unit none = absurd (not_gone p (of_present images c p).next (stays_there images user p unit c) none)
 
   present_leaves : (images : List Image) (p : Present) (c : Cmd) (unit : VectorUnit) → (carried_out images c (Some p)).next ≡ None
       → HasNothing user (unit_after_command images user c (Some p) unit)
@@ -225,14 +223,7 @@ module _ (user : ℕ) (low : 1 ≤ user) (high : user ≤ 8) where
   present_leaves images p c unit =
       of_bool (p.running && needs_stopped c)
       (λ b. (cond b (refuses (Some p) refusal.Running) (of_present images c p)).next ≡ None → HasNothing user (cond b unit (unit_of_present images user c p unit)))
-      (λ e none. absurd (there_not (Some p) tt none)) (λ e. left images p c unit)
-
-  slice_there : (quantum : ℕ) (p : Present) → IsThere (sliced quantum (Some p)).next
-  unfolding sliced
-  slice_there quantum p =
-      let run : Halted = ticked quantum p in
-      of_either (λ (o : Outcome). IsThere o.next) p.running _ _
-      (of_option run.stop (λ reason. IsThere (slice_ends run reason).next) (λ e. tt) (λ reason e. tt)) tt
+      (λ e none. absurd (not_gone p (Some p) (λ is. is) none)) (λ e. left images p c unit)
 
   -- who is absent after an event has nothing of the unit, if who was absent had nothing
   absent_after : (s : Setup) (p : Private) (e : Event) (unit : VectorUnit) → (p ≡ None → HasNothing user unit)
@@ -242,10 +233,10 @@ module _ (user : ℕ) (low : 1 ≤ user) (high : user ≤ 8) where
   absent_after s (Some p) (Command line) unit nothing none = parsed (parse line) none
     where
       parsed : (r : Parsed) → (commanded s.images (Some p) r).next ≡ None → HasNothing user (unit_after_line s.images user (Some p) r unit)
-      parsed (Err reason) none = absurd (there_not (Some p) tt none)
+      parsed (Err reason) none = absurd (not_gone p (Some p) (λ is. is) none)
       parsed (Ok c) none = present_leaves s.images p c unit none
   absent_after s (Some p) Slice unit nothing none =
-      absurd (there_not (sliced s.quantum (Some p)).next (slice_there s.quantum p) none)
+      absurd (not_gone p (sliced s.quantum (Some p)).next (sliced_stays s.quantum p) none)
 
 -- ---- the laws
 

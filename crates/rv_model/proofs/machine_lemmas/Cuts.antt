@@ -9,7 +9,7 @@ use Rattle.rv_model.specs.declared.step.step_end.StepEnd.TheVariants.{Ran, Exit,
 use Rattle.rv_model.specs.declared.step.step_end.Stop.{Stop}
 use Rattle.rv_model.specs.declared.step.step_end.Stop.TheVariants as stop
 use Rattle.rv_model.specs.accesses.Restarts.{overlay}
-use Rattle.rv_model.specs.machine.Cuts.{CutsAreInvisible, IsConfigured, KeepsWordIfCut, SliceKeepsConfiguration, SlicesAddUp, Try, joined, slices, tried_in, tried_in_slices, tries}
+use Rattle.rv_model.specs.machine.Cuts.{CutsAreInvisible, KeepsWordIfCut, SliceKeepsConfiguration, SlicesAddUp, Try, joined, slices, tried_in, tried_in_slices, tries}
 use Rattle.rv_model.specs.machine.PrivateMachine.{slice_ends, sliced}
 use Rattle.rv_model.specs.machine.Runs.{stop_of, at_breakpoint, recorded, after, Halted, halted, slice_steps, ticked}
 use Rattle.rv_model.specs.machine.UserMachine.{Outcome, Present, Private}
@@ -20,6 +20,7 @@ use Rattle.rv_model.specs.step.Resumes.{IsUndone, KeepsOwnWord, after_ticks, fin
 use Rattle.rv_model.specs.step.Step.{fetched, step}
 use Rattle.rv_model.specs.vector.Configuration.{IsConfiguration}
 use Rattle.rv_model.proofs.access_lemmas.Growth.{overlay_same}
+use Rattle.rv_model.proofs.machine_lemmas.Configurations.{StaysAs, slice_stays, stays_configured}
 use Rattle.rv_model.proofs.machine_lemmas.Slices.{fuel_is_enough}
 use Rattle.rv_model.proofs.step_lemmas.Configurations.{step_keeps_configuration, step_keeps_permissions}
 use Rattle.rv_model.proofs.step_lemmas.FetchesResume.{cut_step_leaves_off, fetched_step_resumes}
@@ -66,10 +67,6 @@ after_resumed : (e : StepEnd) (state half : HartState) (p : Present) → half.sc
     → after e state (after Cut half p) ≡ after e state p
 after_resumed Ran state half p h = ap (λ x. record p { hart = state; trace = recorded p.trace x.pc; fresh = false }) h
 after_resumed _ state half p h = refl
-
-hart_after : (e : StepEnd) (state : HartState) (p : Present) → (after e state p).hart ≡ state
-hart_after Ran state p = refl
-hart_after _ state p = refl
 
 running_after : (e : StepEnd) (state : HartState) (p : Present) → (after e state p).running ≡ p.running
 running_after Ran state p = refl
@@ -213,26 +210,17 @@ adds (suc a) (suc b) (suc c) (suc left) more p la lb lc some is keeps =
           ]
     ]
 
--- a run ends in a machine that runs as before, with a vector length of the type
-record Runs (p : Present) (r : Halted) : Type 0 where
-  running : r.state.running ≡ p.running
-  configured : IsConfiguration p.hart.vector.conf → IsConfiguration r.state.hart.vector.conf
-
-steps_run : (a left : ℕ) (p : Present) → Runs p (slice_steps a left p)
-steps_run zero left p = record { running = refl; configured = λ is. is }
-steps_run (suc a) zero p = record { running = refl; configured = λ is. is }
+-- a run ends in a machine that runs as before
+steps_run : (a left : ℕ) (p : Present) → (slice_steps a left p).state.running ≡ p.running
+steps_run zero left p = refl
+steps_run (suc a) zero p = refl
 steps_run (suc a) (suc left) p =
     let one : Stepped = step (suc left) p.hart in
-    let end : StepEnd = one.end in
-    let q : Present = after end one.state p in
-    let rest : Runs q (slice_steps a (suc left - one.ticks) q) = steps_run a (suc left - one.ticks) q in
-    let is_after : IsConfiguration p.hart.vector.conf → IsConfiguration q.hart.vector.conf =
-    λ is. subst (λ (s : HartState). IsConfiguration s.vector.conf) (sym (hart_after end one.state p))
-    (step_keeps_configuration (suc left) p.hart is) in
-    of_either (Runs p) (is_held p) _ _ (record { running = refl; configured = λ is. is })
-    (of_either (Runs p) (is_none (stop_of end)) _ _
-    (record { running = rest.running ∙ running_after end one.state p; configured = λ is. rest.configured (is_after is) })
-    (record { running = running_after end one.state p; configured = is_after }))
+    let q : Present = after one.end one.state p in
+    let on : q.running ≡ p.running = running_after one.end one.state p in
+    of_either (λ (r : Halted). r.state.running ≡ p.running) (is_held p) _ _ refl
+    (of_either (λ (r : Halted). r.state.running ≡ p.running) (is_none (stop_of one.end)) _ _
+    (steps_run a (suc left - one.ticks) q ∙ on) on)
 
 -- ---- a slice
 
@@ -253,17 +241,21 @@ tried_running : (quantum : ℕ) (p : Present) → p.running ≡ true → tried_i
 unfolding tried_in
 tried_running quantum p h = rw h refl
 
-ends_configured : (run : Halted) (reason : Option Stop) → IsConfiguration run.state.hart.vector.conf
-    → IsConfigured (slice_ends run reason).next
-ends_configured run None h = h
-ends_configured run (Some reason) h = h
+ends_stay : (p : Present) (run : Halted) (reason : Option Stop) → StaysAs p (Some run.state) → StaysAs p (slice_ends run reason).next
+ends_stay p run None stays = stays
+ends_stay p run (Some reason) stays = stays
+
+pub sliced_stays : (quantum : ℕ) (p : Present) → StaysAs p (sliced quantum (Some p)).next
+unfolding sliced
+sliced_stays quantum p =
+    let run : Halted = ticked quantum p in
+    of_either (λ (o : Outcome). StaysAs p o.next) p.running _ _
+    (ends_stay p run run.stop (slice_stays quantum quantum p)) (λ is. is)
 
 pub slice_keeps_configuration : SliceKeepsConfiguration
 unfolding sliced
 slice_keeps_configuration quantum None is = tt
-slice_keeps_configuration quantum (Some p) is =
-    of_either (λ (o : Outcome). IsConfigured o.next) p.running _ _
-    (ends_configured (ticked quantum p) (ticked quantum p).stop ((steps_run quantum quantum p).configured is)) is
+slice_keeps_configuration quantum (Some p) is = stays_configured p (sliced quantum (Some p)).next (sliced_stays quantum p) is
 
 -- no ticks change nothing
 sliced_nothing : (p : Private) → sliced 0 p ≡ record { next = p; lines = [] }
@@ -296,7 +288,7 @@ cuts_are_invisible m (suc n) None is keeps =
 cuts_are_invisible m (suc n) (Some p) is keeps = elim (cases_Bool p.running) [
   | inl h ↦
       let run : Halted = ticked m p in
-      let on : run.state.running ≡ true = (steps_run m m p).running ∙ h in
+      let on : run.state.running ≡ true = steps_run m m p ∙ h in
       ap (λ (first : Outcome). joined first (sliced (suc n) first.next)) (sliced_running m p h)
       ∙ ends_joined (suc n) run.state run.stop on
       ∙ ap (λ (r : Halted). slice_ends r r.stop)

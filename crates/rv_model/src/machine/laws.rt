@@ -1,6 +1,8 @@
 //! Laws of the definitions, and small examples of them.
 ghost use Rattle.rv_model.specs.machine.AbsentUsers.{AbsentUsersHaveNothing, AbsentUsersLeaveTheUnit};
 ghost use Rattle.rv_model.specs.machine.AbsentUsers.{HappeningsKeepNothing, ScriptsKeepNothing};
+ghost use Rattle.rv_model.specs.machine.ConfiguredUsers.{HappeningsKeepConfigurations, ScriptsKeepConfigurations};
+ghost use Rattle.rv_model.specs.machine.ConfiguredUsers.{SlicesAddUpAfterScripts, UsersAreConfigured};
 ghost use Rattle.rv_model.specs.machine.Cuts.{CutsAreInvisible, SliceKeepsConfiguration, SlicesAddUp};
 ghost use Rattle.rv_model.specs.machine.Laws.{EachUserAlone, EachNewUserAlone, EachUserEndsAlone, OthersChangeNothing};
 ghost use Rattle.rv_model.specs.machine.Laws.{EqualPartsAnswerAlike, MachinesStayEight};
@@ -48,11 +50,17 @@ pub fn configurations_that_stay()
 {}
 
 /// A slice and then another are one of the ticks of both, and so are any number of them: where an
-/// instruction was cut shows nowhere, unless it has stored over its own word before.
+/// instruction was cut shows nowhere, unless it has stored over its own word before. That asks for a
+/// vector length of the vector type, which new machines have, and keep whatever happens to them. So
+/// it holds after any script.
 pub fn slices_add_up()
     ensures cuts { CutsAreInvisible }
     ensures slices { SlicesAddUp }
     ensures configuration { SliceKeepsConfiguration }
+    ensures new { UsersAreConfigured new_world }
+    ensures happenings { HappeningsKeepConfigurations }
+    ensures scripts { ScriptsKeepConfigurations }
+    ensures after_scripts { SlicesAddUpAfterScripts }
 {}
 
 /// No user whose program runs waits for ever. Slices are granted in turn; while the user has no

@@ -1,25 +1,48 @@
-use Rattle.std.proofs.Common.{rules, ap, refl, subst, map, ◌≡◌, ◌∙◌, []}
+use Rattle.std.proofs.Common.{rules, ap, inl, inr, refl, map, arith, ◌≡◌, ◌⊎◌, ◌∙◌, []}
 use Rattle.std.specs.Prelude.{option_map}
-use Rattle.std.specs.List.{AllZip}
 use Rattle.monitor_machine.specs.Images.{named_images}
-use Rattle.vec_monitor.specs.ImageFiles.{named_file, IsFileOf}
-use Rattle.vec_monitor.specs.ImageWords.{IsPathOf}
 use Rattle.vec_monitor.proofs.ImageWordLaws.{no_machine_fault, none_lacks, nothing_named, zip_nothing}
-use Rattle.vec_monitor.proofs.ProgramRunLaws.{ran_options}
+use Rattle.vec_monitor.specs.ProgramRuns.{PutOutPrefix, RanScript}
+use Rattle.vec_monitor.proofs.ProgramRunLaws.{other_status, ran_options}
 use Rattle.vec_monitor.proofs.program.run_options.Goals as goal
 
 pub returns-clause-ran : goal.returns-clause-ran
 returns-clause-ran g c =
-    let file_bytes = g.I.Inputs.file_bytes c.args.inputs.now in
-    let paths = c.in_ok-paths.paths.items in
-    let files = c.in_ok-files.files.items in
-    let images = c.as_slice-4.result.now in
-    let split = subst (λ words. AllZip IsPathOf words paths) c.as_slice.ensures.value c.in_ok-paths.ensures.images in
-    let read = subst (λ them. AllZip (IsFileOf file_bytes) them files) c.as_slice-2.ensures.value c.in_ok-files.ensures.files in
-    let named = ap named_images c.as_slice-4.ensures.value ∙ (c.in_ok-images.ensures ∙ ap (map named_file) c.as_slice-3.ensures.value) in
-    ran_options file_bytes (g.I.Inputs.input_bytes c.args.inputs.now) c.args.options.now.quantum (option_map (λ path. path.now) c.args.options.now.script)
-    c.args.options.now.images.items paths files images c.in_ok-machine.machine (λ told. g.K.Sink.took c.args.output.now told c.run_script.new.output)
-    split read named (c.in_ok-machine.ensures.faultless refl) c.in_ok-machine.ensures.new c.in_ok-run_script.ensures
+    ran_options (g.I.Inputs.file_bytes c.args.inputs.now) (g.I.Inputs.input_bytes c.args.inputs.now) c.args.options.now.quantum
+    (option_map (λ path. path.now) c.args.options.now.script) _ _ _ _ _ _ _ _ _ (RanScript (λ told. g.K.Sink.took c.args.output.now told c.run_script.new.output))
+    c.as_slice.ensures.value c.in_ok-paths.ensures.images c.as_slice-2.ensures.value c.in_ok-files.ensures.files c.as_slice-3.ensures.value c.in_ok-images.ensures
+    c.as_slice-4.ensures.value (c.in_ok-machine.ensures.faultless refl) c.in_ok-machine.ensures.new c.in_ok-run_script.ensures.ran
+
+pub returns-clause-told : goal.returns-clause-told
+returns-clause-told g c =
+    inr (ran_options (g.I.Inputs.file_bytes c.args.inputs.now) (g.I.Inputs.input_bytes c.args.inputs.now) c.args.options.now.quantum
+    (option_map (λ path. path.now) c.args.options.now.script) _ _ _ _ _ _ _ _ _ (PutOutPrefix (λ told. g.K.Sink.took c.args.output.now told c.run_script.new.output))
+    c.as_slice.ensures.value c.in_ok-paths.ensures.images c.as_slice-2.ensures.value c.in_ok-files.ensures.files c.as_slice-3.ensures.value c.in_ok-images.ensures
+    c.as_slice-4.ensures.value (c.in_ok-machine.ensures.faultless refl) c.in_ok-machine.ensures.new c.run_script.ensures.told)
+
+pub returns-in_err-run_script-clause-told : goal.returns-in_err-run_script-clause-told
+returns-in_err-run_script-clause-told g c =
+    inr (ran_options (g.I.Inputs.file_bytes c.args.inputs.now) (g.I.Inputs.input_bytes c.args.inputs.now) c.args.options.now.quantum
+    (option_map (λ path. path.now) c.args.options.now.script) _ _ _ _ _ _ _ _ _ (PutOutPrefix (λ told. g.K.Sink.took c.args.output.now told c.run_script.new.output))
+    c.as_slice.ensures.value c.in_ok-paths.ensures.images c.as_slice-2.ensures.value c.in_ok-files.ensures.files c.as_slice-3.ensures.value c.in_ok-images.ensures
+    c.as_slice-4.ensures.value (c.in_ok-machine.ensures.faultless refl) c.in_ok-machine.ensures.new c.run_script.ensures.told)
+
+pub returns-in_err-run_script-clause-nothing : goal.returns-in_err-run_script-clause-nothing
+returns-in_err-run_script-clause-nothing g c =
+    other_status c.from_residual-in_err-run_script.result c.in_err-run_script.field-0.0 (λ status. (status ≡ 2) ⊎ ((status ≡ 4) ⊎ (status ≡ 6)))
+    c.from_residual-in_err-run_script.ensures.1
+    (λ q. elim q [ inl e ↦ omega (arith, e) | inr q ↦ elim q [ inl e ↦ omega (arith, e) | inr e ↦ omega (arith, e) ] ])
+    (λ q. elim q [ inl e ↦ omega (arith, e) | inr q ↦ elim q [ inl e ↦ omega (arith, e) | inr e ↦ omega (arith, e) ] ])
+
+pub returns-in_err-run_script-clause-usage : goal.returns-in_err-run_script-clause-usage
+returns-in_err-run_script-clause-usage g c =
+    other_status c.from_residual-in_err-run_script.result c.in_err-run_script.field-0.0 (λ status. status ≡ 2)
+    c.from_residual-in_err-run_script.ensures.1 (λ e. omega (arith, e)) (λ e. omega (arith, e))
+
+pub returns-in_err-run_script-clause-images : goal.returns-in_err-run_script-clause-images
+returns-in_err-run_script-clause-images g c = λ low high none.
+    other_status c.from_residual-in_err-run_script.result c.in_err-run_script.field-0.0 (λ status. status ≡ 4)
+    c.from_residual-in_err-run_script.ensures.1 (λ e. omega (arith, e)) (λ e. omega (arith, e))
 
 pub returns-in_err-files-clause-refused : goal.returns-in_err-files-clause-refused
 returns-in_err-files-clause-refused g c = λ some. absurd (none_lacks c.args.options.now.images.items c.in_ok-paths.paths.items (search rules) some)

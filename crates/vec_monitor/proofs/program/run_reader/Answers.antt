@@ -1,12 +1,15 @@
-use Rattle.std.proofs.Common.{◌∙◌, ap}
+use Rattle.std.proofs.Common.{◌≡◌, ◌∙◌, ap, subst, List, ℕ, Option}
+use Rattle.std.specs.Io.KnownBytes.{Consumes}
 use Rattle.std.proofs.lemmas.Result.{on_ok_weaker}
 use Rattle.monitor_machine.specs.MachineState.{MachineState}
+use Rattle.monitor_script.proofs.DeviceLaws.{each_end}
+use Rattle.monitor_script.proofs.Prefixes.{cut_short_begins, ended_begin, first_begin}
 use Rattle.rv_model.specs.machine.Script.{World, whole_from}
-use Rattle.vec_monitor.proofs.ProgramRunLaws.{all_was_known}
+use Rattle.vec_monitor.proofs.ProgramRunLaws.{all_was_known, put_out, put_out_all}
 use Rattle.vec_monitor.proofs.program.run_reader.Goals as goal
 
-pub returns : goal.returns
-returns g c = λ new.
+pub returns-clause-ran : goal.returns-clause-ran
+returns-clause-ran g c = λ new.
     let m : MachineState = c.args.machine.now in
     on_ok_weaker c.run.result
     (λ p. record {
@@ -20,3 +23,24 @@ returns g c = λ new.
       each_user = p.1.1.3 new;
     })
     c.run.ensures.headline
+
+pub returns-clause-told : goal.returns-clause-told
+returns-clause-told g c = λ new.
+    let m : MachineState = c.args.machine.now in
+    let known : Option (List ℕ) = g.F.Read.remaining c.args.reader in
+    let after : Option (List ℕ) = g.F.Read.remaining c.run.new.source.reader in
+    let held : g.F.Read.remaining c.new.result.reader ≡ known = ap (g.F.Read.remaining) c.new.ensures.reader in
+    let given : (text : List ℕ) → Consumes (g.F.Read.remaining c.new.result.reader) after text → Consumes known after text =
+    λ text gave. subst (λ (it : Option (List ℕ)). Consumes it after text) held gave in
+    let took = λ (told : List ℕ). g.K.Sink.took c.args.output.now told c.run.new.sink in
+    each_end c.run.result
+    (on_ok_weaker c.run.result (put_out_all took m.setup known) (returns-clause-ran g c new))
+    (λ e.
+    let p = c.run.ensures.after_read e in
+    put_out m known after p.0 _ took new (given p.0 p.1.0) p.1.3 (λ rest none. ended_begin m p.0 rest))
+    (λ e.
+    let p = c.run.ensures.after_too_long e in
+    put_out m known after p.0 _ took new (given p.0 p.1.0) p.1.5 (λ rest none. first_begin m 16777216 p.0 rest))
+    (λ e.
+    let p = c.run.ensures.after_write e in
+    put_out m known after p.0 _ took new (given p.0 p.1.0) p.1.1.output (λ rest none. cut_short_begins m p.0 rest _ _ _ p.1.1 (λ end. none end.1)))

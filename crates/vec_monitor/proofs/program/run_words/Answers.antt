@@ -11,9 +11,20 @@ returns-in-Ok-clause-ran g c =
     let words = texts c.args.words.now in
     let asked = c.in-Ok.ensures in
     on_ok_weaker c.run_options.result
-    (λ ran. inr (ran_words (g.R.Inputs.file_bytes c.args.rt.now) (g.R.Inputs.input_bytes c.args.rt.now) words _ _ _
-    (λ told. g.K.Sink.took c.args.output.now told c.run_options.new.output) (asked.taken refl) asked.quantum asked.script asked.images ran))
+    (λ ran. inr (ran_words (g.R.Inputs.file_bytes c.args.rt.now) (g.R.Inputs.input_bytes c.args.rt.now) words _ _ _ _
+    (asked.taken refl) asked.quantum asked.script asked.images ran))
     c.run_options.ensures.ran
+
+pub returns-in-Ok-clause-told : goal.returns-in-Ok-clause-told
+returns-in-Ok-clause-told g c =
+    let words = texts c.args.words.now in
+    let asked = c.in-Ok.ensures in
+    elim c.run_options.ensures.told [
+      | inl none ↦ inl none
+      | inr ran ↦
+          inr (ran_words (g.R.Inputs.file_bytes c.args.rt.now) (g.R.Inputs.input_bytes c.args.rt.now) words _ _ _ _
+          (asked.taken refl) asked.quantum asked.script asked.images ran)
+    ]
 
 pub returns-in-Ok-print-clause-ran : goal.returns-in-Ok-print-clause-ran
 returns-in-Ok-print-clause-ran g c =

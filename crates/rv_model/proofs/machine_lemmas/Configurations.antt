@@ -1,0 +1,55 @@
+-- Whatever is carried out of a user's instructions, the user stays, and the vector length stays one of the vector type.
+use Rattle.std.proofs.Common.{◌≡◌, ℕ, zero, suc, ◌-◌, Bool, false, Some, None, refl, sym, subst}
+use Rattle.std.specs.Prelude.{◌&&◌, not, is_none}
+use Rattle.rv_model.specs.declared.step.step_end.StepEnd.{StepEnd}
+use Rattle.rv_model.specs.declared.step.step_end.StepEnd.TheVariants.{Ran}
+use Rattle.rv_model.specs.machine.Cuts.{IsConfigured}
+use Rattle.rv_model.specs.machine.Runs.{after, at_breakpoint, stop_of, Halted, runs_on, slice_steps, steps}
+use Rattle.rv_model.specs.machine.UserMachine.{Present, Private}
+use Rattle.rv_model.specs.step.Hart.{HartState, Stepped}
+use Rattle.rv_model.specs.step.Step.{step}
+use Rattle.rv_model.specs.vector.Configuration.{IsConfiguration}
+use Rattle.rv_model.proofs.Choices.{of_either}
+use Rattle.rv_model.proofs.step_lemmas.Configurations.{step_keeps_configuration}
+
+abbrev pub HasLength : Present → Type 0
+HasLength p = IsConfiguration p.hart.vector.conf
+
+-- the user is there after this, and the vector length is one of the type, if it was before
+abbrev pub StaysAs : Present → Private → Type 0
+StaysAs p None = ⊥
+StaysAs p (Some q) = HasLength p → HasLength q
+
+pub stays_configured : (p : Present) (next : Private) → StaysAs p next → IsConfigured (Some p) → IsConfigured next
+stays_configured p None stays is = tt
+stays_configured p (Some q) stays is = stays is
+
+pub not_gone : (p : Present) (next : Private) → StaysAs p next → next ≡ None → ⊥
+not_gone p next stays none = subst (StaysAs p) none stays
+
+-- ---- runs of instructions
+
+hart_after : (e : StepEnd) (state : HartState) (p : Present) → (after e state p).hart ≡ state
+hart_after Ran state p = refl
+hart_after _ state p = refl
+
+run_stays : (exempt : Bool) (limit : ℕ) (p : Present) (others : Present → Halted) → ((q : Present) → HasLength q → HasLength (others q).state)
+    → HasLength p → HasLength (runs_on exempt (step limit p.hart) p others).state
+run_stays exempt limit p others rest is =
+    let one : Stepped = step limit p.hart in
+    let q : Present = after one.end one.state p in
+    let left : HasLength q = subst (λ (s : HartState). IsConfiguration s.vector.conf) (sym (hart_after one.end one.state p))
+    (step_keeps_configuration limit p.hart is) in
+    of_either (λ (r : Halted). HasLength r.state) (not exempt && at_breakpoint p) _ _ is
+    (of_either (λ (r : Halted). HasLength r.state) (is_none (stop_of one.end)) _ _ (rest q left) left)
+
+pub steps_stay : (n : ℕ) (exempt : Bool) (p : Present) → HasLength p → HasLength (steps n exempt p).state
+steps_stay zero exempt p is = is
+steps_stay (suc n) exempt p is = run_stays exempt 256 p (steps n false) (steps_stay n false) is
+
+pub slice_stays : (n left : ℕ) (p : Present) → HasLength p → HasLength (slice_steps n left p).state
+slice_stays zero left p is = is
+slice_stays (suc n) zero p is = is
+slice_stays (suc n) (suc left) p is =
+    let later : ℕ = suc left - (step (suc left) p.hart).ticks in
+    run_stays p.fresh (suc left) p (slice_steps n later) (slice_stays n later) is

@@ -1,0 +1,87 @@
+-- Each user's machine has a vector length of its vector type, whatever happens.
+use Rattle.std.proofs.Common.{ℕ, zero, suc, ◌-◌, List, [], ◌∷◌, get_or, set, Some, None, Ok, Err, refl, sym, subst}
+use Rattle.std.specs.Prelude.{◌&&◌, replicate}
+use Rattle.rv_model.specs.declared.commands.command.Cmd.{Cmd}
+use Rattle.rv_model.specs.declared.commands.command.Cmd.TheVariants.{Entering}
+use Rattle.rv_model.specs.declared.commands.entering.EnteringCommand.TheVariants.{Enter, Leave}
+use Rattle.rv_model.specs.commands.Commands.{Parsed, carried_out, commanded, needs_stopped, of_absent, of_present, parse}
+use Rattle.rv_model.specs.commands.Entering.{entering, entering_absent}
+use Rattle.rv_model.specs.machine.ConfiguredUsers.{HappeningsKeepConfigurations, ScriptsKeepConfigurations, SlicesAddUpAfterScripts, UsersAreConfigured}
+use Rattle.rv_model.specs.machine.Cuts.{IsConfigured}
+use Rattle.rv_model.specs.machine.PrivateMachine.{Event, Command, Slice, event}
+use Rattle.rv_model.specs.machine.Script.{after_script, events_of, kind_of, new_world, world_after}
+use Rattle.rv_model.specs.machine.Setup.{Image, Setup}
+use Rattle.rv_model.specs.machine.UserMachine.{Outcome, Present, Private}
+use Rattle.rv_model.specs.machine.VectorUnit.{unused_unit}
+use Rattle.rv_model.specs.machine.World.{World, Happening, after_events, after_one, outcome_of, user_machine}
+use Rattle.rv_model.specs.text.Lines.{pieces}
+use Rattle.rv_model.specs.vector.State.{initial_vector}
+use Rattle.rv_model.proofs.Choices.{of_either}
+use Rattle.rv_model.proofs.command_lemmas.Commands.{stays_there}
+use Rattle.rv_model.proofs.machine_lemmas.Configurations.{stays_configured}
+use Rattle.rv_model.proofs.machine_lemmas.Cuts.{slice_keeps_configuration, slices_add_up}
+use Rattle.rv_model.proofs.machine_lemmas.Headline.{part_after_one}
+
+-- ---- what happens to one user
+
+absent_command : (c : Cmd) → IsConfigured (of_absent c).next
+unfolding of_absent entering_absent initial_vector
+absent_command (Entering Enter) = refl
+absent_command _ = tt
+
+present_command : (images : List Image) (p : Present) (c : Cmd) → IsConfigured (Some p) → IsConfigured (of_present images c p).next
+unfolding of_present entering
+present_command images p (Entering Leave) is = tt
+present_command images p c is = stays_configured p (of_present images c p).next (stays_there images 1 p unused_unit c) is
+
+line_keeps : (images : List Image) (p : Private) (r : Parsed) → IsConfigured p → IsConfigured (commanded images p r).next
+unfolding carried_out
+line_keeps images p (Err reason) is = is
+line_keeps images None (Ok c) is = absent_command c
+line_keeps images (Some p) (Ok c) is =
+    of_either (λ (o : Outcome). IsConfigured o.next) (p.running && needs_stopped c) _ _ is (present_command images p c is)
+
+event_keeps : (s : Setup) (p : Private) (e : Event) → IsConfigured p → IsConfigured (event s p e).next
+unfolding event
+event_keeps s p (Command line) is = line_keeps s.images p (parse line) is
+event_keeps s p Slice is = slice_keeps_configuration s.quantum p is
+
+-- ---- what happens to all
+
+-- what holds of one element and of all others holds of each
+of_element : {X : Type 0} (P : X → Type 0) (xs : List X) (i j : ℕ) (x d : X) → P x → P (get_or xs j d) → P (get_or (set xs i x) j d)
+of_element P [] i j x d one other = other
+of_element P (y ∷ ys) zero zero x d one other = one
+of_element P (y ∷ ys) zero (suc j) x d one other = other
+of_element P (y ∷ ys) (suc i) zero x d one other = other
+of_element P (y ∷ ys) (suc i) (suc j) x d one other = of_element P ys i j x d one other
+
+nobody : (n i : ℕ) → IsConfigured (get_or (replicate n None) i None)
+nobody zero i = tt
+nobody (suc n) zero = tt
+nobody (suc n) (suc i) = nobody n i
+
+pub new_users_are_configured : UsersAreConfigured new_world
+unfolding new_world
+new_users_are_configured u = nobody 8 (u - 1)
+
+pub happenings_keep_configurations : HappeningsKeepConfigurations
+happenings_keep_configurations s w h are = λ u.
+    let next : Private = (outcome_of s w h).next in
+    subst IsConfigured (sym (part_after_one s u w h))
+    (of_element IsConfigured w.parts (h.user - 1) (u - 1) next None (event_keeps s (user_machine h.user w) h.event (are h.user)) (are u))
+
+all_keep : (s : Setup) (w : World) (hs : List Happening) → UsersAreConfigured w → UsersAreConfigured (after_events s w hs)
+all_keep s w [] are = are
+all_keep s w (h ∷ hs) are = all_keep s (after_one s w h) hs (happenings_keep_configurations s w h are)
+
+pub scripts_keep_configurations : ScriptsKeepConfigurations
+unfolding world_after
+scripts_keep_configurations s w [] are = are
+scripts_keep_configurations s w (line ∷ lines) are =
+    scripts_keep_configurations s (world_after s w line) lines (all_keep s w (events_of s w (kind_of line)) are)
+
+pub slices_add_up_after_scripts : SlicesAddUpAfterScripts
+unfolding after_script
+slices_add_up_after_scripts s script u k quantum words =
+    slices_add_up k quantum _ (scripts_keep_configurations s new_world (pieces script) new_users_are_configured u) words
