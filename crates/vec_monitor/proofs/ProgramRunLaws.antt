@@ -71,9 +71,9 @@ run_statuses TooLong = inl refl
 run_statuses Write = inr refl
 
 -- so what is said of other statuses says nothing of it
-pub other_status : {T G : Type 0} (r : Result T ProgramFault) (stopped : RunFault) (Q : ℕ → Type 0) → IsErrAnd r (λ fault. fault ≡ Run stopped) → (Q 3 → ⊥) → (Q 5 → ⊥) → IfErr r (λ fault. Q (program_status fault) → G)
-other_status (Ok x) stopped Q is three five = tt
-other_status (Err fault) stopped Q is three five = λ q. absurd (elim (run_statuses stopped) [
+pub other_status : {T : Type 0} (G : Type 0) (r : Result T ProgramFault) (stopped : RunFault) (Q : ℕ → Type 0) → IsErrAnd r (λ fault. fault ≡ Run stopped) → (Q 3 → ⊥) → (Q 5 → ⊥) → IfErr r (λ fault. Q (program_status fault) → G)
+other_status G (Ok x) stopped Q is three five = tt
+other_status G (Err fault) stopped Q is three five = λ q. absurd (elim (run_statuses stopped) [
   | inl e ↦ three (subst Q (ap program_status is ∙ e) q)
   | inr e ↦ five (subst Q (ap program_status is ∙ e) q)
 ])

@@ -29,19 +29,19 @@ returns-in_err-run_script-clause-told g c =
 
 pub returns-in_err-run_script-clause-nothing : goal.returns-in_err-run_script-clause-nothing
 returns-in_err-run_script-clause-nothing g c =
-    other_status c.from_residual-in_err-run_script.result c.in_err-run_script.field-0.0 (λ status. (status ≡ 2) ⊎ ((status ≡ 4) ⊎ (status ≡ 6)))
+    other_status _ c.from_residual-in_err-run_script.result c.in_err-run_script.field-0.0 (λ status. (status ≡ 2) ⊎ ((status ≡ 4) ⊎ (status ≡ 6)))
     c.from_residual-in_err-run_script.ensures.1
     (λ q. elim q [ inl e ↦ omega (arith, e) | inr q ↦ elim q [ inl e ↦ omega (arith, e) | inr e ↦ omega (arith, e) ] ])
     (λ q. elim q [ inl e ↦ omega (arith, e) | inr q ↦ elim q [ inl e ↦ omega (arith, e) | inr e ↦ omega (arith, e) ] ])
 
 pub returns-in_err-run_script-clause-usage : goal.returns-in_err-run_script-clause-usage
 returns-in_err-run_script-clause-usage g c =
-    other_status c.from_residual-in_err-run_script.result c.in_err-run_script.field-0.0 (λ status. status ≡ 2)
+    other_status _ c.from_residual-in_err-run_script.result c.in_err-run_script.field-0.0 (λ status. status ≡ 2)
     c.from_residual-in_err-run_script.ensures.1 (λ e. omega (arith, e)) (λ e. omega (arith, e))
 
 pub returns-in_err-run_script-clause-images : goal.returns-in_err-run_script-clause-images
 returns-in_err-run_script-clause-images g c = λ low high none.
-    other_status c.from_residual-in_err-run_script.result c.in_err-run_script.field-0.0 (λ status. status ≡ 4)
+    other_status _ c.from_residual-in_err-run_script.result c.in_err-run_script.field-0.0 (λ status. status ≡ 4)
     c.from_residual-in_err-run_script.ensures.1 (λ e. omega (arith, e)) (λ e. omega (arith, e))
 
 pub returns-in_err-files-clause-refused : goal.returns-in_err-files-clause-refused
