@@ -318,8 +318,11 @@ async def test_a_source(room: Served) -> None:
         await tab.do("step 6")
         assert tab.view["state"]["x"]["11"] == "4" or tab.view["state"]["x"]["11"] == "3"
         await tab.do("go")
-    told = await tab.ask("source", text="addi a0, a0, 5000\nadd a0, a0\nvadd.vv v1, v2, q\n")
-    assert [(each["line"]) for each in told["mistakes"]] == [2] or len(told["mistakes"]) >= 1
+    script = (await room.get("A/script"))[1]
+    told = await tab.ask("source", text="addi a0, a0, 5000\njmp x\nvadd.vv v1, v2, v3\nvadd.vv v1, v2, q\n")
+    assert [(each["line"], each["column"]) for each in told["mistakes"]] == [(1, 14), (2, 1), (4, 17)]
+    assert "near it are j, jr and jal" in told["mistakes"][1]["message"]
+    assert (await room.get("A/script"))[1] == script  # nothing was done
     told = await tab.ask("source", text="nop\naddi a0, a0, 5000\nnop\nslli a0, a0, 99\n")
     assert [(each["line"], each["column"]) for each in told["mistakes"]] == [(2, 14), (4, 14)]
     assert "doesn't fit" in told["mistakes"][0]["message"]

@@ -5,11 +5,13 @@ The machine blocks in a thread of its own. What was done is told to seats by the
 
 import asyncio
 import concurrent.futures
+import pathlib
 from collections.abc import Callable, Iterable, Mapping, Sequence
 from dataclasses import asdict, dataclass, field, replace
 
 from .. import LabError
-from ..assembler.source import SourceError, assemble, refusal
+from ..assembler.source import SourceError, read_source, refusal
+from ..assembler.trial import all_mistakes
 from ..machine.answers import Granted, OutOfStep, Position, Refused, read
 from ..machine.lines import DIGITS, is_look
 from ..machine.session import TOGETHER, ProgramGone, ReplayDiffers, ScriptFull, Session
@@ -113,12 +115,14 @@ class Room:
         return [[part[2:] for part in answer] for answer in work.looks]
 
     async def source(self, seat: Seat, text: str) -> list[SourceError]:
-        """Brings an assembler source into a new machine of the seat's; the mistakes in it."""
+        """Brings an assembler source into a new machine of the seat's; the mistakes in it.
+
+        Where one is of form, nothing is done.
+        """
         mistakes: list[SourceError] = []
         labels: dict[str, list[str]] = {}
 
         def carry_out(work: _Work) -> None:
-            program = assemble(text)
             if len(program.lines) > SOURCE_LINES:
                 raise BadRequest(f"a source becomes {SOURCE_LINES} lines at most, and this one {len(program.lines)}")
             ways = {"absent": list[str](), "running": ["stop", "leave"], "stopped": ["leave"]}
@@ -133,12 +137,12 @@ class Room:
                         raise BadRequest(f"the machine answers {code} to {line[:60]}")
             labels.update(program.names())
 
-        async with seat.turn, self._lock:
-            try:
+        async with seat.turn:
+            program = await asyncio.to_thread(read_source, text)
+            if program.mistakes:
+                return await asyncio.to_thread(all_mistakes, program, pathlib.Path(self.session.command[0]))
+            async with self._lock:
                 await self._hop(_Work(), carry_out, seat)
-            except SourceError as mistake:
-                mistakes = [mistake]
-            else:
                 seat.labels = labels
                 self.changed([seat.name])
         return mistakes
