@@ -126,6 +126,56 @@ def test_a_mistake_leads_to_its_place(sit: Sit) -> None:
     assert tab.run("document.activeElement.id") == "source"
 
 
+def test_pastes(sit: Sit, served: Served) -> None:
+    """A source and lines are taken as they are, or refused in a sentence before anything is sent."""
+    from selenium.webdriver.common.keys import Keys
+
+    tab, teacher = sit("A8"), sit("teacher")
+    paste = "(id(arguments[0]).focus(), document.execCommand('insertText', false, arguments[1]))"
+    put = "((field) => (field.setRangeText(arguments[1]), field.dispatchEvent(new Event('input'))))(id(arguments[0]))"
+    lines = [
+        "# three lines",
+        "enter",
+        "map 10000 1 rwx",
+        "",
+        "map 10000 1 rwx",
+        *(f"set x5 {n:x}" for n in range(1, 99)),
+    ]
+    tab.run(paste, "line", "\r\n".join(lines))
+    assert tab.run("id('line').rows") == 8 and tab.run("id('log').childElementCount") == 0
+    tab.keys("#line", Keys.ENTER)
+    tab.wait("one(\"[data-edit='set x5']\")?.textContent === '62'")
+    asked = tab.run("all('#log .asked').map((item) => item.textContent.slice(2))")
+    assert asked == [line for line in lines if line and line[0] != "#"]
+    assert "a page is mapped already" in tab.text("#stop")
+    script = served.fetch("A/script")
+    refused = {
+        "regs\nset x5 \u00e9": "Character 8 of line 2, \u00e9, isn't printable ASCII: nothing was sent.",
+        "set x5 1\n" * 4097: "These are 4097 lines, and at most 4096 go at once: nothing was sent.",
+        "asm 10000 " + "x" * 1013: "1023 characters are in the line, and at most 1022 may be: nothing was sent.",
+    }
+    for text, told in refused.items():
+        tab.run(put, "line", text)
+        tab.keys("#line", Keys.ENTER)
+        assert tab.text("#stop") == told
+        teacher.run(put, "operator-line", text)
+        teacher.keys("#operator-line", Keys.ENTER)
+        assert teacher.text("#gone").replace("`", "") == told
+    tab.click("#show-source")
+    for text in ("nop\n" * 16384 + "#", "#" * 6_000_000):  # the second one has no room in the tab's storage
+        tab.run("id('source').value = ''")
+        tab.run(put, "source", text)
+        tab.click("#assemble")
+        assert f"This source has {len(text):,} characters, and 65,536 are taken at most" in tab.text("#stop")
+    assert served.fetch("A/script") == script
+    tab.run("id('source').value = ''")
+    tab.run(put, "source", "nop\n" * 1000 + "#" * 61536)
+    assert tab.run("id('source').maxLength") == -1 and tab.run("id('source').value.length") == 65536
+    assert tab.run("sessionStorage.getItem('source').length") == 65536
+    tab.click("#assemble")
+    tab.wait("!id('listing').hidden && id('listing').textContent.includes('10000')")
+
+
 def test_values_are_changed_by_clicks_and_keys(sit: Sit) -> None:
     from selenium.webdriver.common.keys import Keys
 
@@ -182,13 +232,15 @@ def test_lines_of_before_and_refusals(sit: Sit) -> None:
     tab.command("asm 10000 vle32.v v1, (x1)", "setpc 10000", "step 1")
     assert "vill" in tab.text("#stop") and tab.text("#run") == "fault"
     tab.keys("#line", "é\n")
-    tab.wait("id('stop').textContent.includes('printable ASCII')")
+    tab.wait("id('stop').textContent.includes(\"Character 1 of the line, é, isn't printable ASCII\")")
     teacher = sit("teacher")
     teacher.click("tr[data-seat='A4'] td:nth-child(2) button")
     teacher.wait("id('log').textContent.includes(arguments[0])", tag)
     assert "vill" in teacher.text("#stop") and "vle32.v" in teacher.text("#listing")
     teacher.keys("#operator-line", f"{tag}\n")
-    teacher.wait("id('operator-log').textContent.includes('E03') && !one('img')")
+    teacher.wait("id('operator-log').textContent.includes('E03there is no command <img') && !one('img')")
+    teacher.keys("#operator-line", "slices 0\n")
+    teacher.wait("id('operator-log').textContent.includes(\"0 isn't from 1 to 1,000; the form is * slices N\")")
     assert teacher.run("document.title") == "Teacher – vecmon" and tab.run("!one('img') && document.title").startswith(
         "Seat"
     )

@@ -4,7 +4,7 @@ from collections.abc import Mapping
 from dataclasses import dataclass
 
 from .. import LabError
-from ..machine.lines import check_line, is_look
+from ..machine.lines import check_text, is_look
 
 REQUEST_LINES, SOURCE_LETTERS = 256, 1 << 16
 MOST_SLICES = 100
@@ -104,7 +104,7 @@ def _lines(message: Mapping[str, object], is_teacher: bool) -> Lines:
     if not isinstance(slices, int) or not 0 <= slices <= MOST_SLICES:
         raise BadRequest(f"a request grants 0 to {MOST_SLICES} slices")
     for text in (*do, *look):
-        check_line(f"{'*' if is_teacher else '1'} {text}" if isinstance(text, str) else text)
+        check_text(text)
     for text in look:
         if not is_look(f"{'*' if is_teacher else '1'} {text}"):
             raise BadRequest(f"{text[:40]!r} isn't a line that only looks")

@@ -2,8 +2,10 @@
 
 import { Desk } from "./desk.js";
 import { byId, make, put, say } from "./elements.js";
+import { LineField, inParts, nameOf, unfitLines } from "./lines.js";
 
 const MOST_WAITING = 5; // requests: keys that repeat faster are left out
+const MOST_LETTERS = 65536; // of a source
 const NEW_MACHINE = ["enter", "map 10000 1 rwx", "map 20000 1 rw", "setpc 10000"];
 
 /** The bytes of a register with another element; all bytes in hexadecimal, the least first. */
@@ -14,13 +16,17 @@ function withElement(bytes, width, place, value) {
   return turned((others | (BigInt.asUintN(width, value) << shift)).toString(16).padStart(bytes.length, "0"));
 }
 
+/** What was refused of a request, in words. */
+function refusals({ do: lines }, answer) {
+  const told = (answer?.words ?? []).map((why, place) => why && `\`${lines[place]}\`: ${why}.`);
+  return [...told, answer?.error].filter(Boolean).join(" ");
+}
+
 /** A student's desk: buttons, keys, the command line, values to click, and the source. */
 export class Student {
   constructor(connection) {
     this.connection = connection;
     this.desk = new Desk();
-    this.past = []; // lines that were typed
-    this.place = 0; // among them
     byId("log").after(byId("command"));
     byId("listing").before(byId("editor"));
     byId("program-title").after(byId("sides"));
@@ -34,12 +40,11 @@ export class Student {
     const on = (id, event, heard) => byId(id).addEventListener(event, heard);
     document.querySelectorAll("[data-do]").forEach(({ id, dataset }) => on(id, "click", () => this.send([dataset.do])));
     on("steps", "submit", () => this.send([`step ${byId("number").value}`]));
-    on("command", "submit", () => this.command());
+    new LineField("line", (lines) => this.send(lines));
     on("change", "submit", () => this.change());
     on("slice", "click", () => this.request({ ask: "lines", slices: 1 }, "a slice"));
     on("new", "click", () => this.send([...this.leaving(), ...NEW_MACHINE]));
     on("images", "change", () => this.send([...this.leaving(), "enter", `load ${byId("images").value}`]));
-    on("line", "keydown", (event) => this.recall(event));
     on("source", "input", () => this.numberLines());
     on("source", "scroll", () => (byId("numbers-of-lines").scrollTop = byId("source").scrollTop));
     on("assemble", "click", () => this.assemble());
@@ -73,14 +78,19 @@ export class Student {
   /** Sends a request; what was refused is told in words. */
   async request(request, words) {
     const answer = await this.connection.ask(request, words);
-    const lines = request.do ?? [];
-    const told = (answer?.words ?? []).map((why, place) => why && `\`${lines[place]}\`: ${why}.`).filter(Boolean);
-    this.refuse([...told, answer?.error ?? ""].join(" ").trim());
+    this.refuse(refusals(request, answer));
     return answer;
   }
 
-  send(lines) {
-    return this.request({ ask: "lines", do: lines }, lines.join(", "));
+  /** Sends lines, in requests one behind the other, unless one of them can't be sent. */
+  async send(lines) {
+    const unfit = unfitLines(lines);
+    if (unfit) return this.refuse(unfit);
+    const requests = inParts(lines).map((part) => ({ ask: "lines", do: part }));
+    const asked = requests.map((request) => this.connection.ask(request, nameOf(request.do)));
+    const answers = await Promise.all(asked);
+    const told = requests.map((request, place) => refusals(request, answers[place]));
+    return this.refuse(told.filter(Boolean).join(" "));
   }
 
   refuse(words) {
@@ -91,24 +101,6 @@ export class Student {
   /** The lines that end the machine that there is. */
   leaving() {
     return { absent: [], stopped: ["leave"], running: ["stop", "leave"] }[this.desk.state.run];
-  }
-
-  command() {
-    const line = byId("line").value.trim();
-    byId("line").value = "";
-    if (!line) return;
-    this.past = [...this.past.filter((each) => each !== line), line];
-    this.place = this.past.length;
-    this.send([line]);
-  }
-
-  /** Lines of before, by arrow keys. */
-  recall(event) {
-    const step = { ArrowUp: -1, ArrowDown: 1 }[event.key];
-    if (!step) return;
-    event.preventDefault();
-    this.place = Math.min(this.past.length, Math.max(0, this.place + step));
-    byId("line").value = this.past[this.place] ?? "";
   }
 
   pressed(event) {
@@ -155,13 +147,22 @@ export class Student {
   numberLines() {
     const lines = byId("source").value.split("\n");
     byId("numbers-of-lines").textContent = lines.map((_, place) => place + 1).join("\n");
-    sessionStorage.setItem("source", byId("source").value);
+    try {
+      sessionStorage.setItem("source", byId("source").value);
+    } catch {
+      // it is full: a reload has the copy of before
+    }
   }
 
   async assemble() {
-    const { mistakes } = (await this.request({ ask: "source", text: byId("source").value }, "the source")) ?? {};
+    const text = byId("source").value;
+    const [size, most] = [text.length, MOST_LETTERS].map((each) => each.toLocaleString("en"));
+    if (text.length > MOST_LETTERS) {
+      return this.refuse(`This source has ${size} characters, and ${most} are taken at most: nothing was sent.`);
+    }
+    const { mistakes } = (await this.request({ ask: "source", text }, "the source")) ?? {};
     byId("mistakes").replaceChildren(...(mistakes ?? []).map((mistake) => this.mistake(mistake)));
-    if (mistakes?.length === 0) this.showSide("listing");
+    return mistakes?.length === 0 && this.showSide("listing");
   }
 
   /** A mistake of the source, which leads to its place. */

@@ -1,6 +1,6 @@
 // The transcript: lines and answers, and which of them tell of a stop or a refusal.
 
-import { make } from "./elements.js";
+import { make, prose } from "./elements.js";
 
 const LOG_LENGTH = 500;
 export const STOP_LINE = /^[1-8] (e?break|exit|outfull|fault) /;
@@ -21,6 +21,14 @@ export function logEntry(entry, isOnly = false, place = "") {
   const kind = { ">": "asked", "<": "answered", "!": "unsent" }[entry[0]];
   const item = make("li", stopped ? `${kind} stopped` : kind);
   item.textContent = place + (entry[0] === ">" ? "> " : "") + (isOnly && entry[0] !== "!" ? text.slice(2) : text);
+  return item;
+}
+
+/** An entry as `logEntry` makes it; below a refusal stands what it means. */
+export function toldEntry(entry, isOnly, place = "") {
+  const item = logEntry(entry, isOnly, place);
+  const [, words] = entryParts(entry);
+  if (words) item.append(make("small", "", ...prose(words.replace(/^E\d\d.*?: /m, ""))));
   return item;
 }
 
