@@ -176,6 +176,31 @@ def test_pastes(sit: Sit, served: Served) -> None:
     tab.wait("!id('listing').hidden && id('listing').textContent.includes('10000')")
 
 
+def test_rows_out_of_sight_are_not_made(tabs: "Chrome", own_class: Served) -> None:
+    """A listing of 3,900 rows is as high as if it had all; the next instruction comes into sight, and what is scrolled to."""
+    tab = Tab(tabs, own_class, "A1")
+    source = "vid.v v1\n" + "addi a0, a0, 1\n" * 3898 + "last: ebreak\n"
+    tab.run("(id('source').value = arguments[0], id('assemble').click())", source)
+    tab.wait("!id('listing').hidden && id('registers').textContent.includes('pc10000')")
+    seen = """((row, box) => row && row.top >= box.top - 2 && row.bottom <= box.bottom + 2)(
+        one(`#listing [data-address='${arguments[0]}']`)?.getBoundingClientRect(), id('listing').getBoundingClientRect())"""
+    for address in ("10000", "13ce8", "12000"):
+        tab.keys("#line", f"setpc {address}\n")
+        tab.wait(f"one('#listing .next')?.dataset.address === arguments[0] && {seen}", address)
+        assert 40 < tab.run("all('#listing tr').length") < 150
+        rows = tab.run("one('#listing table').getBoundingClientRect().height / one('#listing .next').offsetHeight")
+        assert rows == pytest.approx(3901, abs=3)
+    tab.click("#one")
+    tab.wait("one('#listing .told')?.dataset.address === '12000' && one('#listing .next')?.dataset.address === '12004'")
+    tab.run("id('listing').scrollTop = 1e9")
+    tab.wait(seen, "13cec")
+    assert "last:" in tab.text("#listing")
+    tab.click("#listing [data-address='13cec'] .text")
+    tab.wait("one('#listing .breakpoint')?.closest('tr').dataset.address === '13cec'")
+    tab.run("id('listing').scrollTop = 0")
+    tab.wait(seen, "10000")
+
+
 def test_values_are_changed_by_clicks_and_keys(sit: Sit) -> None:
     from selenium.webdriver.common.keys import Keys
 
