@@ -176,6 +176,51 @@ def test_pastes(sit: Sit, served: Served) -> None:
     tab.wait("!id('listing').hidden && id('listing').textContent.includes('10000')")
 
 
+def test_first_sight_and_keys(sit: Sit) -> None:
+    """The source is open; it is written, stepped and changed by keys alone; names are told of."""
+    from selenium.webdriver.common.keys import Keys
+
+    tab = sit("A6")
+    assert tab.run("!id('editor').hidden && id('listing').hidden") and "Write a program" in tab.text("#editor")
+    tab.keys("#source", Keys.CONTROL, Keys.HOME, Keys.NULL, *[Keys.ARROW_DOWN] * 3, *[Keys.ARROW_RIGHT] * 10)
+    tab.wait("id('entry').textContent.startsWith('vadd.vv vd, vs2, vs1')")
+    tab.keys("#source", Keys.CONTROL, Keys.ENTER)
+    tab.wait("id('editor').hidden && !id('listing').hidden && one('#listing .next')")
+    tab.keys("#listing", Keys.ARROW_DOWN, Keys.ARROW_DOWN, Keys.ENTER)
+    tab.wait("one('#listing .breakpoint')?.closest('tr').dataset.address === '10004'")
+    tab.keys("#listing", Keys.F9)
+    tab.wait("id('run').textContent === 'running'")
+    tab.keys("#listing", Keys.SHIFT, Keys.F9)
+    tab.wait("id('run').textContent === 'stopped'")
+    tab.keys("#listing", Keys.SHIFT, Keys.F8)
+    tab.wait("id('run').textContent === 'break'")
+    for box, keys, place, text in (
+        ("registers", [Keys.ARROW_DOWN, Keys.ARROW_DOWN, Keys.ARROW_RIGHT], "set x17", "5"),
+        ("elements", [Keys.ARROW_DOWN, Keys.ARROW_DOWN, Keys.ARROW_LEFT], "vset v1 32 7 hexadecimal", "00000005"),
+    ):
+        tab.keys(f"#{box}", *keys, Keys.ENTER)
+        tab.wait("id('edit').open")
+        tab.keys("#value", Keys.CONTROL, "a", Keys.NULL, "5", Keys.ENTER)
+        tab.wait("one(`[data-edit='${arguments[0]}']`).firstChild.data === arguments[1]", place, text)
+        assert (
+            tab.run("document.activeElement.id") == box
+            and tab.run("one(`#at-${arguments[0]}`).dataset.edit", box) == place
+        )
+    tab.keys("#line", "help peek\n")
+    assert tab.text("#stop") == "peek ADDR N: 1 to 256 bytes from ADDR on are shown"
+    assert tab.run("!id('reference').hidden && one('#entries code').textContent") == "peek ADDR N"
+    tab.keys("#line", "help dance\n")
+    assert "no command and no instruction dance" in tab.text("#stop")
+    tab.keys("#line", "pe")
+    assert tab.text("#hint") == ""
+    tab.keys("#line", "ek 10000")
+    tab.keys("#line", Keys.HOME)
+    tab.wait("id('hint').textContent.startsWith('peek ADDR N')")
+    tab.keys("#line", Keys.CONTROL, "a", Keys.NULL, Keys.DELETE, Keys.F1)
+    tab.wait("all('#entries code').length > 700 && all('#entries h3').length === 4")
+    assert "help" not in tab.text("#log")
+
+
 def test_rows_out_of_sight_are_not_made(tabs: "Chrome", own_class: Served) -> None:
     """A listing of 3,900 rows is as high as if it had all; the next instruction comes into sight, and what is scrolled to."""
     tab = Tab(tabs, own_class, "A1")

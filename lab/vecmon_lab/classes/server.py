@@ -18,6 +18,7 @@ from aiohttp import WSMsgType, web
 from aiohttp.http import HttpProcessingError
 
 from ..page.pages import Page
+from ..page.reference import reference_text
 from .codes import TEACHER
 from .store import BadFolder
 from .view import Class, Message, Tab
@@ -110,7 +111,7 @@ class Server:
         )
 
     async def _get_page(self, request: web.Request) -> web.Response:
-        return web.Response(text=self._page.text("vecmon class"), content_type="text/html")
+        return web.Response(text=self._page.text("vecmon class", reference_text()), content_type="text/html")
 
     async def _get_file(self, request: web.Request) -> web.Response:
         code = request.headers.get("Authorization", "").removeprefix("Bearer ")

@@ -32,7 +32,7 @@ export class Desk {
   }
 
   showStage() {
-    const absent = make("small", "", "nobody has entered: a new machine or a source begins");
+    const absent = make("small", "", "there is no machine here yet");
     showStep(this.state, ...(this.state.run === "absent" ? [absent] : []));
     showStop([this.refusal, this.state.stop].filter(Boolean).join(" "));
   }

@@ -15,8 +15,8 @@ export function unfitLines(lines) {
     const which = lines.length > 1 ? `line ${place + 1}` : "the line";
     const odd = /[^ -~]/u.exec(line);
     if (odd) return told(`Character ${odd.index + 1} of ${which}, \`${odd[0]}\`, isn't printable ASCII`);
-    const size = line.length;
-    if (size > MOST_CHARACTERS) return told(`${size} characters are in ${which}, and at most ${MOST_CHARACTERS} may be`);
+    const most = MOST_CHARACTERS;
+    if (line.length > most) return told(`${line.length} characters are in ${which}, and at most ${most} may be`);
   }
   return "";
 }
@@ -28,7 +28,8 @@ export const inParts = (lines) =>
   );
 
 /** What some lines are called. */
-export const nameOf = (lines) => (lines.length > 4 ? `${lines[0]} and ${lines.length - 1} lines more` : lines.join(", "));
+export const nameOf = (lines) =>
+  lines.length > 4 ? `${lines[0]} and ${lines.length - 1} lines more` : lines.join(", ");
 
 export class LineField {
   /** carryOut: is given lines that aren't empty, without those that begin with `#`. */

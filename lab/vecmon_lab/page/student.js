@@ -1,11 +1,14 @@
 // A student's page: what is done at the desk becomes lines.
 
+import { Cursor } from "./cursor.js";
 import { Desk } from "./desk.js";
 import { byId, make, put, say } from "./elements.js";
 import { LineField, inParts, nameOf, unfitLines } from "./lines.js";
+import { entryText, showReference, tellName } from "./reference.js";
 
 const MOST_WAITING = 5; // requests: keys that repeat faster are left out
 const MOST_LETTERS = 65536; // of a source
+const SIDES = { listing: "listing", source: "editor", reference: "reference" }; // of the panel of the program
 const NEW_MACHINE = ["enter", "map 10000 1 rwx", "map 20000 1 rw", "setpc 10000"];
 
 /** The bytes of a register with another element; all bytes in hexadecimal, the least first. */
@@ -27,8 +30,9 @@ export class Student {
   constructor(connection) {
     this.connection = connection;
     this.desk = new Desk();
-    byId("log").after(byId("command"));
-    byId("listing").before(byId("editor"));
+    this.side = "listing"; // what is shown since one entered, or left
+    byId("log").after(byId("command"), byId("hint"));
+    byId("listing").before(byId("editor"), byId("reference"));
     byId("program-title").after(byId("sides"));
     byId("source").value = sessionStorage.getItem("source") ?? byId("source").value;
     byId("foot").hidden = false;
@@ -40,7 +44,8 @@ export class Student {
     const on = (id, event, heard) => byId(id).addEventListener(event, heard);
     document.querySelectorAll("[data-do]").forEach(({ id, dataset }) => on(id, "click", () => this.send([dataset.do])));
     on("steps", "submit", () => this.send([`step ${byId("number").value}`]));
-    new LineField("line", (lines) => this.send(lines));
+    new LineField("line", (lines) => this.enter(lines));
+    new Cursor((place) => this.edit(place));
     on("change", "submit", () => this.change());
     on("slice", "click", () => this.request({ ask: "lines", slices: 1 }, "a slice"));
     on("new", "click", () => this.send([...this.leaving(), ...NEW_MACHINE]));
@@ -48,10 +53,19 @@ export class Student {
     on("source", "input", () => this.numberLines());
     on("source", "scroll", () => (byId("numbers-of-lines").scrollTop = byId("source").scrollTop));
     on("assemble", "click", () => this.assemble());
-    for (const side of ["listing", "source"]) on(`show-${side}`, "click", () => this.showSide(side));
+    for (const side of Object.keys(SIDES)) on(`show-${side}`, "click", () => this.showSide(side));
+    on("find", "input", () => showReference(byId("find").value));
     on("edit-close", "click", () => byId("edit").close());
     on("machine", "click", (event) => this.edit(event.target.closest("[data-edit]")));
     document.addEventListener("keydown", (event) => this.pressed(event));
+    document.addEventListener("selectionchange", () => this.tellNames());
+  }
+
+  /** Tells of the name that the caret stands in. */
+  tellNames() {
+    const fields = { source: "entry", line: "hint" };
+    const told = fields[document.activeElement.id];
+    if (told) tellName(byId(told), document.activeElement);
   }
 
   show(view, logs, isAnew) {
@@ -72,6 +86,8 @@ export class Student {
     if (byId("images").length < images.length) byId("images").replaceChildren(...images);
     Object.assign(byId("images"), { hidden: view.images.length === 0, selectedIndex: 0 });
     this.desk.show(view.state, logs[view.seat] ?? [], isAnew);
+    const side = run === "absent" ? "source" : "listing";
+    if (side !== this.side) this.showSide((this.side = side));
     byId("log").ariaLive = "polite";
   }
 
@@ -80,6 +96,14 @@ export class Student {
     const answer = await this.connection.ask(request, words);
     this.refuse(refusals(request, answer));
     return answer;
+  }
+
+  /** Carries out what was typed: `help` and a name, or lines. */
+  enter(lines) {
+    const [, name] = /^help\b *(.*)$/.exec(lines[0]) ?? [];
+    if (lines.length > 1 || name === undefined) return this.send(lines);
+    this.showSide("reference", name);
+    return this.refuse(entryText(name) || (name && `There is no command and no instruction \`${name}\`.`));
   }
 
   /** Sends lines, in requests one behind the other, unless one of them can't be sent. */
@@ -104,10 +128,13 @@ export class Student {
   }
 
   pressed(event) {
-    const id = { F8: "one", F9: event.shiftKey ? "halt" : "go" }[event.key];
-    if (!id || byId("edit").open) return;
+    if (byId("edit").open) return;
+    const key = `${event.ctrlKey || event.metaKey ? "Ctrl " : ""}${event.shiftKey ? "Shift " : ""}${event.key}`;
+    const id = { F1: "show-reference", F8: "one", "Shift F8": "many", F9: "go", "Shift F9": "halt" }[key];
+    const own = key === "Ctrl Enter" && event.target === byId("source") ? "assemble" : id;
+    if (!own) return;
     event.preventDefault();
-    if (this.connection.waiting.length < MOST_WAITING) byId(id).click();
+    if (this.connection.waiting.length < MOST_WAITING) byId(own).click();
   }
 
   /** Sets or removes a breakpoint, or asks for another value. */
@@ -138,10 +165,15 @@ export class Student {
     return this.send([`${word} ${first} ${bytes ?? BigInt.asUintN(64, value).toString(16)}`]);
   }
 
-  showSide(side) {
-    byId("editor").hidden = side === "listing";
-    byId("listing").hidden = side === "source";
-    for (const each of ["listing", "source"]) byId(`show-${each}`).ariaPressed = `${each === side}`;
+  showSide(shown, find = "") {
+    for (const [side, id] of Object.entries(SIDES)) {
+      byId(id).hidden = side !== shown;
+      byId(`show-${side}`).ariaPressed = `${side === shown}`;
+    }
+    if (shown !== "reference") return;
+    byId("find").value = find;
+    showReference(find);
+    if (document.activeElement.id !== "line") byId("find").focus();
   }
 
   numberLines() {
@@ -162,7 +194,7 @@ export class Student {
     }
     const { mistakes } = (await this.request({ ask: "source", text }, "the source")) ?? {};
     byId("mistakes").replaceChildren(...(mistakes ?? []).map((mistake) => this.mistake(mistake)));
-    return mistakes?.length === 0 && this.showSide("listing");
+    return mistakes && this.showSide(mistakes.length ? "source" : "listing");
   }
 
   /** A mistake of the source, which leads to its place. */
