@@ -221,6 +221,49 @@ def test_first_sight_and_keys(sit: Sit) -> None:
     assert "help" not in tab.text("#log")
 
 
+def test_sizes(sit: Sit) -> None:
+    """Type grows with the window, which is filled; with few pixels program and vectors, or the buttons, stay in sight."""
+    tab = sit("A5")
+    tab.begin("vsetvli x10, x11, e16, mf2, ta, mu", "vadd.vv v2, v1, v1")
+    tab.run("id('show-listing').click()")
+    tab.click("#one")
+    tab.wait("one('#listing .told')")
+    box = "one(arguments[0]).getBoundingClientRect().toJSON()"
+
+    def resize(width: int, height: int) -> None:
+        size = {"width": width, "height": height, "deviceScaleFactor": 1, "mobile": False}
+        tab.front().execute_cdp_cmd("Emulation.setDeviceMetricsOverride", size)
+        tab.wait("innerWidth === arguments[0] && innerHeight === arguments[1]", width, height)
+        assert tab.run("document.documentElement.scrollWidth") <= width
+
+    try:
+        for (width, height), letters in {
+            (1280, 800): 12,
+            (1920, 1080): 16.2,
+            (1366, 768): 12,
+            (2560, 1440): 21.6,
+        }.items():
+            resize(width, height)
+            assert float(tab.run("getComputedStyle(one('#listing table')).fontSize")[:-2]) == pytest.approx(letters)
+            assert (
+                tab.run("document.documentElement.scrollHeight") <= height
+                and tab.run(box, "#foot")["bottom"] > height - 20
+            )
+            assert tab.run("id('listing').scrollWidth <= id('listing').clientWidth")
+        for width, height in ((640, 400), (960, 540)):  # 1280 by 800 and 1920 by 1080 at 200 %
+            resize(width, height)
+            for panel in ("#listing", "#elements"):
+                assert tab.run(box, panel)["top"] < height - 100, panel
+        resize(400, 800)
+        for place in (0, 400, 1e9):
+            tab.run("scrollTo(0, arguments[0])", place)
+            for button in ("#one", "#many", "#go", "#halt"):
+                where = tab.run(box, button)
+                assert 0 <= where["top"] < where["bottom"] <= 800 and 0 <= where["left"] < where["right"] <= 400
+    finally:
+        tab.front().execute_cdp_cmd("Emulation.clearDeviceMetricsOverride", {})
+
+
 def test_rows_out_of_sight_are_not_made(tabs: "Chrome", own_class: Served) -> None:
     """A listing of 3,900 rows is as high as if it had all; the next instruction comes into sight, and what is scrolled to."""
     tab = Tab(tabs, own_class, "A1")

@@ -205,7 +205,7 @@ export class Student {
       const start = lines.slice(0, line - 1).reduce((sum, each) => sum + each.length + 1, 0);
       byId("source").focus();
       byId("source").setSelectionRange(start + column - 1, start + lines[line - 1].length);
-      byId("source").scrollTop = 17 * (line - 3);
+      byId("source").scrollTop = parseFloat(getComputedStyle(byId("source")).lineHeight) * (line - 3);
     });
     return make("li", "", button);
   }
