@@ -219,6 +219,28 @@ async def test_a_full_disk(tmp_path: pathlib.Path) -> None:
         assert await room.end() == 0
 
 
+async def test_a_new_code_while_the_disk_is_full(tmp_path: pathlib.Path) -> None:
+    folder = tmp_path / "class"
+    async with process(folder) as room:
+        tab, teacher = await room.sit("A1"), await room.sit("teacher")
+        await tab.do(*LOOP)
+        assert room.server
+        limit, infinity = resource.RLIMIT_FSIZE, resource.RLIM_INFINITY
+        resource.prlimit(room.server.pid, limit, (100, infinity))  # a script may grow so far, and no other file
+        await teacher.ask("renew", seat="A2")
+        await teacher.until(lambda view: view["trouble"].startswith("codes.json isn't saved"))
+        new = teacher.view["machines"]["A"]["seats"]["2"]["code"]
+        await tab.do("step 1")  # so that the machine's notes wait as well
+        resource.prlimit(room.server.pid, limit, (infinity, infinity))
+        await teacher.until(lambda view: not view["trouble"])
+        assert json.loads((folder / "codes.json").read_text())["A2"] == new != room.codes["A2"]
+        await room.end(signal.SIGKILL)
+    async with served(folder) as again:
+        assert (await (await again.open(new)).receive())["who"] == "A2"
+        with pytest.raises(EOFError, match="4403"):
+            await (await again.open(room.codes["A2"])).receive()
+
+
 async def test_a_server_that_is_killed_while_the_disk_is_full(tmp_path: pathlib.Path) -> None:
     folder = tmp_path / "class"
     async with process(folder, preexec_fn=fill_the_disk) as room:

@@ -128,7 +128,8 @@ class Store:
         A class that is there has to have this program, and those images, quantum and machines that are named; there may
         be more machines than before. Raises BadFolder, OSError, and ProgramGone where the program refuses the images.
         """
-        self.folder, self.program, self.trouble = folder, program, ""
+        self.folder, self.program = folder, program
+        self._troubles: dict[str, str] = {}  # by the name of what isn't saved
         folder.mkdir(mode=0o700, parents=True, exist_ok=True)
         if strangers := {path.name for path in folder.iterdir()} - {"lock", "images"}:
             if "class.json" not in strangers:
@@ -183,6 +184,15 @@ class Store:
         except (ValueError, TypeError) as error:
             raise BadFolder(f"{self.folder / name} isn't what a server wrote") from error
 
+    @property
+    def trouble(self) -> str:
+        """Why something isn't saved; empty if all is."""
+        return next(iter(self._troubles.values()), "")
+
+    def waits(self, name: str) -> bool:
+        """Whether what this name has wasn't saved when it was tried last."""
+        return name in self._troubles
+
     def write(self, name: str, value: Mapping[str, object]) -> bool:
         """Keeps an object, as a whole or not at all; whether that went well. `trouble` says why not."""
         new = self.folder / f"{name}.new"
@@ -190,9 +200,9 @@ class Store:
             new.write_text(json.dumps(value, indent=1), "utf-8")
             new.replace(self.folder / name)
         except OSError as error:
-            self.trouble = f"{name} isn't saved: {error.strerror}"
+            self._troubles[name] = f"{name} isn't saved: {error.strerror}"
             return False
-        self.trouble = ""
+        self._troubles.pop(name, None)
         return True
 
     def _image(self, name: str) -> pathlib.Path:

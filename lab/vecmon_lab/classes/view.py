@@ -126,18 +126,21 @@ class Class:
 
     def keep(self) -> None:
         """Keeps what is another than before beside each script, and brings scripts up to date where the disk was full."""
+        trouble = self.store.trouble
         for room in self.rooms.values():
             if room.is_busy():
                 continue
-            trouble = room.trouble
+            before = room.trouble
             room.file.catch_up()
-            if room.trouble != trouble:
+            if room.trouble != before:
                 self._tell(room.seats.names())
             notes = room.notes()
             name = f"{room.letter}.json"
             if room.file.is_saved and self._kept.get(name) != notes and self.store.write(name, asdict(notes)):
                 self._kept[name] = notes
-        if self.store.trouble and self.store.write("codes.json", self.codes.codes):
+        if self.store.waits("codes.json"):
+            self.store.write("codes.json", self.codes.codes)
+        if self.store.trouble != trouble:
             self._tell([])
 
     def seat(self, name: str) -> Seat:
