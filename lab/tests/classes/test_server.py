@@ -1,6 +1,7 @@
 """The server of a class through its sockets. Nothing waits on a clock: each test awaits the message that it needs."""
 
 import asyncio
+import gc
 import json
 import os
 import pathlib
@@ -465,6 +466,67 @@ async def test_clients_that_do_not_read(room: Served) -> None:
         assert connection and connection.transport
         connection.transport.abort()
     assert (members := room.members)
-    while any(tab.who == "A2" for tab in members.tabs):  # the server drops them before all they asked is carried out
+    while any(tab.who == "A2" for tab in members.tabs):  # which it keeps until all that they asked is carried out
         await asyncio.sleep(0.01)
     await room.check_replay()
+
+
+async def test_a_tab_whose_request_waits_long(tmp_path: pathlib.Path, monkeypatch: pytest.MonkeyPatch) -> None:
+    monkeypatch.setattr(class_server, "READ_SECONDS", 1.0)  # between pings, of which each wants an answer in half of it
+    async with served(tmp_path / "class") as room:
+        tab = await room.sit("A1")
+        await tab.do("enter")
+        assert room.members and (machine := room.members.rooms["A"].session.process)
+        os.kill(machine, signal.SIGSTOP)
+        waits = asyncio.create_task(tab.do(*LOOP[1:]))  # whose socket answers pings meanwhile
+        await asyncio.sleep(2.5)
+        os.kill(machine, signal.SIGCONT)
+        assert len(await waits) == 4 and not room.members.rooms["A"].session.losses
+
+
+async def test_more_requests_than_may_wait(room: Served) -> None:
+    tab = await room.sit("A1")
+    assert room.members and (machine := room.members.rooms["A"].session.process)
+    os.kill(machine, signal.SIGSTOP)
+    for number in range(70):
+        await tab.socket.send_json({"id": number, "ask": "lines", "do": [f"set x5 {number:x}" if number else "enter"]})
+    told = [await tab.receive() for _ in range(5)]  # one is carried out, and 64 wait
+    assert [each["id"] for each in told] == [65, 66, 67, 68, 69]
+    assert all(each["error"].startswith("64 requests of this tab wait already") for each in told)
+    await tab.socket.close()
+    os.kill(machine, signal.SIGCONT)
+    again = await room.sit("A1")
+    await again.until(
+        lambda view: view["state"].get("x", {}).get("5") == "40"
+    )  # what waited isn't dropped with its tab
+    assert (await room.check_replay())[0] == b"1 enter\n" + b"".join(b"1 set x5 %x\n" % each for each in range(1, 65))
+
+
+async def test_what_waits_when_a_code_ends(room: Served) -> None:
+    tab, teacher = await room.sit("A1"), await room.sit("teacher")
+    assert room.members and (machine := room.members.rooms["A"].session.process)
+    os.kill(machine, signal.SIGSTOP)
+    for number in range(5):
+        await tab.socket.send_json({"id": number, "ask": "lines", "do": ["enter"]})
+    await teacher.ask("renew", seat="A1")
+    os.kill(machine, signal.SIGCONT)
+    while any(each.who == "A1" for each in room.members.tabs):
+        await asyncio.sleep(0.01)
+    assert (await room.check_replay())[0] == b"1 enter\n"  # which was under way
+
+
+async def test_a_client_that_resets(room: Served, caplog: pytest.LogCaptureFixture) -> None:
+    tab, other = await room.sit("A1"), await room.sit("A1")
+    await tab.do(*LOOP)
+    connection = other.socket._response.connection
+    assert connection and connection.transport
+    connection.transport.pause_reading()  # so that the server's news don't get through
+    for _ in range(80):
+        await tab.do(*["peek 10000 256"] * 240)
+    connection.transport.abort()
+    assert room.members
+    while len(room.members.tabs) > 1:
+        await tab.do("step 1")
+    await asyncio.sleep(0)
+    gc.collect()
+    assert not caplog.records

@@ -162,8 +162,8 @@ class Class:
         self.tabs.discard(tab)
         self._tell([tab.who])
 
-    async def answer(self, tab: Tab, text: str) -> Message:
-        """The answer to a request, with what is new."""
+    async def answer(self, tab: Tab, text: str, refusal: str = "") -> Message:
+        """The answer to a request, with what is new. With a refusal, which is a sentence, nothing is done."""
         answer: Message = {"kind": "answer", "id": 0}
         done: Answers = []
         try:
@@ -171,6 +171,8 @@ class Class:
             if not isinstance(message, dict) or type(message.get("id")) is not int:
                 raise BadRequest("a request is an object with a whole number as id")
             answer["id"] = message["id"]
+            if refusal:
+                raise BadRequest(refusal)
             answer.update(await self._carry_out(tab, read_request(message, tab.who == TEACHER), done))
         except (LabError, ValueError, RecursionError) as error:
             answer.update({"error": str(error), "done": done})
