@@ -4,6 +4,7 @@ import asyncio
 import json
 import os
 import pathlib
+import re
 import resource
 import shutil
 import signal
@@ -13,8 +14,9 @@ import sys
 
 import pytest
 
-from support.class_tabs import LOOP, SECONDS, process, served
+from support.class_tabs import LOOP, SECONDS, command, process, served
 from support.places import TOP
+from support.terminal import INTERRUPT, Terminal
 from vecmon_lab import LabError
 from vecmon_lab.classes.requests import Lines
 from vecmon_lab.classes.room import Stopped
@@ -41,6 +43,30 @@ async def test_a_program_that_is_killed_or_hangs(tmp_path: pathlib.Path) -> None
         assert await other.do("step 1") == [["stepped 1 pc=0000000000010004"]]
         await room.check_replay()
         assert await room.end() == 0
+
+
+async def test_pages_are_told_of_a_machine_that_is_rebuilt(tmp_path: pathlib.Path) -> None:
+    async with process(tmp_path / "class") as room:
+        tab, other, teacher = await room.sit("A1"), await room.sit("A2"), await room.sit("teacher")
+        await tab.do(*LOOP, "go")
+        await teacher.do(*["slices 1000"] * 250, machine="A")  # which takes a while each time
+        os.kill(room.machine(), signal.SIGKILL)
+        waiting = asyncio.create_task(tab.do("stop"))
+        sentence = re.compile(r"machine A is being rebuilt: \d?\d %")
+        await other.until(lambda view: sentence.fullmatch(view["trouble"]) and not view["ready"])
+        await teacher.until(lambda view: sentence.fullmatch(view["machines"]["A"]["trouble"]))
+        await teacher.until(lambda view: view["machines"]["A"]["loss"] == "the program ended by SIGKILL")
+        assert [answer[:7] for (answer,) in await waiting] == ["stopped"]
+        await other.until(lambda view: not view["trouble"] and view["ready"])
+        await teacher.until(lambda view: not view["machines"]["A"]["trouble"])
+        await room.check_replay()
+        assert await room.end(signal.SIGKILL) == -signal.SIGKILL
+    with Terminal(command(tmp_path / "class"), {"PYTHONPATH": str(TOP / "lab")}) as terminal:
+        told = terminal.expect("teacher: http")
+        assert sentence.findall(told)[0] == "machine A is being rebuilt: 0 %"
+        assert told.endswith("machine A is being rebuilt: 100 %\nteacher: http")
+        terminal.type(INTERRUPT)
+        assert terminal.end()[0] == 0
 
 
 @pytest.mark.parametrize("sign", [signal.SIGINT, signal.SIGTERM])

@@ -6,6 +6,7 @@ import errno
 import os
 import pathlib
 import socket
+import sys
 
 from .. import LabError
 from ..arguments import between
@@ -41,9 +42,15 @@ def run(arguments: argparse.Namespace) -> int:
     except LabError:
         store.close()
         raise
-    members = Class(store, arguments.patience)
+    members = Class(store, arguments.patience, _tell)
     asyncio.run(serve(members, host, doors, set(arguments.name)))
     return 0
+
+
+def _tell(sentence: str) -> None:
+    """Tells at a terminal how far a machine has been rebuilt."""
+    if sys.stderr.isatty():
+        print(f"\r{sentence}", end="\n" if sentence.endswith(" 100 %") else "", file=sys.stderr, flush=True)
 
 
 def _listening(host: str, port: int) -> list[socket.socket]:

@@ -7,6 +7,7 @@ import asyncio
 import concurrent.futures
 from collections.abc import Callable, Iterable, Mapping, Sequence
 from dataclasses import asdict, dataclass, field, replace
+from functools import partial
 
 from .. import LabError
 from ..assembler.source import SourceError, assemble, refusal
@@ -15,6 +16,7 @@ from ..machine.lines import DIGITS, is_look
 from ..machine.session import TOGETHER, ProgramGone, ReplayDiffers, ScriptFull, Session
 from ..page.state import State
 from .clock import Clock
+from .past import Past
 from .requests import BadRequest, Lines
 from .seats import Done, Seat, Seats
 from .store import Notes, ScriptFile
@@ -25,6 +27,11 @@ SOURCE_LINES = 4096
 
 class Stopped(LabError):
     """The machine was stopped for good, since a replay differs."""
+
+
+def rebuilding(letter: str, percent: int) -> str:
+    """How far a new process has carried out a machine's script."""
+    return f"machine {letter} is being rebuilt: {percent} %"
 
 
 @dataclass
@@ -47,30 +54,40 @@ class Room:
         self.seats, self.clock = Seats(letter), Clock(self._tick)
         self.own_slices = True
         self.changed: Callable[[Iterable[str]], None] = lambda names: None
-        self.stopped = self.down = ""
+        self.stopped = self.down = self.rebuilding = ""
         self._lock = asyncio.Lock()
         self._thread = concurrent.futures.ThreadPoolExecutor(1)
 
     @property
     def trouble(self) -> str:
         """What is wrong with the machine, or the disk."""
-        return self.stopped or self.down or self.file.trouble
+        return self.stopped or self.down or self.rebuilding or self.file.trouble
 
     @property
     def loss(self) -> str:
         """Why the program was replaced last."""
         return self.session.losses[-1] if self.session.losses else ""
 
-    def restore(self, notes: Notes) -> None:
-        """Brings the machine to where an earlier server left it. Raises BadFolder where it answers otherwise."""
+    def restore(self, notes: Notes, progress: Callable[[str], object]) -> None:
+        """Brings the machine to where an earlier server left it. Raises BadFolder where it answers otherwise.
+
+        progress: is told how far that is, a sentence at a time
+        """
+        self.session.progress = lambda percent: progress(rebuilding(self.letter, percent))
+        past = Past()
         for line, answer in self.file.replay(self.session, notes):
-            self.seats.follow(line, answer)
-            self.seats.observe(line, answer, is_told=not line.startswith(("* slices", "* run")))
+            past.add(line, answer)
+        past.tell(self.seats)
         self.seats.take(self.seats.look(self.session, [], DIGITS))
         self.own_slices = notes.own_slices
         for digit, labels in notes.labels.items():
             self.seats.users[digit].labels = labels
         self.set_clock(notes.clock)
+
+    def _follow_rebuilding(self, loop: asyncio.AbstractEventLoop, percent: int) -> None:
+        """Tells seats how far a new process has come; called in the machine's thread."""
+        self.rebuilding = "" if percent == 100 else rebuilding(self.letter, percent)
+        loop.call_soon_threadsafe(self.changed, [self.letter, *self.seats.names()])
 
     def notes(self) -> Notes:
         """What is kept beside the script."""
@@ -185,6 +202,8 @@ class Room:
         """
         if self.stopped:
             raise Stopped(self.stopped)
+        loop = asyncio.get_running_loop()
+        self.session.progress = partial(self._follow_rebuilding, loop)
 
         def hop() -> None:
             try:
@@ -195,7 +214,7 @@ class Room:
             self._look(work)
 
         try:
-            await asyncio.get_running_loop().run_in_executor(self._thread, hop)
+            await loop.run_in_executor(self._thread, hop)
             self.down = ""
         except ReplayDiffers as error:
             self.stopped = f"machine {self.letter} was stopped, so that nothing goes on in doubt: {error}"
@@ -205,6 +224,7 @@ class Room:
             self.down = f"machine {self.letter} is down: {error}"
             raise
         finally:
+            self.rebuilding = ""
             for line, answer in work.done:
                 self.seats.observe(line, answer, asker is not None and line[0] == asker.digit)
             self.seats.take(work.states)

@@ -20,7 +20,7 @@ from dataclasses import asdict, dataclass, field, replace
 from typing import TypeVar
 
 from .. import LabError
-from ..machine.session import Session
+from ..machine.session import BadLine, OutOfStep, Session
 from .codes import LETTERS, Codes
 
 
@@ -70,14 +70,23 @@ class ScriptFile:
         os.ftruncate(self._file, self._saved)
 
     def replay(self, session: Session, notes: Notes) -> Iterator[tuple[str, Sequence[str]]]:
-        """Carries out what was kept: each line and its answer. Raises BadFolder where it is answered otherwise."""
-        script = self.kept.decode("latin-1").split("\n")[:-1]
+        """Carries out what was kept: each line and its answer. Raises BadFolder where it is answered otherwise.
+
+        In bulk where notes have a digest of the answers, and the others line by line.
+        """
+        script = self.kept.split(b"\n")[:-1]
         if len(script) < notes.lines:
             raise BadFolder(f"the script of machine {self._machine} has lost lines: it had {notes.lines}")
-        for number, line in enumerate(script, 1):
-            yield line, session.do(line)
-            if number == notes.lines and session.digest != notes.answers:
-                raise BadFolder(f"machine {self._machine} answers the first {number} lines otherwise than before")
+        others = f"machine {self._machine} answers the first {notes.lines} lines otherwise than before"
+        try:
+            yield from session.do_script(b"".join(line + b"\n" for line in script[: notes.lines]))
+        except (BadLine, OutOfStep) as error:
+            raise BadFolder(others) from error
+        if notes.lines and session.digest != notes.answers:
+            raise BadFolder(others)
+        for line in script[notes.lines :]:
+            text = line.decode("latin-1")
+            yield text, session.do(text)
 
     @property
     def is_saved(self) -> bool:

@@ -3,7 +3,7 @@
 import asyncio
 import contextlib
 import json
-from collections.abc import Iterable, Mapping
+from collections.abc import Callable, Iterable, Mapping
 from dataclasses import asdict
 from typing import TypedDict
 
@@ -52,6 +52,7 @@ class StudentView(TypedDict):
     clock: bool
     own_slices: bool
     share: Share
+    ready: bool
     trouble: str
 
 
@@ -102,8 +103,13 @@ class Tab:
 class Class:
     """The machines of a class by letter, its codes, and the tabs that are open."""
 
-    def __init__(self, store: Store, patience: float) -> None:
-        """Starts the machines, and brings each to where it was. Raises LabError where that can't be."""
+    def __init__(
+        self, store: Store, patience: float, progress: Callable[[str], object] = lambda sentence: None
+    ) -> None:
+        """Starts the machines, and brings each to where it was; `progress` is told how far that is, in sentences.
+
+        Raises LabError where that can't be.
+        """
         self.store, self.codes = store, store.codes
         self.tabs: set[Tab] = set()
         self.rooms: dict[str, Room] = {}
@@ -113,7 +119,7 @@ class Class:
                 file = ScriptFile(store.folder / f"{letter}.script")
                 self.rooms[letter] = room = Room(letter, store.session(patience), file)
                 room.changed = self._tell
-                room.restore(store.read(f"{letter}.json", Notes))
+                room.restore(store.read(f"{letter}.json", Notes), progress)
         except BaseException:
             self.end()
             raise
@@ -227,6 +233,7 @@ class Class:
             "clock": room.clock.settings.on,
             "own_slices": room.own_slices,
             "share": {"used": seat.used, "of": SEAT_BYTES},
+            "ready": not room.rebuilding,
             "trouble": room.trouble,
         }
 

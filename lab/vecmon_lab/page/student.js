@@ -56,8 +56,8 @@ export class Student {
     const stop = run === "stopped" && view.state.stop && view.stop.split(" ")[0];
     put(byId("run"), run === "absent" ? "not entered" : stop || run);
     byId("run").className = `pill ${run}`;
-    for (const id of ["one", "many", "number", "go", "out"]) byId(id).disabled = run !== "stopped";
-    byId("halt").disabled = byId("slice").disabled = run !== "running";
+    for (const id of ["one", "many", "number", "go", "out"]) byId(id).disabled = run !== "stopped" || !view.ready;
+    byId("halt").disabled = byId("slice").disabled = run !== "running" || !view.ready;
     byId("slice").hidden = !view.own_slices;
     put(byId("clock"), `the clock is ${view.clock ? "on" : "off"}`);
     const share = Math.floor((100 * view.share.used) / view.share.of);
