@@ -330,6 +330,28 @@ async def test_a_source(room: Served) -> None:
     await room.check_replay()
 
 
+async def test_others_have_turns_while_a_source_is_written(room: Served) -> None:
+    tab, other = await room.sit("A5"), await room.sit("A6")
+    lines = ["nop"] * 900
+    for wrong in (9, 499, 899):
+        lines[wrong] = "slli a0, a0, 99"
+    for _ in range(2):
+        written = asyncio.create_task(tab.ask("source", text="\n".join(lines)))
+        assert room.members
+        session = room.members.rooms["A"].session
+        before = session.lines
+        while session.lines == before:
+            await asyncio.sleep(0)
+        await other.do("nonsense")
+        assert not written.done()
+        assert [each["line"] for each in (await written)["mistakes"]] == [10, 500, 900]
+    assert len(tab.view["state"]["code"]) > 500 and tab.view["state"]["pc"] == "10000"
+    script = (await room.check_replay())[0].decode().splitlines()
+    others = [number for number, line in enumerate(script) if line == "6 nonsense"]
+    own = [number for number, line in enumerate(script) if line in ("5 enter", "5 setpc 10000")]
+    assert own[0] < others[0] < own[1] < own[2] < others[1] < own[3]
+
+
 async def test_over_the_shoulder(room: Served) -> None:
     tab, teacher = await room.sit("A6"), await room.sit("teacher")
     await tab.do(*LOOP, "step 1")

@@ -10,7 +10,7 @@ from dataclasses import asdict, dataclass, field, replace
 from functools import partial
 
 from .. import LabError
-from ..assembler.source import SourceError, assemble, refusal
+from ..assembler.source import Program, SourceError, assemble, refusal
 from ..machine.answers import Granted, OutOfStep, Position, Refused, read
 from ..machine.lines import DIGITS, is_look
 from ..machine.session import TOGETHER, ProgramGone, ReplayDiffers, ScriptFull, Session
@@ -36,8 +36,13 @@ def rebuilding(letter: str, percent: int) -> str:
 
 @dataclass
 class _Work:
-    """What the machine's thread has done: lines with their answers, looks, and states that may be others now."""
+    """What the machine's thread has done: lines with their answers, looks, and states that may be others now.
 
+    before, is_last: what was done in turns before for the same request; whether that has no more turns
+    """
+
+    before: Sequence[Done] = ()
+    is_last: bool = True
     done: list[Done] = field(default_factory=list)
     looks: list[list[str]] = field(default_factory=list)
     states: dict[str, tuple[State, State]] = field(default_factory=dict)
@@ -57,6 +62,7 @@ class Room:
         self.stopped = self.down = self.rebuilding = ""
         self._lock = asyncio.Lock()
         self._thread = concurrent.futures.ThreadPoolExecutor(1)
+        self._assembler = concurrent.futures.ThreadPoolExecutor(1)  # which needs no machine
 
     @property
     def trouble(self) -> str:
@@ -131,33 +137,43 @@ class Room:
 
     async def source(self, seat: Seat, text: str) -> list[SourceError]:
         """Brings an assembler source into a new machine of the seat's; the mistakes in it."""
-        mistakes: list[SourceError] = []
-        labels: dict[str, list[str]] = {}
+        async with seat.turn:
+            try:
+                program = await asyncio.get_running_loop().run_in_executor(self._assembler, assemble, text)
+            except SourceError as mistake:
+                return [mistake]
+            if (number := len(program.lines)) > SOURCE_LINES:
+                raise BadRequest(f"a source becomes {SOURCE_LINES} lines at most, and this one {number}")
+            mistakes = await self._bring_in(seat, program)
+            seat.labels = program.names()
+            self.changed([seat.name])
+        return mistakes
+
+    async def _bring_in(self, seat: Seat, program: Program) -> list[SourceError]:
+        """Brings a program in, some dozens of lines at a turn, so that others have theirs between; what is refused."""
+        statements = {f"{seat.digit} {each.command}": each for each in program.statements}
+        lines, mistakes, done = list[str](), list[SourceError](), list[Done]()
 
         def carry_out(work: _Work) -> None:
-            program = assemble(text)
-            if len(program.lines) > SOURCE_LINES:
-                raise BadRequest(f"a source becomes {SOURCE_LINES} lines at most, and this one {len(program.lines)}")
-            ways = {"absent": list[str](), "running": ["stop", "leave"], "stopped": ["leave"]}
-            lines = [*ways[seat.state["run"]], "enter", *program.lines, f"setpc {program.entry:x}"]
-            self._check_share(seat, [f"{seat.digit} {line}" for line in lines])
-            statements = {each.command: each for each in program.statements}
-            for line in lines:
-                match read(*self._do(work, f"{seat.digit} {line}")):
+            part = lines[len(done) : len(done) + TOGETHER]
+            work.is_last = len(done) + len(part) == len(lines)
+            for line, answer in zip(part, self._do(work, *part)):
+                match read(answer):
                     case Refused("E15", column):
                         mistakes.append(refusal(statements[line], int(column)))
                     case Refused(code):
-                        raise BadRequest(f"the machine answers {code} to {line[:60]}")
-            labels.update(program.names())
+                        raise BadRequest(f"the machine answers {code} to {line[2:60]}")
 
-        async with seat.turn, self._lock:
-            try:
-                await self._hop(_Work(), carry_out, seat)
-            except SourceError as mistake:
-                mistakes = [mistake]
-            else:
-                seat.labels = labels
-                self.changed([seat.name])
+        while not lines or len(done) < len(lines):
+            async with self._lock:
+                if not lines:
+                    ways = {"absent": list[str](), "running": ["stop", "leave"], "stopped": ["leave"]}
+                    commands = [*ways[seat.state["run"]], "enter", *program.lines, f"setpc {program.entry:x}"]
+                    lines = [f"{seat.digit} {command}" for command in commands]
+                    self._check_share(seat, lines)
+                work = _Work(before=done)
+                await self._hop(work, carry_out, seat)
+            done = [*done, *work.done]
         return mistakes
 
     def set_clock(self, settings: Mapping[str, int]) -> None:
@@ -175,6 +191,7 @@ class Room:
         self.stopped = self.stopped or "the server ends"
         self.session.end()
         self._thread.shutdown()
+        self._assembler.shutdown()
         self.session.close()
         self.file.close()
 
@@ -211,7 +228,8 @@ class Room:
             except (BadRequest, ScriptFull):
                 self._look(work)
                 raise
-            self._look(work)
+            if work.is_last:
+                self._look(work)
 
         try:
             await loop.run_in_executor(self._thread, hop)
@@ -232,7 +250,8 @@ class Room:
 
     def _look(self, work: _Work) -> None:
         """Looks at whom the work may have changed."""
-        work.states = self.seats.look(self.session, work.done, self.seats.touched(work.done))
+        done = [*work.before, *work.done]
+        work.states = self.seats.look(self.session, done, self.seats.touched(done))
 
     def _do(self, work: _Work, *lines: str) -> list[list[str]]:
         """Carries out lines in the machine's thread. Those that are recorded are on the disk before they are sent."""
