@@ -5,6 +5,7 @@ from collections.abc import Sequence
 from itertools import chain
 
 from ..machine.lines import DIGITS, words_of
+from .live import is_servers
 from .seats import LOG_ENTRIES, Seats
 
 Numbered = tuple[int, str, Sequence[str]]
@@ -12,14 +13,14 @@ Numbered = tuple[int, str, Sequence[str]]
 
 _BEGINNINGS = {"entered", "left", "loaded"}  # first words of answers: nothing is left then of what was before
 _TURNS = {"running", "break", "ebreak", "outfull", "exit", "fault"}  # the last stop is another one then
-_PLACES = {"map", "pok", "asm"}  # how lines begin that name places of memory
+_PLACES = {"map", "pok", "asm", "bre", "unb"}  # how lines begin that name places of memory
 
 
 class Past:
     """The lines that seats know something by: a script may have a million of them, so little is done with most.
 
-    Of each seat these are the last ones, the one that its last stop stands in, and those that name places of memory
-    since its machine began.
+    Of each seat these are the last ones, the one that its last stop stands in, and those that name places of memory, or
+    show output, since its machine began.
     """
 
     def __init__(self) -> None:
@@ -27,6 +28,7 @@ class Past:
         self._used: Counter[str] = Counter()  # bytes of the script, by digit
         self._last = {digit: deque[Numbered](maxlen=LOG_ENTRIES) for digit in f"{DIGITS}*"}
         self._turns: dict[str, Numbered] = {}
+        self._output = {digit: deque[Numbered](maxlen=LOG_ENTRIES) for digit in DIGITS}
         self._places: dict[str, list[Numbered]] = {digit: [] for digit in DIGITS}
 
     def add(self, line: str, answer: Sequence[str]) -> None:
@@ -40,14 +42,21 @@ class Past:
             self._last[digit].append(done)
             self._used["".join(words_of(line)[1:2]) if line.startswith("* run") else digit] += size
             return
+        if is_servers(line):
+            if answer[0][2:] != "out 0":
+                self._output[digit].append(done)
+            return
         self._used[digit] += size
         self._last[digit].append(done)
         word = answer[0][2:].partition(" ")[0]
         if word in _BEGINNINGS:
             self._places[digit] = [done]
+            self._output[digit].clear()
             self._turns[digit] = done
         elif word in _TURNS:
             self._turns[digit] = done
+        elif word == "out":
+            self._output[digit].append(done)
         elif line[2:5] in _PLACES or line[2:3] == " ":
             self._places[digit].append(done)
 
@@ -55,7 +64,7 @@ class Past:
         """Tells the seats, which know nothing yet."""
         for _, line, answer in chain(*self._places.values()):
             seats.follow(line, answer)
-        kept = {done[0]: done for done in chain(self._turns.values(), *self._last.values())}
+        kept = {done[0]: done for done in chain(self._turns.values(), *self._last.values(), *self._output.values())}
         for number in sorted(kept):
             _, line, answer = kept[number]
             seats.observe(line, answer, is_told=not line.startswith(("* slices", "* run")))

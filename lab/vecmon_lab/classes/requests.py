@@ -5,6 +5,7 @@ from dataclasses import dataclass
 
 from .. import LabError
 from ..machine.lines import check_line, is_look
+from .live import is_servers
 
 REQUEST_LINES, SOURCE_LETTERS = 256, 1 << 16
 MOST_SLICES = 100
@@ -105,6 +106,9 @@ def _lines(message: Mapping[str, object], is_teacher: bool) -> Lines:
         raise BadRequest(f"a request grants 0 to {MOST_SLICES} slices")
     for text in (*do, *look):
         check_line(f"{'*' if is_teacher else '1'} {text}" if isinstance(text, str) else text)
+    for text in do:
+        if is_servers(f"1 {text}"):
+            raise BadRequest(f"{text!r} with a space at its end is the server's own line")
     for text in look:
         if not is_look(f"{'*' if is_teacher else '1'} {text}"):
             raise BadRequest(f"{text[:40]!r} isn't a line that only looks")

@@ -5,7 +5,8 @@ The machine blocks in a thread of its own. What was done is told to seats by the
 
 import asyncio
 import concurrent.futures
-from collections.abc import Callable, Iterable, Mapping, Sequence
+import contextlib
+from collections.abc import Callable, Container, Iterable, Mapping, Sequence
 from dataclasses import asdict, dataclass, field, replace
 from functools import partial
 
@@ -16,6 +17,7 @@ from ..machine.lines import DIGITS, is_look
 from ..machine.session import TOGETHER, ProgramGone, ReplayDiffers, ScriptFull, Session
 from ..page.state import State
 from .clock import Clock
+from .live import GO, OUT, STOP, with_output
 from .past import Past
 from .requests import BadRequest, Lines
 from .seats import Done, Seat, Seats
@@ -23,6 +25,7 @@ from .store import Notes, ScriptFile
 
 SEAT_BYTES = 1_500_000  # of a seat's lines in the script: eight leave 3,000,000 to the operator and the clock
 SOURCE_LINES = 4096
+WATCH_SECONDS = 0.5  # between looks at a program that runs
 
 
 class Stopped(LabError):
@@ -51,7 +54,7 @@ class _Work:
 class Room:
     """A machine, its seats, and its clock.
 
-    `changed` is called with the names of seats that have news.
+    `changed` is called with the names of seats that have news; `watched` answers whom somebody looks at.
     """
 
     def __init__(self, letter: str, session: Session, file: ScriptFile) -> None:
@@ -59,6 +62,8 @@ class Room:
         self.seats, self.clock = Seats(letter), Clock(self._tick)
         self.own_slices = True
         self.changed: Callable[[Iterable[str]], None] = lambda names: None
+        self.watched: Callable[[], Container[str]] = set
+        self._has_run = False  # whether slices were granted since programs were looked at
         self.stopped = self.down = self.rebuilding = ""
         self._lock = asyncio.Lock()
         self._thread = concurrent.futures.ThreadPoolExecutor(1)
@@ -195,6 +200,20 @@ class Room:
         self.session.close()
         self.file.close()
 
+    async def watch(self) -> None:
+        """Shows programs that run to those who look at them, twice a second; goes for ever."""
+        while True:
+            await asyncio.sleep(WATCH_SECONDS)
+            if not self._has_run:
+                continue
+            self._has_run = False
+            for digit in sorted(self.seats.running()):
+                seat = self.seats.users[digit]
+                if seat.name in self.watched():
+                    async with self._lock:
+                        with contextlib.suppress(LabError):  # whoever asks next is told
+                            await self._hop(_Work(), partial(self._show, seat), None)
+
     async def _tick(self) -> None:
         """Grants the clock's slices, if somebody's program runs."""
         async with self._lock:
@@ -229,6 +248,7 @@ class Room:
                 self._look(work)
                 raise
             if work.is_last:
+                self._take_output(work)
                 self._look(work)
 
         try:
@@ -248,6 +268,24 @@ class Room:
             self.seats.take(work.states)
             self.changed([self.letter, *self.seats.names()])
 
+    def _take_output(self, work: _Work) -> None:
+        """Takes what programs have put out that stand still now. One whose buffer was full goes on."""
+        states = {digit: seat.state for digit, seat in self.seats.users.items()}
+        for digit, goes_on in with_output(work.done, states).items():
+            self._do(work, f"{digit} {OUT}", *([f"{digit} {GO}"] if goes_on else []))
+
+    def _show(self, seat: Seat, work: _Work) -> None:
+        """Looks at a running program, which stops for that and goes on. Not at a breakpoint, since `go` passes one."""
+        work.is_last = False
+        place = read(self.session.look(f"{seat.digit} state"))
+        if not isinstance(place, Position) or place.run != "running" or place.pc in seat.watch.breaks:
+            return
+        self._do(work, f"{seat.digit} {STOP}", f"{seat.digit} {OUT}")
+        self._look(work)
+        self._do(work, f"{seat.digit} {GO}")
+        for state in work.states[seat.digit]:
+            state["run"] = "running"
+
     def _look(self, work: _Work) -> None:
         """Looks at whom the work may have changed."""
         done = [*work.before, *work.done]
@@ -264,6 +302,7 @@ class Room:
             self.file.cut(self.session.size)
             raise
         for line, answer in zip(lines, answers):
+            self._has_run = self._has_run or line[0] == "*"
             self.seats.follow(line, answer)
             work.done.append((line, answer))
         return answers

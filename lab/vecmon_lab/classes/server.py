@@ -174,7 +174,12 @@ async def served(members: Class, doors: Iterable[socket.socket], names: set[str]
     try:
         for door in doors:
             await web.SockSite(runner, door, shutdown_timeout=2.0).start()
-        work = [server.sweep(runner), _keep(members), *(room.clock.run() for room in members.rooms.values())]
+        rooms = members.rooms.values()
+        work = [
+            server.sweep(runner),
+            _keep(members),
+            *(each for room in rooms for each in (room.clock.run(), room.watch())),
+        ]
         tasks = [asyncio.create_task(each) for each in work]
         yield runner.addresses[0][1]
     finally:

@@ -118,7 +118,7 @@ class Class:
             for letter in store.machines:
                 file = ScriptFile(store.folder / f"{letter}.script")
                 self.rooms[letter] = room = Room(letter, store.session(patience), file)
-                room.changed = self._tell
+                room.changed, room.watched = self._tell, self._watched
                 room.restore(store.read(f"{letter}.json", Notes), progress)
         except BaseException:
             self.end()
@@ -296,6 +296,10 @@ class Class:
                     tab.since.pop(tab.shoulder.name, None)
         return {}
 
+    def _watched(self) -> set[str]:
+        """The names of seats that somebody looks at: with a tab, or over the shoulder."""
+        return {tab.who for tab in self.tabs} | {tab.shoulder.name for tab in self.tabs if tab.shoulder}
+
     def _renew(self, name: str) -> None:
         """Gives a seat a new code, and ends its tabs."""
         self.codes.renew(name)
@@ -314,4 +318,6 @@ def _shown(seat: Seat) -> State:
     """A seat's state as pages show it."""
     shown = seat.shown.copy()
     shown["labels"] = seat.labels
+    if seat.output:
+        shown["outputs"] = seat.output
     return shown

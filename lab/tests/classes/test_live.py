@@ -1,0 +1,149 @@
+"""What programs put out, and how they run, comes to pages by itself."""
+
+import asyncio
+import pathlib
+
+import pytest
+
+from support.class_tabs import LOOP, Message, Served, Tab, served
+from vecmon_lab.classes import room as class_room
+
+pytestmark = pytest.mark.asyncio
+
+HELLO = """
+        la a1, text
+        li a2, 6
+        li a0, 1
+        li a7, 64
+        ecall
+        li s0, 7
+        ebreak
+        .data
+text:   .ascii "hello\\n"
+"""
+# Writes eight bytes as often as s0 says, counts in s1, and waits for a while that is another one each time.
+WRITES = """
+        li s0, {times}
+next:   addi s1, s1, 1
+        andi t0, s1, 31
+wait:   addi t0, t0, -1
+        bgtz t0, wait
+        la a1, text
+        li a2, 8
+        li a0, 1
+        li a7, 64
+        ecall
+        bne s0, s1, next
+        ebreak
+        .data
+text:   .ascii "1234567\\n"
+"""
+
+
+def output(view: Message) -> bytes:
+    """What the page shows of the output."""
+    blocks: dict[str, str] = view["state"].get("outputs", {})
+    return bytes.fromhex("".join(blocks[number] for number in sorted(blocks, key=int)))
+
+
+async def written(room: Served, source: str) -> Tab:
+    """A tab whose machine has this program."""
+    tab = await room.sit("A1")
+    assert (await tab.ask("source", text=source))["mistakes"] == []
+    return tab
+
+
+async def test_output_comes_at_stops(tmp_path: pathlib.Path) -> None:
+    async with served(tmp_path / "class") as room:
+        tab, teacher = await written(room, HELLO), await room.sit("teacher")
+        used = tab.view["share"]["used"]
+        await tab.do("go", slices=9)
+        assert tab.view["state"]["run"] == "stopped" and output(tab.view) == b"hello\n"
+        assert tab.logs["A1"][-1] == "=1 out 6"
+        assert tab.view["share"]["used"] == used + len("1 go\n* run 1\n")
+        assert (await tab.do("out")) == [["out 0"]]  # the server has taken it
+        await tab.do("setpc 10000")
+        for _ in range(6):
+            await tab.do("step 1")
+        assert output(tab.view) == b"hello\nhello\n"  # at once after the step of an ecall
+        await tab.do("setpc 10000", "step 8")
+        assert output(tab.view) == 3 * b"hello\n"
+        script = (await room.check_replay())[0].decode().splitlines()
+        assert [line for line in script if "out" in line] == ["1 out ", "1 out", "1 out ", "1 out "]
+        await teacher.ask("shoulder", seat="A1")
+        assert output(teacher.view) == 3 * b"hello\n"
+        view = tab.view
+        await tab.socket.close()
+    async with served(tmp_path / "class") as room:
+        again = await room.sit("A1")
+        assert again.view["state"]["outputs"] == view["state"]["outputs"] and again.view["share"] == view["share"]
+        assert again.logs["A1"][-9:] == tab.logs["A1"][-9:]
+        await again.do("leave")
+        assert output(again.view) == b""
+
+
+async def test_more_output_than_a_buffer_or_a_page_has(tmp_path: pathlib.Path) -> None:
+    async with served(tmp_path / "class") as room:
+        tab, teacher = await written(room, WRITES.format(times=9_000)), await room.sit("teacher")
+        await teacher.ask("clock", machine="A", on=True, slices=1000, ms=10)
+        await tab.do("go")
+        await tab.until(lambda view: view["state"]["run"] == "stopped" and view["stop"].startswith("ebreak"))
+        assert output(tab.view)[-64_000:] == 8_000 * b"1234567\n"
+        assert 64_000 < len(output(tab.view)) <= 65_536
+        transcript = (await room.check_replay())[1].decode()
+        told = [line.split()[3:] for line in transcript.splitlines() if line.startswith("1 out ")]
+        assert b"".join(bytes.fromhex("".join(digits)) for digits in told) == 9_000 * b"1234567\n"
+
+
+async def test_a_program_is_seen_to_run(tmp_path: pathlib.Path, monkeypatch: pytest.MonkeyPatch) -> None:
+    monkeypatch.setattr(class_room, "WATCH_SECONDS", 0.05)
+    async with served(tmp_path / "class") as room:
+        tab, teacher = await room.sit("A1"), await room.sit("teacher")
+        other = await room.sit("A2")
+        for each in (tab, other):
+            await each.do(*LOOP, "go")
+        used = tab.view["share"]["used"]
+        await other.socket.close()
+        await teacher.ask("clock", machine="A", on=True, slices=10, ms=10)
+        seen = set[str]()
+
+        def has_run(view: Message) -> bool:
+            assert view["state"]["run"] == "running"
+            seen.add(view["state"].get("x", {}).get("5", ""))
+            return len(seen) > 5
+
+        await tab.until(has_run)
+        await teacher.ask("clock", machine="A", on=False)
+        await asyncio.sleep(0.1)
+        script = (await room.check_replay())[0].decode().splitlines()
+        assert {"1 stop ", "1 out ", "1 go "} <= set(script) and "2 stop " not in script  # nobody looks at seat 2
+        assert tab.view["share"]["used"] == used
+        assert not [entry for entry in tab.logs["A1"] if "stop" in entry]
+        lines = len(script)
+        await asyncio.sleep(0.2)  # nothing runs without slices, so nobody looks
+        assert len((await room.check_replay())[0].splitlines()) == lines
+
+
+async def test_a_breakpoint_is_never_missed(tmp_path: pathlib.Path, monkeypatch: pytest.MonkeyPatch) -> None:
+    monkeypatch.setattr(class_room, "WATCH_SECONDS", 0.01)
+    async with served(tmp_path / "class", quantum=1) as room:  # so that slices end at the breakpoint, too
+        tab, teacher = await written(room, WRITES.format(times=200)), await room.sit("teacher")
+        labels = tab.view["state"]["labels"]
+        (place,) = [address for address, names in labels.items() if names == ["next"]]
+        await tab.do(f"break {place}")
+        await teacher.ask("clock", machine="A", on=True, slices=9, ms=10)
+        for count in range(40):
+            await tab.do("go")
+            await tab.until(lambda view: view["state"]["run"] == "stopped")
+            assert (tab.view["state"]["pc"], tab.view["state"]["x"]["9"]) == (place, f"{count:x}")
+            assert output(tab.view) == count * b"1234567\n"
+        script = (await room.check_replay())[0].decode()
+        assert script.count("1 stop \n") > 40
+
+
+@pytest.mark.parametrize("line", ["out ", "stop ", "go "])
+async def test_the_servers_own_lines_are_its_own(tmp_path: pathlib.Path, line: str) -> None:
+    async with served(tmp_path / "class") as room:
+        tab = await room.sit("A1")
+        assert "is the server's own line" in (await tab.ask("lines", do=["enter", line]))["error"]
+        assert (await room.check_replay())[0] == b""
