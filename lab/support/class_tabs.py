@@ -144,9 +144,10 @@ async def served(
     machines: int = 1,
     name: str = "class",
     quantum: int | None = None,
+    clock: bool = False,
 ) -> AsyncIterator[Served]:
     """A class that is served in this process."""
-    members = Class(Store(folder, find_program(), images, quantum, machines), 5.0)
+    members = Class(Store(folder, find_program(), images, quantum, machines), 5.0, clock=clock)
     async with class_server.served(
         members, class_server.listening("127.0.0.1", 0), {name}
     ) as port, _session() as session:
@@ -157,7 +158,7 @@ async def served(
 
 def command(folder: pathlib.Path, *words: str) -> list[str]:
     """The command that serves a class."""
-    return [sys.executable, "-m", "vecmon_lab", "class", str(folder), *words, "--port", "0"]
+    return [sys.executable, "-m", "vecmon_lab", "class", str(folder), *words, "--port", "0", "--no-clock"]
 
 
 @asynccontextmanager

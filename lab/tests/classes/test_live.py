@@ -147,3 +147,101 @@ async def test_the_servers_own_lines_are_its_own(tmp_path: pathlib.Path, line: s
         tab = await room.sit("A1")
         assert "is the server's own line" in (await tab.ask("lines", do=["enter", line]))["error"]
         assert (await room.check_replay())[0] == b""
+
+
+SORT = """
+# Sorts 300 numbers, the largest first at the beginning, by bubbles.
+        la s0, numbers
+        li s1, 300
+        mv t0, s0
+        mv t1, s1
+fill:   sw t1, 0(t0)
+        addi t0, t0, 4
+        addi t1, t1, -1
+        bnez t1, fill
+outer:  addi s1, s1, -1
+        beqz s1, done
+        mv t0, s0
+        mv t1, s1
+inner:  lw t2, 0(t0)
+        lw t3, 4(t0)
+        ble t2, t3, next
+        sw t3, 0(t0)
+        sw t2, 4(t0)
+next:   addi t0, t0, 4
+        addi t1, t1, -1
+        bnez t1, inner
+        j outer
+done:   ebreak
+        .data
+numbers: .zero 1200
+"""
+
+
+async def test_a_class_begins_with_its_clock(tmp_path: pathlib.Path) -> None:
+    async with served(tmp_path / "class", clock=True) as room:
+        tabs = [await room.sit(f"A{digit}") for digit in "12345678"]
+        for tab in tabs:
+            assert (await tab.ask("source", text=SORT))["mistakes"] == [] and tab.view["clock"]
+        await asyncio.gather(*(tab.do("go") for tab in tabs))
+        for tab in tabs:
+            await tab.until(lambda view: view["state"]["run"] == "stopped" and view["stop"].startswith("ebreak"))
+            told = await tab.ask("lines", look=["peek 11000 8", "peek 114a8 8"])
+            assert [answer[0].split()[2] for answer in told["look"]] == ["0100000002000000", "2b0100002c010000"]
+        assert (await room.check_replay())[0].count(b"* slices 1000\n") < 60  # 100,000 ticks each
+
+
+async def test_go_while_the_clock_is_off(tmp_path: pathlib.Path) -> None:
+    async with served(tmp_path / "class") as room:
+        tab, teacher = await room.sit("A1"), await room.sit("teacher")
+        await tab.do(*LOOP, "go")
+        await tab.do("stop")
+        told = "!The clock is off, so the program waits: the teacher can turn it on"
+        assert f"{told}, or Slice grants some slices." in tab.logs["A1"]
+        await teacher.ask("rights", machine="A", own_slices=False)
+        await tab.do("go")
+        await tab.do("stop")
+        assert f"{told}." in tab.logs["A1"]
+        await teacher.ask("clock", machine="A", on=True)
+        before = len(tab.logs["A1"])
+        await tab.do("go")
+        await tab.do("stop")
+        assert not [entry for entry in tab.logs["A1"][before:] if entry[0] == "!"]
+
+
+async def test_a_program_that_runs_for_long(tmp_path: pathlib.Path, monkeypatch: pytest.MonkeyPatch) -> None:
+    monkeypatch.setattr(class_room, "WATCH_SECONDS", 0.02)
+    async with served(tmp_path / "class") as room:
+        tab, other, teacher = await room.sit("A1"), await room.sit("A2"), await room.sit("teacher")
+        assert "limit of the clock is" in (await teacher.ask("clock", machine="A", limit=5))["error"]
+        await teacher.ask("clock", machine="A", on=True, slices=100, ms=10, limit=200_000)
+        await other.do(*LOOP)
+        await tab.do(*LOOP)
+        for count in (1, 2):
+            await tab.do("go")
+            await tab.until(lambda view: view["state"]["run"] == "stopped")
+            told = "!The server stopped the program, since it ran for 200,000 ticks without a stop. go lets it run on."
+            while tab.logs["A1"].count(told) < count:
+                await tab.receive()
+            assert int(tab.view["state"]["x"]["5"], 16) >= count * 100_000  # two instructions each
+        assert int(tab.view["state"]["x"]["5"], 16) < 400_000
+        await room.check_replay()
+
+
+async def test_a_program_that_nobody_looks_at(tmp_path: pathlib.Path, monkeypatch: pytest.MonkeyPatch) -> None:
+    monkeypatch.setattr(class_room, "WATCH_SECONDS", 0.02)
+    monkeypatch.setattr(class_room, "UNSEEN_SECONDS", 0.3)
+    async with served(tmp_path / "class") as room:
+        tab, other, teacher = await room.sit("A1"), await room.sit("A2"), await room.sit("teacher")
+        for each in (tab, other):
+            await each.do(*LOOP, "go")
+        await tab.socket.close()
+        await teacher.ask("clock", machine="A", on=True, slices=1, ms=10)
+        await teacher.until(lambda view: view["machines"]["A"]["seats"]["1"]["run"] == "stopped")
+        assert teacher.view["machines"]["A"]["seats"]["2"]["run"] == "running"
+        told = "!The server stopped the program, since nobody looked at it for 0.3 s. go lets it run on."
+        again = await room.sit("A1")
+        while told not in again.logs["A1"]:
+            await again.receive()
+        await other.do("stop")
+        await room.check_replay()

@@ -34,11 +34,15 @@ class Source:
 
 @dataclass(frozen=True)
 class Settings:
-    """Of a clock: whether it is on, how many slices it grants at once, and how many milliseconds it waits before."""
+    """Of a clock: whether it is on, how many slices it grants at once, and how many milliseconds it waits before.
 
-    on: bool = False
-    slices: int = 8
-    ms: int = 100
+    limit: the ticks that a program has without a stop, about; then the server stops it
+    """
+
+    on: bool = True
+    slices: int = 1000
+    ms: int = 30
+    limit: int = 50_000_000
 
 
 @dataclass(frozen=True)
@@ -74,7 +78,7 @@ class LookOver:
 Request = Lines | Source | SetClock | SetRights | Renew | LookOver
 
 
-_LIMITS = {"on": (0, 1), "slices": (1, 1000), "ms": (10, 10_000)}  # of a clock's settings
+_LIMITS = {"on": (0, 1), "slices": (1, 1000), "ms": (10, 10_000), "limit": (100_000, 10**12)}  # of a clock's settings
 
 
 def read_request(message: Mapping[str, object], is_teacher: bool) -> Request:

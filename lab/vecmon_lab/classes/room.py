@@ -26,6 +26,7 @@ from .store import Notes, ScriptFile
 SEAT_BYTES = 1_500_000  # of a seat's lines in the script: eight leave 3,000,000 to the operator and the clock
 SOURCE_LINES = 4096
 WATCH_SECONDS = 0.5  # between looks at a program that runs
+UNSEEN_SECONDS = 60.0  # after which a program that runs is stopped, if nobody looks at it
 
 
 class Stopped(LabError):
@@ -138,6 +139,9 @@ class Room:
                 await self._hop(work, carry_out, seat)
         finally:
             done += [[part[2:] for part in answer] for _, answer in work.done[: len(own)]]
+        if not (self.clock.settings.on or slices or seat.state["run"] != "running") and "go" in request.do:
+            own_way = ", or Slice grants some slices" if self.own_slices else ""
+            self._note(seat, f"!The clock is off, so the program waits: the teacher can turn it on{own_way}.")
         return [[part[2:] for part in answer] for answer in work.looks]
 
     async def source(self, seat: Seat, text: str) -> list[SourceError]:
@@ -204,15 +208,33 @@ class Room:
         """Shows programs that run to those who look at them, twice a second; goes for ever."""
         while True:
             await asyncio.sleep(WATCH_SECONDS)
-            if not self._has_run:
-                continue
-            self._has_run = False
-            for digit in sorted(self.seats.running()):
-                seat = self.seats.users[digit]
-                if seat.name in self.watched():
-                    async with self._lock:
-                        with contextlib.suppress(LabError):  # whoever asks next is told
-                            await self._hop(_Work(), partial(self._show, seat), None)
+            has_run, self._has_run = self._has_run, False
+            for digit in sorted(self.seats.running()) if has_run else ():
+                await self._attend(self.seats.users[digit])
+
+    async def _attend(self, seat: Seat) -> None:
+        """Shows a program that runs, if somebody looks at it. One that runs in vain is stopped, with a sentence."""
+        now, is_watched, limit = (
+            asyncio.get_running_loop().time(),
+            seat.name in self.watched(),
+            self.clock.settings.limit,
+        )
+        seat.seen = now if is_watched or not seat.seen else seat.seen
+        why = f"nobody looked at it for {UNSEEN_SECONDS:g} s" if now - seat.seen > UNSEEN_SECONDS else ""
+        if seat.slices * self.session.quantum >= limit:
+            why = f"it ran for {limit:,} ticks without a stop"
+        if not why and not is_watched:
+            return
+        async with self._lock:
+            with contextlib.suppress(LabError):  # whoever asks next is told
+                await self._hop(_Work(), partial(self._show, seat, not why), None)
+        if why and seat.state["run"] == "stopped":
+            self._note(seat, f"!The server stopped the program, since {why}. go lets it run on.")
+
+    def _note(self, seat: Seat, entry: str) -> None:
+        """Adds an entry to a seat's log, which its pages are told."""
+        seat.note(entry)
+        self.changed([seat.name])
 
     async def _tick(self) -> None:
         """Grants the clock's slices, if somebody's program runs."""
@@ -274,17 +296,18 @@ class Room:
         for digit, goes_on in with_output(work.done, states).items():
             self._do(work, f"{digit} {OUT}", *([f"{digit} {GO}"] if goes_on else []))
 
-    def _show(self, seat: Seat, work: _Work) -> None:
-        """Looks at a running program, which stops for that and goes on. Not at a breakpoint, since `go` passes one."""
+    def _show(self, seat: Seat, goes_on: bool, work: _Work) -> None:
+        """Looks at a running program, which stops for that, and may go on; at no breakpoint, since `go` passes one."""
         work.is_last = False
         place = read(self.session.look(f"{seat.digit} state"))
         if not isinstance(place, Position) or place.run != "running" or place.pc in seat.watch.breaks:
             return
         self._do(work, f"{seat.digit} {STOP}", f"{seat.digit} {OUT}")
         self._look(work)
-        self._do(work, f"{seat.digit} {GO}")
-        for state in work.states[seat.digit]:
-            state["run"] = "running"
+        if goes_on:
+            self._do(work, f"{seat.digit} {GO}")
+            for state in work.states[seat.digit]:
+                state["run"] = "running"
 
     def _look(self, work: _Work) -> None:
         """Looks at whom the work may have changed."""

@@ -7,7 +7,7 @@ from dataclasses import dataclass, field
 
 from ..assembler.commands import log_entries
 from ..guest.guest import Guest
-from ..machine.answers import is_refusal, is_stop, read, told
+from ..machine.answers import Granted, is_refusal, is_stop, read, told
 from ..machine.lines import DIGITS, is_look, words_of
 from ..machine.session import Session
 from .live import is_servers
@@ -29,6 +29,8 @@ class Seat:
     stop, line, answer: the last stop, command and line of an answer, without the digit
     output: the last of what the program has put out, in hexadecimal digits, in blocks by number
     used: the bytes of the script that are the seat's
+    slices, seen: how many were granted to the program, about, since it stopped last or its student let it go; and when
+        somebody looked at it last while it ran, in seconds of the event loop, or 0
     """
 
     name: str
@@ -46,6 +48,8 @@ class Seat:
     line: str = ""
     answer: str = ""
     used: int = 0
+    slices: float = 0.0
+    seen: float = 0.0
 
     def note(self, entry: str) -> None:
         """Adds an entry to the log."""
@@ -75,6 +79,11 @@ class Seats:
     def running(self) -> set[str]:
         """The digits of users whose programs run."""
         return {digit for digit, seat in self.users.items() if seat.state["run"] == "running"}
+
+    def _grant(self, slices: int, digits: set[str]) -> None:
+        """Counts slices that went round among the programs of users."""
+        for digit in digits:
+            self.users[digit].slices += slices / len(digits)
 
     def follow(self, line: str, answer: Sequence[str]) -> None:
         """Takes up what a user's line says of the user's memory."""
@@ -117,6 +126,8 @@ class Seats:
         Of the server's own lines it is told how many bytes a program has put out.
         """
         asker, words = self.users.get(line[0], self.operator), words_of(line)
+        if line[0] == "*" and isinstance(granted := read(answer), Granted):
+            self._grant(granted.slices, set(words[1:]) if words[0] == "run" else self.running())
         if words == ["out"] and not is_refusal(answer):
             asker.put_out("".join(answer[0].split()[3:]))
         if is_servers(line):
@@ -134,7 +145,7 @@ class Seats:
         if _begins_anew(line, answer):
             asker.stop, asker.labels, asker.output = "", {}, {}
         elif words == ["go"] and not is_refusal(answer):
-            asker.stop = ""
+            asker.stop, asker.slices, asker.seen = "", 0.0, 0.0
         for part, entry in zip(answer, log_entries(line, answer)):
             seat = self.users.get(part[0], self.operator)
             if is_told or seat is not self.operator:
@@ -142,6 +153,7 @@ class Seats:
                 seat.answer = part[2:]
             if is_stop(part):
                 seat.stop = part[2:]
+                seat.slices = seat.slices if seat.stop.startswith("outfull") else 0.0
 
 
 def _begins_anew(line: str, answer: Sequence[str]) -> bool:

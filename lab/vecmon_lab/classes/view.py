@@ -104,11 +104,15 @@ class Class:
     """The machines of a class by letter, its codes, and the tabs that are open."""
 
     def __init__(
-        self, store: Store, patience: float, progress: Callable[[str], object] = lambda sentence: None
+        self,
+        store: Store,
+        patience: float,
+        progress: Callable[[str], object] = lambda sentence: None,
+        clock: bool = True,
     ) -> None:
-        """Starts the machines, and brings each to where it was; `progress` is told how far that is, in sentences.
+        """Starts the machines, and brings each to where it was. Raises LabError where that can't be.
 
-        Raises LabError where that can't be.
+        progress: is told how far that is, in sentences; clock: whether that of a new machine is on
         """
         self.store, self.codes = store, store.codes
         self.tabs: set[Tab] = set()
@@ -119,6 +123,7 @@ class Class:
                 file = ScriptFile(store.folder / f"{letter}.script")
                 self.rooms[letter] = room = Room(letter, store.session(patience), file)
                 room.changed, room.watched = self._tell, self._watched
+                room.set_clock({"on": clock})
                 room.restore(store.read(f"{letter}.json", Notes), progress)
         except BaseException:
             self.end()

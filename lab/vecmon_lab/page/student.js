@@ -36,7 +36,7 @@ export class Student {
     on("steps", "submit", () => this.send([`step ${byId("number").value}`]));
     on("command", "submit", () => this.command());
     on("change", "submit", () => this.change());
-    on("slice", "click", () => this.request({ ask: "lines", slices: 1 }, "a slice"));
+    on("slice", "click", () => this.request({ ask: "lines", slices: 100 }, "slices"));
     on("new", "click", () => this.send([...this.leaving(), ...NEW_MACHINE]));
     on("images", "change", () => this.send([...this.leaving(), "enter", `load ${byId("images").value}`]));
     on("line", "keydown", (event) => this.recall(event));
