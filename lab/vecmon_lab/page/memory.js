@@ -15,8 +15,9 @@ export function paintMemory(state, before) {
 }
 
 export function paintOutput(state) {
-  byId("output-box").hidden = !state.output;
-  byId("output").textContent = outputText(state.output ?? "");
+  const digits = state.output ?? Object.values(state.outputs ?? {}).join("");
+  byId("output-box").hidden = !digits;
+  byId("output").textContent = outputText(digits);
 }
 
 function memoryRow(address, digits, digitsBefore) {

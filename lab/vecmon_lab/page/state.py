@@ -2,7 +2,7 @@
 
 import re
 from collections import Counter
-from collections.abc import Iterable, Iterator, Sequence
+from collections.abc import Iterable, Iterator, Mapping, Sequence
 from typing import TypedDict
 
 from ..guest.guest import Guest
@@ -35,6 +35,7 @@ class State(TypedDict, total=False):
     instruction: the address of the instruction that was carried out last, or faulted, in what was just done
     stop: why the program stopped in what was just done, in words
     output: the bytes that answers to `out` have shown
+    outputs: in a class in place of it, the last 64 KB of them, in blocks by number
     labels: in a class, names by address of the source that was assembled last
     """
 
@@ -56,6 +57,7 @@ class State(TypedDict, total=False):
     faulted: bool
     stop: str
     output: str
+    outputs: Mapping[str, str]
     labels: dict[str, list[str]]
 
 
@@ -70,12 +72,13 @@ _STORE = re.compile(r"(s[bhwd]|vs\S+) .*\(x\d+\)")
 
 
 class Watch:
-    """The places of one user's memory that are looked at: words of the program, and pages of data."""
+    """The places of one user's memory that are looked at: words of the program, and pages of data; and breakpoints."""
 
     def __init__(self) -> None:
         self.code: set[int] = set()  # addresses of words
         self.pages: set[int] = set()  # addresses of pages
         self.named: set[int] = set()  # addresses of rows that lines named
+        self.breaks: set[int] = set()  # where the program stops, of which a look at one that runs doesn't tell
         self.trace: Sequence[int] = []  # as it was when it was looked at last
 
     def follow(self, line: str, answer: Answer) -> None:
@@ -84,7 +87,7 @@ class Watch:
             return
         match words_of(line):
             case ["enter"] | ["leave"] | ["load", _]:
-                for places in (self.code, self.pages, self.named):
+                for places in (self.code, self.pages, self.named, self.breaks):
                     places.clear()
             case ["map", address, pages, _]:
                 self._add_pages(int(address, 16), int(pages) * PAGE_BYTES, MAPPED_PAGES)
@@ -94,6 +97,10 @@ class Watch:
                 self._name(int(address, 16), int(length))
             case ["asm", address, *_]:
                 self.code.add(int(address, 16))
+            case ["break", address]:
+                self.breaks.add(int(address, 16))
+            case ["unbreak", address]:
+                self.breaks.discard(int(address, 16))
 
     def _name(self, address: int, length: int) -> None:
         self.named.update(range(address // ROW_BYTES * ROW_BYTES, address + length, ROW_BYTES))

@@ -47,7 +47,7 @@ export class Student {
     new LineField("line", (lines) => this.enter(lines));
     new Cursor((place) => this.edit(place));
     on("change", "submit", () => this.change());
-    on("slice", "click", () => this.request({ ask: "lines", slices: 1 }, "a slice"));
+    on("slice", "click", () => this.request({ ask: "lines", slices: 100 }, "slices"));
     on("new", "click", () => this.send([...this.leaving(), ...NEW_MACHINE]));
     on("images", "change", () => this.send([...this.leaving(), "enter", `load ${byId("images").value}`]));
     on("source", "input", () => this.numberLines());
@@ -75,8 +75,8 @@ export class Student {
     const stop = run === "stopped" && view.state.stop && view.stop.split(" ")[0];
     put(byId("run"), run === "absent" ? "not entered" : stop || run);
     byId("run").className = `pill ${run}`;
-    for (const id of ["one", "many", "number", "go", "out"]) byId(id).disabled = run !== "stopped";
-    byId("halt").disabled = byId("slice").disabled = run !== "running";
+    for (const id of ["one", "many", "number", "go", "out"]) byId(id).disabled = run !== "stopped" || !view.ready;
+    byId("halt").disabled = byId("slice").disabled = run !== "running" || !view.ready;
     byId("slice").hidden = !view.own_slices;
     put(byId("clock"), `the clock is ${view.clock ? "on" : "off"}`);
     const share = Math.floor((100 * view.share.used) / view.share.of);

@@ -11,6 +11,8 @@ const short = (answer) => answer.replace(/=0+(?=[0-9a-f])/g, "=");
 /** A button whose name says more than its text. */
 const button = (text, ariaLabel, onclick) => Object.assign(make("button", "", text), { ariaLabel, onclick });
 
+const NUMBERS = ["slices", "ms", "limit"]; // of a clock
+
 /** A machine of the class, with its eight seats. */
 class ClassMachine {
   constructor(letter, teacher) {
@@ -21,11 +23,12 @@ class ClassMachine {
     this.box.querySelector("h2").textContent = `Machine ${letter}`;
     const on = (name, kind, heard) => this.part(name).addEventListener(kind, heard);
     const ask = (request) => teacher.request({ machine: letter, ...request });
-    for (const name of ["on", "slices", "ms"]) {
-      const [slices, ms] = [this.part("slices"), this.part("ms")];
+    const numbers = NUMBERS.map(this.part);
+    for (const name of ["on", ...NUMBERS]) {
       on(name, "change", () => {
-        if (!slices.reportValidity() || !ms.reportValidity()) return;
-        ask({ ask: "clock", on: this.part("on").checked, slices: Number(slices.value), ms: Number(ms.value) });
+        if (!numbers.every((part) => part.reportValidity())) return;
+        const settings = Object.fromEntries(numbers.map((part) => [part.name, Number(part.value)]));
+        ask({ ask: "clock", on: this.part("on").checked, ...settings });
       });
     }
     on("own", "change", () => ask({ ask: "rights", own_slices: this.part("own").checked }));
@@ -59,7 +62,7 @@ class ClassMachine {
       put(used, `${Math.ceil((100 * told.used) / share)} %`);
       look.ariaPressed = `${seat === shoulder}`;
     }
-    for (const name of ["slices", "ms"]) {
+    for (const name of NUMBERS) {
       if (document.activeElement !== this.part(name)) this.part(name).value = machine.clock[name];
     }
     this.part("on").checked = machine.clock.on;
