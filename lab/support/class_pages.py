@@ -38,6 +38,7 @@ class Served:
             f"sum={SUM}",
             "--port",
             str(self.port),
+            "--no-clock",
         ]
         environment = os.environ | {"VECMON": str(self.program), "PYTHONPATH": str(TOP)}
         self.server = subprocess.Popen(

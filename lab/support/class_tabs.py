@@ -128,7 +128,7 @@ class Served:
         teacher = await self.sit("teacher")
         script = (await self.get(f"{machine}/script"))[1]
         images = [f"{name}={self.folder}/images/{name}.elf" for name in teacher.view["images"]]
-        command = [str(find_program()), "/dev/stdin", *images]
+        command = [str(find_program()), "--quantum", str(teacher.view["quantum"]), "/dev/stdin", *images]
         done = subprocess.run(command, input=script, stdout=subprocess.PIPE, check=True)
         assert hashlib.sha256(done.stdout).hexdigest() == teacher.view["machines"][machine]["digest"]
         assert (await self.get(f"{machine}/transcript"))[1] == done.stdout
@@ -139,10 +139,15 @@ class Served:
 
 @asynccontextmanager
 async def served(
-    folder: pathlib.Path, images: Mapping[str, pathlib.Path] = {}, machines: int = 1, name: str = "class"
+    folder: pathlib.Path,
+    images: Mapping[str, pathlib.Path] = {},
+    machines: int = 1,
+    name: str = "class",
+    quantum: int | None = None,
+    clock: bool = False,
 ) -> AsyncIterator[Served]:
     """A class that is served in this process."""
-    members = Class(Store(folder, find_program(), images, None, machines), 5.0)
+    members = Class(Store(folder, find_program(), images, quantum, machines), 5.0, clock=clock)
     async with class_server.served(
         members, class_server.listening("127.0.0.1", 0), {name}
     ) as port, _session() as session:
@@ -153,7 +158,7 @@ async def served(
 
 def command(folder: pathlib.Path, *words: str) -> list[str]:
     """The command that serves a class."""
-    return [sys.executable, "-m", "vecmon_lab", "class", str(folder), *words, "--port", "0"]
+    return [sys.executable, "-m", "vecmon_lab", "class", str(folder), *words, "--port", "0", "--no-clock"]
 
 
 @asynccontextmanager

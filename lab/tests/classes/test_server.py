@@ -1,6 +1,7 @@
 """The server of a class through its sockets. Nothing waits on a clock: each test awaits the message that it needs."""
 
 import asyncio
+import gc
 import json
 import os
 import pathlib
@@ -285,7 +286,8 @@ async def test_own_slices(room: Served) -> None:
     assert tab.view["stop"] == "break pc=0000000000010000" and tab.view["state"]["run"] == "stopped"
     script = (await room.check_replay())[0].decode().splitlines()
     assert script.count("* run 4") == 4  # the stop ended them
-    assert tab.view["share"]["used"] == sum(len(line) + 1 for line in script) > used
+    own = [line for line in script if not line.endswith(" ")]  # and not the server's
+    assert tab.view["share"]["used"] == sum(len(line) + 1 for line in own) > used
     await teacher.ask("rights", machine="A", own_slices=False)
     await tab.until(lambda view: not view["own_slices"])
     assert "teacher's to grant" in (await tab.ask("lines", do=["go"], slices=1))["error"]
@@ -318,8 +320,11 @@ async def test_a_source(room: Served) -> None:
         await tab.do("step 6")
         assert tab.view["state"]["x"]["11"] == "4" or tab.view["state"]["x"]["11"] == "3"
         await tab.do("go")
-    told = await tab.ask("source", text="addi a0, a0, 5000\nadd a0, a0\nvadd.vv v1, v2, q\n")
-    assert [(each["line"]) for each in told["mistakes"]] == [2] or len(told["mistakes"]) >= 1
+    script = (await room.get("A/script"))[1]
+    told = await tab.ask("source", text="addi a0, a0, 5000\njmp x\nvadd.vv v1, v2, v3\nvadd.vv v1, v2, q\n")
+    assert [(each["line"], each["column"]) for each in told["mistakes"]] == [(1, 14), (2, 1), (4, 17)]
+    assert "near it are j, jr and jal" in told["mistakes"][1]["message"]
+    assert (await room.get("A/script"))[1] == script  # nothing was done
     told = await tab.ask("source", text="nop\naddi a0, a0, 5000\nnop\nslli a0, a0, 99\n")
     assert [(each["line"], each["column"]) for each in told["mistakes"]] == [(2, 14), (4, 14)]
     assert "doesn't fit" in told["mistakes"][0]["message"]
@@ -327,6 +332,28 @@ async def test_a_source(room: Served) -> None:
     told = await tab.ask("source", text="nop\n" * 5000)
     assert "4096 lines at most" in told["error"]
     await room.check_replay()
+
+
+async def test_others_have_turns_while_a_source_is_written(room: Served) -> None:
+    tab, other = await room.sit("A5"), await room.sit("A6")
+    lines = ["nop"] * 900
+    for wrong in (9, 499, 899):
+        lines[wrong] = "slli a0, a0, 99"
+    for _ in range(2):
+        written = asyncio.create_task(tab.ask("source", text="\n".join(lines)))
+        assert room.members
+        session = room.members.rooms["A"].session
+        before = session.lines
+        while session.lines == before:
+            await asyncio.sleep(0)
+        await other.do("nonsense")
+        assert not written.done()
+        assert [each["line"] for each in (await written)["mistakes"]] == [10, 500, 900]
+    assert len(tab.view["state"]["code"]) > 500 and tab.view["state"]["pc"] == "10000"
+    script = (await room.check_replay())[0].decode().splitlines()
+    others = [number for number, line in enumerate(script) if line == "6 nonsense"]
+    own = [number for number, line in enumerate(script) if line in ("5 enter", "5 setpc 10000")]
+    assert own[0] < others[0] < own[1] < own[2] < others[1] < own[3]
 
 
 async def test_over_the_shoulder(room: Served) -> None:
@@ -404,7 +431,8 @@ async def test_machines_apart(tmp_path: pathlib.Path) -> None:
         assert not two.view["clock"] and two.view["state"]["x"]["5"] == "1"
         assert list(teacher.view["machines"]) == ["A", "B"]
         await teacher.ask("clock", machine="A", on=False)
-        assert (await room.check_replay("B"))[0].count(b"\n") == len(LOOP) + 1
+        script = (await room.check_replay("B"))[0].decode().splitlines()
+        assert script == [f"1 {line}" for line in [*LOOP, "step 1", "out "]]
         assert room.members and (stuck := room.members.rooms["A"].session.process)
         os.kill(stuck, signal.SIGSTOP)
         hanging = asyncio.create_task(one.do("stop"))
@@ -465,6 +493,67 @@ async def test_clients_that_do_not_read(room: Served) -> None:
         assert connection and connection.transport
         connection.transport.abort()
     assert (members := room.members)
-    while any(tab.who == "A2" for tab in members.tabs):  # the server drops them before all they asked is carried out
+    while any(tab.who == "A2" for tab in members.tabs):  # which it keeps until all that they asked is carried out
         await asyncio.sleep(0.01)
     await room.check_replay()
+
+
+async def test_a_tab_whose_request_waits_long(tmp_path: pathlib.Path, monkeypatch: pytest.MonkeyPatch) -> None:
+    monkeypatch.setattr(class_server, "READ_SECONDS", 1.0)  # between pings, of which each wants an answer in half of it
+    async with served(tmp_path / "class") as room:
+        tab = await room.sit("A1")
+        await tab.do("enter")
+        assert room.members and (machine := room.members.rooms["A"].session.process)
+        os.kill(machine, signal.SIGSTOP)
+        waits = asyncio.create_task(tab.do(*LOOP[1:]))  # whose socket answers pings meanwhile
+        await asyncio.sleep(2.5)
+        os.kill(machine, signal.SIGCONT)
+        assert len(await waits) == 4 and not room.members.rooms["A"].session.losses
+
+
+async def test_more_requests_than_may_wait(room: Served) -> None:
+    tab = await room.sit("A1")
+    assert room.members and (machine := room.members.rooms["A"].session.process)
+    os.kill(machine, signal.SIGSTOP)
+    for number in range(70):
+        await tab.socket.send_json({"id": number, "ask": "lines", "do": [f"set x5 {number:x}" if number else "enter"]})
+    told = [await tab.receive() for _ in range(5)]  # one is carried out, and 64 wait
+    assert [each["id"] for each in told] == [65, 66, 67, 68, 69]
+    assert all(each["error"].startswith("64 requests of this tab wait already") for each in told)
+    await tab.socket.close()
+    os.kill(machine, signal.SIGCONT)
+    again = await room.sit("A1")
+    await again.until(
+        lambda view: view["state"].get("x", {}).get("5") == "40"
+    )  # what waited isn't dropped with its tab
+    assert (await room.check_replay())[0] == b"1 enter\n" + b"".join(b"1 set x5 %x\n" % each for each in range(1, 65))
+
+
+async def test_what_waits_when_a_code_ends(room: Served) -> None:
+    tab, teacher = await room.sit("A1"), await room.sit("teacher")
+    assert room.members and (machine := room.members.rooms["A"].session.process)
+    os.kill(machine, signal.SIGSTOP)
+    for number in range(5):
+        await tab.socket.send_json({"id": number, "ask": "lines", "do": ["enter"]})
+    await teacher.ask("renew", seat="A1")
+    os.kill(machine, signal.SIGCONT)
+    while any(each.who == "A1" for each in room.members.tabs):
+        await asyncio.sleep(0.01)
+    assert (await room.check_replay())[0] == b"1 enter\n"  # which was under way
+
+
+async def test_a_client_that_resets(room: Served, caplog: pytest.LogCaptureFixture) -> None:
+    tab, other = await room.sit("A1"), await room.sit("A1")
+    await tab.do(*LOOP)
+    connection = other.socket._response.connection
+    assert connection and connection.transport
+    connection.transport.pause_reading()  # so that the server's news don't get through
+    for _ in range(80):
+        await tab.do(*["peek 10000 256"] * 240)
+    connection.transport.abort()
+    assert room.members
+    while len(room.members.tabs) > 1:
+        await tab.do("step 1")
+    await asyncio.sleep(0)
+    gc.collect()
+    assert not caplog.records

@@ -6,6 +6,7 @@ import errno
 import os
 import pathlib
 import socket
+import sys
 
 from .. import LabError
 from ..arguments import between
@@ -27,6 +28,9 @@ def add_arguments(parser: argparse.ArgumentParser) -> None:
     machines = between(1, len(LETTERS))
     parser.add_argument("--machines", metavar="N", type=machines, help="eight seats each, 1 to 12; else 1")
     parser.add_argument("--quantum", metavar="N", type=int, help="the ticks of a slice, 1 to 1000; else 100")
+    parser.add_argument(
+        "--no-clock", action="store_true", help="a new machine's clock is off until the teacher turns it on"
+    )
     patience = between(1, 3600)
     parser.add_argument("--patience", metavar="S", type=patience, default=10, help="seconds of silence; else 10")
 
@@ -41,9 +45,15 @@ def run(arguments: argparse.Namespace) -> int:
     except LabError:
         store.close()
         raise
-    members = Class(store, arguments.patience)
+    members = Class(store, arguments.patience, _tell, not arguments.no_clock)
     asyncio.run(serve(members, host, doors, set(arguments.name)))
     return 0
+
+
+def _tell(sentence: str) -> None:
+    """Tells at a terminal how far a machine has been rebuilt."""
+    if sys.stderr.isatty():
+        print(f"\r{sentence}", end="\n" if sentence.endswith(" 100 %") else "", file=sys.stderr, flush=True)
 
 
 def _listening(host: str, port: int) -> list[socket.socket]:

@@ -4,7 +4,8 @@ from collections.abc import Mapping
 from dataclasses import dataclass
 
 from .. import LabError
-from ..machine.lines import check_line, is_look
+from ..machine.lines import check_text, is_look
+from .live import is_servers
 
 REQUEST_LINES, SOURCE_LETTERS = 256, 1 << 16
 MOST_SLICES = 100
@@ -33,11 +34,15 @@ class Source:
 
 @dataclass(frozen=True)
 class Settings:
-    """Of a clock: whether it is on, how many slices it grants at once, and how many milliseconds it waits before."""
+    """Of a clock: whether it is on, how many slices it grants at once, and how many milliseconds it waits before.
 
-    on: bool = False
-    slices: int = 8
-    ms: int = 100
+    limit: the ticks that a program has without a stop, about; then the server stops it
+    """
+
+    on: bool = True
+    slices: int = 1000
+    ms: int = 30
+    limit: int = 50_000_000
 
 
 @dataclass(frozen=True)
@@ -73,7 +78,7 @@ class LookOver:
 Request = Lines | Source | SetClock | SetRights | Renew | LookOver
 
 
-_LIMITS = {"on": (0, 1), "slices": (1, 1000), "ms": (10, 10_000)}  # of a clock's settings
+_LIMITS = {"on": (0, 1), "slices": (1, 1000), "ms": (10, 10_000), "limit": (100_000, 10**12)}  # of a clock's settings
 
 
 def read_request(message: Mapping[str, object], is_teacher: bool) -> Request:
@@ -104,7 +109,10 @@ def _lines(message: Mapping[str, object], is_teacher: bool) -> Lines:
     if not isinstance(slices, int) or not 0 <= slices <= MOST_SLICES:
         raise BadRequest(f"a request grants 0 to {MOST_SLICES} slices")
     for text in (*do, *look):
-        check_line(f"{'*' if is_teacher else '1'} {text}" if isinstance(text, str) else text)
+        check_text(text)
+    for text in do:
+        if is_servers(f"1 {text}"):
+            raise BadRequest(f"{text!r} with a space at its end is the server's own line")
     for text in look:
         if not is_look(f"{'*' if is_teacher else '1'} {text}"):
             raise BadRequest(f"{text[:40]!r} isn't a line that only looks")

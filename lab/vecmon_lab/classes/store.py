@@ -20,7 +20,7 @@ from dataclasses import asdict, dataclass, field, replace
 from typing import TypeVar
 
 from .. import LabError
-from ..machine.session import Session
+from ..machine.session import BadLine, OutOfStep, Session
 from .codes import LETTERS, Codes
 
 
@@ -70,14 +70,23 @@ class ScriptFile:
         os.ftruncate(self._file, self._saved)
 
     def replay(self, session: Session, notes: Notes) -> Iterator[tuple[str, Sequence[str]]]:
-        """Carries out what was kept: each line and its answer. Raises BadFolder where it is answered otherwise."""
-        script = self.kept.decode("latin-1").split("\n")[:-1]
+        """Carries out what was kept: each line and its answer. Raises BadFolder where it is answered otherwise.
+
+        In bulk where notes have a digest of the answers, and the others line by line.
+        """
+        script = self.kept.split(b"\n")[:-1]
         if len(script) < notes.lines:
             raise BadFolder(f"the script of machine {self._machine} has lost lines: it had {notes.lines}")
-        for number, line in enumerate(script, 1):
-            yield line, session.do(line)
-            if number == notes.lines and session.digest != notes.answers:
-                raise BadFolder(f"machine {self._machine} answers the first {number} lines otherwise than before")
+        others = f"machine {self._machine} answers the first {notes.lines} lines otherwise than before"
+        try:
+            yield from session.do_script(b"".join(line + b"\n" for line in script[: notes.lines]))
+        except (BadLine, OutOfStep) as error:
+            raise BadFolder(others) from error
+        if notes.lines and session.digest != notes.answers:
+            raise BadFolder(others)
+        for line in script[notes.lines :]:
+            text = line.decode("latin-1")
+            yield text, session.do(text)
 
     @property
     def is_saved(self) -> bool:
@@ -128,7 +137,8 @@ class Store:
         A class that is there has to have this program, and those images, quantum and machines that are named; there may
         be more machines than before. Raises BadFolder, OSError, and ProgramGone where the program refuses the images.
         """
-        self.folder, self.program, self.trouble = folder, program, ""
+        self.folder, self.program = folder, program
+        self._troubles: dict[str, str] = {}  # by the name of what isn't saved
         folder.mkdir(mode=0o700, parents=True, exist_ok=True)
         if strangers := {path.name for path in folder.iterdir()} - {"lock", "images"}:
             if "class.json" not in strangers:
@@ -183,6 +193,15 @@ class Store:
         except (ValueError, TypeError) as error:
             raise BadFolder(f"{self.folder / name} isn't what a server wrote") from error
 
+    @property
+    def trouble(self) -> str:
+        """Why something isn't saved; empty if all is."""
+        return next(iter(self._troubles.values()), "")
+
+    def waits(self, name: str) -> bool:
+        """Whether what this name has wasn't saved when it was tried last."""
+        return name in self._troubles
+
     def write(self, name: str, value: Mapping[str, object]) -> bool:
         """Keeps an object, as a whole or not at all; whether that went well. `trouble` says why not."""
         new = self.folder / f"{name}.new"
@@ -190,9 +209,9 @@ class Store:
             new.write_text(json.dumps(value, indent=1), "utf-8")
             new.replace(self.folder / name)
         except OSError as error:
-            self.trouble = f"{name} isn't saved: {error.strerror}"
+            self._troubles[name] = f"{name} isn't saved: {error.strerror}"
             return False
-        self.trouble = ""
+        self._troubles.pop(name, None)
         return True
 
     def _image(self, name: str) -> pathlib.Path:

@@ -3,7 +3,7 @@
 import asyncio
 import contextlib
 import json
-from collections.abc import Iterable, Mapping
+from collections.abc import Callable, Iterable, Mapping
 from dataclasses import asdict
 from typing import TypedDict
 
@@ -52,6 +52,7 @@ class StudentView(TypedDict):
     clock: bool
     own_slices: bool
     share: Share
+    ready: bool
     trouble: str
 
 
@@ -102,8 +103,17 @@ class Tab:
 class Class:
     """The machines of a class by letter, its codes, and the tabs that are open."""
 
-    def __init__(self, store: Store, patience: float) -> None:
-        """Starts the machines, and brings each to where it was. Raises LabError where that can't be."""
+    def __init__(
+        self,
+        store: Store,
+        patience: float,
+        progress: Callable[[str], object] = lambda sentence: None,
+        clock: bool = True,
+    ) -> None:
+        """Starts the machines, and brings each to where it was. Raises LabError where that can't be.
+
+        progress: is told how far that is, in sentences; clock: whether that of a new machine is on
+        """
         self.store, self.codes = store, store.codes
         self.tabs: set[Tab] = set()
         self.rooms: dict[str, Room] = {}
@@ -112,8 +122,9 @@ class Class:
             for letter in store.machines:
                 file = ScriptFile(store.folder / f"{letter}.script")
                 self.rooms[letter] = room = Room(letter, store.session(patience), file)
-                room.changed = self._tell
-                room.restore(store.read(f"{letter}.json", Notes))
+                room.changed, room.watched = self._tell, self._watched
+                room.set_clock({"on": clock})
+                room.restore(store.read(f"{letter}.json", Notes), progress)
         except BaseException:
             self.end()
             raise
@@ -126,18 +137,21 @@ class Class:
 
     def keep(self) -> None:
         """Keeps what is another than before beside each script, and brings scripts up to date where the disk was full."""
+        trouble = self.store.trouble
         for room in self.rooms.values():
             if room.is_busy():
                 continue
-            trouble = room.trouble
+            before = room.trouble
             room.file.catch_up()
-            if room.trouble != trouble:
+            if room.trouble != before:
                 self._tell(room.seats.names())
             notes = room.notes()
             name = f"{room.letter}.json"
             if room.file.is_saved and self._kept.get(name) != notes and self.store.write(name, asdict(notes)):
                 self._kept[name] = notes
-        if self.store.trouble and self.store.write("codes.json", self.codes.codes):
+        if self.store.waits("codes.json"):
+            self.store.write("codes.json", self.codes.codes)
+        if self.store.trouble != trouble:
             self._tell([])
 
     def seat(self, name: str) -> Seat:
@@ -159,8 +173,8 @@ class Class:
         self.tabs.discard(tab)
         self._tell([tab.who])
 
-    async def answer(self, tab: Tab, text: str) -> Message:
-        """The answer to a request, with what is new."""
+    async def answer(self, tab: Tab, text: str, refusal: str = "") -> Message:
+        """The answer to a request, with what is new. With a refusal, which is a sentence, nothing is done."""
         answer: Message = {"kind": "answer", "id": 0}
         done: Answers = []
         try:
@@ -168,6 +182,8 @@ class Class:
             if not isinstance(message, dict) or type(message.get("id")) is not int:
                 raise BadRequest("a request is an object with a whole number as id")
             answer["id"] = message["id"]
+            if refusal:
+                raise BadRequest(refusal)
             answer.update(await self._carry_out(tab, read_request(message, tab.who == TEACHER), done))
         except (LabError, ValueError, RecursionError) as error:
             answer.update({"error": str(error), "done": done})
@@ -222,6 +238,7 @@ class Class:
             "clock": room.clock.settings.on,
             "own_slices": room.own_slices,
             "share": {"used": seat.used, "of": SEAT_BYTES},
+            "ready": not room.rebuilding,
             "trouble": room.trouble,
         }
 
@@ -284,6 +301,10 @@ class Class:
                     tab.since.pop(tab.shoulder.name, None)
         return {}
 
+    def _watched(self) -> set[str]:
+        """The names of seats that somebody looks at: with a tab, or over the shoulder."""
+        return {tab.who for tab in self.tabs} | {tab.shoulder.name for tab in self.tabs if tab.shoulder}
+
     def _renew(self, name: str) -> None:
         """Gives a seat a new code, and ends its tabs."""
         self.codes.renew(name)
@@ -302,4 +323,6 @@ def _shown(seat: Seat) -> State:
     """A seat's state as pages show it."""
     shown = seat.shown.copy()
     shown["labels"] = seat.labels
+    if seat.output:
+        shown["outputs"] = seat.output
     return shown

@@ -7,10 +7,13 @@ import contextlib
 import hashlib
 import os
 import pathlib
+import re
 import select
 import signal
 import subprocess
-from collections.abc import Callable, Mapping, Sequence
+import zlib
+from array import array
+from collections.abc import Callable, Iterator, Mapping, Sequence
 
 from .. import LabError
 from .answers import OutOfStep, Users, is_refusal, is_whole, read
@@ -21,8 +24,10 @@ __all__ = ["BadLine", "OutOfStep", "ProgramGone", "ReplayDiffers", "ScriptFull",
 
 SCRIPT_BYTES = 15_000_000  # a process takes 16,777,216 bytes at most, and lines that look need room as well
 TOGETHER = 40  # lines that go to the program at once: each has to fit into its pipe
-MARK_BYTES = 8
+BLOCK_BYTES = 65536  # that are written, or read, at once
 NEW_MACHINE = Users(dict.fromkeys(DIGITS, "-"))
+_RECORDED = re.compile(rb"(?:[1-8*] [ -~]{0,1022}+\n)*+")
+DIFFERS = "a new process answers the script otherwise than the one before"
 
 
 class ProgramGone(LabError):
@@ -68,15 +73,47 @@ class _Process:
         if self._unread or self._receive(0):
             raise OutOfStep(f"before {lines[0][:60]!r} was sent there came {self._unread[:60]!r}")
         data = "".join(f"{line}\n" for line in lines).encode("ascii")
-        try:
-            os.write(self._feed, data)
-        except OSError as error:
-            raise ProgramGone(self._end()) from error
+        self._put(memoryview(data))
         self.fed += len(data)
         answers = [self._answer(line) for line in lines]
         if self._unread:
             raise OutOfStep(f"after the answer to {lines[-1][:60]!r} there came {self._unread[:60]!r}")
         return answers
+
+    def pour(self, script: bytes) -> Iterator[bytes]:
+        """Feeds lines that do, as the process takes them, and gives their answers as they come, in whole lines.
+
+        Nobody looks how the answers are made. Raises ProgramGone.
+        """
+        left = memoryview(script + b"* list\n")  # whose answer is the last one: no line that does is answered so
+        self.fed += len(left)
+        os.set_blocking(self._feed, False)
+        ends = select.poll()
+        ends.register(self._source, select.POLLIN)
+        ends.register(self._feed, select.POLLOUT)
+        while True:
+            ready = {end for end, _ in ends.poll(self._patience * 1000)}
+            if not ready:
+                raise ProgramGone(f"the program says nothing for {self._patience:g} s")
+            if self._feed in ready:
+                left = left[self._put(left[:BLOCK_BYTES]) :]
+                if not left:
+                    ends.unregister(self._feed)
+            if self._source in ready and self._receive(0):
+                block, newline, self._unread = self._unread.rpartition(b"\n")
+                answers, _, last = block.rpartition(b"\n")
+                if last.startswith(b"* list ") and not left:
+                    yield answers + newline if answers else b""
+                    break
+                yield block + newline
+        os.set_blocking(self._feed, True)
+
+    def _put(self, data: memoryview) -> int:
+        """Writes what the process takes now; how many bytes. Raises ProgramGone."""
+        try:
+            return os.write(self._feed, data)
+        except OSError as error:
+            raise ProgramGone(self._end()) from error
 
     def _answer(self, line: str) -> list[str]:
         """The lines of the next answer."""
@@ -97,7 +134,7 @@ class _Process:
         """Waits at most so long for what the process says, and takes it; whether it said anything."""
         if not self._readable.poll(seconds * 1000):
             return False
-        data = os.read(self._source, 65536)
+        data = os.read(self._source, BLOCK_BYTES)
         if not data:
             raise ProgramGone(self._end())
         self._unread += data
@@ -130,7 +167,8 @@ class Session(contextlib.AbstractContextManager["Session"]):
     Its process is replaced where it ended, hangs, or has no room for more lines; then the new one carries out the
     script again. `policy` has the policy for agnostic elements, `keep` or `ones`, of each user who is there: no
     command shows it. `quantum` is the ticks of a slice. `command` starts the program, and `losses` says why processes
-    that were asked gave no answer, and were replaced.
+    that were asked gave no answer, and were replaced. `progress` is called while a new process carries out the script,
+    with how much of it that has done in percent: 0 first, and 100 at the end.
     """
 
     def __init__(
@@ -158,20 +196,21 @@ class Session(contextlib.AbstractContextManager["Session"]):
         self._check = check
         self._script = bytearray()
         self._answers = hashlib.sha256()
-        self._marks = bytearray()  # the first bytes of the digest after each line: where a replay differs first
+        self._marks = array("I")  # the CRC-32 of each answer: where a replay differs first
         self._has_ended = False
         self.policy: dict[int, str] = {}
         self.losses: list[str] = []
+        self.progress: Callable[[int], object] = lambda percent: None
+        self._percent = 100
+        self._process: _Process | None = None
         try:
-            self._process: _Process | None = self._replay()
-        except (ProgramGone, OutOfStep):
-            check_is_vecmon(program)
-            raise
-        try:
+            self._replay()
             for line in filter(None, script.decode("latin-1").split("\n")):
                 self.do(line)
-        except BaseException:
+        except BaseException as error:
             self.close()
+            if isinstance(error, ProgramGone | OutOfStep):
+                check_is_vecmon(program)
             raise
 
     def __exit__(self, *error: object) -> None:
@@ -190,7 +229,7 @@ class Session(contextlib.AbstractContextManager["Session"]):
     @property
     def lines(self) -> int:
         """How many lines the script has."""
-        return len(self._marks) // MARK_BYTES
+        return len(self._marks)
 
     @property
     def digest(self) -> str:
@@ -218,6 +257,31 @@ class Session(contextlib.AbstractContextManager["Session"]):
         if size and len(self._script) + size > self._script_bytes:
             raise ScriptFull(f"the script has {self._script_bytes:,} bytes at most, so only lines that look go on")
         return self._ask(lines)
+
+    def do_script(self, script: bytes) -> Iterator[tuple[str, list[str]]]:
+        """Does lines that a session recorded, in bulk: each line and its answer, as they come.
+
+        Nobody looks whether an answer is one to its line: the digest tells. Raises BadLine, ProgramGone and OutOfStep,
+        and then the session is of no use any more, as where it isn't gone through to its end.
+        """
+        if not _RECORDED.fullmatch(script):
+            raise BadLine("a script has lines that no session records")
+        lines, line, answer = iter(script.decode("ascii").split("\n")), "", list[str]()
+        for block in self._piped(self._process or self._replay(), script) if script else ():
+            self._answers.update(block)
+            for part in block.decode("latin-1").split("\n")[:-1]:
+                line = line or next(lines, "")
+                if not line:
+                    raise OutOfStep(f"after the answers to a script there came {part[:60]!r}")
+                answer.append(part)
+                if line[:1] != "*" or part[:1] == "*":  # before an operator's answer stand stops
+                    self._marks.append(_mark(answer))
+                    self._follow_policy(line, answer)
+                    yield line, answer
+                    line, answer = "", []
+        if line or next(lines, ""):
+            raise OutOfStep("the program hasn't answered all lines of a script")
+        self._script += script
 
     def look(self, line: str) -> list[str]:
         """The answer to a line that only looks. Raises BadLine for any other one, and else as `do`."""
@@ -266,38 +330,83 @@ class Session(contextlib.AbstractContextManager["Session"]):
             except ProgramGone as gone:
                 self.losses.append(str(gone))
                 self.close()
-        self._process = self._replay()
-        return self._process.ask(lines)
+        return self._replay().ask(lines)
 
     def _replay(self) -> _Process:
-        """A new process that has carried out the script, and has answered as the one before."""
-        process, answers = _Process(self.command, self._patience), hashlib.sha256()
+        """A new process that has carried out the script, and has answered as the one before.
+
+        The script is piped. Only where the answers are others it goes line by line, to say which.
+        """
+        process, answers = self._start(), hashlib.sha256()
+        if not self._script:
+            return process
+        try:
+            for block in self._piped(process, bytes(self._script)):
+                answers.update(block)
+            if answers.digest() == self._answers.digest():
+                return process
+            self.close()
+            process = self._start()
+            self._go_through(process)
+        except BaseException:
+            self.close()
+            raise
+        return process
+
+    def _start(self) -> _Process:
+        """A new process, which is the session's now, with a new machine."""
+        self._process = process = _Process(self.command, self._patience)
         try:
             if read(process.ask(["* list"])[0]) != NEW_MACHINE:
                 raise OutOfStep("the program doesn't begin with a new machine")
             self._check()
-            for number, line in enumerate(self._script.decode("ascii").splitlines(), 1):
-                if self._has_ended:
-                    break
-                (answer,) = process.ask([line])
-                _count(answers, answer)
-                mark = self._marks[(number - 1) * MARK_BYTES : number * MARK_BYTES]
-                if answers.digest()[:MARK_BYTES] != mark:
-                    now = f"line {number}, {line[:60]!r}, now with {answer[0][:60]!r}"
-                    raise ReplayDiffers(f"a new process answers the script otherwise than the one before: {now}")
-            if self._has_ended:
-                raise ProgramGone("the session has ended")
         except BaseException:
-            process.close()
+            self.close()
             raise
         return process
+
+    def _piped(self, process: _Process, script: bytes) -> Iterator[bytes]:
+        """The answers to a script, as they come; tells how far it is. Raises ProgramGone."""
+        lines, done = script.count(b"\n"), 0
+        self._tell(0)
+        for block in process.pour(script):
+            if self._has_ended:
+                raise ProgramGone("the session has ended")
+            done += block.count(b"\n")
+            self._tell(min(99, 100 * done // lines))
+            yield block
+        self._tell(100)
+
+    def _tell(self, percent: int) -> None:
+        """Tells how much of the script is carried out, where that is another number than before."""
+        if percent != self._percent:
+            self._percent = percent
+            self.progress(percent)
+
+    def _go_through(self, process: _Process) -> None:
+        """Carries out the script line by line. Raises ReplayDiffers, which says where."""
+        answers = hashlib.sha256()
+        for number, (line, mark) in enumerate(zip(self._script.decode("ascii").splitlines(), self._marks)):
+            if self._has_ended:
+                raise ProgramGone("the session has ended")
+            self._tell(100 * number // self.lines)
+            (answer,) = process.ask([line])
+            answers.update(_printed(answer))
+            if _mark(answer) != mark:
+                raise ReplayDiffers(f"{DIFFERS}: line {number + 1}, {line[:60]!r}, now with {answer[0][:60]!r}")
+        if answers.digest() != self._answers.digest():
+            raise ReplayDiffers(DIFFERS)
+        self._tell(100)
 
     def _record(self, line: str, answer: Sequence[str]) -> None:
         """Adds a line to the script, and its answer to the digest; follows the policy of the line's user."""
         self._script += line.encode("ascii") + b"\n"
-        _count(self._answers, answer)
-        self._marks += self._answers.digest()[:MARK_BYTES]
-        if line[0] == "*" or is_refusal(answer):
+        self._answers.update(_printed(answer))
+        self._marks.append(_mark(answer))
+        self._follow_policy(line, answer)
+
+    def _follow_policy(self, line: str, answer: Sequence[str]) -> None:
+        if line[2:3] not in "elp " or line[0] == "*" or is_refusal(answer):
             return
         match words_of(line):
             case ["enter"] | ["load", _]:
@@ -308,6 +417,11 @@ class Session(contextlib.AbstractContextManager["Session"]):
                 del self.policy[int(line[0])]
 
 
-def _count(answers: "hashlib._Hash", answer: Sequence[str]) -> None:
-    """Adds an answer to the digest of answers."""
-    answers.update("".join(f"{part}\n" for part in answer).encode("ascii"))
+def _printed(answer: Sequence[str]) -> bytes:
+    """An answer as the machine prints it."""
+    return ("\n".join(answer) + "\n").encode("latin-1")
+
+
+def _mark(answer: Sequence[str]) -> int:
+    """What tells an answer from others."""
+    return zlib.crc32(_printed(answer))

@@ -1,17 +1,9 @@
 // A seat's machine, live: what was told of it is painted where it changed.
 
-import { byId, make, prose } from "./elements.js";
+import { byId, make } from "./elements.js";
 import { showStep, showStop } from "./stage.js";
-import { addToLog, entryParts, logEntry } from "./transcript.js";
+import { addToLog, toldEntry } from "./transcript.js";
 import { paintState, whenFormsChange } from "./view.js";
-
-/** An entry of a seat's log; a refusal with its words. */
-function seatEntry(entry) {
-  const item = logEntry(entry, true);
-  const [, words] = entryParts(entry);
-  if (words) item.append(make("small", "", ...prose(words.replace(/^E\d\d.*?: /m, ""))));
-  return item;
-}
 
 /** A machine's state, painted where it changed: at its seat, and for a teacher who looks over the shoulder. */
 export class Desk {
@@ -24,7 +16,7 @@ export class Desk {
 
   show(state, entries, isAnew) {
     if (isAnew) byId("log").replaceChildren();
-    addToLog(byId("log"), entries.map(seatEntry));
+    addToLog(byId("log"), entries.map((entry) => toldEntry(entry, true)));
     if (state === this.state) return;
     this.before = isAnew ? state : this.state;
     this.state = state;
@@ -40,7 +32,7 @@ export class Desk {
   }
 
   showStage() {
-    const absent = make("small", "", "nobody has entered: a new machine or a source begins");
+    const absent = make("small", "", "there is no machine here yet");
     showStep(this.state, ...(this.state.run === "absent" ? [absent] : []));
     showStop([this.refusal, this.state.stop].filter(Boolean).join(" "));
   }

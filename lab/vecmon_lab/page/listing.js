@@ -1,15 +1,24 @@
 // The program: labels, breakpoints, the program counter, the instruction that is told of, and words that are new.
 
 import { byId, header, make, unseen } from "./elements.js";
-import { inOrder, paintRows } from "./rows.js";
+import { RowTable, placesOf } from "./rows.js";
 import { target, withNames } from "./words.js";
 
-const TABLE = { caption: "Program", names: ["marks", "address", "word", "instruction"], bytes: 4 };
+const NAMES = ["marks", "address", "word", "instruction"];
+const rows = new RowTable(byId("listing"), "Program", NAMES, "No program stands in memory yet.");
+let [code, labels, places] = [null, null, []];
+let [pc, seen] = ["", ""]; // where the program stood, and what was brought into sight
 
 export function paintListing(state, before) {
   const abi = byId("names").value === "abi";
-  const rows = inOrder(Object.keys(state.code)).map((address) => listingRow(state, before, address, abi));
-  paintRows(byId("listing"), TABLE, rows, state.labels, "No program stands in memory yet.");
+  if (state.code !== code || state.labels !== labels) {
+    [code, labels] = [state.code, state.labels];
+    places = placesOf(Object.keys(code), 4, labels);
+  }
+  if (state.code[state.instruction]) seen = state.instruction;
+  else if (state.pc !== pc) seen = state.pc;
+  pc = state.pc;
+  rows.show(places, (address) => listingRow(state, before, address, abi), seen);
 }
 
 function listingRow(state, before, address, abi) {

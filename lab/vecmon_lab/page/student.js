@@ -1,9 +1,14 @@
 // A student's page: what is done at the desk becomes lines.
 
+import { Cursor } from "./cursor.js";
 import { Desk } from "./desk.js";
 import { byId, make, put, say } from "./elements.js";
+import { LineField, inParts, nameOf, unfitLines } from "./lines.js";
+import { entryText, showReference, tellName } from "./reference.js";
 
 const MOST_WAITING = 5; // requests: keys that repeat faster are left out
+const MOST_LETTERS = 65536; // of a source
+const SIDES = { listing: "listing", source: "editor", reference: "reference" }; // of the panel of the program
 const NEW_MACHINE = ["enter", "map 10000 1 rwx", "map 20000 1 rw", "setpc 10000"];
 
 /** The bytes of a register with another element; all bytes in hexadecimal, the least first. */
@@ -14,15 +19,20 @@ function withElement(bytes, width, place, value) {
   return turned((others | (BigInt.asUintN(width, value) << shift)).toString(16).padStart(bytes.length, "0"));
 }
 
+/** What was refused of a request, in words. */
+function refusals({ do: lines }, answer) {
+  const told = (answer?.words ?? []).map((why, place) => why && `\`${lines[place]}\`: ${why}.`);
+  return [...told, answer?.error].filter(Boolean).join(" ");
+}
+
 /** A student's desk: buttons, keys, the command line, values to click, and the source. */
 export class Student {
   constructor(connection) {
     this.connection = connection;
     this.desk = new Desk();
-    this.past = []; // lines that were typed
-    this.place = 0; // among them
-    byId("log").after(byId("command"));
-    byId("listing").before(byId("editor"));
+    this.side = "listing"; // what is shown since one entered, or left
+    byId("log").after(byId("command"), byId("hint"));
+    byId("listing").before(byId("editor"), byId("reference"));
     byId("program-title").after(byId("sides"));
     byId("source").value = sessionStorage.getItem("source") ?? byId("source").value;
     byId("foot").hidden = false;
@@ -34,19 +44,28 @@ export class Student {
     const on = (id, event, heard) => byId(id).addEventListener(event, heard);
     document.querySelectorAll("[data-do]").forEach(({ id, dataset }) => on(id, "click", () => this.send([dataset.do])));
     on("steps", "submit", () => this.send([`step ${byId("number").value}`]));
-    on("command", "submit", () => this.command());
+    new LineField("line", (lines) => this.enter(lines));
+    new Cursor((place) => this.edit(place));
     on("change", "submit", () => this.change());
-    on("slice", "click", () => this.request({ ask: "lines", slices: 1 }, "a slice"));
+    on("slice", "click", () => this.request({ ask: "lines", slices: 100 }, "slices"));
     on("new", "click", () => this.send([...this.leaving(), ...NEW_MACHINE]));
     on("images", "change", () => this.send([...this.leaving(), "enter", `load ${byId("images").value}`]));
-    on("line", "keydown", (event) => this.recall(event));
     on("source", "input", () => this.numberLines());
     on("source", "scroll", () => (byId("numbers-of-lines").scrollTop = byId("source").scrollTop));
     on("assemble", "click", () => this.assemble());
-    for (const side of ["listing", "source"]) on(`show-${side}`, "click", () => this.showSide(side));
+    for (const side of Object.keys(SIDES)) on(`show-${side}`, "click", () => this.showSide(side));
+    on("find", "input", () => showReference(byId("find").value));
     on("edit-close", "click", () => byId("edit").close());
     on("machine", "click", (event) => this.edit(event.target.closest("[data-edit]")));
     document.addEventListener("keydown", (event) => this.pressed(event));
+    document.addEventListener("selectionchange", () => this.tellNames());
+  }
+
+  /** Tells of the name that the caret stands in. */
+  tellNames() {
+    const fields = { source: "entry", line: "hint" };
+    const told = fields[document.activeElement.id];
+    if (told) tellName(byId(told), document.activeElement);
   }
 
   show(view, logs, isAnew) {
@@ -56,8 +75,8 @@ export class Student {
     const stop = run === "stopped" && view.state.stop && view.stop.split(" ")[0];
     put(byId("run"), run === "absent" ? "not entered" : stop || run);
     byId("run").className = `pill ${run}`;
-    for (const id of ["one", "many", "number", "go", "out"]) byId(id).disabled = run !== "stopped";
-    byId("halt").disabled = byId("slice").disabled = run !== "running";
+    for (const id of ["one", "many", "number", "go", "out"]) byId(id).disabled = run !== "stopped" || !view.ready;
+    byId("halt").disabled = byId("slice").disabled = run !== "running" || !view.ready;
     byId("slice").hidden = !view.own_slices;
     put(byId("clock"), `the clock is ${view.clock ? "on" : "off"}`);
     const share = Math.floor((100 * view.share.used) / view.share.of);
@@ -67,20 +86,35 @@ export class Student {
     if (byId("images").length < images.length) byId("images").replaceChildren(...images);
     Object.assign(byId("images"), { hidden: view.images.length === 0, selectedIndex: 0 });
     this.desk.show(view.state, logs[view.seat] ?? [], isAnew);
+    const side = run === "absent" ? "source" : "listing";
+    if (side !== this.side) this.showSide((this.side = side));
     byId("log").ariaLive = "polite";
   }
 
   /** Sends a request; what was refused is told in words. */
   async request(request, words) {
     const answer = await this.connection.ask(request, words);
-    const lines = request.do ?? [];
-    const told = (answer?.words ?? []).map((why, place) => why && `\`${lines[place]}\`: ${why}.`).filter(Boolean);
-    this.refuse([...told, answer?.error ?? ""].join(" ").trim());
+    this.refuse(refusals(request, answer));
     return answer;
   }
 
-  send(lines) {
-    return this.request({ ask: "lines", do: lines }, lines.join(", "));
+  /** Carries out what was typed: `help` and a name, or lines. */
+  enter(lines) {
+    const [, name] = /^help\b *(.*)$/.exec(lines[0]) ?? [];
+    if (lines.length > 1 || name === undefined) return this.send(lines);
+    this.showSide("reference", name);
+    return this.refuse(entryText(name) || (name && `There is no command and no instruction \`${name}\`.`));
+  }
+
+  /** Sends lines, in requests one behind the other, unless one of them can't be sent. */
+  async send(lines) {
+    const unfit = unfitLines(lines);
+    if (unfit) return this.refuse(unfit);
+    const requests = inParts(lines).map((part) => ({ ask: "lines", do: part }));
+    const asked = requests.map((request) => this.connection.ask(request, nameOf(request.do)));
+    const answers = await Promise.all(asked);
+    const told = requests.map((request, place) => refusals(request, answers[place]));
+    return this.refuse(told.filter(Boolean).join(" "));
   }
 
   refuse(words) {
@@ -93,29 +127,14 @@ export class Student {
     return { absent: [], stopped: ["leave"], running: ["stop", "leave"] }[this.desk.state.run];
   }
 
-  command() {
-    const line = byId("line").value.trim();
-    byId("line").value = "";
-    if (!line) return;
-    this.past = [...this.past.filter((each) => each !== line), line];
-    this.place = this.past.length;
-    this.send([line]);
-  }
-
-  /** Lines of before, by arrow keys. */
-  recall(event) {
-    const step = { ArrowUp: -1, ArrowDown: 1 }[event.key];
-    if (!step) return;
-    event.preventDefault();
-    this.place = Math.min(this.past.length, Math.max(0, this.place + step));
-    byId("line").value = this.past[this.place] ?? "";
-  }
-
   pressed(event) {
-    const id = { F8: "one", F9: event.shiftKey ? "halt" : "go" }[event.key];
-    if (!id || byId("edit").open) return;
+    if (byId("edit").open) return;
+    const key = `${event.ctrlKey || event.metaKey ? "Ctrl " : ""}${event.shiftKey ? "Shift " : ""}${event.key}`;
+    const id = { F1: "show-reference", F8: "one", "Shift F8": "many", F9: "go", "Shift F9": "halt" }[key];
+    const own = key === "Ctrl Enter" && event.target === byId("source") ? "assemble" : id;
+    if (!own) return;
     event.preventDefault();
-    if (this.connection.waiting.length < MOST_WAITING) byId(id).click();
+    if (this.connection.waiting.length < MOST_WAITING) byId(own).click();
   }
 
   /** Sets or removes a breakpoint, or asks for another value. */
@@ -146,22 +165,36 @@ export class Student {
     return this.send([`${word} ${first} ${bytes ?? BigInt.asUintN(64, value).toString(16)}`]);
   }
 
-  showSide(side) {
-    byId("editor").hidden = side === "listing";
-    byId("listing").hidden = side === "source";
-    for (const each of ["listing", "source"]) byId(`show-${each}`).ariaPressed = `${each === side}`;
+  showSide(shown, find = "") {
+    for (const [side, id] of Object.entries(SIDES)) {
+      byId(id).hidden = side !== shown;
+      byId(`show-${side}`).ariaPressed = `${side === shown}`;
+    }
+    if (shown !== "reference") return;
+    byId("find").value = find;
+    showReference(find);
+    if (document.activeElement.id !== "line") byId("find").focus();
   }
 
   numberLines() {
     const lines = byId("source").value.split("\n");
     byId("numbers-of-lines").textContent = lines.map((_, place) => place + 1).join("\n");
-    sessionStorage.setItem("source", byId("source").value);
+    try {
+      sessionStorage.setItem("source", byId("source").value);
+    } catch {
+      // it is full: a reload has the copy of before
+    }
   }
 
   async assemble() {
-    const { mistakes } = (await this.request({ ask: "source", text: byId("source").value }, "the source")) ?? {};
+    const text = byId("source").value;
+    const [size, most] = [text.length, MOST_LETTERS].map((each) => each.toLocaleString("en"));
+    if (text.length > MOST_LETTERS) {
+      return this.refuse(`This source has ${size} characters, and ${most} are taken at most: nothing was sent.`);
+    }
+    const { mistakes } = (await this.request({ ask: "source", text }, "the source")) ?? {};
     byId("mistakes").replaceChildren(...(mistakes ?? []).map((mistake) => this.mistake(mistake)));
-    if (mistakes?.length === 0) this.showSide("listing");
+    return mistakes && this.showSide(mistakes.length ? "source" : "listing");
   }
 
   /** A mistake of the source, which leads to its place. */
@@ -172,7 +205,7 @@ export class Student {
       const start = lines.slice(0, line - 1).reduce((sum, each) => sum + each.length + 1, 0);
       byId("source").focus();
       byId("source").setSelectionRange(start + column - 1, start + lines[line - 1].length);
-      byId("source").scrollTop = 17 * (line - 3);
+      byId("source").scrollTop = parseFloat(getComputedStyle(byId("source")).lineHeight) * (line - 3);
     });
     return make("li", "", button);
   }

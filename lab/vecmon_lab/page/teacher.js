@@ -2,13 +2,16 @@
 
 import { Desk } from "./desk.js";
 import { byId, header, make, put, say } from "./elements.js";
-import { addToLog, logEntry } from "./transcript.js";
+import { LineField, inParts, nameOf, unfitLines } from "./lines.js";
+import { addToLog, toldEntry } from "./transcript.js";
 
 /** An answer without the leading zeros of its addresses. */
 const short = (answer) => answer.replace(/=0+(?=[0-9a-f])/g, "=");
 
 /** A button whose name says more than its text. */
 const button = (text, ariaLabel, onclick) => Object.assign(make("button", "", text), { ariaLabel, onclick });
+
+const NUMBERS = ["slices", "ms", "limit"]; // of a clock
 
 /** A machine of the class, with its eight seats. */
 class ClassMachine {
@@ -20,11 +23,12 @@ class ClassMachine {
     this.box.querySelector("h2").textContent = `Machine ${letter}`;
     const on = (name, kind, heard) => this.part(name).addEventListener(kind, heard);
     const ask = (request) => teacher.request({ machine: letter, ...request });
-    for (const name of ["on", "slices", "ms"]) {
-      const [slices, ms] = [this.part("slices"), this.part("ms")];
+    const numbers = NUMBERS.map(this.part);
+    for (const name of ["on", ...NUMBERS]) {
       on(name, "change", () => {
-        if (!slices.reportValidity() || !ms.reportValidity()) return;
-        ask({ ask: "clock", on: this.part("on").checked, slices: Number(slices.value), ms: Number(ms.value) });
+        if (!numbers.every((part) => part.reportValidity())) return;
+        const settings = Object.fromEntries(numbers.map((part) => [part.name, Number(part.value)]));
+        ask({ ask: "clock", on: this.part("on").checked, ...settings });
       });
     }
     on("own", "change", () => ask({ ask: "rights", own_slices: this.part("own").checked }));
@@ -58,7 +62,7 @@ class ClassMachine {
       put(used, `${Math.ceil((100 * told.used) / share)} %`);
       look.ariaPressed = `${seat === shoulder}`;
     }
-    for (const name of ["slices", "ms"]) {
+    for (const name of NUMBERS) {
       if (document.activeElement !== this.part(name)) this.part(name).value = machine.clock[name];
     }
     this.part("on").checked = machine.clock.on;
@@ -81,7 +85,7 @@ export class Teacher {
     document.title = "Teacher – vecmon";
     put(byId("who"), "Teacher");
     byId("teacher").hidden = false;
-    byId("operate").addEventListener("submit", () => this.operate());
+    new LineField("operator-line", (lines) => this.operate(lines));
   }
 
   show(view, logs, isAnew) {
@@ -95,7 +99,7 @@ export class Teacher {
     for (const letter of letters) this.machines[letter].show(view.machines[letter], view.share, view.shoulder);
     say("trouble", view.trouble);
     if (isAnew) byId("operator-log").replaceChildren();
-    const item = (letter) => (entry) => logEntry(entry, false, letters.length > 1 ? `${letter} ` : "");
+    const item = (letter) => (entry) => toldEntry(entry, false, letters.length > 1 ? `${letter} ` : "");
     addToLog(byId("operator-log"), letters.flatMap((letter) => (logs[letter] ?? []).map(item(letter))));
     byId("operator-log").ariaLive = "polite";
     if (isAnew && this.seat) this.request({ ask: "shoulder", seat: this.seat }); // as before the connection broke
@@ -106,14 +110,14 @@ export class Teacher {
     if (this.seat) this.desk.show(view.state, logs[this.seat] ?? [], isOther);
   }
 
-  operate() {
-    const line = byId("operator-line").value.trim();
-    byId("operator-line").value = "";
-    if (line) this.request({ ask: "lines", machine: byId("operated").value, do: [line] });
+  operate(lines) {
+    const [unfit, machine] = [unfitLines(lines), byId("operated").value];
+    if (unfit) return say("gone", unfit);
+    return inParts(lines).forEach((part) => this.request({ ask: "lines", machine, do: part }));
   }
 
   async request(request) {
-    const answer = await this.connection.ask(request, request.do?.[0] ?? request.ask);
+    const answer = await this.connection.ask(request, request.do ? nameOf(request.do) : request.ask);
     if (answer?.error || (answer && request.ask !== "shoulder")) say("gone", answer.error ?? "");
   }
 
