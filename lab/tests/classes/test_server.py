@@ -240,7 +240,9 @@ async def test_what_is_served(room: Served) -> None:
         assert answer.headers["Cache-Control"] == "no-store"
         assert "Set-Cookie" not in answer.headers
     assert "default-src 'none'" in policy and "frame-ancestors 'none'" in policy and "unsafe" not in policy
-    assert page.count("<script") == policy.split("script-src")[1].split(";")[0].count("sha256-")
+    scripts = [kind for kind in re.findall('<script type="([^"]*)"', page) if kind != "application/json"]
+    assert scripts == ["module"] and policy.split("script-src")[1].split(";")[0].count("sha256-") == 1
+    assert page.count("<script") == 2  # the other one has data
     assert not re.search(r"""(src|href)\s*=\s*["'](?!data:)|\son\w+\s*=|\sstyle\s*=""", page.split("<script")[0])
     assert not [code for code in room.codes.values() if code in page]
     for path in ("A", "A/", "A/json", "codes.json", "A/../codes.json", "lab", "B/script", "socket/"):

@@ -72,21 +72,19 @@ class ScriptFile:
     def replay(self, session: Session, notes: Notes) -> Iterator[tuple[str, Sequence[str]]]:
         """Carries out what was kept: each line and its answer. Raises BadFolder where it is answered otherwise.
 
-        In bulk where notes have a digest of the answers, and the others line by line.
+        Notes have the digest of its first answers; lines behind them were written shortly before a server was killed.
         """
-        script = self.kept.split(b"\n")[:-1]
+        script = self.kept.splitlines(keepends=True)
         if len(script) < notes.lines:
             raise BadFolder(f"the script of machine {self._machine} has lost lines: it had {notes.lines}")
         others = f"machine {self._machine} answers the first {notes.lines} lines otherwise than before"
         try:
-            yield from session.do_script(b"".join(line + b"\n" for line in script[: notes.lines]))
+            yield from session.do_script(b"".join(script[: notes.lines]))
         except (BadLine, OutOfStep) as error:
             raise BadFolder(others) from error
         if notes.lines and session.digest != notes.answers:
             raise BadFolder(others)
-        for line in script[notes.lines :]:
-            text = line.decode("latin-1")
-            yield text, session.do(text)
+        yield from session.do_script(b"".join(script[notes.lines :]))
 
     @property
     def is_saved(self) -> bool:
