@@ -75,7 +75,7 @@ export class Student {
     const stop = run === "stopped" && view.state.stop && view.stop.split(" ")[0];
     put(byId("run"), run === "absent" ? "not entered" : stop || run);
     byId("run").className = `pill ${run}`;
-    for (const id of ["one", "many", "number", "go", "out"]) byId(id).disabled = run !== "stopped" || !view.ready;
+    for (const id of ["one", "many", "number", "go"]) byId(id).disabled = run !== "stopped" || !view.ready;
     byId("halt").disabled = byId("slice").disabled = run !== "running" || !view.ready;
     byId("slice").hidden = !view.own_slices;
     put(byId("clock"), `the clock is ${view.clock ? "on" : "off"}`);
