@@ -331,6 +331,8 @@ async def test_a_source(room: Served) -> None:
     assert [(each["line"], each["column"]) for each in told["mistakes"]] == [(2, 14), (4, 14)]
     assert "doesn't fit" in told["mistakes"][0]["message"]
     assert (await tab.ask("source", text="b nowhere"))["mistakes"][0]["line"] == 1
+    told = await tab.ask("source", text="vadd.vv v1, v2\n" * 200)
+    assert [each["line"] for each in told["mistakes"]] == [*range(1, 101)]
     told = await tab.ask("source", text="nop\n" * 5000)
     assert "4096 lines at most" in told["error"]
     await room.check_replay()

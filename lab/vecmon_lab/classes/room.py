@@ -12,7 +12,7 @@ from dataclasses import asdict, dataclass, field, replace
 from functools import partial
 
 from .. import LabError
-from ..assembler.source import Program, SourceError, read_source, refusal
+from ..assembler.source import Program, SourceError, in_order, read_source, refusal
 from ..assembler.trial import all_mistakes
 from ..machine.answers import Granted, OutOfStep, Position, Refused, read
 from ..machine.lines import DIGITS, is_look
@@ -185,7 +185,7 @@ class Room:
                 work = _Work(before=done)
                 await self._hop(work, carry_out, seat)
             done = [*done, *work.done]
-        return mistakes
+        return in_order(mistakes)
 
     def set_clock(self, settings: Mapping[str, int]) -> None:
         """Sets what is named of the clock's settings."""
