@@ -253,9 +253,8 @@ async def test_a_new_code_while_the_disk_is_full(tmp_path: pathlib.Path) -> None
         assert room.server
         limit, infinity = resource.RLIMIT_FSIZE, resource.RLIM_INFINITY
         resource.prlimit(room.server.pid, limit, (100, infinity))  # a script may grow so far, and no other file
-        await teacher.ask("renew", seat="A2")
+        new = (await teacher.ask("renew", seat="A2"))["codes"]["A2"]
         await teacher.until(lambda view: view["trouble"].startswith("codes.json isn't saved"))
-        new = teacher.view["machines"]["A"]["seats"]["2"]["code"]
         await tab.do("step 1")  # so that the machine's notes wait as well
         resource.prlimit(room.server.pid, limit, (infinity, infinity))
         await teacher.until(lambda view: not view["trouble"])

@@ -153,16 +153,17 @@ async def test_messages_that_are_too_large_or_no_text(room: Served) -> None:
             await tab.until(lambda view: False)
 
 
-@pytest.mark.parametrize("ask", ["clock", "rights", "renew", "shoulder"])
+@pytest.mark.parametrize("ask", ["clock", "rights", "renew", "shoulder", "wall", "codes"])
 async def test_what_the_teacher_alone_may_ask(room: Served, ask: str) -> None:
     tab, teacher = await room.sit("A1"), await room.sit("teacher")
-    before = teacher.view["machines"]["A"]["seats"]["2"]["code"]
+    before = room.codes["A2"]
     words = {"machine": "A", "on": True, "own_slices": False, "seat": "A2"}
     assert "no such request" in (await tab.ask(ask, **words))["error"]
     assert "A2" not in json.dumps(tab.view) and before not in json.dumps(tab.view) and "machines" not in tab.view
     await teacher.do("list", machine="A")
     machine = teacher.view["machines"]["A"]
-    assert (machine["clock"]["on"], machine["own_slices"], machine["seats"]["2"]["code"]) == (False, True, before)
+    assert (machine["clock"]["on"], machine["own_slices"], teacher.view["wall"]) == (False, True, "")
+    assert (await teacher.ask("codes", seat="A2"))["codes"] == {"A2": before}
     assert (await tab.ask("lines", machine="A", do=["slices 1"]))["do"] == [["E03"]]  # as user 1
 
 
@@ -182,12 +183,11 @@ async def test_wrong_codes(room: Served) -> None:
 
 async def test_a_new_code_ends_the_old_one(room: Served) -> None:
     tab, other, teacher = await room.sit("A1"), await room.sit("A2"), await room.sit("teacher")
-    await teacher.ask("renew", seat="A1")
+    renewed = (await teacher.ask("renew", seat="A1"))["codes"]["A1"]
     with pytest.raises(EOFError, match="4403"):
         await tab.until(lambda view: False)
     with pytest.raises(EOFError, match="4403"):
         await (await room.open(room.codes["A1"])).receive()
-    renewed = teacher.view["machines"]["A"]["seats"]["1"]["code"]
     assert renewed != room.codes["A1"] and json.loads((room.folder / "codes.json").read_text())["A1"] == renewed
     assert (await (await room.open(renewed)).receive())["who"] == "A1"
     assert await other.do("enter") == [["entered"]]
@@ -426,7 +426,7 @@ async def test_a_seats_share_of_the_script(room: Served) -> None:
 
 async def test_machines_apart(tmp_path: pathlib.Path) -> None:
     async with served(tmp_path / "class", machines=2) as room:
-        assert len(room.codes) == 17 and len(set(room.codes.values())) == 17
+        assert len(room.codes) == 18 and len(set(room.codes.values())) == 18
         one, two, teacher = await room.sit("A1"), await room.sit("B1"), await room.sit("teacher")
         await one.do(*LOOP, "go")
         await two.do(*LOOP, "step 1")

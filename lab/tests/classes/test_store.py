@@ -31,7 +31,7 @@ def test_what_is_kept(store: Store, program: pathlib.Path) -> None:
     folder = store.folder
     assert stat.S_IMODE(folder.stat().st_mode) == 0o700
     codes = store.codes.codes
-    assert len(codes) == 17 and json.loads((folder / "codes.json").read_text()) == codes
+    assert len(codes) == 18 and json.loads((folder / "codes.json").read_text()) == codes
     store.close()
     kinds: list[tuple[Any, ...]] = [(), ({"sum": SUM}, 50, 1), ({}, None, 2)]
     for words in kinds:
@@ -146,7 +146,7 @@ def test_what_the_command_refuses(
     (tmp_path / "file").touch()
     for bad in ("/proc/nowhere", str(tmp_path / "file"), str(tmp_path)):
         failed("class", bad)
-    numbers = ("--port 70000", "--machines 13", "--patience 0", "--patience nan")
+    numbers = ("--port 70000", "--machines 13", "--patience 0", "--patience nan", "--address x")
     for option in ("--host 192.0.2.1", "--host nowhere.invalid", *numbers):
         failed("class", str(folder), *option.split())
     assert "are required: DIR;" in failed("class")

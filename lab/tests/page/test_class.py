@@ -4,53 +4,19 @@ import os
 import pathlib
 import signal
 import time
-from collections.abc import Callable, Iterator
 from typing import TYPE_CHECKING
 
 import pytest
 
 from support.browser import CONTRAST, media, press
-from support.class_pages import Served, Tab, close_all, digest_of
+from page.conftest import Sit
+from support.class_pages import Served, Tab, digest_of
 from support.places import EXAMPLES
 
 if TYPE_CHECKING:
     from selenium.webdriver import Chrome
 
 COUNT_UP = ["addi x5, x5, 1", "jal x0, -4"]
-Sit = Callable[[str], Tab]
-
-
-@pytest.fixture(scope="module")
-def served(program: pathlib.Path, tmp_path_factory: pytest.TempPathFactory) -> Iterator[Served]:
-    """A class for all tests that leave its server alone."""
-    served = Served(tmp_path_factory.mktemp("class") / "class", program)
-    yield served
-    served.end()
-
-
-@pytest.fixture
-def own_class(program: pathlib.Path, tmp_path: pathlib.Path) -> Iterator[Served]:
-    """A class for a test that ends its server."""
-    served = Served(tmp_path / "class", program)
-    yield served
-    served.end()
-
-
-@pytest.fixture
-def tabs(browser: "Chrome") -> Iterator["Chrome"]:
-    """The browser, for tabs, closed behind the test. Its console has said nothing then but of refused reconnections."""
-    first = browser.current_window_handle
-    browser.get_log("browser")
-    yield browser
-    said = browser.get_log("browser")
-    close_all(browser, [first])
-    assert [entry for entry in said if "/socket' failed: " not in entry["message"]] == []
-
-
-@pytest.fixture
-def sit(tabs: "Chrome", served: Served) -> Sit:
-    """Opens a tab for somebody of the class."""
-    return lambda who: Tab(tabs, served, who)
 
 
 def test_eight_tabs_alone(tabs: "Chrome", own_class: Served) -> None:
@@ -394,7 +360,7 @@ def test_the_teacher_sees_and_settles(sit: Sit, tmp_path: pathlib.Path, served: 
             time.sleep(0.02)
         assert path.read_bytes() == expected
     old = served.codes["A5"]
-    teacher.click(f"{row} td:nth-child(3) button")
+    teacher.click(f"{row} [aria-label^='New code']")
     tab.wait("!id('join').hidden && id('head').hidden")
     assert "isn't valid" in tab.text("#join-says") and tab.run("sessionStorage.getItem('code')") is None
     assert served.codes["A5"] != old

@@ -7,12 +7,13 @@ import os
 import pathlib
 import socket
 import sys
+from urllib.parse import urlsplit
 
 from .. import LabError
 from ..arguments import between
 from ..machine.program import find_program, images_of
 from .codes import LETTERS
-from .server import listening, serve
+from .server import HOST, listening, serve
 from .store import Store
 from .view import Class
 
@@ -24,6 +25,7 @@ def add_arguments(parser: argparse.ArgumentParser) -> None:
     parser.add_argument("--host", default="127.0.0.1", help="the address to serve at; 0.0.0.0 is a whole network")
     port = between(0, 65535)
     parser.add_argument("--port", metavar="P", type=port, default=8765, help="0 is one that is free; else %(default)s")
+    parser.add_argument("--address", metavar="URL", type=_address, help="where students reach the class")
     parser.add_argument("--name", action="append", default=[], help="a host name that the page is opened under as well")
     machines = between(1, len(LETTERS))
     parser.add_argument("--machines", metavar="N", type=machines, help="eight seats each, 1 to 12; else 1")
@@ -45,9 +47,19 @@ def run(arguments: argparse.Namespace) -> int:
     except LabError:
         store.close()
         raise
-    members = Class(store, arguments.patience, _tell, not arguments.no_clock)
-    asyncio.run(serve(members, host, doors, set(arguments.name)))
+    address = arguments.address or ""
+    members = Class(store, arguments.patience, _tell, not arguments.no_clock, address)
+    names = {*arguments.name, urlsplit(address).hostname or host}
+    asyncio.run(serve(members, host, doors, names))
     return 0
+
+
+def _address(text: str) -> str:
+    """An address of the class, with a slash at its end. Raises ArgumentTypeError."""
+    scheme, _, host = text.removesuffix("/").partition("://")
+    if scheme not in ("http", "https") or not HOST.fullmatch(host):
+        raise argparse.ArgumentTypeError(f"{text} isn't http:// or https://, a host, and a port or none")
+    return f"{scheme}://{host}/"
 
 
 def _tell(sentence: str) -> None:

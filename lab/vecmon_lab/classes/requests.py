@@ -75,7 +75,22 @@ class LookOver:
     seat: str
 
 
-Request = Lines | Source | SetClock | SetRights | Renew | LookOver
+@dataclass(frozen=True)
+class PutOnWall:
+    """The seat that the wall shows; "" for none."""
+
+    seat: str
+
+
+@dataclass(frozen=True)
+class ShowCodes:
+    """The code of a seat, or of the wall; "" for all of them. Pictures are those of a sheet to print."""
+
+    seat: str
+    pictures: bool
+
+
+Request = Lines | Source | SetClock | SetRights | Renew | LookOver | PutOnWall | ShowCodes
 
 
 _LIMITS = {"on": (0, 1), "slices": (1, 1000), "ms": (10, 10_000), "limit": (100_000, 10**12)}  # of a clock's settings
@@ -99,6 +114,10 @@ def read_request(message: Mapping[str, object], is_teacher: bool) -> Request:
             return Renew(_name(message, "seat"))
         case "shoulder", True:
             return LookOver(_name(message, "seat"))
+        case "wall", True:
+            return PutOnWall(_name(message, "seat"))
+        case "codes", True:
+            return ShowCodes(_name(message, "seat"), bool(message.get("pictures")))
     raise BadRequest("there is no such request for this seat")
 
 

@@ -12,10 +12,23 @@ from ..assembler.commands import refusal_on_pages
 from ..machine.session import SCRIPT_BYTES
 from ..page.pages import merge_patch
 from ..page.state import State
-from .codes import TEACHER
-from .requests import BadRequest, Lines, LookOver, Renew, Request, SetClock, SetRights, Source, read_request
+from .codes import TEACHER, WALL
+from .requests import (
+    BadRequest,
+    Lines,
+    LookOver,
+    PutOnWall,
+    Renew,
+    Request,
+    SetClock,
+    SetRights,
+    ShowCodes,
+    Source,
+    read_request,
+)
 from .room import SEAT_BYTES, Room
 from .seats import Seat
+from .sheet import pictures
 from .store import Notes, ScriptFile, Store
 
 Logs = dict[str, list[str]]
@@ -37,6 +50,8 @@ class Message(TypedDict, total=False):
     error: str
     done: Answers
     words: list[str]
+    codes: dict[str, str]
+    pictures: dict[str, str]
     patch: dict[str, object]
     logs: Logs
 
@@ -56,8 +71,9 @@ class StudentView(TypedDict):
     trouble: str
 
 
+WallView = TypedDict("WallView", {"seat": str, "state": State, "stop": str, "trouble": str})
 SeatView = TypedDict(
-    "SeatView", {"code": str, "tabs": int, "run": str, "pc": str, "stop": str, "line": str, "answer": str, "used": int}
+    "SeatView", {"tabs": int, "run": str, "pc": str, "stop": str, "line": str, "answer": str, "used": int}
 )
 
 
@@ -86,6 +102,8 @@ class TeacherView(TypedDict):
     trouble: str
     shoulder: str
     state: State
+    wall: str
+    address: str
 
 
 class Tab:
@@ -109,12 +127,15 @@ class Class:
         patience: float,
         progress: Callable[[str], object] = lambda sentence: None,
         clock: bool = True,
+        address: str = "",
     ) -> None:
         """Starts the machines, and brings each to where it was. Raises LabError where that can't be.
 
-        progress: is told how far that is, in sentences; clock: whether that of a new machine is on
+        progress: is told how far that is, in sentences; clock: whether that of a new machine is on; address: where
+        students reach the class, or "", with a slash at its end
         """
-        self.store, self.codes = store, store.codes
+        self.store, self.codes, self.address = store, store.codes, address
+        self.wall: Seat | None = None  # the seat that it shows
         self.tabs: set[Tab] = set()
         self.rooms: dict[str, Room] = {}
         self._kept: dict[str, Notes] = {}
@@ -184,6 +205,8 @@ class Class:
             answer["id"] = message["id"]
             if refusal:
                 raise BadRequest(refusal)
+            if tab.who == WALL:
+                raise BadRequest("the wall only looks")
             answer.update(await self._carry_out(tab, read_request(message, tab.who == TEACHER), done))
         except (LabError, ValueError, RecursionError) as error:
             answer.update({"error": str(error), "done": done})
@@ -199,8 +222,7 @@ class Class:
     def news(self, tab: Tab) -> Message:
         """What the tab hasn't been told: a patch of its view, and entries of logs."""
         tab.changed.clear()
-        view: Mapping[str, object]
-        view = self._teacher_view(tab) if tab.who == TEACHER else self._student_view(self.seat(tab.who))
+        view = self._view(tab)
         patch, tab.view = merge_patch(tab.view, view), view
         news, logs = Message(), Logs()
         if patch:
@@ -214,15 +236,25 @@ class Class:
             news["logs"] = logs
         return news
 
+    def _view(self, tab: Tab) -> Mapping[str, object]:
+        """All that a tab is told of, but logs."""
+        if tab.who == TEACHER:
+            return self._teacher_view(tab)
+        return self._wall_view() if tab.who == WALL else self._student_view(self.seat(tab.who))
+
     def _logs(self, tab: Tab) -> list[Seat]:
+        if tab.who == WALL:
+            return []
         if tab.who != TEACHER:
             return [self.seat(tab.who)]
         operators = [room.seats.operator for room in self.rooms.values()]
         return operators if tab.shoulder is None else [*operators, tab.shoulder]
 
     def _tell(self, names: Iterable[str]) -> None:
-        """Wakes the tabs of these seats, and the teacher's."""
+        """Wakes the tabs of these seats, and the teacher's; the wall's where it shows one of them."""
         names = {TEACHER, *names}
+        if self.wall and self.wall.name in names:
+            names.add(WALL)
         for tab in self.tabs:
             if tab.who in names:
                 tab.changed.set()
@@ -242,6 +274,13 @@ class Class:
             "trouble": room.trouble,
         }
 
+    def _wall_view(self) -> WallView:
+        """What a wall shows: no code, nor anything of other seats."""
+        if self.wall is None:
+            return {"seat": "", "state": {}, "stop": "", "trouble": ""}
+        trouble = self.rooms[self.wall.name[0]].trouble
+        return {"seat": self.wall.name, "state": _shown(self.wall), "stop": self.wall.stop, "trouble": trouble}
+
     def _teacher_view(self, tab: Tab) -> TeacherView:
         return {
             "machines": {letter: self._machine_view(room) for letter, room in self.rooms.items()},
@@ -251,6 +290,8 @@ class Class:
             "trouble": self.store.trouble,
             "shoulder": tab.shoulder.name if tab.shoulder else "",
             "state": _shown(tab.shoulder) if tab.shoulder else {},
+            "wall": self.wall.name if self.wall else "",
+            "address": self.address,
         }
 
     def _machine_view(self, room: Room) -> MachineView:
@@ -269,7 +310,6 @@ class Class:
 
     def _seat_view(self, seat: Seat) -> SeatView:
         return {
-            "code": self.codes.codes[seat.name],
             "tabs": sum(tab.who == seat.name for tab in self.tabs),
             "run": seat.state["run"],
             "pc": seat.state.get("pc", ""),
@@ -294,16 +334,26 @@ class Class:
             case SetRights(machine, own_slices):
                 self._room(machine).set_rights(own_slices)
             case Renew(name):
-                self._renew(self.seat(name).name)
+                self._renew(name if name == WALL else self.seat(name).name)
+                return {"codes": self.codes.shown(name)}
             case LookOver(name):
                 tab.shoulder = self.seat(name) if name else None
                 if tab.shoulder:
                     tab.since.pop(tab.shoulder.name, None)
+            case PutOnWall(name):
+                self.wall = self.seat(name) if name else None
+                self._tell([WALL])
+            case ShowCodes(name, with_pictures):
+                if not (codes := self.codes.shown(name)):
+                    raise BadRequest("there is no such seat")
+                shown = await asyncio.to_thread(pictures, self.address, codes) if with_pictures and self.address else {}
+                return {"codes": codes, "pictures": shown}
         return {}
 
     def _watched(self) -> set[str]:
-        """The names of seats that somebody looks at: with a tab, or over the shoulder."""
-        return {tab.who for tab in self.tabs} | {tab.shoulder.name for tab in self.tabs if tab.shoulder}
+        """The names of seats that somebody looks at: with a tab, over the shoulder, or on a wall."""
+        looked_at = {tab.who for tab in self.tabs} | {tab.shoulder.name for tab in self.tabs if tab.shoulder}
+        return looked_at | ({self.wall.name} if self.wall and WALL in looked_at else set())
 
     def _renew(self, name: str) -> None:
         """Gives a seat a new code, and ends its tabs."""

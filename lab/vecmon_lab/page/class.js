@@ -5,6 +5,7 @@ import { byId, put, say } from "./elements.js";
 import { patched } from "./patches.js";
 import { Student } from "./student.js";
 import { Teacher } from "./teacher.js";
+import { Wall } from "./wall.js";
 
 /** Begins anew with a code, or with none, that is kept for this tab's session alone, and not in the address. */
 function sitDown(code) {
@@ -33,8 +34,8 @@ class ClassTab {
     this.view = patched(isAnew ? {} : this.view, patch);
     if (!this.page) {
       for (const id of ["head", "desk"]) byId(id).hidden = false;
-      document.body.className = who === "teacher" ? "teaching" : "studying";
-      this.page = who === "teacher" ? new Teacher(this.connection) : new Student(this.connection);
+      document.body.className = { teacher: "teaching", wall: "watching" }[who] ?? "studying";
+      this.page = new ({ teacher: Teacher, wall: Wall }[who] ?? Student)(this.connection);
     }
     this.page.show(this.view, logs, isAnew);
   }

@@ -10,6 +10,9 @@ export function make(tag, kind, ...contents) {
   return element;
 }
 
+/** A button whose name says more than its text. */
+export const button = (text, ariaLabel, onclick) => Object.assign(make("button", "", text), { ariaLabel, onclick });
+
 /** Words for whoever can't see colour and form. */
 export const unseen = (text) => make("span", "unseen", text);
 

@@ -61,18 +61,21 @@ export class RowTable {
   }
 
   resized() {
-    const before = this.room;
+    const { room, height } = this;
     this.room = this.box.clientHeight;
-    this.height = parseFloat(getComputedStyle(this.body).lineHeight) || this.height;
-    this.paint();
-    if (Math.abs(this.room - before) > 60) this.bringIntoSight(); // it was hidden, or the window is another one
+    this.height = parseFloat(getComputedStyle(this.body).lineHeight) || height;
+    if (this.height !== height) this.made = "";
+    this.moved((this.top * this.height) / height); // the same rows stay in sight
+    this.box.scrollTop = this.top;
+    if (Math.abs(this.room - room) > 60) this.bringIntoSight(); // it was hidden, or the window is another one
   }
 
+  /** Has two rows before the one that is to be seen, and two behind it, in sight; else it comes to the upper third. */
   bringIntoSight() {
-    const { top, room, seen } = this;
-    const place = this.places.findIndex(({ address }) => address && address === seen) * this.height;
-    if (!room || place < 0 || (place >= top + 30 && place <= top + room - 60)) return;
-    this.moved(Math.max(0, Math.min(place - room / 3, this.places.length * this.height - room)));
+    const { top, room, seen, height } = this;
+    const place = this.places.findIndex(({ address }) => address && address === seen) * height;
+    if (!room || place < 0 || (place >= top + 2 * height && place <= top + room - 3 * height)) return;
+    this.moved(Math.max(0, Math.min(place - room / 3, this.places.length * height - room)));
     this.box.scrollTop = this.top;
   }
 

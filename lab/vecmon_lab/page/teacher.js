@@ -1,15 +1,13 @@
 // The teacher's page: seats, clocks, the operator's lines, and a seat looked at.
 
+import { CodeField, closeSheet, openSheet } from "./codes.js";
 import { Desk } from "./desk.js";
-import { byId, header, make, put, say } from "./elements.js";
+import { button, byId, header, make, put, say } from "./elements.js";
 import { LineField, inParts, nameOf, unfitLines } from "./lines.js";
 import { addToLog, toldEntry } from "./transcript.js";
 
 /** An answer without the leading zeros of its addresses. */
 const short = (answer) => answer.replace(/=0+(?=[0-9a-f])/g, "=");
-
-/** A button whose name says more than its text. */
-const button = (text, ariaLabel, onclick) => Object.assign(make("button", "", text), { ariaLabel, onclick });
 
 const NUMBERS = ["slices", "ms", "limit"]; // of a clock
 
@@ -36,23 +34,19 @@ class ClassMachine {
   }
 
   row(seat, teacher) {
-    const code = Object.assign(make("a", ""), { target: "_blank", rel: "noopener" });
     const lookAt = () => teacher.request({ ask: "shoulder", seat: seat === teacher.seat ? "" : seat });
     const look = button("Look", `Look at seat ${seat}`, lookAt);
-    const renew = button("New code", `New code for seat ${seat}`, () => teacher.request({ ask: "renew", seat }));
     const run = make("span", "pill");
     const [tabs, pc, stop, line, used] = ["", "", "wraps", "wraps", ""].map((kind) => make("td", kind));
-    const controls = [make("td", "", look), make("td", "", code, " ", renew), tabs, make("td", "", run)];
+    const controls = [make("td", "", look), make("td", "", ...teacher.codeField(seat).parts), tabs, make("td", "", run)];
     const row = make("tr", "", header("row", seat), ...controls, pc, stop, line, used);
     row.dataset.seat = seat;
-    return { seat, row, code, look, tabs, run, pc, stop, line, used };
+    return { seat, row, look, tabs, run, pc, stop, line, used };
   }
 
   show(machine, share, shoulder) {
-    for (const { seat, code, look, tabs, run, pc, stop, line, used } of this.rows) {
+    for (const { seat, look, tabs, run, pc, stop, line, used } of this.rows) {
       const told = machine.seats[seat[1]];
-      put(code, told.code);
-      code.href = `#${told.code}`;
       put(tabs, `${told.tabs || "–"}`);
       put(run, told.run === "absent" ? "not entered" : told.run);
       run.className = `pill ${told.run}`;
@@ -81,7 +75,14 @@ export class Teacher {
     this.connection = connection;
     this.desk = new Desk();
     this.machines = {};
-    this.seat = ""; // the one looked at
+    this.seat = this.wall = ""; // the one looked at, and the one on the wall
+    this.codes = {}; // fields by name
+    byId("wall-code").append(...this.codeField("wall").parts);
+    byId("on-wall").onchange = () => this.request({ ask: "wall", seat: byId("on-wall").value });
+    byId("show-codes").onclick = () => this.showAllCodes();
+    byId("open-sheet").onclick = () => this.openSheet();
+    byId("print").onclick = () => print();
+    byId("close-sheet").onclick = closeSheet;
     document.title = "Teacher – vecmon";
     put(byId("who"), "Teacher");
     byId("teacher").hidden = false;
@@ -94,6 +95,7 @@ export class Teacher {
       this.machines[letter] = new ClassMachine(letter, this);
       byId("machines").append(this.machines[letter].box);
       byId("operated").append(make("option", "", letter));
+      byId("on-wall").append(...this.machines[letter].rows.map(({ seat }) => make("option", "", seat)));
     }
     byId("operator-machine").hidden = letters.length === 1;
     for (const letter of letters) this.machines[letter].show(view.machines[letter], view.share, view.shoulder);
@@ -103,11 +105,30 @@ export class Teacher {
     addToLog(byId("operator-log"), letters.flatMap((letter) => (logs[letter] ?? []).map(item(letter))));
     byId("operator-log").ariaLive = "polite";
     if (isAnew && this.seat) this.request({ ask: "shoulder", seat: this.seat }); // as before the connection broke
+    if (isAnew && this.wall && !view.wall) this.request({ ask: "wall", seat: this.wall }); // of a new server
+    Object.assign(this, { wall: view.wall, address: view.address });
+    byId("on-wall").value = view.wall;
     const isOther = isAnew || view.shoulder !== this.seat;
     this.seat = view.shoulder;
     byId("desk").hidden = !this.seat;
     put(byId("shoulder"), this.seat && `Seat ${this.seat}, over the shoulder`);
     if (this.seat) this.desk.show(view.state, logs[this.seat] ?? [], isOther);
+  }
+
+  /** The field of a code, which asks for it where it is wanted. */
+  codeField(name) {
+    return (this.codes[name] = new CodeField(name, (request) => this.request(request)));
+  }
+
+  /** Shows all codes, or none where some are shown. */
+  showAllCodes() {
+    const shown = Object.values(this.codes).filter(({ link }) => link.hash);
+    return shown.length ? shown.forEach((field) => field.show("")) : this.request({ ask: "codes", seat: "" });
+  }
+
+  async openSheet() {
+    const answer = await this.connection.ask({ ask: "codes", seat: "", pictures: true }, "the sheet");
+    if (answer?.codes) openSheet(answer, this.address);
   }
 
   operate(lines) {
@@ -119,6 +140,7 @@ export class Teacher {
   async request(request) {
     const answer = await this.connection.ask(request, request.do ? nameOf(request.do) : request.ask);
     if (answer?.error || (answer && request.ask !== "shoulder")) say("gone", answer.error ?? "");
+    Object.entries(answer?.codes ?? {}).forEach(([name, code]) => this.codes[name].show(code, this.address));
   }
 
   async download(letter, name) {
