@@ -111,3 +111,18 @@ def test_the_wall(tabs: "Chrome", served: Served) -> None:
     teacher.choose("#on-wall", "no seat")
     wall.wait("!id('desk').checkVisibility()")
     teacher.click("#show-codes")
+
+
+def test_a_wall_behind_a_new_server(tabs: "Chrome", own_class: Served) -> None:
+    """It goes on without a reload, since the teacher's page says again what it shows."""
+    tab, teacher, wall = (Tab(tabs, own_class, who) for who in ("A1", "teacher", "wall"))
+    tab.begin("vid.v v1")
+    teacher.choose("#on-wall", "A1")
+    wall.wait("id('who').textContent === 'Seat A1'")
+    own_class.kill()
+    wall.wait("id('gone').textContent.includes('is gone')")
+    own_class.begin()
+    teacher.wait("id('gone').hidden && id('on-wall').value === 'A1'")
+    wall.wait("id('gone').hidden && id('who').textContent === 'Seat A1' && id('listing').textContent.includes('vid.v')")
+    teacher.choose("#on-wall", "no seat")
+    wall.wait("id('who').textContent.includes('no seat')")

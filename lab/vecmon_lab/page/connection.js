@@ -42,7 +42,7 @@ export class Connection {
       this.gone(`The class isn't there now. ${this.lost}`);
       return null;
     }
-    if (this.lost && request.ask !== "shoulder") this.gone((this.lost = ""));
+    if (this.lost && !["shoulder", "wall"].includes(request.ask)) this.gone((this.lost = ""));
     return new Promise((done) => {
       this.waiting.push({ request: { id: ++this.number, ...request }, words, done });
       if (this.waiting.length === 1) this.next();

@@ -105,7 +105,7 @@ export class Teacher {
     addToLog(byId("operator-log"), letters.flatMap((letter) => (logs[letter] ?? []).map(item(letter))));
     byId("operator-log").ariaLive = "polite";
     if (isAnew && this.seat) this.request({ ask: "shoulder", seat: this.seat }); // as before the connection broke
-    if (isAnew && this.wall && !view.wall) this.request({ ask: "wall", seat: this.wall }); // of a new server
+    if (isAnew && this.wall && !view.wall) this.request({ ask: "wall", seat: this.wall });
     Object.assign(this, { wall: view.wall, address: view.address });
     byId("on-wall").value = view.wall;
     const isOther = isAnew || view.shoulder !== this.seat;
@@ -139,7 +139,8 @@ export class Teacher {
 
   async request(request) {
     const answer = await this.connection.ask(request, request.do ? nameOf(request.do) : request.ask);
-    if (answer?.error || (answer && request.ask !== "shoulder")) say("gone", answer.error ?? "");
+    const isQuiet = ["shoulder", "wall"].includes(request.ask); // which are asked again of a new server
+    if (answer?.error || (answer && !isQuiet)) say("gone", answer.error ?? "");
     Object.entries(answer?.codes ?? {}).forEach(([name, code]) => this.codes[name].show(code, this.address));
   }
 
