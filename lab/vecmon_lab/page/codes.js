@@ -10,7 +10,7 @@ export class CodeField {
     const turn = () => (this.link.hash ? this.show("") : ask({ ask: "codes", seat: name }));
     this.shows = button("Code", `Code for ${whose}`, turn);
     const renew = button("New code", `New code for ${whose}`, () => ask({ ask: "renew", seat: name }));
-    this.parts = [this.link, " ", this.shows, " ", renew];
+    this.parts = [this.link, this.shows, " ", renew];
     this.show("");
   }
 
