@@ -157,6 +157,8 @@ class Tab:
     def begin(self, *lines: str) -> None:
         """A new machine with these instructions at 10000 on."""
         self.click("#new")
+        if self.run("id('ask').open"):
+            self.click("#yes")
         self.wait("one('#log li:nth-last-child(2)')?.textContent === '> setpc 10000'")
         self.command(*(f"asm {0x10000 + 4 * place:x} {line}" for place, line in enumerate(lines)))
 

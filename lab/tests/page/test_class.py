@@ -377,6 +377,8 @@ def test_a_code_is_kept_for_the_tab_alone(sit: Sit, served: Served) -> None:
     assert tab.run("location.hash + document.cookie + localStorage.length + history.length")[:-1] == "0"
     assert code not in tab.run("document.documentElement.outerHTML")
     tab.click("#forget")
+    assert "forgets its code" in tab.text("#question")
+    tab.click("#yes")
     tab.wait("!id('join').hidden")
     assert tab.run("sessionStorage.length") == 0
     tab.keys("#code", "wrong\n")

@@ -27,9 +27,9 @@ class Lines:
 
 @dataclass(frozen=True)
 class Source:
-    """An assembler source for a new machine of the student's."""
+    """An assembler source for a new machine of the student's; None for that of the machine that there is."""
 
-    text: str
+    text: str | None
 
 
 @dataclass(frozen=True)
@@ -106,6 +106,8 @@ def read_request(message: Mapping[str, object], is_teacher: bool) -> Request:
             if not isinstance(text, str) or len(text) > SOURCE_LETTERS:
                 raise BadRequest(f"a source is a text of {SOURCE_LETTERS} characters at most")
             return Source(text)
+        case "again", False:
+            return Source(None)
         case "clock", True:
             return SetClock(_name(message, "machine"), _settings(message))
         case "rights", True:

@@ -146,21 +146,27 @@ class Room:
             self._note(seat, f"!The clock is off, so the program waits: the teacher can turn it on{own_way}.")
         return [[part[2:] for part in answer] for answer in work.looks]
 
-    async def source(self, seat: Seat, text: str) -> list[SourceError]:
-        """Brings an assembler source into a new machine of the seat's; the mistakes in it."""
+    async def source(self, seat: Seat, text: str | None) -> list[SourceError]:
+        """Brings an assembler source into a new machine of the seat's; the mistakes in it.
+
+        Without one, that of the machine that there is, whose breakpoints stay.
+        """
         async with seat.turn:
+            is_again, text = text is None, seat.written if text is None else text
+            if is_again and not text:
+                raise BadRequest("no source stands in this machine, so none can be written again")
             loop, vecmon = asyncio.get_running_loop(), pathlib.Path(self.session.command[0])
             program = await loop.run_in_executor(self._assembler, read_source, text)
             if program.mistakes:
                 return await loop.run_in_executor(self._assembler, all_mistakes, program, vecmon)
             if (number := len(program.lines)) > SOURCE_LINES:
                 raise BadRequest(f"a source becomes {SOURCE_LINES} lines at most, and this one {number}")
-            mistakes = await self._bring_in(seat, program)
-            seat.labels = program.names()
+            mistakes = await self._bring_in(seat, program, sorted(seat.watch.breaks) if is_again else [])
+            seat.labels, seat.written = program.names(), text
             self.changed([seat.name])
         return mistakes
 
-    async def _bring_in(self, seat: Seat, program: Program) -> list[SourceError]:
+    async def _bring_in(self, seat: Seat, program: Program, breaks: Iterable[int]) -> list[SourceError]:
         """Brings a program in, some dozens of lines at a turn, so that others have theirs between; what is refused."""
         statements = {f"{seat.digit} {each.command}": each for each in program.statements}
         lines, mistakes, done = list[str](), list[SourceError](), list[Done]()
@@ -179,8 +185,9 @@ class Room:
             async with self._lock:
                 if not lines:
                     ways = {"absent": list[str](), "running": ["stop", "leave"], "stopped": ["leave"]}
-                    commands = [*ways[seat.state["run"]], "enter", *program.lines, f"setpc {program.entry:x}"]
-                    lines = [f"{seat.digit} {command}" for command in commands]
+                    begin = [*ways[seat.state["run"]], "enter", *program.lines, f"setpc {program.entry:x}"]
+                    stops = [f"break {address:x}" for address in breaks]
+                    lines = [f"{seat.digit} {command}" for command in [*begin, *stops]]
                     self._check_share(seat, lines)
                 work = _Work(before=done)
                 await self._hop(work, carry_out, seat)

@@ -26,6 +26,7 @@ class Seat:
 
     log, number: its last entries, and how many there were
     state, shown: all that is known of the user, and what pages show of it
+    written: the source that the machine was begun with; empty without one
     stop, line, answer: the last stop, command and line of an answer, without the digit
     output: the last of what the program has put out, in hexadecimal digits, in blocks by number
     used: the bytes of the script that are the seat's
@@ -43,6 +44,7 @@ class Seat:
     watch: Watch = field(default_factory=Watch)
     rows: RowChoice = field(default_factory=RowChoice)
     labels: dict[str, list[str]] = field(default_factory=dict)
+    written: str = ""
     output: dict[str, str] = field(default_factory=dict)
     stop: str = ""
     line: str = ""
@@ -144,7 +146,7 @@ class Seats:
         elif not is_look(line):
             asker.used += len(line) + 1
         if _begins_anew(line, answer):
-            asker.stop, asker.labels, asker.output = "", {}, {}
+            asker.stop, asker.labels, asker.written, asker.output = "", {}, "", {}
         elif words == ["go"] and not is_refusal(answer):
             asker.stop, asker.slices, asker.seen = "", 0.0, 0.0
         for part, entry in zip(answer, log_entries(line, answer)):

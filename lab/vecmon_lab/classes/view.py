@@ -67,6 +67,7 @@ class StudentView(TypedDict):
     clock: bool
     own_slices: bool
     share: Share
+    again: bool
     ready: bool
     trouble: str
 
@@ -270,6 +271,7 @@ class Class:
             "clock": room.clock.settings.on,
             "own_slices": room.own_slices,
             "share": {"used": seat.used, "of": SEAT_BYTES},
+            "again": bool(seat.written),
             "ready": not room.rebuilding,
             "trouble": room.trouble,
         }

@@ -1,6 +1,7 @@
 // A seat's machine, live: what was told of it is painted where it changed.
 
 import { byId, make } from "./elements.js";
+import { Past } from "./past.js";
 import { showStep, showStop } from "./stage.js";
 import { addToLog, toldEntry } from "./transcript.js";
 import { paintState, whenFormsChange } from "./view.js";
@@ -9,31 +10,39 @@ import { paintState, whenFormsChange } from "./view.js";
 export class Desk {
   constructor() {
     whenFormsChange(() => this.paint());
+    this.past = new Past(() => this.paint());
     this.state = this.before = { run: "absent" };
     this.used = new Set(); // vector registers that weren't zero since the machine began
     this.refusal = ""; // of what was sent last
   }
 
-  show(state, entries, isAnew) {
+  show(seat, state, entries, isAnew) {
     if (isAnew) byId("log").replaceChildren();
+    if (seat !== this.seat) this.past.forget();
+    this.seat = seat;
     addToLog(byId("log"), entries.map((entry) => toldEntry(entry, true)));
     if (state === this.state) return;
     this.before = isAnew ? state : this.state;
     this.state = state;
-    if (isAnew || !state.v) this.used.clear();
+    if (isAnew || !state.v) this.used = new Set();
     for (const [number, bytes] of Object.entries(state.v ?? {})) if (/[^0]/.test(bytes)) this.used.add(Number(number));
+    this.past.add({ state, before: this.before, used: this.used, entry: byId("log").lastElementChild });
     this.paint();
   }
 
-  /** Paints it. A machine that runs may never have been looked at. */
+  /** Paints it, or the moment of the past that is shown. A machine that runs may never have been looked at. */
   paint() {
-    paintState(this.state.x ? this.state : { run: "absent" }, this.before.x && this.before, this.used);
+    const { state, before, used } = this.past.moment ?? this;
+    paintState(state.x ? state : { run: "absent" }, before.x && before, used);
+    byId("log").querySelector(".until")?.classList.remove("until");
+    this.past.moment?.entry?.classList.add("until");
     this.showStage();
   }
 
   showStage() {
+    const state = this.past.moment?.state ?? this.state;
     const absent = make("small", "", "there is no machine here yet");
-    showStep(this.state, ...(this.state.run === "absent" ? [absent] : []));
-    showStop([this.refusal, this.state.stop].filter(Boolean).join(" "));
+    showStep(state, ...(state.run === "absent" ? [absent] : []));
+    showStop([this.past.moment ? "" : this.refusal, state.stop].filter(Boolean).join(" "));
   }
 }

@@ -1,5 +1,6 @@
 // A student's page: what is done at the desk becomes lines.
 
+import { ask } from "./ask.js";
 import { Cursor } from "./cursor.js";
 import { Desk } from "./desk.js";
 import { byId, make, put, say } from "./elements.js";
@@ -9,7 +10,8 @@ import { entryText, showReference, tellName } from "./reference.js";
 const MOST_WAITING = 5; // requests: keys that repeat faster are left out
 const MOST_LETTERS = 65536; // of a source
 const SIDES = { listing: "listing", source: "editor", reference: "reference" }; // of the panel of the program
-const NEW_MACHINE = ["enter", "map 10000 1 rwx", "map 20000 1 rw", "setpc 10000"];
+const NEW_MACHINE = ["map 10000 1 rwx", "map 20000 1 rw", "setpc 10000"];
+const LOSS = "Registers, memory and breakpoints of this machine would be lost. The source stays, and Back shows what was seen.";
 
 /** The bytes of a register with another element; all bytes in hexadecimal, the least first. */
 function withElement(bytes, width, place, value) {
@@ -18,6 +20,10 @@ function withElement(bytes, width, place, value) {
   const others = BigInt("0x" + turned(bytes)) & ~(((1n << BigInt(width)) - 1n) << shift);
   return turned((others | (BigInt.asUintN(width, value) << shift)).toString(16).padStart(bytes.length, "0"));
 }
+
+/** Whether a state has nothing that could be lost. */
+const isBlank = ({ x, v, memory, code }) =>
+  [x, v, memory, code].flatMap((part) => Object.values(part ?? {})).every((digits) => /^0*( |$)/.test(digits));
 
 /** What was refused of a request, in words. */
 function refusals({ do: lines }, answer) {
@@ -48,11 +54,12 @@ export class Student {
     new Cursor((place) => this.edit(place));
     on("change", "submit", () => this.change());
     on("slice", "click", () => this.request({ ask: "lines", slices: 100 }, "slices"));
-    on("new", "click", () => this.send([...this.leaving(), ...NEW_MACHINE]));
-    on("images", "change", () => this.send([...this.leaving(), "enter", `load ${byId("images").value}`]));
+    on("again", "click", () => this.assemble({ ask: "again" }));
+    on("new", "click", () => this.beginAnew("New machine", NEW_MACHINE));
+    on("images", "change", () => this.beginAnew("Load", [`load ${byId("images").value}`]));
     on("source", "input", () => this.numberLines());
     on("source", "scroll", () => (byId("numbers-of-lines").scrollTop = byId("source").scrollTop));
-    on("assemble", "click", () => this.assemble());
+    on("assemble", "click", () => this.write());
     for (const side of Object.keys(SIDES)) on(`show-${side}`, "click", () => this.showSide(side));
     on("find", "input", () => showReference(byId("find").value));
     on("edit-close", "click", () => byId("edit").close());
@@ -78,6 +85,7 @@ export class Student {
     for (const id of ["one", "many", "number", "go"]) byId(id).disabled = run !== "stopped" || !view.ready;
     byId("halt").disabled = byId("slice").disabled = run !== "running" || !view.ready;
     byId("slice").hidden = !view.own_slices;
+    byId("again").disabled = !view.again || !view.ready;
     put(byId("clock"), `the clock is ${view.clock ? "on" : "off"}`);
     const share = Math.floor((100 * view.share.used) / view.share.of);
     const warning = share < 90 ? "" : `${share} % of this seat's share of the script is used up.`;
@@ -85,7 +93,7 @@ export class Student {
     const images = ["Load …", ...view.images].map((name) => make("option", "", name));
     if (byId("images").length < images.length) byId("images").replaceChildren(...images);
     Object.assign(byId("images"), { hidden: view.images.length === 0, selectedIndex: 0 });
-    this.desk.show(view.state, logs[view.seat] ?? [], isAnew);
+    this.desk.show(view.seat, view.state, logs[view.seat] ?? [], isAnew);
     const side = run === "absent" ? "source" : "listing";
     if (side !== this.side) this.showSide((this.side = side));
     byId("log").ariaLive = "polite";
@@ -93,6 +101,7 @@ export class Student {
 
   /** Sends a request; what was refused is told in words. */
   async request(request, words) {
+    this.desk.past.show(Infinity);
     const answer = await this.connection.ask(request, words);
     this.refuse(refusals(request, answer));
     return answer;
@@ -109,6 +118,7 @@ export class Student {
   /** Sends lines, in requests one behind the other, unless one of them can't be sent. */
   async send(lines) {
     const unfit = unfitLines(lines);
+    this.desk.past.show(Infinity);
     if (unfit) return this.refuse(unfit);
     const requests = inParts(lines).map((part) => ({ ask: "lines", do: part }));
     const asked = requests.map((request) => this.connection.ask(request, nameOf(request.do)));
@@ -122,15 +132,19 @@ export class Student {
     this.desk.showStage();
   }
 
-  /** The lines that end the machine that there is. */
-  leaving() {
-    return { absent: [], stopped: ["leave"], running: ["stop", "leave"] }[this.desk.state.run];
+  /** Begins a new machine with lines, and asks before where something would be lost. */
+  beginAnew(name, lines) {
+    const leaving = { absent: [], stopped: ["leave"], running: ["stop", "leave"] };
+    const begin = () => this.send([...leaving[this.desk.state.run], "enter", ...lines]);
+    byId("images").selectedIndex = 0;
+    if (isBlank(this.desk.state)) begin();
+    else ask(LOSS, name, begin);
   }
 
   pressed(event) {
-    if (byId("edit").open) return;
+    if (byId("edit").open || byId("ask").open) return;
     const key = `${event.ctrlKey || event.metaKey ? "Ctrl " : ""}${event.shiftKey ? "Shift " : ""}${event.key}`;
-    const id = { F1: "show-reference", F8: "one", "Shift F8": "many", F9: "go", "Shift F9": "halt" }[key];
+    const id = { F1: "show-reference", F8: "one", "Shift F8": "many", F9: "go", "Shift F9": "halt", "Ctrl F9": "again" }[key];
     const own = key === "Ctrl Enter" && event.target === byId("source") ? "assemble" : id;
     if (!own) return;
     event.preventDefault();
@@ -139,7 +153,7 @@ export class Student {
 
   /** Sets or removes a breakpoint, or asks for another value. */
   edit(place) {
-    if (!place || this.desk.state.run !== "stopped") return undefined;
+    if (!place || this.desk.state.run !== "stopped" || this.desk.past.moment) return undefined;
     const [word, first, , index] = place.dataset.edit.split(" ");
     if (word === "break") return this.send([`${this.desk.state.breaks.includes(first) ? "un" : ""}break ${first}`]);
     this.changed = place.dataset.edit;
@@ -186,13 +200,17 @@ export class Student {
     }
   }
 
-  async assemble() {
+  async write() {
     const text = byId("source").value;
     const [size, most] = [text.length, MOST_LETTERS].map((each) => each.toLocaleString("en"));
     if (text.length > MOST_LETTERS) {
       return this.refuse(`This source has ${size} characters, and ${most} are taken at most: nothing was sent.`);
     }
-    const { mistakes } = (await this.request({ ask: "source", text }, "the source")) ?? {};
+    return this.assemble({ ask: "source", text });
+  }
+
+  async assemble(request) {
+    const { mistakes } = (await this.request(request, "the source")) ?? {};
     byId("mistakes").replaceChildren(...(mistakes ?? []).map((mistake) => this.mistake(mistake)));
     return mistakes && this.showSide(mistakes.length ? "source" : "listing");
   }

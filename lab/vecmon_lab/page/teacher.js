@@ -112,7 +112,7 @@ export class Teacher {
     this.seat = view.shoulder;
     byId("desk").hidden = !this.seat;
     put(byId("shoulder"), this.seat && `Seat ${this.seat}, over the shoulder`);
-    if (this.seat) this.desk.show(view.state, logs[this.seat] ?? [], isOther);
+    if (this.seat) this.desk.show(this.seat, view.state, logs[this.seat] ?? [], isOther);
   }
 
   /** The field of a code, which asks for it where it is wanted. */

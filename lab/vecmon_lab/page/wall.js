@@ -16,6 +16,6 @@ export class Wall {
     put(byId("who"), seat ? `Seat ${seat}${state.run === "running" ? ", running" : ""}` : "The teacher shows no seat here yet.");
     say("trouble", trouble);
     byId("desk").hidden = !seat;
-    if (seat) this.desk.show(state, [], isOther);
+    if (seat) this.desk.show(seat, state, [], isOther);
   }
 }
