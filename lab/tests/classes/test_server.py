@@ -31,7 +31,7 @@ async def room(tmp_path: pathlib.Path) -> AsyncIterator[Served]:
 @pytest.mark.by_command("class")
 async def test_a_step(room: Served) -> None:
     tab = await room.sit("A3")
-    assert tab.view["state"] == {"run": "absent", "labels": {}}
+    assert tab.view["state"] == {"run": "absent", "labels": {}, "lines": {}}
     assert (tab.view["seat"], tab.view["images"], tab.view["quantum"]) == ("A3", ["sum"], 100)
     assert await tab.do(*LOOP) == [
         ["entered"],

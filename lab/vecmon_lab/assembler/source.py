@@ -45,6 +45,13 @@ class Program:
             names.setdefault(f"{address:x}", []).append(label)
         return names
 
+    def source_lines(self, text: str) -> dict[str, str]:
+        """What the source, which has this text, says behind its labels, by the address of the first word made of it."""
+        lines, first = text.split("\n"), dict[int, Statement]()
+        for statement in self.statements:
+            first.setdefault(statement.line, statement)
+        return {f"{it.address:x}": lines[it.line - 1][it.columns[0] - 1 :].strip() for it in first.values()}
+
 
 def assemble(text: str, origin: int = 0x10000) -> Program:
     """Assembles a source. The text's address is the origin, a multiple of 4,096. Raises SourceError for a mistake."""

@@ -90,7 +90,30 @@ class ShowCodes:
     pictures: bool
 
 
-Request = Lines | Source | SetClock | SetRights | Renew | LookOver | PutOnWall | ShowCodes
+@dataclass(frozen=True)
+class Draft:
+    """The source that a student types, and the number that it had."""
+
+    text: str
+    number: int
+
+
+@dataclass(frozen=True)
+class ReadVersion:
+    """A version of the source of a student's seat, or of that which a teacher looks at."""
+
+    number: int
+
+
+@dataclass(frozen=True)
+class Give:
+    """A source for a seat; "" for all."""
+
+    seat: str
+    text: str
+
+
+Request = Lines | Source | Draft | ReadVersion | Give | SetClock | SetRights | Renew | LookOver | PutOnWall | ShowCodes
 
 
 _LIMITS = {"on": (0, 1), "slices": (1, 1000), "ms": (10, 10_000), "limit": (100_000, 10**12)}  # of a clock's settings
@@ -102,12 +125,15 @@ def read_request(message: Mapping[str, object], is_teacher: bool) -> Request:
         case "lines", _:
             return _lines(message, is_teacher)
         case "source", False:
-            text = message.get("text")
-            if not isinstance(text, str) or len(text) > SOURCE_LETTERS:
-                raise BadRequest(f"a source is a text of {SOURCE_LETTERS} characters at most")
-            return Source(text)
+            return Source(_text(message))
         case "again", False:
             return Source(None)
+        case "draft", False:
+            return Draft(_text(message), _number(message))
+        case "version", _:
+            return ReadVersion(_number(message))
+        case "give", True:
+            return Give(_name(message, "seat"), _text(message))
         case "clock", True:
             return SetClock(_name(message, "machine"), _settings(message))
         case "rights", True:
@@ -149,6 +175,22 @@ def _settings(message: Mapping[str, object]) -> Mapping[str, int]:
             raise BadRequest(f"{name} of the clock is {least} to {most}")
         settings[name] = bool(value) if name == "on" else value
     return settings
+
+
+def _text(message: Mapping[str, object]) -> str:
+    """The source of a message."""
+    text = message.get("text")
+    if not isinstance(text, str) or len(text) > SOURCE_LETTERS:
+        raise BadRequest(f"a source is a text of {SOURCE_LETTERS} characters at most")
+    return text.encode("utf-8", "replace").decode()
+
+
+def _number(message: Mapping[str, object]) -> int:
+    """The number that a message has."""
+    number = message.get("number")
+    if not isinstance(number, int):
+        raise BadRequest("a source and its versions have whole numbers")
+    return number
 
 
 def _name(message: Mapping[str, object], kind: str) -> str:

@@ -94,8 +94,6 @@ class Room:
         past.tell(self.seats)
         self.seats.take(self.seats.look(self.session, [], DIGITS))
         self.own_slices = notes.own_slices
-        for digit, labels in notes.labels.items():
-            self.seats.users[digit].labels = labels
         self.set_clock(notes.clock)
 
     def _follow_rebuilding(self, loop: asyncio.AbstractEventLoop, percent: int) -> None:
@@ -105,9 +103,8 @@ class Room:
 
     def notes(self) -> Notes:
         """What is kept beside the script."""
-        labels = {seat.digit: seat.labels for seat in self.seats.users.values() if seat.labels}
         clock = asdict(self.clock.settings)
-        return Notes(self.session.lines, self.session.digest, clock, self.own_slices, labels)
+        return Notes(self.session.lines, self.session.digest, clock, self.own_slices)
 
     def is_busy(self) -> bool:
         """Whether somebody has the machine."""
@@ -143,7 +140,7 @@ class Room:
             done += [[part[2:] for part in answer] for _, answer in work.done[: len(own)]]
         if not (self.clock.settings.on or slices or seat.state["run"] != "running") and "go" in request.do:
             own_way = ", or Slice grants some slices" if self.own_slices else ""
-            self._note(seat, f"!The clock is off, so the program waits: the teacher can turn it on{own_way}.")
+            self.note(seat, f"!The clock is off, so the program waits: the teacher can turn it on{own_way}.")
         return [[part[2:] for part in answer] for answer in work.looks]
 
     async def source(self, seat: Seat, text: str | None) -> list[SourceError]:
@@ -162,7 +159,7 @@ class Room:
             if (number := len(program.lines)) > SOURCE_LINES:
                 raise BadRequest(f"a source becomes {SOURCE_LINES} lines at most, and this one {number}")
             mistakes = await self._bring_in(seat, program, sorted(seat.watch.breaks) if is_again else [])
-            seat.labels, seat.written = program.names(), text
+            seat.take(text, program)
             self.changed([seat.name])
         return mistakes
 
@@ -238,9 +235,9 @@ class Room:
             with contextlib.suppress(LabError):  # whoever asks next is told
                 await self._hop(_Work(), partial(self._show, seat, not why), None)
         if why and seat.state["run"] == "stopped":
-            self._note(seat, f"!The server stopped the program, since {why}. go lets it run on.")
+            self.note(seat, f"!The server stopped the program, since {why}. go lets it run on.")
 
-    def _note(self, seat: Seat, entry: str) -> None:
+    def note(self, seat: Seat, entry: str) -> None:
         """Adds an entry to a seat's log, which its pages are told."""
         seat.note(entry)
         self.changed([seat.name])

@@ -6,6 +6,7 @@ from collections.abc import Iterable, Sequence
 from dataclasses import dataclass, field
 
 from ..assembler.commands import log_entries
+from ..assembler.source import Program
 from ..guest.guest import Guest
 from ..machine.answers import Granted, is_refusal, is_stop, read, told
 from ..machine.lines import DIGITS, is_look, words_of
@@ -26,7 +27,7 @@ class Seat:
 
     log, number: its last entries, and how many there were
     state, shown: all that is known of the user, and what pages show of it
-    written: the source that the machine was begun with; empty without one
+    written, labels, lines: the source that stands in the machine, its labels, and its line for each word, by address
     stop, line, answer: the last stop, command and line of an answer, without the digit
     output: the last of what the program has put out, in hexadecimal digits, in blocks by number
     used: the bytes of the script that are the seat's
@@ -44,6 +45,7 @@ class Seat:
     watch: Watch = field(default_factory=Watch)
     rows: RowChoice = field(default_factory=RowChoice)
     labels: dict[str, list[str]] = field(default_factory=dict)
+    lines: dict[str, str] = field(default_factory=dict)
     written: str = ""
     output: dict[str, str] = field(default_factory=dict)
     stop: str = ""
@@ -57,6 +59,10 @@ class Seat:
         """Adds an entry to the log."""
         self.log.append(entry)
         self.number += 1
+
+    def take(self, source: str, program: Program) -> None:
+        """Takes up which source stands in the machine now."""
+        self.written, self.labels, self.lines = source, program.names(), program.source_lines(source)
 
     def put_out(self, digits: str) -> None:
         """Takes up what the program has put out. Full blocks stay as they are, so that pages aren't told them again."""
@@ -146,7 +152,7 @@ class Seats:
         elif not is_look(line):
             asker.used += len(line) + 1
         if _begins_anew(line, answer):
-            asker.stop, asker.labels, asker.written, asker.output = "", {}, "", {}
+            asker.stop, asker.written, asker.labels, asker.lines, asker.output = "", "", {}, {}, {}
         elif words == ["go"] and not is_refusal(answer):
             asker.stop, asker.slices, asker.seen = "", 0.0, 0.0
         for part, entry in zip(answer, log_entries(line, answer)):

@@ -2,6 +2,7 @@
 
 class.json: the digest (SHA-256) of the program, the quantum, the images by name with their digests, the machines
 codes.json: the code of each seat and of the teacher
+A3.s, A3.written.s, sources/: a seat's source as it is, that which stands in its machine, and versions of it
 A.script, A.json: a machine's script; how many of its lines were answered by a digest, and what the teacher has set
 images/NAME.elf: the images, as they were when the class began
 lock: held by the server that serves the class
@@ -40,13 +41,12 @@ class Facts:
 
 @dataclass(frozen=True)
 class Notes:
-    """What is kept beside a script: how many lines were answered by a digest, the clock, rights, labels by digit."""
+    """What is kept beside a script: how many lines were answered by a digest, the clock, rights."""
 
     lines: int = 0
     answers: str = ""
     clock: Mapping[str, int] = field(default_factory=dict)
     own_slices: bool = True
-    labels: Mapping[str, dict[str, list[str]]] = field(default_factory=dict)
 
 
 Kept = TypeVar("Kept")
@@ -200,17 +200,33 @@ class Store:
         """Whether what this name has wasn't saved when it was tried last."""
         return name in self._troubles
 
+    def read_text(self, name: str) -> str:
+        """A text that was kept; empty if there is none."""
+        path = self.folder / name
+        return path.read_bytes().decode("utf-8", "replace") if path.exists() else ""
+
     def write(self, name: str, value: Mapping[str, object]) -> bool:
         """Keeps an object, as a whole or not at all; whether that went well. `trouble` says why not."""
+        return self.write_text(name, json.dumps(value, indent=1))
+
+    def write_text(self, name: str, text: str) -> bool:
+        """Keeps a text as `write` does an object."""
         new = self.folder / f"{name}.new"
         try:
-            new.write_text(json.dumps(value, indent=1), "utf-8")
+            new.parent.mkdir(exist_ok=True)
+            new.write_bytes(text.encode("utf-8", "replace"))
             new.replace(self.folder / name)
         except OSError as error:
             self._troubles[name] = f"{name} isn't saved: {error.strerror}"
             return False
         self._troubles.pop(name, None)
         return True
+
+    def remove(self, name: str) -> None:
+        """Keeps it no more, whether it was saved or not."""
+        self._troubles.pop(name, None)
+        with contextlib.suppress(OSError):
+            (self.folder / name).unlink()
 
     def _image(self, name: str) -> pathlib.Path:
         return self.folder / "images" / f"{name}.elf"

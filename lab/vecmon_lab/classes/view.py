@@ -9,15 +9,19 @@ from typing import TypedDict
 
 from .. import LabError
 from ..assembler.commands import refusal_on_pages
+from ..assembler.source import read_source
 from ..machine.session import SCRIPT_BYTES
 from ..page.pages import merge_patch
 from ..page.state import State
 from .codes import TEACHER, WALL
 from .requests import (
     BadRequest,
+    Draft,
+    Give,
     Lines,
     LookOver,
     PutOnWall,
+    ReadVersion,
     Renew,
     Request,
     SetClock,
@@ -29,6 +33,7 @@ from .requests import (
 from .room import SEAT_BYTES, Room
 from .seats import Seat
 from .sheet import pictures
+from .sources import SeatSource, Version
 from .store import Notes, ScriptFile, Store
 
 Logs = dict[str, list[str]]
@@ -36,6 +41,7 @@ Answers = list[list[str]]
 Clock = Mapping[str, int]
 Mistake = TypedDict("Mistake", {"line": int, "column": int, "message": str})
 Share = TypedDict("Share", {"used": int, "of": int})
+SourceView = TypedDict("SourceView", {"text": str, "number": int, "versions": list[Version]}, total=False)
 
 
 class Message(TypedDict, total=False):
@@ -47,6 +53,7 @@ class Message(TypedDict, total=False):
     do: Answers
     look: Answers
     mistakes: list[Mistake]
+    text: str
     error: str
     done: Answers
     words: list[str]
@@ -67,6 +74,7 @@ class StudentView(TypedDict):
     clock: bool
     own_slices: bool
     share: Share
+    source: SourceView
     again: bool
     ready: bool
     trouble: str
@@ -105,6 +113,7 @@ class TeacherView(TypedDict):
     state: State
     wall: str
     address: str
+    source: SourceView
 
 
 class Tab:
@@ -139,6 +148,7 @@ class Class:
         self.wall: Seat | None = None  # the seat that it shows
         self.tabs: set[Tab] = set()
         self.rooms: dict[str, Room] = {}
+        self.sources: dict[str, SeatSource] = {}
         self._kept: dict[str, Notes] = {}
         try:
             for letter in store.machines:
@@ -147,6 +157,10 @@ class Class:
                 room.changed, room.watched = self._tell, self._watched
                 room.set_clock({"on": clock})
                 room.restore(store.read(f"{letter}.json", Notes), progress)
+                for seat in room.seats.users.values():
+                    self.sources[seat.name] = source = SeatSource(seat.name, store)
+                    if source.written:
+                        seat.take(source.written, read_source(source.written))
         except BaseException:
             self.end()
             raise
@@ -161,6 +175,11 @@ class Class:
         """Keeps what is another than before beside each script, and brings scripts up to date where the disk was full."""
         trouble = self.store.trouble
         for room in self.rooms.values():
+            for seat in room.seats.users.values():
+                source = self.sources[seat.name]
+                source.written = seat.written
+                if source.keep():
+                    self._tell([seat.name])
             if room.is_busy():
                 continue
             before = room.trouble
@@ -271,6 +290,7 @@ class Class:
             "clock": room.clock.settings.on,
             "own_slices": room.own_slices,
             "share": {"used": seat.used, "of": SEAT_BYTES},
+            "source": self._source_view(seat),
             "again": bool(seat.written),
             "ready": not room.rebuilding,
             "trouble": room.trouble,
@@ -294,7 +314,12 @@ class Class:
             "state": _shown(tab.shoulder) if tab.shoulder else {},
             "wall": self.wall.name if self.wall else "",
             "address": self.address,
+            "source": self._source_view(tab.shoulder) if tab.shoulder else {},
         }
+
+    def _source_view(self, seat: Seat) -> SourceView:
+        source = self.sources[seat.name]
+        return {"text": source.text, "number": source.number, "versions": source.versions}
 
     def _machine_view(self, room: Room) -> MachineView:
         return {
@@ -329,8 +354,22 @@ class Class:
                 return {"do": done, "look": await self.rooms[seat.name[0]].lines(seat, request, done)}
             case Source(text):
                 seat = self.seat(tab.who)
+                if text is not None:
+                    self.sources[seat.name].write(text)
                 mistakes = await self.rooms[seat.name[0]].source(seat, text)
                 return {"mistakes": [{"line": it.line, "column": it.column, "message": it.message} for it in mistakes]}
+            case Draft(text, number):
+                self.sources[tab.who].draft(text, number)
+                self._tell([tab.who])
+            case ReadVersion(number):
+                name = tab.who if tab.who != TEACHER else tab.shoulder.name if tab.shoulder else ""
+                return {"text": self.sources[self.seat(name).name].version(number)}
+            case Give(name, text):
+                for name in [self.seat(name).name] if name else self.sources:
+                    self.sources[name].give(text)
+                    self.rooms[name[0]].note(
+                        self.seat(name), "!The teacher gave a source. Your own is kept, as a version."
+                    )
             case SetClock(machine, settings):
                 self._room(machine).set_clock(settings)
             case SetRights(machine, own_slices):
@@ -374,7 +413,7 @@ class Class:
 def _shown(seat: Seat) -> State:
     """A seat's state as pages show it."""
     shown = seat.shown.copy()
-    shown["labels"] = seat.labels
+    shown["labels"], shown["lines"] = seat.labels, seat.lines
     if seat.output:
         shown["outputs"] = seat.output
     return shown

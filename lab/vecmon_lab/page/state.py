@@ -35,7 +35,7 @@ class State(TypedDict, total=False):
     stop: why the program stopped in what was just done, in words
     output: the bytes that answers to `out` have shown
     outputs: in a class in place of it, the last 64 KB of them, in blocks by number
-    labels: in a class, names by address of the source that was assembled last
+    labels, lines: in a class, names and lines by address of the source that was assembled last
     """
 
     run: str
@@ -58,6 +58,7 @@ class State(TypedDict, total=False):
     output: str
     outputs: Mapping[str, str]
     labels: dict[str, list[str]]
+    lines: dict[str, str]
 
 
 ABSENT: State = {"run": "absent"}
