@@ -9,6 +9,7 @@ from hypothesis import given, settings
 from hypothesis import strategies as st
 
 from support.places import DATA, DOCS
+from vecmon_lab.assembler.names import DIRECTIVES
 from vecmon_lab.assembler.source import Program, SourceError, assemble, read_source, refusal
 from vecmon_lab.assembler.trial import all_mistakes
 from vecmon_lab.machine.session import Session
@@ -348,3 +349,21 @@ def test_any_text_is_assembled_or_has_an_error_in_it(text: str) -> None:
     else:
         assert all(re.fullmatch("[ -~]{0,1022}", line) for line in program.lines)
         assert all(1 <= item.line <= len(lines) for item in program.statements)
+
+
+def test_lines_beside_words() -> None:
+    """Beside the first word of a line stands the line, with its comment, or with one that stands alone above it."""
+    text = "# Counts.\nloop: one: addi t0, t0, 1 # up\n// Two words.\n\tli a0, 0x12345\n\n# none\n.data\n.word 1\n.text\nnop\r\n ret\n"
+    assert read_source(text).source_lines(text) == {
+        "10000": "addi t0, t0, 1 # up",
+        "10004": "li a0, 0x12345  // Two words.",
+        "1000c": "nop",
+        "10010": "ret",
+    }
+
+
+def test_directives_are_known() -> None:
+    for name in DIRECTIVES:
+        told = str(read_source(f"{name} 1, 2").mistakes)
+        assert "there is no directive" not in told, name
+    assert ".frob" not in DIRECTIVES

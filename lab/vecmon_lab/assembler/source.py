@@ -46,11 +46,19 @@ class Program:
         return names
 
     def source_lines(self, text: str) -> dict[str, str]:
-        """What the source, which has this text, says behind its labels, by the address of the first word made of it."""
-        lines, first = text.split("\n"), dict[int, Statement]()
+        """What the lines of the source, which has this text, say behind their labels, by the address of their first word.
+
+        Behind a line without a comment stands that of the line above, if that has nothing else.
+        """
+        lines, first = ["", *text.split("\n")], dict[int, Statement]()
         for statement in self.statements:
             first.setdefault(statement.line, statement)
-        return {f"{it.address:x}": lines[it.line - 1][it.columns[0] - 1 :].strip() for it in first.values()}
+        told = {}
+        for number, statement in first.items():
+            own, above = lines[number][statement.columns[0] - 1 :].strip(), lines[number - 1].strip()
+            is_alone = above.startswith(("#", "//")) and "#" not in own and "//" not in own
+            told[f"{statement.address:x}"] = f"{own}  {above}" if is_alone else own
+        return told
 
 
 def assemble(text: str, origin: int = 0x10000) -> Program:

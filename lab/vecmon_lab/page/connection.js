@@ -42,7 +42,7 @@ export class Connection {
       this.gone(`The class isn't there now. ${this.lost}`);
       return null;
     }
-    if (this.lost && !["shoulder", "wall"].includes(request.ask)) this.gone((this.lost = ""));
+    if (this.lost && !["shoulder", "wall", "draft"].includes(request.ask)) this.gone((this.lost = ""));
     return new Promise((done) => {
       this.waiting.push({ request: { id: ++this.number, ...request }, words, done });
       if (this.waiting.length === 1) this.next();
@@ -62,8 +62,8 @@ export class Connection {
     this.socket = null;
     this.isReady = false;
     const lost = this.waiting.splice(0);
-    const names = lost.map(({ words }) => words);
-    this.lose(names.slice(0, 1), names.slice(1));
+    const [underWay, ...unsent] = lost.map(({ words }) => words);
+    this.lose([underWay].filter(Boolean), unsent.filter(Boolean)); // what has no words is sent again by whoever asks for it
     lost.forEach(({ done }) => done(null));
     if (ENDINGS[reason]) return this.ended(ENDINGS[reason]);
     setTimeout(() => this.open(), this.pause * (0.75 + Math.random() / 2));

@@ -10,7 +10,7 @@ import { paintState, whenFormsChange } from "./view.js";
 export class Desk {
   constructor() {
     whenFormsChange(() => this.paint());
-    this.past = new Past(() => this.paint());
+    this.past = new Past(() => this.paintMoment());
     this.state = this.before = { run: "absent" };
     this.used = new Set(); // vector registers that weren't zero since the machine began
     this.refusal = ""; // of what was sent last
@@ -28,6 +28,12 @@ export class Desk {
     for (const [number, bytes] of Object.entries(state.v ?? {})) if (/[^0]/.test(bytes)) this.used.add(Number(number));
     this.past.add({ state, before: this.before, used: this.used, entry: byId("log").lastElementChild });
     this.paint();
+  }
+
+  /** Paints another moment, with the transcript up to it. */
+  paintMoment() {
+    this.paint();
+    byId("log").scrollTop = byId("log").scrollHeight;
   }
 
   /** Paints it, or the moment of the past that is shown. A machine that runs may never have been looked at. */

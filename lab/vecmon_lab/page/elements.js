@@ -25,6 +25,13 @@ export const table = (caption, ...parts) => make("table", "", make("caption", "u
 /** A text of the author's, in which backquotes stand around what is code, as elements. */
 export const prose = (text) => text.split("`").map((part, place) => (place % 2 ? make("code", "", part) : part));
 
+/** Lets the browser save a file. */
+export function offerFile(download, blob) {
+  const link = Object.assign(make("a", ""), { href: URL.createObjectURL(blob), download });
+  link.click();
+  setTimeout(() => URL.revokeObjectURL(link.href), 60000);
+}
+
 /** Puts a text in only where it is another one, so that it isn't read aloud again. */
 export function put(element, text, contents = [text]) {
   if (element.textContent !== text.replaceAll("`", "")) element.replaceChildren(...contents);

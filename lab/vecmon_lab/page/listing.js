@@ -2,9 +2,9 @@
 
 import { byId, header, make, unseen } from "./elements.js";
 import { RowTable, placesOf } from "./rows.js";
-import { target, withNames } from "./words.js";
+import { saysMore, target, withNames } from "./words.js";
 
-const NAMES = ["marks", "address", "word", "instruction"];
+const NAMES = ["marks", "address", "word", "instruction", "source"];
 const rows = new RowTable(byId("listing"), "Program", NAMES, "No program stands in memory yet.");
 let [code, labels, places] = [null, null, []];
 let [pc, seen] = ["", ""]; // where the program stood, and what was brought into sight
@@ -33,7 +33,9 @@ function listingRow(state, before, address, abi) {
   if (goal) text.append(make("span", "goal", ` → ${state.labels?.[goal]?.[0] ?? goal}`));
   const word = make("td", "word", line.slice(0, 8));
   if (before.code[address] !== line && (before.code[address] || !state.instruction)) word.classList.add("changed");
-  const row = make("tr", kinds.join(" "), marks, header("row", address), word, text);
+  const said = state.lines?.[address] ?? "";
+  const source = Object.assign(make("td", "source", saysMore(said, line.slice(9))), { title: said });
+  const row = make("tr", kinds.join(" "), marks, header("row", address), word, text, source);
   Object.assign(row.dataset, { address, edit: `break ${address}` });
   return row;
 }

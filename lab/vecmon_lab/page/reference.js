@@ -2,7 +2,7 @@
 
 import { byId, make, prose, put } from "./elements.js";
 
-const SECTIONS = JSON.parse(byId("reference-data").textContent);
+export const SECTIONS = JSON.parse(byId("reference-data").textContent);
 const ENTRIES = Object.values(SECTIONS).flat();
 
 /** An entry as a line of its own. */

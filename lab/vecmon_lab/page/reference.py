@@ -4,6 +4,7 @@ import json
 from collections.abc import Iterator
 
 from ..assembler.commands import COMMANDS, MEANINGS
+from ..assembler.names import DIRECTIVES
 from ..instructions.table import instruction_table
 from ..tables.table import read_table
 
@@ -18,6 +19,7 @@ def reference() -> dict[str, list[list[str]]]:
         "Instructions": [[row.name, f"{row.name} {row.operands}".rstrip(), ""] for row in instruction_table().values()],
         "Pseudo-instructions": [["li", "li rd, imm", "any number of 64 bits, in as few instructions as it takes"]]
         + list(_pseudo_entries()),
+        "Directives": [[name, name, ""] for name in DIRECTIVES],
         "Refusals": [[code, code, meaning] for code, meaning in MEANINGS.items()],
     }
 

@@ -3,13 +3,14 @@
 import { ask } from "./ask.js";
 import { Cursor } from "./cursor.js";
 import { Desk } from "./desk.js";
+import { Editor } from "./editor.js";
 import { byId, make, put, say } from "./elements.js";
 import { LineField, inParts, nameOf, unfitLines } from "./lines.js";
 import { entryText, showReference, tellName } from "./reference.js";
+import { Sides } from "./sides.js";
+import { MOST_LETTERS, Source } from "./source.js";
 
 const MOST_WAITING = 5; // requests: keys that repeat faster are left out
-const MOST_LETTERS = 65536; // of a source
-const SIDES = { listing: "listing", source: "editor", reference: "reference" }; // of the panel of the program
 const NEW_MACHINE = ["map 10000 1 rwx", "map 20000 1 rw", "setpc 10000"];
 const LOSS = "Registers, memory and breakpoints of this machine would be lost. The source stays, and Back shows what was seen.";
 
@@ -22,8 +23,8 @@ function withElement(bytes, width, place, value) {
 }
 
 /** Whether a state has nothing that could be lost. */
-const isBlank = ({ x, v, memory, code }) =>
-  [x, v, memory, code].flatMap((part) => Object.values(part ?? {})).every((digits) => /^0*( |$)/.test(digits));
+const isBlank = ({ run, x, v, memory, code }) =>
+  run !== "running" && [x, v, memory, code].flatMap((part) => Object.values(part ?? {})).every((digits) => /^0*( |$)/.test(digits));
 
 /** What was refused of a request, in words. */
 function refusals({ do: lines }, answer) {
@@ -38,12 +39,10 @@ export class Student {
     this.desk = new Desk();
     this.side = "listing"; // what is shown since one entered, or left
     byId("log").after(byId("command"), byId("hint"));
-    byId("listing").before(byId("editor"), byId("reference"));
-    byId("program-title").after(byId("sides"));
-    byId("source").value = sessionStorage.getItem("source") ?? byId("source").value;
+    this.sides = new Sides(["listing", "source", "reference"], (side) => side === "reference" && this.refer(""));
+    this.source = new Source(new Editor(byId("source"), () => this.source.typed()), connection);
     byId("foot").hidden = false;
     this.listen();
-    this.numberLines();
   }
 
   listen() {
@@ -57,10 +56,7 @@ export class Student {
     on("again", "click", () => this.assemble({ ask: "again" }));
     on("new", "click", () => this.beginAnew("New machine", NEW_MACHINE));
     on("images", "change", () => this.beginAnew("Load", [`load ${byId("images").value}`]));
-    on("source", "input", () => this.numberLines());
-    on("source", "scroll", () => (byId("numbers-of-lines").scrollTop = byId("source").scrollTop));
     on("assemble", "click", () => this.write());
-    for (const side of Object.keys(SIDES)) on(`show-${side}`, "click", () => this.showSide(side));
     on("find", "input", () => showReference(byId("find").value));
     on("edit-close", "click", () => byId("edit").close());
     on("machine", "click", (event) => this.edit(event.target.closest("[data-edit]")));
@@ -95,7 +91,8 @@ export class Student {
     Object.assign(byId("images"), { hidden: view.images.length === 0, selectedIndex: 0 });
     this.desk.show(view.seat, view.state, logs[view.seat] ?? [], isAnew);
     const side = run === "absent" ? "source" : "listing";
-    if (side !== this.side) this.showSide((this.side = side));
+    if (side !== this.side) this.sides.show((this.side = side));
+    this.showSource(view);
     byId("log").ariaLive = "polite";
   }
 
@@ -111,7 +108,8 @@ export class Student {
   enter(lines) {
     const [, name] = /^help\b *(.*)$/.exec(lines[0]) ?? [];
     if (lines.length > 1 || name === undefined) return this.send(lines);
-    this.showSide("reference", name);
+    this.sides.show("reference");
+    this.refer(name);
     return this.refuse(entryText(name) || (name && `There is no command and no instruction \`${name}\`.`));
   }
 
@@ -179,25 +177,21 @@ export class Student {
     return this.send([`${word} ${first} ${bytes ?? BigInt.asUintN(64, value).toString(16)}`]);
   }
 
-  showSide(shown, find = "") {
-    for (const [side, id] of Object.entries(SIDES)) {
-      byId(id).hidden = side !== shown;
-      byId(`show-${side}`).ariaPressed = `${side === shown}`;
-    }
-    if (shown !== "reference") return;
+  /** Shows the reference, or what is found in it. */
+  refer(find) {
     byId("find").value = find;
     showReference(find);
     if (document.activeElement.id !== "line") byId("find").focus();
   }
 
-  numberLines() {
-    const lines = byId("source").value.split("\n");
-    byId("numbers-of-lines").textContent = lines.map((_, place) => place + 1).join("\n");
-    try {
-      sessionStorage.setItem("source", byId("source").value);
-    } catch {
-      // it is full: a reload has the copy of before
-    }
+  /** Shows the seat's source; one that the teacher has just given is opened. */
+  showSource({ seat, source }) {
+    const isOther = this.source.told && this.source.told.versions !== source.versions;
+    const isGiven = isOther && source.versions.at(-1)?.why === "given";
+    this.source.show(seat, source);
+    if (!isGiven || source.text !== this.source.editor.text) return;
+    this.sides.show("source");
+    byId("source").scrollTop = 0;
   }
 
   async write() {
@@ -206,13 +200,13 @@ export class Student {
     if (text.length > MOST_LETTERS) {
       return this.refuse(`This source has ${size} characters, and ${most} are taken at most: nothing was sent.`);
     }
-    return this.assemble({ ask: "source", text });
+    return this.source.bring(text, () => this.assemble({ ask: "source", text }));
   }
 
   async assemble(request) {
     const { mistakes } = (await this.request(request, "the source")) ?? {};
     byId("mistakes").replaceChildren(...(mistakes ?? []).map((mistake) => this.mistake(mistake)));
-    return mistakes && this.showSide(mistakes.length ? "source" : "listing");
+    return mistakes && this.sides.show(mistakes.length ? "source" : "listing");
   }
 
   /** A mistake of the source, which leads to its place. */

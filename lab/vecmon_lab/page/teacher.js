@@ -2,8 +2,11 @@
 
 import { CodeField, closeSheet, openSheet } from "./codes.js";
 import { Desk } from "./desk.js";
-import { button, byId, header, make, put, say } from "./elements.js";
+import { Editor } from "./editor.js";
+import { button, byId, header, make, offerFile, put, say } from "./elements.js";
 import { LineField, inParts, nameOf, unfitLines } from "./lines.js";
+import { Sides } from "./sides.js";
+import { Source } from "./source.js";
 import { addToLog, toldEntry } from "./transcript.js";
 
 /** An answer without the leading zeros of its addresses. */
@@ -87,6 +90,12 @@ export class Teacher {
     put(byId("who"), "Teacher");
     byId("teacher").hidden = false;
     new LineField("operator-line", (lines) => this.operate(lines));
+    new Sides(["listing", "source"]);
+    byId("source").readOnly = true;
+    this.source = new Source(new Editor(byId("source")), connection);
+    const given = new Editor(byId("given"));
+    byId("take").onclick = () => given.put(this.source.editor.text);
+    byId("give").onclick = () => this.request({ ask: "give", seat: byId("receiver").value, text: given.text });
   }
 
   show(view, logs, isAnew) {
@@ -95,7 +104,8 @@ export class Teacher {
       this.machines[letter] = new ClassMachine(letter, this);
       byId("machines").append(this.machines[letter].box);
       byId("operated").append(make("option", "", letter));
-      byId("on-wall").append(...this.machines[letter].rows.map(({ seat }) => make("option", "", seat)));
+      const options = () => this.machines[letter].rows.map(({ seat }) => make("option", "", seat));
+      for (const id of ["on-wall", "receiver"]) byId(id).append(...options());
     }
     byId("operator-machine").hidden = letters.length === 1;
     for (const letter of letters) this.machines[letter].show(view.machines[letter], view.share, view.shoulder);
@@ -112,7 +122,9 @@ export class Teacher {
     this.seat = view.shoulder;
     byId("desk").hidden = !this.seat;
     put(byId("shoulder"), this.seat && `Seat ${this.seat}, over the shoulder`);
-    if (this.seat) this.desk.show(this.seat, view.state, logs[this.seat] ?? [], isOther);
+    if (!this.seat) return;
+    this.desk.show(this.seat, view.state, logs[this.seat] ?? [], isOther);
+    this.source.show(this.seat, view.source);
   }
 
   /** The field of a code, which asks for it where it is wanted. */
@@ -148,9 +160,6 @@ export class Teacher {
     const headers = { Authorization: `Bearer ${this.connection.code}` };
     const answer = await fetch(`${letter}/${name}`, { headers }).catch(() => null);
     if (!answer?.ok) return say("gone", `The ${name} can't be fetched.`);
-    const file = { href: URL.createObjectURL(await answer.blob()), download: `${letter}.${name}.txt` };
-    const link = Object.assign(make("a", ""), file);
-    link.click();
-    return setTimeout(() => URL.revokeObjectURL(link.href), 60000);
+    return offerFile(`${letter}.${name}.txt`, await answer.blob());
   }
 }
