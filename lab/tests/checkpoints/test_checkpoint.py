@@ -8,11 +8,11 @@ import pytest
 
 from support.drawn_classes import drawn_class, outcome
 from support.places import SUM
-from vecmon_lab.checkpoints.checkpoint import Checkpoint, NoCheckpoint, checkpoint, whole_checkpoint
+from vecmon_lab.checkpoints.checkpoint import NoCheckpoint, checkpoint, whole_checkpoint
 from vecmon_lab.checkpoints.machine_state import machine_after
 from vecmon_lab.machine.answers import Switches, read
 from vecmon_lab.machine.lines import DIGITS, is_look
-from vecmon_lab.machine.session import Session
+from vecmon_lab.machine.session import Checkpoint, Session
 
 IMAGES = {"sum": SUM}
 TURNS = [f"{digit} {word}" for digit in DIGITS for word in ("stop", "leave", "enter", "go")] + ["* slices 1"] * 8

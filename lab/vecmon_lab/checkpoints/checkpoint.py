@@ -1,12 +1,14 @@
 """Makes a checkpoint: lines that leave a new machine as a script does, but for the counts of its vector unit."""
 
+import os
 import pathlib
+import sys
 from collections.abc import Callable, Mapping
-from dataclasses import dataclass
 
 from .. import LabError
 from ..machine.answers import Granted, read
-from ..machine.session import Session
+from ..machine.program import images_of
+from ..machine.session import Checkpoint, Session
 from .machine_state import Machine, carry_out, fresh_memory, machine_after
 from .set_up import lines_of
 
@@ -15,14 +17,6 @@ MOMENTS = (0, 1, 2, 4, 8, 16, 32, 64, 128, 256, 512)  # lines before the end of 
 
 class NoCheckpoint(LabError):
     """No lines leave a machine as it is; the text says why."""
-
-
-@dataclass(frozen=True)
-class Checkpoint:
-    """Lines that stand for the first so many lines of a script."""
-
-    number: int
-    lines: bytes
 
 
 Opening = Callable[[], Session]
@@ -69,3 +63,17 @@ def _stops_at_once(session: Session, machine: Machine, digit: str) -> bool:
     granted = read(session.do(f"* run {digit}"))
     pc = machine.shown[digit].registers.pc
     return isinstance(granted, Granted) and any((stop.kind, stop.pc) == ("break", pc) for _, stop in granted.stops)
+
+
+def main(program: str, quantum: str, *images: str) -> None:
+    """Puts out the checkpoint of a script that comes in, behind the number of lines that it stands for."""
+    paths = images_of(list(images))
+    made = checkpoint(
+        lambda: Session(pathlib.Path(program), paths, quantum=int(quantum)), sys.stdin.buffer.read(), paths
+    )
+    sys.stdout.buffer.write(b"%d\n" % made.number + made.lines)
+
+
+if __name__ == "__main__":
+    os.nice(10)
+    main(*sys.argv[1:])

@@ -16,8 +16,9 @@ from ..assembler.source import Program, SourceError, in_order, read_source, refu
 from ..assembler.trial import all_mistakes
 from ..machine.answers import Granted, OutOfStep, Position, Refused, read
 from ..machine.lines import DIGITS, is_look
-from ..machine.session import TOGETHER, ProgramGone, ReplayDiffers, ScriptFull, Session
+from ..machine.session import TOGETHER, Checkpoint, ProgramGone, ReplayDiffers, ScriptFull, Session
 from ..page.state import State
+from .beside import Beside
 from .clock import Clock
 from .live import GO, OUT, STOP, with_output
 from .past import Past
@@ -28,6 +29,7 @@ from .store import Notes, ScriptFile
 SEAT_BYTES = 1_500_000  # of a seat's lines in the script: eight leave 3,000,000 to the operator and the clock
 SOURCE_LINES = 4096
 WATCH_SECONDS = 0.5  # between looks at a program that runs
+SHORTEN_SECONDS = 0.5  # between looks at how long a script has become
 UNSEEN_SECONDS = 60.0  # after which a program that runs is stopped, if nobody looks at it
 
 
@@ -60,8 +62,9 @@ class Room:
     `changed` is called with the names of seats that have news; `watched` answers whom somebody looks at.
     """
 
-    def __init__(self, letter: str, session: Session, file: ScriptFile) -> None:
-        self.letter, self.session, self.file = letter, session, file
+    def __init__(self, letter: str, session: Session, file: ScriptFile, makers: Beside) -> None:
+        """makers: places where checkpoints are made"""
+        self.letter, self.session, self.file, self._makers = letter, session, file, makers
         self.seats, self.clock = Seats(letter), Clock(self._tick)
         self.own_slices = True
         self.changed: Callable[[Iterable[str]], None] = lambda names: None
@@ -213,6 +216,30 @@ class Room:
             has_run, self._has_run = self._has_run, False
             for digit in sorted(self.seats.running()) if has_run else ():
                 await self._attend(self.seats.users[digit])
+
+    async def shorten(self) -> None:
+        """Makes checkpoints, so that a new process is soon where the last one was; goes for ever."""
+        least = 1.0  # the weight of a script that gets one: twice that of the last trial, where there was none
+        while True:
+            await asyncio.sleep(SHORTEN_SECONDS)
+            if self.session.weight >= least:
+                try:
+                    await self.make_checkpoint()
+                    least = 1.0
+                except LabError:
+                    least = 2 * self.session.weight
+
+    async def make_checkpoint(self) -> None:
+        """Makes a checkpoint beside the class, of this moment or shortly before. Raises LabError where there is none."""
+        async with self._lock:
+            session = self.session
+            script, spent = session.short_script, session.spent
+        program, *words = session.command
+        words = [program, f"{session.quantum}", *words[words.index("/dev/stdin") + 1 :]]
+        number, _, lines = (await self._makers.run("checkpoints.checkpoint", *words, script=script)).partition(b"\n")
+        async with self._lock:
+            session.shorten(Checkpoint(int(number), lines))
+            session.spent -= spent
 
     async def _attend(self, seat: Seat) -> None:
         """Shows a program that runs, if somebody looks at it. One that runs in vain is stopped, with a sentence."""

@@ -179,7 +179,7 @@ async def served(members: Class, doors: Iterable[socket.socket], names: set[str]
         work = [
             server.sweep(runner),
             _keep(members),
-            *(each for room in rooms for each in (room.clock.run(), room.watch())),
+            *(each for room in rooms for each in (room.clock.run(), room.watch(), room.shorten())),
         ]
         tasks = [asyncio.create_task(each) for each in work]
         yield runner.addresses[0][1]

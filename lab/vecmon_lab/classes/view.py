@@ -12,6 +12,7 @@ from ..assembler.commands import refusal_on_pages
 from ..machine.session import SCRIPT_BYTES
 from ..page.pages import merge_patch
 from ..page.state import State
+from .beside import Beside
 from .codes import TEACHER
 from .requests import BadRequest, Lines, LookOver, Renew, Request, SetClock, SetRights, Source, read_request
 from .room import SEAT_BYTES, Room
@@ -118,10 +119,11 @@ class Class:
         self.tabs: set[Tab] = set()
         self.rooms: dict[str, Room] = {}
         self._kept: dict[str, Notes] = {}
+        makers = Beside(1)
         try:
             for letter in store.machines:
                 file = ScriptFile(store.folder / f"{letter}.script")
-                self.rooms[letter] = room = Room(letter, store.session(patience), file)
+                self.rooms[letter] = room = Room(letter, store.session(patience), file, makers)
                 room.changed, room.watched = self._tell, self._watched
                 room.set_clock({"on": clock})
                 room.restore(store.read(f"{letter}.json", Notes), progress)

@@ -11,9 +11,11 @@ import re
 import select
 import signal
 import subprocess
+import time
 import zlib
 from array import array
 from collections.abc import Callable, Iterator, Mapping, Sequence
+from dataclasses import dataclass
 
 from .. import LabError
 from .answers import OutOfStep, Users, is_refusal, is_whole, read
@@ -24,6 +26,7 @@ __all__ = ["BadLine", "OutOfStep", "ProgramGone", "ReplayDiffers", "ScriptFull",
 
 SCRIPT_BYTES = 15_000_000  # a process takes 16,777,216 bytes at most, and lines that look need room as well
 TOGETHER = 40  # lines that go to the program at once: each has to fit into its pipe
+WEIGHTY_BYTES, WEIGHTY_SECONDS = 1_000_000, 1.0  # of lines that a new process carries out again
 BLOCK_BYTES = 65536  # that are written, or read, at once
 NEW_MACHINE = Users(dict.fromkeys(DIGITS, "-"))
 _RECORDED = re.compile(rb"(?:[1-8*] [ -~]{0,1022}+\n)*+")
@@ -40,6 +43,14 @@ class ScriptFull(LabError):
 
 class ReplayDiffers(LabError):
     """A new process answered the script otherwise than the one before."""
+
+
+@dataclass(frozen=True)
+class Checkpoint:
+    """Lines that stand for the first so many lines of a script: they leave a new machine as those do."""
+
+    number: int
+    lines: bytes
 
 
 class _Process:
@@ -165,9 +176,10 @@ class Session(contextlib.AbstractContextManager["Session"]):
     """A machine for eight users, and the script that makes it anew.
 
     Its process is replaced where it ended, hangs, or has no room for more lines; then the new one carries out the
-    script again. `policy` has the policy for agnostic elements, `keep` or `ones`, of each user who is there: no
+    script again, or a checkpoint's lines and the lines since. `policy` has the policy for agnostic elements, `keep` or `ones`, of each user who is there: no
     command shows it. `quantum` is the ticks of a slice. `command` starts the program, and `losses` says why processes
-    that were asked gave no answer, and were replaced. `progress` is called while a new process carries out the script,
+    that were asked gave no answer, and were replaced. `spent` is how many seconds lines that do have taken, of those that
+    a new process would carry out. `progress` is called while a new process carries out the script,
     with how much of it that has done in percent: 0 first, and 100 at the end.
     """
 
@@ -196,7 +208,10 @@ class Session(contextlib.AbstractContextManager["Session"]):
         self._check = check
         self._script = bytearray()
         self._answers = hashlib.sha256()
-        self._marks = array("I")  # the CRC-32 of each answer: where a replay differs first
+        self._marks = array("I")  # the CRC-32 of each answer, by which a replay is compared
+        self._checkpoint = Checkpoint(0, b"")
+        self._covered = 0  # bytes of the script that it stands for
+        self.spent = 0.0
         self._has_ended = False
         self.policy: dict[int, str] = {}
         self.losses: list[str] = []
@@ -266,22 +281,29 @@ class Session(contextlib.AbstractContextManager["Session"]):
         """
         if not _RECORDED.fullmatch(script):
             raise BadLine("a script has lines that no session records")
-        lines, line, answer = iter(script.decode("ascii").split("\n")), "", list[str]()
-        for block in self._piped(self._process or self._replay(), script) if script else ():
-            self._answers.update(block)
-            for part in block.decode("latin-1").split("\n")[:-1]:
-                line = line or next(lines, "")
-                if not line:
-                    raise OutOfStep(f"after the answers to a script there came {part[:60]!r}")
-                answer.append(part)
-                if line[:1] != "*" or part[:1] == "*":  # before an operator's answer stand stops
-                    self._marks.append(_mark(answer))
-                    self._follow_policy(line, answer)
-                    yield line, answer
-                    line, answer = "", []
-        if line or next(lines, ""):
-            raise OutOfStep("the program hasn't answered all lines of a script")
+        began = time.monotonic()
+        for line, answer in self._piped(self._process or self._replay(), script):
+            self._take_up(line, answer)
+            yield line, answer
         self._script += script
+        self.spent += time.monotonic() - began
+
+    @property
+    def short_script(self) -> bytes:
+        """Lines that leave the machine as the script does: those of the last checkpoint, and the lines since."""
+        return self._checkpoint.lines + self._script[self._covered :]
+
+    @property
+    def weight(self) -> float:
+        """How much a new process would carry out: from 1 on it is time for a checkpoint."""
+        return (len(self._script) - self._covered) / WEIGHTY_BYTES + self.spent / WEIGHTY_SECONDS
+
+    def shorten(self, checkpoint: Checkpoint) -> None:
+        """Takes up a checkpoint of `short_script`, as that was some time ago: a new process begins with its lines."""
+        gone = max(0, checkpoint.number - self._checkpoint.lines.count(b"\n"))
+        for _ in range(gone):
+            self._covered = self._script.index(b"\n", self._covered) + 1
+        self._checkpoint = Checkpoint(self._checkpoint.number + gone, checkpoint.lines)
 
     def look(self, line: str) -> list[str]:
         """The answer to a line that only looks. Raises BadLine for any other one, and else as `do`."""
@@ -312,11 +334,14 @@ class Session(contextlib.AbstractContextManager["Session"]):
         size = sum(map(len, lines))
         if self._process and self._process.fed + size >= self._script_bytes + self._script_bytes // 10:
             self.close()
+        began = time.monotonic()
         try:
             answers = self._answers_to(lines)
             for line, answer in zip(lines, answers):
                 if not is_look(line):
                     self._record(line, answer)
+                    self.spent += time.monotonic() - began
+                    began = time.monotonic()
         except BaseException:
             self.close()
             raise
@@ -335,19 +360,14 @@ class Session(contextlib.AbstractContextManager["Session"]):
     def _replay(self) -> _Process:
         """A new process that has carried out the script, and has answered as the one before.
 
-        The script is piped. Only where the answers are others it goes line by line, to say which.
+        Lines of a checkpoint stand for the first ones.
         """
-        process, answers = self._start(), hashlib.sha256()
-        if not self._script:
-            return process
+        process = self._start()
         try:
-            for block in self._piped(process, bytes(self._script)):
-                answers.update(block)
-            if answers.digest() == self._answers.digest():
-                return process
-            self.close()
-            process = self._start()
-            self._go_through(process)
+            begin = self._checkpoint.number - self._checkpoint.lines.count(b"\n")
+            for number, (line, answer) in enumerate(self._piped(process, self.short_script), begin):
+                if number >= self._checkpoint.number and zlib.crc32(_printed(answer)) != self._marks[number]:
+                    raise ReplayDiffers(f"{DIFFERS}: line {number + 1}, {line[:60]!r}, now with {answer[0][:60]!r}")
         except BaseException:
             self.close()
             raise
@@ -365,16 +385,27 @@ class Session(contextlib.AbstractContextManager["Session"]):
             raise
         return process
 
-    def _piped(self, process: _Process, script: bytes) -> Iterator[bytes]:
-        """The answers to a script, as they come; tells how far it is. Raises ProgramGone."""
-        lines, done = script.count(b"\n"), 0
-        self._tell(0)
-        for block in process.pour(script):
+    def _piped(self, process: _Process, script: bytes) -> Iterator[tuple[str, list[str]]]:
+        """Lines that a session recorded, and their answers, as they come; tells how far it is.
+
+        Raises ProgramGone, and OutOfStep where there are more answers than lines, or fewer.
+        """
+        lines, line, answer, done = script.decode("ascii").split("\n")[:-1], "", list[str](), 0
+        if lines:
+            self._tell(0)
+        for block in process.pour(script) if lines else ():
             if self._has_ended:
                 raise ProgramGone("the session has ended")
-            done += block.count(b"\n")
-            self._tell(min(99, 100 * done // lines))
-            yield block
+            for part in block.decode("latin-1").split("\n")[:-1]:
+                if done == len(lines):
+                    raise OutOfStep(f"after the answers to a script there came {part[:60]!r}")
+                answer.append(part)
+                if lines[done][0] != "*" or part[:1] == "*":  # before an operator's answer stand stops
+                    yield lines[done], answer
+                    done, answer = done + 1, []
+            self._tell(min(99, 100 * done // len(lines)))
+        if done < len(lines):
+            raise OutOfStep("the program hasn't answered all lines of a script")
         self._tell(100)
 
     def _tell(self, percent: int) -> None:
@@ -383,26 +414,16 @@ class Session(contextlib.AbstractContextManager["Session"]):
             self._percent = percent
             self.progress(percent)
 
-    def _go_through(self, process: _Process) -> None:
-        """Carries out the script line by line. Raises ReplayDiffers, which says where."""
-        answers = hashlib.sha256()
-        for number, (line, mark) in enumerate(zip(self._script.decode("ascii").splitlines(), self._marks)):
-            if self._has_ended:
-                raise ProgramGone("the session has ended")
-            self._tell(100 * number // self.lines)
-            (answer,) = process.ask([line])
-            answers.update(_printed(answer))
-            if _mark(answer) != mark:
-                raise ReplayDiffers(f"{DIFFERS}: line {number + 1}, {line[:60]!r}, now with {answer[0][:60]!r}")
-        if answers.digest() != self._answers.digest():
-            raise ReplayDiffers(DIFFERS)
-        self._tell(100)
-
     def _record(self, line: str, answer: Sequence[str]) -> None:
-        """Adds a line to the script, and its answer to the digest; follows the policy of the line's user."""
+        """Adds a line to the script, and takes up its answer."""
         self._script += line.encode("ascii") + b"\n"
-        self._answers.update(_printed(answer))
-        self._marks.append(_mark(answer))
+        self._take_up(line, answer)
+
+    def _take_up(self, line: str, answer: Sequence[str]) -> None:
+        """Adds a line's answer to the digest; follows the policy of the line's user."""
+        printed = _printed(answer)
+        self._answers.update(printed)
+        self._marks.append(zlib.crc32(printed))
         self._follow_policy(line, answer)
 
     def _follow_policy(self, line: str, answer: Sequence[str]) -> None:
@@ -420,8 +441,3 @@ class Session(contextlib.AbstractContextManager["Session"]):
 def _printed(answer: Sequence[str]) -> bytes:
     """An answer as the machine prints it."""
     return ("\n".join(answer) + "\n").encode("latin-1")
-
-
-def _mark(answer: Sequence[str]) -> int:
-    """What tells an answer from others."""
-    return zlib.crc32(_printed(answer))
