@@ -16,7 +16,7 @@ import aiohttp
 
 from support.places import SUM, TOP
 from vecmon_lab.classes import server as class_server
-from vecmon_lab.classes.store import Store
+from vecmon_lab.classes.store import Store, script_name
 from vecmon_lab.classes.view import Class
 from vecmon_lab.machine.program import find_program
 
@@ -132,7 +132,8 @@ class Served:
         done = subprocess.run(command, input=script, stdout=subprocess.PIPE, check=True)
         assert hashlib.sha256(done.stdout).hexdigest() == teacher.view["machines"][machine]["digest"]
         assert (await self.get(f"{machine}/transcript"))[1] == done.stdout
-        assert not is_saved or (self.folder / f"{machine}.script").read_bytes() == script
+        name = script_name(machine, teacher.view["machines"][machine]["scripts"])
+        assert not is_saved or (self.folder / name).read_bytes() == script
         await teacher.socket.close()
         return script, done.stdout
 

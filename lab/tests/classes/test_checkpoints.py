@@ -9,8 +9,14 @@ import pytest
 
 from support.class_tabs import LOOP, served
 from support.places import SUM
+from vecmon_lab.classes.live import is_servers
+from vecmon_lab.classes.solo import solo
+from vecmon_lab.classes.store import Store
+from vecmon_lab.machine.program import find_program
 
 pytestmark = pytest.mark.asyncio
+
+SUM_LINES = ["enter", "load sum", "step 3", "policy ones", "break 11190"]
 
 
 async def test_a_killed_process_is_replaced_from_a_checkpoint(tmp_path: pathlib.Path) -> None:
@@ -35,4 +41,48 @@ async def test_a_killed_process_is_replaced_from_a_checkpoint(tmp_path: pathlib.
             await tab.do("step 1", "go")
             await teacher.do("slices 1000", machine="A")
         await tab.do("stop")
+        await room.check_replay()
+
+
+async def test_a_class_goes_on_in_another_script(tmp_path: pathlib.Path) -> None:
+    folder = tmp_path / "class"
+    async with served(folder, {"sum": SUM}) as room:
+        assert room.members
+        machine = room.members.rooms["A"]
+        tab, other, teacher = await room.sit("A1"), await room.sit("A2"), await room.sit("teacher")
+        await other.do(*SUM_LINES)
+        await tab.do(*LOOP, "go")
+        await teacher.do("slices 999", machine="A")
+        await tab.do("stop")
+        first = machine.session.script
+        await machine.make_checkpoint()
+        await other.do("step 1")
+        await machine.begin_script()
+        assert (folder / "A.script").read_bytes() == first + b"2 step 1\n" != (folder / "A.2.script").read_bytes()
+        await tab.do("go", "stop")
+        await teacher.do("run 1", "stats", machine="A")
+        await room.check_replay()
+        for name, script in (("A.1", first + b"2 step 1\n"), ("A.2", machine.session.script)):
+            assert (await room.get(f"{name}/script"))[1] == script
+        assert (await room.get("A.1/transcript"))[1].startswith(b"2 entered\n2 loaded pc=")
+        assert (await room.get("A.3/script"))[0] == 404
+        assert await tab.do("state") == [["state stopped pc=0000000000010000"]] and tab.view["share"]["used"] == 20
+        registers = await other.do("regs")
+        store = Store(folder, find_program(), is_reading=True)  # while the class runs
+        room.members.keep()
+        assert solo(store, "A2") == [f"2 {line}" for line in (*SUM_LINES, "step 1")]
+        own = [f"1 {line}" for line in (*LOOP, "go", "stop", "go", "stop")]
+        own.insert(len(LOOP) + 1, "* slices 999")
+        assert [line for line in solo(store, "A1") if not is_servers(line)] == own
+    async with served(folder) as room:
+        other, tab, teacher = await room.sit("A2"), await room.sit("A1"), await room.sit("teacher")
+        assert teacher.view["machines"]["A"]["scripts"] == 2 and tab.view["share"]["used"] == 20
+        assert tab.logs["A1"] == [
+            ">1 go",
+            "<1 running pc=0000000000010000",
+            ">1 stop",
+            "<1 stopped pc=0000000000010000",
+        ]
+        assert "A2" not in other.logs and other.view["state"]["breaks"] == ["11190"]
+        assert await other.do("regs") == registers
         await room.check_replay()

@@ -53,7 +53,7 @@ class Machine:
     def __init__(self, folder: pathlib.Path) -> None:
         self.session: Any = StandIn(folder / "A.script")
         session: Session = self.session
-        self.room = Room("A", session, ScriptFile(folder / "A.script"), Beside(1))
+        self.room = Room("A", session, ScriptFile(folder, "A"), Beside(1))
 
     def ask(self, seat: Seat, *lines: str) -> "asyncio.Task[Any]":
         """A request that is under way."""

@@ -30,6 +30,7 @@ SEAT_BYTES = 1_500_000  # of a seat's lines in the script: eight leave 3,000,000
 SOURCE_LINES = 4096
 WATCH_SECONDS = 0.5  # between looks at a program that runs
 SHORTEN_SECONDS = 0.5  # between looks at how long a script has become
+NEXT_SCRIPT_BYTES, MOST_SET_UP_BYTES = 12_000_000, 9_000_000  # after which another one begins; and how it may begin
 UNSEEN_SECONDS = 60.0  # after which a program that runs is stopped, if nobody looks at it
 
 
@@ -59,7 +60,8 @@ class _Work:
 class Room:
     """A machine, its seats, and its clock.
 
-    `changed` is called with the names of seats that have news; `watched` answers whom somebody looks at.
+    `changed` is called with the names of seats that have news; `watched` answers whom somebody looks at; `keep` keeps
+    notes beside the script, and answers whether that went well.
     """
 
     def __init__(self, letter: str, session: Session, file: ScriptFile, makers: Beside) -> None:
@@ -67,7 +69,9 @@ class Room:
         self.letter, self.session, self.file, self._makers = letter, session, file, makers
         self.seats, self.clock = Seats(letter), Clock(self._tick)
         self.own_slices = True
+        self.scripts: Sequence[int] = [0]  # of each one, how many lines at its beginning set the machine up
         self.changed: Callable[[Iterable[str]], None] = lambda names: None
+        self.keep: Callable[[Notes], bool] = lambda notes: False
         self.watched: Callable[[], Container[str]] = set
         self._has_run = False  # whether slices were granted since programs were looked at
         self.stopped = self.down = self.rebuilding = ""
@@ -91,9 +95,9 @@ class Room:
         progress: is told how far that is, a sentence at a time
         """
         self.session.progress = lambda percent: progress(rebuilding(self.letter, percent))
-        past = Past()
-        for line, answer in self.file.replay(self.session, notes):
-            past.add(line, answer)
+        past, self.scripts = Past(), notes.scripts
+        for number, (line, answer) in enumerate(self.file.replay(self.session, notes)):
+            (past.set_up if number < notes.scripts[-1] else past.add)(line, answer)
         past.tell(self.seats)
         self.seats.take(self.seats.look(self.session, [], DIGITS))
         self.own_slices = notes.own_slices
@@ -110,7 +114,7 @@ class Room:
         """What is kept beside the script."""
         labels = {seat.digit: seat.labels for seat in self.seats.users.values() if seat.labels}
         clock = asdict(self.clock.settings)
-        return Notes(self.session.lines, self.session.digest, clock, self.own_slices, labels)
+        return Notes(self.session.lines, self.session.digest, clock, self.own_slices, labels, self.scripts)
 
     def is_busy(self) -> bool:
         """Whether somebody has the machine."""
@@ -219,15 +223,17 @@ class Room:
 
     async def shorten(self) -> None:
         """Makes checkpoints, so that a new process is soon where the last one was; goes for ever."""
-        least = 1.0  # the weight of a script that gets one: twice that of the last trial, where there was none
+        least = 1.0  # the weight of a script that gets one; more where there was none
         while True:
             await asyncio.sleep(SHORTEN_SECONDS)
             if self.session.weight >= least:
                 try:
                     await self.make_checkpoint()
                     least = 1.0
-                except LabError:
-                    least = 2 * self.session.weight
+                    if self.session.size > NEXT_SCRIPT_BYTES:
+                        await self.begin_script()
+                except (LabError, OSError):
+                    least = 1.5 * self.session.weight
 
     async def make_checkpoint(self) -> None:
         """Makes a checkpoint beside the class, of this moment or shortly before. Raises LabError where there is none."""
@@ -240,6 +246,35 @@ class Room:
         async with self._lock:
             session.shorten(Checkpoint(int(number), lines))
             session.spent -= spent
+
+    async def begin_script(self) -> None:
+        """Goes on in another script, which begins with the last checkpoint.
+
+        Raises LabError and OSError where that can't be; then the script goes on.
+        """
+
+        def begin() -> None:
+            heir = self.session.renewed()
+            scripts = [*self.scripts, heir.lines]
+            try:
+                if heir.size > MOST_SET_UP_BYTES or not self.file.is_saved:
+                    raise LabError("there is no room for another script")
+                file = self.file.successor(len(scripts), heir.script)
+                if not self.keep(replace(self.notes(), lines=heir.lines, answers=heir.digest, scripts=scripts)):
+                    file.close()
+                    raise LabError("the notes beside the script aren't saved")
+            except BaseException:
+                heir.close()
+                raise
+            self.session.close()
+            self.file.close()
+            self.session, self.file, self.scripts = heir, file, scripts
+
+        async with self._lock:
+            await asyncio.get_running_loop().run_in_executor(self._thread, begin)
+            for seat in (*self.seats.users.values(), self.seats.operator):
+                seat.used = 0
+        self.changed(self.seats.names())
 
     async def _attend(self, seat: Seat) -> None:
         """Shows a program that runs, if somebody looks at it. One that runs in vain is stopped, with a sentence."""

@@ -21,7 +21,7 @@ from aiohttp.http import HttpProcessingError
 from ..page.pages import Page
 from ..page.reference import reference_text
 from .codes import TEACHER
-from .store import BadFolder
+from .store import BadFolder, script_name
 from .tab_socket import CLOSED, READ_SECONDS, TabSocket
 from .view import Class, Tab
 
@@ -53,6 +53,7 @@ class Server:
         application.router.add_get("/", self._get_page)
         application.router.add_get("/socket", self._socket)
         application.router.add_get("/{machine:[A-L]}/{what:script|transcript}", self._get_file)
+        application.router.add_get("/{machine:[A-L]}.{number:[1-9][0-9]*}/{what:script|transcript}", self._get_file)
         return application
 
     def is_ours(self, host: str, origin: str | None) -> bool:
@@ -120,7 +121,11 @@ class Server:
         if self.members.codes.who(code) != TEACHER or room is None:
             await asyncio.sleep(WRONG_CODE_SECONDS)
             raise web.HTTPNotFound
-        data = room.session.script
+        data, number = room.session.script, int(request.match_info.get("number", len(room.scripts)))
+        if number > len(room.scripts):
+            raise web.HTTPNotFound
+        if number < len(room.scripts):
+            data = await asyncio.to_thread((self.members.store.folder / script_name(room.letter, number)).read_bytes)
         if request.match_info["what"] == "transcript":
             data = await asyncio.to_thread(_transcript, room.session.command, data)
             try:

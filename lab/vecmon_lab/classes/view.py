@@ -5,6 +5,7 @@ import contextlib
 import json
 from collections.abc import Callable, Iterable, Mapping
 from dataclasses import asdict
+from functools import partial
 from typing import TypedDict
 
 from .. import LabError
@@ -69,6 +70,7 @@ class MachineView(TypedDict):
     clock: Clock
     own_slices: bool
     script: int
+    scripts: int
     of: int
     lines: int
     digest: str
@@ -122,11 +124,12 @@ class Class:
         makers = Beside(1)
         try:
             for letter in store.machines:
-                file = ScriptFile(store.folder / f"{letter}.script")
+                notes = store.read(f"{letter}.json", Notes)
+                file = ScriptFile(store.folder, letter, len(notes.scripts))
                 self.rooms[letter] = room = Room(letter, store.session(patience), file, makers)
-                room.changed, room.watched = self._tell, self._watched
+                room.changed, room.watched, room.keep = self._tell, self._watched, partial(self._keep, letter)
                 room.set_clock({"on": clock})
-                room.restore(store.read(f"{letter}.json", Notes), progress)
+                room.restore(notes, progress)
         except BaseException:
             self.end()
             raise
@@ -148,13 +151,19 @@ class Class:
             if room.trouble != before:
                 self._tell(room.seats.names())
             notes = room.notes()
-            name = f"{room.letter}.json"
-            if room.file.is_saved and self._kept.get(name) != notes and self.store.write(name, asdict(notes)):
-                self._kept[name] = notes
+            if room.file.is_saved and self._kept.get(room.letter) != notes:
+                self._keep(room.letter, notes)
         if self.store.waits("codes.json"):
             self.store.write("codes.json", self.codes.codes)
         if self.store.trouble != trouble:
             self._tell([])
+
+    def _keep(self, letter: str, notes: Notes) -> bool:
+        """Keeps what stands beside a machine's script; whether that went well."""
+        is_kept = self.store.write(f"{letter}.json", asdict(notes))
+        if is_kept:
+            self._kept[letter] = notes
+        return is_kept
 
     def seat(self, name: str) -> Seat:
         """The seat of a name. Raises BadRequest."""
@@ -261,6 +270,7 @@ class Class:
             "clock": asdict(room.clock.settings),
             "own_slices": room.own_slices,
             "script": room.session.size,
+            "scripts": len(room.scripts),
             "of": SCRIPT_BYTES,
             "lines": room.session.lines,
             "digest": room.session.digest,

@@ -14,8 +14,10 @@ import subprocess
 import time
 import zlib
 from array import array
+from collections import deque
 from collections.abc import Callable, Iterator, Mapping, Sequence
 from dataclasses import dataclass
+from functools import partial
 
 from .. import LabError
 from .answers import OutOfStep, Users, is_refusal, is_whole, read
@@ -203,6 +205,9 @@ class Session(contextlib.AbstractContextManager["Session"]):
         options = [] if quantum is None else ["--quantum", str(quantum)]
         words = [f"{name}={path}" for name, path in images.items()]
         self.command = [str(program), *options, "--", "/dev/stdin", *words]  # images are taken after a script alone
+        self._opening = partial(
+            Session, program, images, quantum=quantum, patience=patience, script_bytes=script_bytes, check=check
+        )
         self._patience = patience
         self._script_bytes = script_bytes
         self._check = check
@@ -304,6 +309,20 @@ class Session(contextlib.AbstractContextManager["Session"]):
         for _ in range(gone):
             self._covered = self._script.index(b"\n", self._covered) + 1
         self._checkpoint = Checkpoint(self._checkpoint.number + gone, checkpoint.lines)
+
+    def renewed(self) -> "Session":
+        """A session on the same machine whose script is `short_script`. Raises as a replay does."""
+        heir = self._opening()
+        try:
+            deque(heir.do_script(self.short_script), 0)
+            since = self._marks[self._checkpoint.number :]
+            if heir._marks[heir.lines - len(since) :] != since:
+                raise ReplayDiffers(DIFFERS)
+        except BaseException:
+            heir.close()
+            raise
+        heir.losses = self.losses
+        return heir
 
     def look(self, line: str) -> list[str]:
         """The answer to a line that only looks. Raises BadLine for any other one, and else as `do`."""

@@ -32,7 +32,7 @@ class ClassMachine {
       });
     }
     on("own", "change", () => ask({ ask: "rights", own_slices: this.part("own").checked }));
-    for (const name of ["script", "transcript"]) on(name, "click", () => teacher.download(letter, name));
+    for (const name of ["script", "transcript"]) on(name, "click", () => teacher.download(letter, name, this.scripts));
   }
 
   row(seat, teacher) {
@@ -49,6 +49,7 @@ class ClassMachine {
   }
 
   show(machine, share, shoulder) {
+    this.scripts = machine.scripts;
     for (const { seat, code, look, tabs, run, pc, stop, line, used } of this.rows) {
       const told = machine.seats[seat[1]];
       put(code, told.code);
@@ -121,11 +122,17 @@ export class Teacher {
     if (answer?.error || (answer && request.ask !== "shoulder")) say("gone", answer.error ?? "");
   }
 
-  async download(letter, name) {
+  /** Fetches a machine's script or transcript; all of them where it has several. */
+  async download(letter, name, scripts) {
+    for (let number = 1; number < scripts; number++) await this.fetch(`${letter}.${number}`, name);
+    return this.fetch(letter, name);
+  }
+
+  async fetch(place, name) {
     const headers = { Authorization: `Bearer ${this.connection.code}` };
-    const answer = await fetch(`${letter}/${name}`, { headers }).catch(() => null);
+    const answer = await fetch(`${place}/${name}`, { headers }).catch(() => null);
     if (!answer?.ok) return say("gone", `The ${name} can't be fetched.`);
-    const file = { href: URL.createObjectURL(await answer.blob()), download: `${letter}.${name}.txt` };
+    const file = { href: URL.createObjectURL(await answer.blob()), download: `${place}.${name}.txt` };
     const link = Object.assign(make("a", ""), file);
     link.click();
     return setTimeout(() => URL.revokeObjectURL(link.href), 60000);
