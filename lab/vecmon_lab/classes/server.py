@@ -18,6 +18,7 @@ from functools import partial
 from aiohttp import web
 from aiohttp.http import HttpProcessingError
 
+from .. import LabError
 from ..page.pages import Page
 from ..page.reference import reference_text
 from .codes import TEACHER
@@ -53,6 +54,7 @@ class Server:
         application.router.add_get("/", self._get_page)
         application.router.add_get("/socket", self._socket)
         application.router.add_get("/{machine:[A-L]}/{what:script|transcript}", self._get_file)
+        application.router.add_get("/{seat:[A-L][1-8]}/home", self._get_home)
         application.router.add_get("/{machine:[A-L]}.{number:[1-9][0-9]*}/{what:script|transcript}", self._get_file)
         return application
 
@@ -133,6 +135,16 @@ class Server:
             except BadFolder as error:
                 raise web.HTTPServiceUnavailable from error
         return web.Response(body=data, content_type="text/plain")
+
+    async def _get_home(self, request: web.Request) -> web.Response:
+        code, seat = request.headers.get("Authorization", "").removeprefix("Bearer "), request.match_info["seat"]
+        if self.members.codes.who(code) not in (TEACHER, seat) or seat[0] not in self.members.rooms:
+            await asyncio.sleep(WRONG_CODE_SECONDS)
+            raise web.HTTPNotFound
+        try:
+            return web.Response(body=await self.members.take_home(seat), content_type="application/zip")
+        except LabError as error:
+            raise web.HTTPServiceUnavailable(text=str(error)) from error
 
     async def _socket(self, request: web.Request) -> web.WebSocketResponse:
         if self._nameless.locked():

@@ -121,7 +121,7 @@ class Class:
         self.tabs: set[Tab] = set()
         self.rooms: dict[str, Room] = {}
         self._kept: dict[str, Notes] = {}
-        makers = Beside(1)
+        makers, self._packers = Beside(1), Beside(2)
         try:
             for letter in store.machines:
                 notes = store.read(f"{letter}.json", Notes)
@@ -164,6 +164,11 @@ class Class:
         if is_kept:
             self._kept[letter] = notes
         return is_kept
+
+    async def take_home(self, seat: str) -> bytes:
+        """The archive that a student takes home. Raises LabError where there is none."""
+        self.keep()
+        return await self._packers.run("classes.take_home", f"{self.store.folder}", f"{self.store.program}", seat)
 
     def seat(self, name: str) -> Seat:
         """The seat of a name. Raises BadRequest."""

@@ -53,12 +53,21 @@ export class Student {
     on("source", "input", () => this.numberLines());
     on("source", "scroll", () => (byId("numbers-of-lines").scrollTop = byId("source").scrollTop));
     on("assemble", "click", () => this.assemble());
+    on("home", "click", () => this.takeHome());
     for (const side of Object.keys(SIDES)) on(`show-${side}`, "click", () => this.showSide(side));
     on("find", "input", () => showReference(byId("find").value));
     on("edit-close", "click", () => byId("edit").close());
     on("machine", "click", (event) => this.edit(event.target.closest("[data-edit]")));
     document.addEventListener("keydown", (event) => this.pressed(event));
     document.addEventListener("selectionchange", () => this.tellNames());
+  }
+
+  /** Saves what there is to take home, which takes a while to be made. */
+  async takeHome() {
+    byId("home").disabled = true;
+    const isThere = await this.connection.download(`${this.seat}/home`, `${this.seat}.zip`);
+    byId("home").disabled = false;
+    this.refuse(isThere ? "" : "There is nothing to take home yet, or it can't be made now.");
   }
 
   /** Tells of the name that the caret stands in. */
@@ -70,6 +79,7 @@ export class Student {
 
   show(view, logs, isAnew) {
     const { run } = view.state;
+    this.seat = view.seat;
     document.title = `Seat ${view.seat} – vecmon`;
     put(byId("who"), `Seat ${view.seat}`);
     const stop = run === "stopped" && view.state.stop && view.stop.split(" ")[0];

@@ -122,19 +122,12 @@ export class Teacher {
     if (answer?.error || (answer && request.ask !== "shoulder")) say("gone", answer.error ?? "");
   }
 
-  /** Fetches a machine's script or transcript; all of them where it has several. */
+  /** Saves a machine's script or transcript; all of them where it has several. */
   async download(letter, name, scripts) {
-    for (let number = 1; number < scripts; number++) await this.fetch(`${letter}.${number}`, name);
-    return this.fetch(letter, name);
-  }
-
-  async fetch(place, name) {
-    const headers = { Authorization: `Bearer ${this.connection.code}` };
-    const answer = await fetch(`${place}/${name}`, { headers }).catch(() => null);
-    if (!answer?.ok) return say("gone", `The ${name} can't be fetched.`);
-    const file = { href: URL.createObjectURL(await answer.blob()), download: `${place}.${name}.txt` };
-    const link = Object.assign(make("a", ""), file);
-    link.click();
-    return setTimeout(() => URL.revokeObjectURL(link.href), 60000);
+    for (let number = 1; number <= scripts; number++) {
+      const place = number < scripts ? `${letter}.${number}` : letter;
+      const isThere = await this.connection.download(`${place}/${name}`, `${place}.${name}.txt`);
+      if (!isThere) say("gone", `The ${name} can't be fetched.`);
+    }
   }
 }
