@@ -31,6 +31,11 @@ def add_arguments(parser: argparse.ArgumentParser) -> None:
     parser.add_argument(
         "--no-clock", action="store_true", help="a new machine's clock is off until the teacher turns it on"
     )
+    parser.add_argument(
+        "--spare",
+        action="store_true",
+        help="a second process follows each machine, and takes its place where it is gone",
+    )
     patience = between(1, 3600)
     parser.add_argument("--patience", metavar="S", type=patience, default=10, help="seconds of silence; else 10")
 
@@ -45,7 +50,7 @@ def run(arguments: argparse.Namespace) -> int:
     except LabError:
         store.close()
         raise
-    members = Class(store, arguments.patience, _tell, not arguments.no_clock)
+    members = Class(store, arguments.patience, _tell, not arguments.no_clock, arguments.spare)
     asyncio.run(serve(members, host, doors, set(arguments.name)))
     return 0
 

@@ -29,7 +29,7 @@ from .store import Notes, ScriptFile
 SEAT_BYTES = 1_500_000  # of a seat's lines in the script: eight leave 3,000,000 to the operator and the clock
 SOURCE_LINES = 4096
 WATCH_SECONDS = 0.5  # between looks at a program that runs
-SHORTEN_SECONDS = 0.5  # between looks at how long a script has become
+FOLLOW_SECONDS, SHORTEN_SECONDS = 0.2, 0.5  # between a spare's parts; and between looks at how long a script has become
 NEXT_SCRIPT_BYTES, MOST_SET_UP_BYTES = 12_000_000, 9_000_000  # after which another one begins; and how it may begin
 UNSEEN_SECONDS = 60.0  # after which a program that runs is stopped, if nobody looks at it
 
@@ -77,6 +77,7 @@ class Room:
         self.stopped = self.down = self.rebuilding = ""
         self._lock = asyncio.Lock()
         self._thread = concurrent.futures.ThreadPoolExecutor(1)
+        self._follower = concurrent.futures.ThreadPoolExecutor(1)  # of the spare process
         self._assembler = concurrent.futures.ThreadPoolExecutor(1)  # which needs no machine
 
     @property
@@ -209,6 +210,7 @@ class Room:
         self.stopped = self.stopped or "the server ends"
         self.session.end()
         self._thread.shutdown()
+        self._follower.shutdown()
         self._assembler.shutdown()
         self.session.close()
         self.file.close()
@@ -234,6 +236,13 @@ class Room:
                         await self.begin_script()
                 except (LabError, OSError):
                     least = 1.5 * self.session.weight
+
+    async def follow(self) -> None:
+        """Keeps a spare process where the machine is; goes for ever."""
+        while True:
+            with contextlib.suppress(LabError):  # whoever loses the machine itself is told
+                await asyncio.get_running_loop().run_in_executor(self._follower, self.session.follow)
+            await asyncio.sleep(FOLLOW_SECONDS)
 
     async def make_checkpoint(self) -> None:
         """Makes a checkpoint beside the class, of this moment or shortly before. Raises LabError where there is none."""
@@ -266,9 +275,11 @@ class Room:
             except BaseException:
                 heir.close()
                 raise
-            self.session.close()
+            old, self.session = self.session, heir
+            old.end()
+            old.close()
             self.file.close()
-            self.session, self.file, self.scripts = heir, file, scripts
+            self.file, self.scripts = file, scripts
 
         async with self._lock:
             await asyncio.get_running_loop().run_in_executor(self._thread, begin)

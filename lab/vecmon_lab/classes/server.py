@@ -197,6 +197,7 @@ async def served(members: Class, doors: Iterable[socket.socket], names: set[str]
             server.sweep(runner),
             _keep(members),
             *(each for room in rooms for each in (room.clock.run(), room.watch(), room.shorten())),
+            *(room.follow() for room in rooms if members.has_spares),
         ]
         tasks = [asyncio.create_task(each) for each in work]
         yield runner.addresses[0][1]

@@ -112,11 +112,14 @@ class Class:
         patience: float,
         progress: Callable[[str], object] = lambda sentence: None,
         clock: bool = True,
+        has_spares: bool = False,
     ) -> None:
         """Starts the machines, and brings each to where it was. Raises LabError where that can't be.
 
-        progress: is told how far that is, in sentences; clock: whether that of a new machine is on
+        progress: is told how far that is, in sentences; clock: whether that of a new machine is on; has_spares: whether
+        a second process follows each machine
         """
+        self.has_spares = has_spares
         self.store, self.codes = store, store.codes
         self.tabs: set[Tab] = set()
         self.rooms: dict[str, Room] = {}

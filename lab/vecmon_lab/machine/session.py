@@ -11,6 +11,7 @@ import re
 import select
 import signal
 import subprocess
+import threading
 import time
 import zlib
 from array import array
@@ -174,6 +175,15 @@ class _Process:
             pass
 
 
+@dataclass
+class _Copy:
+    """A process that has carried out the script as far as it was: so many lines, which have so many bytes."""
+
+    process: _Process
+    number: int
+    size: int
+
+
 class Session(contextlib.AbstractContextManager["Session"]):
     """A machine for eight users, and the script that makes it anew.
 
@@ -214,8 +224,9 @@ class Session(contextlib.AbstractContextManager["Session"]):
         self._script = bytearray()
         self._answers = hashlib.sha256()
         self._marks = array("I")  # the CRC-32 of each answer, by which a replay is compared
-        self._checkpoint = Checkpoint(0, b"")
-        self._covered = 0  # bytes of the script that it stands for
+        self._base = Checkpoint(0, b""), 0  # and how many bytes of the script it stands for
+        self._spare: _Copy | None = None
+        self._spare_turn = threading.RLock()
         self.spent = 0.0
         self._has_ended = False
         self.policy: dict[int, str] = {}
@@ -287,7 +298,7 @@ class Session(contextlib.AbstractContextManager["Session"]):
         if not _RECORDED.fullmatch(script):
             raise BadLine("a script has lines that no session records")
         began = time.monotonic()
-        for line, answer in self._piped(self._process or self._replay(), script):
+        for line, answer in self._piped(self._process or self._replay(), script, self._tell):
             self._take_up(line, answer)
             yield line, answer
         self._script += script
@@ -296,26 +307,45 @@ class Session(contextlib.AbstractContextManager["Session"]):
     @property
     def short_script(self) -> bytes:
         """Lines that leave the machine as the script does: those of the last checkpoint, and the lines since."""
-        return self._checkpoint.lines + self._script[self._covered :]
+        checkpoint, covered = self._base
+        return checkpoint.lines + self._script[covered:]
 
     @property
     def weight(self) -> float:
         """How much a new process would carry out: from 1 on it is time for a checkpoint."""
-        return (len(self._script) - self._covered) / WEIGHTY_BYTES + self.spent / WEIGHTY_SECONDS
+        return (len(self._script) - self._base[1]) / WEIGHTY_BYTES + self.spent / WEIGHTY_SECONDS
 
     def shorten(self, checkpoint: Checkpoint) -> None:
         """Takes up a checkpoint of `short_script`, as that was some time ago: a new process begins with its lines."""
-        gone = max(0, checkpoint.number - self._checkpoint.lines.count(b"\n"))
+        before, covered = self._base
+        gone = max(0, checkpoint.number - before.lines.count(b"\n"))
         for _ in range(gone):
-            self._covered = self._script.index(b"\n", self._covered) + 1
-        self._checkpoint = Checkpoint(self._checkpoint.number + gone, checkpoint.lines)
+            covered = self._script.index(b"\n", covered) + 1
+        self._base = Checkpoint(before.number + gone, checkpoint.lines), covered
+
+    def follow(self) -> None:
+        """Brings a spare process to where the machine is, in a thread of its own: it takes the place of one that is gone.
+
+        Raises as a replay does; then there is no spare.
+        """
+        with self._spare_turn:
+            if self._spare and self._spare.process.fed > self._script_bytes:
+                self._spare.process.close()
+                self._spare = None
+            if not self._has_ended:
+                self._spare = self._spare or self._copy()
+                try:
+                    self._bring_up(self._spare)
+                except BaseException:
+                    self._spare = None
+                    raise
 
     def renewed(self) -> "Session":
         """A session on the same machine whose script is `short_script`. Raises as a replay does."""
         heir = self._opening()
         try:
             deque(heir.do_script(self.short_script), 0)
-            since = self._marks[self._checkpoint.number :]
+            since = self._marks[self._base[0].number :]
             if heir._marks[heir.lines - len(since) :] != since:
                 raise ReplayDiffers(DIFFERS)
         except BaseException:
@@ -341,12 +371,18 @@ class Session(contextlib.AbstractContextManager["Session"]):
         if self._process:
             self._process.close()
         self._process = None
+        if self._has_ended:
+            with self._spare_turn:
+                if self._spare:
+                    self._spare.process.close()
+                self._spare = None
 
     def end(self) -> None:
         """Ends the process for good, also while another thread waits for it: that one gets ProgramGone."""
-        self._has_ended = True
-        if self._process:
-            self._process.kill()
+        self._has_ended, spare = True, self._spare
+        for process in (self._process, spare.process if spare else None):
+            if process:
+                process.kill()
 
     def _ask(self, lines: Sequence[str]) -> list[list[str]]:
         """The answers to lines, which are recorded unless they only look. No process outlives an error or interrupt."""
@@ -377,41 +413,54 @@ class Session(contextlib.AbstractContextManager["Session"]):
         return self._replay().ask(lines)
 
     def _replay(self) -> _Process:
-        """A new process that has carried out the script, and has answered as the one before.
+        """A process that has carried out the script, and has answered as the one before: the spare, or a new one."""
+        with self._spare_turn:
+            copy, self._spare = self._spare or self._copy(), None
+            self._process = copy.process
+            try:
+                self._bring_up(copy, self._tell)
+            except BaseException:
+                self.close()
+                raise
+        return copy.process
 
-        Lines of a checkpoint stand for the first ones.
-        """
-        process = self._start()
-        try:
-            begin = self._checkpoint.number - self._checkpoint.lines.count(b"\n")
-            for number, (line, answer) in enumerate(self._piped(process, self.short_script), begin):
-                if number >= self._checkpoint.number and zlib.crc32(_printed(answer)) != self._marks[number]:
-                    raise ReplayDiffers(f"{DIFFERS}: line {number + 1}, {line[:60]!r}, now with {answer[0][:60]!r}")
-        except BaseException:
-            self.close()
-            raise
-        return process
-
-    def _start(self) -> _Process:
-        """A new process, which is the session's now, with a new machine."""
-        self._process = process = _Process(self.command, self._patience)
+    def _copy(self) -> _Copy:
+        """A new process, which has carried out a checkpoint's lines, if there is one, in place of the first lines."""
+        process, (checkpoint, covered) = _Process(self.command, self._patience), self._base
         try:
             if read(process.ask(["* list"])[0]) != NEW_MACHINE:
                 raise OutOfStep("the program doesn't begin with a new machine")
             self._check()
+            deque(self._piped(process, checkpoint.lines), 0)
         except BaseException:
-            self.close()
+            process.close()
             raise
-        return process
+        return _Copy(process, checkpoint.number, covered)
 
-    def _piped(self, process: _Process, script: bytes) -> Iterator[tuple[str, list[str]]]:
-        """Lines that a session recorded, and their answers, as they come; tells how far it is.
+    def _bring_up(self, copy: _Copy, tell: Callable[[int], object] = lambda percent: None) -> None:
+        """Carries out what the script has since. No process outlives an error."""
+        script = bytes(self._script[copy.size :])
+        try:
+            for line, answer in self._piped(copy.process, script, tell):
+                if zlib.crc32(_printed(answer)) != self._marks[copy.number]:
+                    told = f"line {copy.number + 1}, {line[:60]!r}, now with {answer[0][:60]!r}"
+                    raise ReplayDiffers(f"{DIFFERS}: {told}")
+                copy.number += 1
+        except BaseException:
+            copy.process.close()
+            raise
+        copy.size += len(script)
+
+    def _piped(
+        self, process: _Process, script: bytes, tell: Callable[[int], object] = lambda percent: None
+    ) -> Iterator[tuple[str, list[str]]]:
+        """Lines that a session recorded, and their answers, as they come; tells how far it is, in percent.
 
         Raises ProgramGone, and OutOfStep where there are more answers than lines, or fewer.
         """
         lines, line, answer, done = script.decode("ascii").split("\n")[:-1], "", list[str](), 0
         if lines:
-            self._tell(0)
+            tell(0)
         for block in process.pour(script) if lines else ():
             if self._has_ended:
                 raise ProgramGone("the session has ended")
@@ -422,10 +471,10 @@ class Session(contextlib.AbstractContextManager["Session"]):
                 if lines[done][0] != "*" or part[:1] == "*":  # before an operator's answer stand stops
                     yield lines[done], answer
                     done, answer = done + 1, []
-            self._tell(min(99, 100 * done // len(lines)))
+            tell(min(99, 100 * done // len(lines)))
         if done < len(lines):
             raise OutOfStep("the program hasn't answered all lines of a script")
-        self._tell(100)
+        tell(100)
 
     def _tell(self, percent: int) -> None:
         """Tells how much of the script is carried out, where that is another number than before."""
@@ -435,8 +484,8 @@ class Session(contextlib.AbstractContextManager["Session"]):
 
     def _record(self, line: str, answer: Sequence[str]) -> None:
         """Adds a line to the script, and takes up its answer."""
-        self._script += line.encode("ascii") + b"\n"
         self._take_up(line, answer)
+        self._script += line.encode("ascii") + b"\n"  # each line there has its mark, also for a spare's thread
 
     def _take_up(self, line: str, answer: Sequence[str]) -> None:
         """Adds a line's answer to the digest; follows the policy of the line's user."""
