@@ -31,7 +31,7 @@ def drawn_class(draws: random.Random, number: int) -> list[str]:
             lines.append(f"* slices {draws.choice((1, 1, 2, 3, 7))}")
             continue
         digit = draws.choice(digits)
-        lines += [f"{digit} {command}" for command in _deed(draws)]
+        lines += [f"{digit} {' ' * (draws.randrange(9) == 0)}{command}" for command in _deed(draws)]
         if draws.randrange(12) == 0:
             lines += [f"{digit} stop", f"{digit} leave"] + _beginning(draws, digit) * draws.randrange(2)
         if draws.randrange(4) == 0:
@@ -45,7 +45,7 @@ def _beginning(draws: random.Random, digit: str) -> list[str]:
     commands = ["enter", *["load sum"] * (draws.randrange(6) == 0), f"map {CODE:x} 1 {code}"]
     commands += [f"map {DATA:x} 1 {data}"] * (draws.randrange(5) > 0)
     commands += [f"map {NEXT:x} 1 {draws.choice(['r', 'w', 'rw'])}"] * (draws.randrange(3) == 0)
-    return [f"{digit} {command}" for command in commands]
+    return [f"{digit} {' ' * (draws.randrange(9) == 0)}{command} " for command in commands]
 
 
 def _deed(draws: random.Random) -> Iterator[str]:

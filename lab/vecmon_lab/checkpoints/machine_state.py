@@ -29,7 +29,7 @@ TOUCHING = "vadd.vv v0, v1, v2, v0.t"
 
 _PERMISSIONS = {"x": EXECUTE, "w": WRITE, "r": READ}
 _STACK_PAGES = 4
-_FOLLOWED = set("elmpv")  # how the commands begin that `_follow` knows
+_FOLLOWED = set(" elmpv")  # how the commands begin that `_follow` knows
 
 
 @dataclass

@@ -23,9 +23,12 @@ class Beside:
         command = (sys.executable, "-B", "-m", f"vecmon_lab.{module}", *words)
         environment = os.environ | {"PYTHONPATH": str(LAB)}
         async with self._places:
-            child = await asyncio.create_subprocess_exec(
-                *command, stdin=PIPE, stdout=PIPE, stderr=PIPE, env=environment, start_new_session=True
-            )
+            try:
+                child = await asyncio.create_subprocess_exec(
+                    *command, stdin=PIPE, stdout=PIPE, stderr=PIPE, env=environment, start_new_session=True
+                )
+            except OSError as error:
+                raise LabError(f"{sys.executable} can't be started: {error.strerror}") from error
             try:
                 told, complaint = await child.communicate(script)
             finally:

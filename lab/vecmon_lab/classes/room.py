@@ -30,7 +30,8 @@ SEAT_BYTES = 1_500_000  # of a seat's lines in the script: eight leave 3,000,000
 SOURCE_LINES = 4096
 WATCH_SECONDS = 0.5  # between looks at a program that runs
 FOLLOW_SECONDS, SHORTEN_SECONDS = 0.2, 0.5  # between a spare's parts; and between looks at how long a script has become
-NEXT_SCRIPT_BYTES, MOST_SET_UP_BYTES = 12_000_000, 9_000_000  # after which another one begins; and how it may begin
+NEXT_SCRIPT_BYTES, NEXT_SCRIPT_SECONDS = 12_000_000, 300.0  # after which another one begins: a server begins with it
+MOST_SET_UP_BYTES = 9_000_000  # of another one's beginning
 UNSEEN_SECONDS = 60.0  # after which a program that runs is stopped, if nobody looks at it
 
 
@@ -232,7 +233,7 @@ class Room:
                 try:
                     await self.make_checkpoint()
                     least = 1.0
-                    if self.session.size > NEXT_SCRIPT_BYTES:
+                    if self.session.size > NEXT_SCRIPT_BYTES or self.session.total > NEXT_SCRIPT_SECONDS:
                         await self.begin_script()
                 except (LabError, OSError):
                     least = 1.5 * self.session.weight
@@ -282,7 +283,12 @@ class Room:
             self.file, self.scripts = file, scripts
 
         async with self._lock:
-            await asyncio.get_running_loop().run_in_executor(self._thread, begin)
+            begun = asyncio.get_running_loop().run_in_executor(self._thread, begin)
+            try:
+                await asyncio.shield(begun)
+            except asyncio.CancelledError:
+                await begun  # so that no notes are made meanwhile
+                raise
             for seat in (*self.seats.users.values(), self.seats.operator):
                 seat.used = 0
         self.changed(self.seats.names())

@@ -190,8 +190,8 @@ class Session(contextlib.AbstractContextManager["Session"]):
     Its process is replaced where it ended, hangs, or has no room for more lines; then the new one carries out the
     script again, or a checkpoint's lines and the lines since. `policy` has the policy for agnostic elements, `keep` or `ones`, of each user who is there: no
     command shows it. `quantum` is the ticks of a slice. `command` starts the program, and `losses` says why processes
-    that were asked gave no answer, and were replaced. `spent` is how many seconds lines that do have taken, of those that
-    a new process would carry out. `progress` is called while a new process carries out the script,
+    that were asked gave no answer, and were replaced. `total` is how many seconds the lines of the script have taken, and
+    `spent` those that a new process would carry out. `progress` is called while a new process carries out the script,
     with how much of it that has done in percent: 0 first, and 100 at the end.
     """
 
@@ -227,7 +227,7 @@ class Session(contextlib.AbstractContextManager["Session"]):
         self._base = Checkpoint(0, b""), 0  # and how many bytes of the script it stands for
         self._spare: _Copy | None = None
         self._spare_turn = threading.RLock()
-        self.spent = 0.0
+        self.spent = self.total = 0.0
         self._has_ended = False
         self.policy: dict[int, str] = {}
         self.losses: list[str] = []
@@ -302,7 +302,7 @@ class Session(contextlib.AbstractContextManager["Session"]):
             self._take_up(line, answer)
             yield line, answer
         self._script += script
-        self.spent += time.monotonic() - began
+        self._spend(began)
 
     @property
     def short_script(self) -> bytes:
@@ -395,7 +395,7 @@ class Session(contextlib.AbstractContextManager["Session"]):
             for line, answer in zip(lines, answers):
                 if not is_look(line):
                     self._record(line, answer)
-                    self.spent += time.monotonic() - began
+                    self._spend(began)
                     began = time.monotonic()
         except BaseException:
             self.close()
@@ -481,6 +481,11 @@ class Session(contextlib.AbstractContextManager["Session"]):
         if percent != self._percent:
             self._percent = percent
             self.progress(percent)
+
+    def _spend(self, began: float) -> None:
+        """Counts the time since then."""
+        seconds = time.monotonic() - began
+        self.spent, self.total = self.spent + seconds, self.total + seconds
 
     def _record(self, line: str, answer: Sequence[str]) -> None:
         """Adds a line to the script, and takes up its answer."""
