@@ -9,6 +9,7 @@ import pytest
 
 from support.class_tabs import LOOP, served
 from support.places import SUM
+from vecmon_lab import LabError
 from vecmon_lab.classes.live import is_servers
 from vecmon_lab.classes.solo import solo
 from vecmon_lab.classes.store import Store
@@ -57,6 +58,12 @@ async def test_a_class_goes_on_in_another_script(tmp_path: pathlib.Path) -> None
         first = machine.session.script
         await machine.make_checkpoint()
         await other.do("step 1")
+        (folder / "A.2.script").write_text("1 ent")  # as a server leaves it that is killed while it writes
+        keep, machine.keep = machine.keep, lambda notes: False  # as where the disk is full
+        with pytest.raises(LabError, match="notes beside the script aren't saved"):
+            await machine.begin_script()
+        await room.check_replay()
+        machine.keep = keep
         await machine.begin_script()
         assert (folder / "A.script").read_bytes() == first + b"2 step 1\n" != (folder / "A.2.script").read_bytes()
         await tab.do("go", "stop")
