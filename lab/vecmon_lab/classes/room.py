@@ -236,7 +236,7 @@ class Room:
                     if self.session.size > NEXT_SCRIPT_BYTES or self.session.total > NEXT_SCRIPT_SECONDS:
                         await self.begin_script()
                 except (LabError, OSError):
-                    least = 1.5 * self.session.weight
+                    least = max(1.0, 1.5 * self.session.weight)
 
     async def follow(self) -> None:
         """Keeps a spare process where the machine is; goes for ever."""
