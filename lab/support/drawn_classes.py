@@ -6,14 +6,12 @@ from collections.abc import Iterator
 from vecmon_lab.checkpoints.machine_state import EXECUTE, TOUCHING, Machine
 
 CODE, DATA, NEXT = 0x20000, 0x30000, 0x31000
-TEXTS = [
-    *("csrrwi x0, vxsat, 0", "csrrs x5, vlenb, x0", TOUCHING, "vsetvl x0, x5, x6", "csrrw x0, vcsr, x5"),
-    *("csrrw x0, vstart, x5", "vl8re8.v v0, (x5)", "vs8r.v v0, (x5)", "vle8.v v8, (x5), v0.t", "ecall"),
-    *("addi x0, x0, 0", "addi x5, x5, 1", "jal x0, -4", "jal x0, 8", "ebreak", "vsetvli x0, x0, e32, m1, ta, ma"),
-    "vadd.vi v8, v8, 1",
-]
+SCALAR = ["addi x0, x0, 0", "addi x5, x5, 1", "csrrs x5, vlenb, x0", "csrrwi x0, vxsat, 0"]
+ACCESSES = ["vl8re8.v v0, (x5)", "vs8r.v v0, (x5)", "vle8.v v8, (x5), v0.t", "ecall", "jal x0, -4", "jal x0, 8"]
+CONTROL = ["vsetvl x0, x5, x6", "csrrw x0, vcsr, x5", "csrrw x0, vstart, x5", "vsetvli x0, x0, e32, m1, ta, ma"]
+TEXTS = [*SCALAR * 2, *ACCESSES, *CONTROL * 2, "vadd.vi v8, v8, 1", TOUCHING, "ebreak"]
 VALUES = {
-    5: (3, 0, 17, NEXT - 5, NEXT - 1, NEXT - 100, 1 << 50, CODE),
+    5: (3, 0, 17, 30, DATA, NEXT - 5, NEXT - 1, NEXT - 100, 1 << 50, CODE),
     6: (0, 0xC0, 3, 0xD0, 0xC3, 1 << 63),
     10: (1, 2),
     11: (CODE, DATA),
@@ -32,7 +30,7 @@ def drawn_class(draws: random.Random, number: int) -> list[str]:
             continue
         digit = draws.choice(digits)
         lines += [f"{digit} {' ' * (draws.randrange(9) == 0)}{command}" for command in _deed(draws)]
-        if draws.randrange(12) == 0:
+        if draws.randrange(40) == 0:
             lines += [f"{digit} stop", f"{digit} leave"] + _beginning(draws, digit) * draws.randrange(2)
         if draws.randrange(4) == 0:
             lines.append(f"* run {digit}")
@@ -54,23 +52,36 @@ def _deed(draws: random.Random) -> Iterator[str]:
     if kind == 0:
         yield f"vset v{draws.choice((0, 0, 1, 8))} {draws.choice((draws.randbytes(32), bytes(32))).hex()}"
     elif kind == 1:
-        yield draws.choice(("policy ones", "policy keep", "out", "enter", "go", "stop", "step 1", "setpc 1000"))
-    elif kind == 2:
-        yield from ("stop", f"break {CODE + 4 * draws.randrange(6):x}")
+        yield draws.choice(
+            ("policy ones", "policy ones", "policy keep", "out", "enter", "go", "stop", "step 1", "setpc 1000")
+        )
+    elif kind == 2:  # a call that writes
+        yield from (
+            "stop",
+            f"asm {CODE:x} ecall",
+            "set x17 40",
+            "set x10 1",
+            f"set x12 {draws.choice((3, 200, 256)):x}",
+        )
+        yield from (f"set x11 {draws.choice((CODE, DATA)):x}", f"setpc {CODE:x}", "step 1")
     elif kind == 3:  # a loop, which may have a breakpoint in it
         length = draws.randrange(1, 5)
         yield "stop"
         for place in range(length):
-            yield f"asm {CODE + 4 * place:x} {draws.choice(TEXTS[:2] + TEXTS[10:12])}"
+            yield f"asm {CODE + 4 * place:x} {draws.choice(SCALAR)}"
         yield f"asm {CODE + 4 * length:x} jal x0, -{4 * length}"
+        yield from [f"break {CODE + 4 * draws.randrange(length + 1):x}"] * draws.randrange(2)
         yield from (f"setpc {CODE + 4 * draws.randrange(length + 1):x}", "go")
     else:
         yield "stop"
-        for place in range(draws.randrange(1, 6)):
+        for place in range(draws.randrange(1, 9)):
             yield f"asm {CODE + 4 * place:x} {draws.choice(TEXTS)}"
         for number in draws.sample(sorted(VALUES), draws.randrange(7)):
             yield f"set x{number} {draws.choice(VALUES[number]):x}"
-        yield from (f"setpc {CODE + 4 * draws.randrange(3):x}", draws.choice(("go", "step 1", "step 2", "step 5")))
+        yield from (
+            f"setpc {CODE + 4 * draws.randrange(3):x}",
+            draws.choice(("go", "step 1", "step 2", "step 5", "step 20")),
+        )
 
 
 def outcome(machine: Machine) -> Iterator[str]:

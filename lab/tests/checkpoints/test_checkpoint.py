@@ -39,7 +39,7 @@ def trial(program: pathlib.Path, seed: int) -> Checkpoint:
     def opening() -> Session:
         return Session(program, IMAGES, quantum=quantum)
 
-    lines = drawn_class(draws, draws.choice((8, 15, 30, 60, 150)))
+    lines = drawn_class(draws, draws.choice((8, 30, 60, 150, 300)))
     script = "".join(f"{line}\n" for line in lines if not is_look(line)).encode()
     made = checkpoint(opening, script, IMAGES)
     rest = b"".join(script.splitlines(keepends=True)[made.number :])

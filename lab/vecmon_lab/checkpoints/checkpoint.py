@@ -3,13 +3,13 @@
 import os
 import pathlib
 import sys
-from collections.abc import Callable, Mapping
+from collections.abc import Mapping
 
 from .. import LabError
 from ..machine.answers import Granted, read
 from ..machine.program import images_of
 from ..machine.session import Checkpoint, Session
-from .machine_state import Machine, carry_out, fresh_memory, machine_after
+from .machine_state import Machine, Opening, carry_out, fresh_memory, machine_after
 from .set_up import lines_of
 
 MOMENTS = (0, 1, 2, 4, 8, 16, 32, 64, 128, 256, 512)  # lines before the end of a script at which it is tried
@@ -17,10 +17,6 @@ MOMENTS = (0, 1, 2, 4, 8, 16, 32, 64, 128, 256, 512)  # lines before the end of 
 
 class NoCheckpoint(LabError):
     """No lines leave a machine as it is; the text says why."""
-
-
-Opening = Callable[[], Session]
-"""Opens a session on a new machine."""
 
 
 def checkpoint(opening: Opening, script: bytes, images: Mapping[str, pathlib.Path]) -> Checkpoint:
@@ -47,10 +43,7 @@ def whole_checkpoint(opening: Opening, script: bytes, images: Mapping[str, pathl
             carry_out(session, script)
             if any(_stops_at_once(session, machine, digit) for digit in waiting):
                 raise NoCheckpoint("a program stands at a breakpoint, and its next slice stops it there")
-    fresh = {}
-    for digit, user in machine.users.items():
-        with opening() as session:
-            fresh[digit] = fresh_memory(session, user)
+    fresh = {digit: fresh_memory(opening, user) for digit, user in machine.users.items()}
     lines = "".join(f"{line}\n" for line in lines_of(machine, fresh)).encode("ascii")
     with opening() as session:
         if machine_after(session, lines, images) != machine:

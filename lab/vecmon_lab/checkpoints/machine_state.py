@@ -2,7 +2,7 @@
 
 import pathlib
 import struct
-from collections.abc import Iterator, Mapping
+from collections.abc import Callable, Iterator, Mapping
 from dataclasses import dataclass, field
 
 from ..guest.guest import STACK_END, Guest
@@ -26,6 +26,9 @@ from ..machine.session import Session
 EXECUTE, WRITE, READ = 1, 2, 4  # permissions, as an image's program headers have them
 TOUCHING = "vadd.vv v0, v1, v2, v0.t"
 """An instruction that is illegal under each vector type: it makes its user the vector unit's owner and changes nothing."""
+
+Opening = Callable[[], Session]
+"""Opens a session on a new machine."""
 
 _PERMISSIONS = {"x": EXECUTE, "w": WRITE, "r": READ}
 _STACK_PAGES = 4
@@ -106,12 +109,15 @@ def machine_after(session: Session, script: bytes, images: Mapping[str, pathlib.
     return Machine(users, shown, str(owner), is_dirty, _last(session))
 
 
-def fresh_memory(session: Session, user: User) -> dict[int, bytes]:
-    """What a user's pages hold before anything is written, by their addresses; the session is a new one."""
-    guest = Guest(session)
+def fresh_memory(opening: Opening, user: User) -> dict[int, bytes]:
+    """What a user's pages hold before anything is written, by their addresses."""
+    memory = dict.fromkeys(user.pages, bytes(PAGE_BYTES))
     if user.image:
-        guest.ask("enter", f"load {user.image}")
-    return {page: guest.peek(page, PAGE_BYTES) or bytes(PAGE_BYTES) for page in user.pages}
+        with opening() as session:
+            guest = Guest(session)
+            guest.ask("enter", f"load {user.image}")
+            memory = {page: guest.peek(page, PAGE_BYTES) or memory[page] for page in user.pages}
+    return memory
 
 
 def _follow(users: dict[str, User], line: str) -> None:
