@@ -103,6 +103,9 @@ def test_a_spare_takes_the_place_of_a_process_that_ended(counting: Session) -> N
     with pytest.raises(ProgramGone):
         counting.follow()
     assert count_of(counting) == 9
+    for number in (spare_of(counting), counting.process or 0):  # both are gone
+        os.kill(number, signal.SIGKILL)
+    assert count_of(counting) == 9
     spare = spare_of(counting)
     counting.end()
     counting.close()

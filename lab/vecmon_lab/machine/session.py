@@ -415,13 +415,22 @@ class Session(contextlib.AbstractContextManager["Session"]):
     def _replay(self) -> _Process:
         """A process that has carried out the script, and has answered as the one before: the spare, or a new one."""
         with self._spare_turn:
-            copy, self._spare = self._spare or self._copy(), None
-            self._process = copy.process
-            try:
-                self._bring_up(copy, self._tell)
-            except BaseException:
-                self.close()
-                raise
+            spare, self._spare = self._spare, None
+            if spare:
+                with contextlib.suppress(ProgramGone):
+                    self._with_process(spare).ask(["* list"])  # whether it lives
+                    return spare.process
+                spare.process.close()
+            return self._with_process(self._copy())
+
+    def _with_process(self, copy: _Copy) -> _Process:
+        """A copy's process, which is the session's now, brought up. Raises as a replay does, and then it is closed."""
+        self._process = copy.process
+        try:
+            self._bring_up(copy, self._tell)
+        except BaseException:
+            self.close()
+            raise
         return copy.process
 
     def _copy(self) -> _Copy:
