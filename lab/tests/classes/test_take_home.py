@@ -1,5 +1,6 @@
 """What a student takes home."""
 
+import asyncio
 import io
 import json
 import pathlib
@@ -48,7 +49,10 @@ async def test_an_archive(tmp_path: pathlib.Path) -> None:
         status, data = await room.get("A4/home")  # to the teacher
         assert zipfile.ZipFile(io.BytesIO(data)).read("A4/sum.elf") == SUM.read_bytes()
         assert [(await room.get(place, who))[0] for place, who in (("A4/home", "A3"), ("A3/home", None))] == [404, 404]
-        assert (await room.get("A5/home", "A5"))[0] == 503
+        told = await asyncio.gather(*(room.get("A5/home", who) for who in ("A5", "teacher")))
+        assert {words for status, words in told if status == 503} == {
+            b"a lesson has a line at least, and this one has none", b"it is being made already"
+        }  # fmt: skip
 
 
 def test_a_lesson_has_so_many_frames_at_most() -> None:

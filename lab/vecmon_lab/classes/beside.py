@@ -35,5 +35,6 @@ class Beside:
                 with contextlib.suppress(ProcessLookupError):
                     child.kill()
         if child.returncode:
-            raise LabError(complaint.decode("utf-8", "replace").strip().rpartition("\n")[2])
+            last = complaint.decode("utf-8", "replace").strip().rpartition("\n")[2]
+            raise LabError(last.partition("Error: ")[2] or last)
         return told

@@ -124,7 +124,7 @@ class Class:
         self.tabs: set[Tab] = set()
         self.rooms: dict[str, Room] = {}
         self._kept: dict[str, Notes] = {}
-        makers, self._packers = Beside(1), Beside(2)
+        makers, self._packers, self._packing = Beside(1), Beside(2), set[str]()
         try:
             for letter in store.machines:
                 notes = store.read(f"{letter}.json", Notes)
@@ -169,9 +169,15 @@ class Class:
         return is_kept
 
     async def take_home(self, seat: str) -> bytes:
-        """The archive that a student takes home. Raises LabError where there is none."""
-        self.keep()
-        return await self._packers.run("classes.take_home", f"{self.store.folder}", f"{self.store.program}", seat)
+        """The archive that a student takes home. Raises LabError where there is none, or it is being made already."""
+        if seat in self._packing:
+            raise LabError("it is being made already")
+        self._packing.add(seat)
+        try:
+            self.keep()
+            return await self._packers.run("classes.take_home", f"{self.store.folder}", f"{self.store.program}", seat)
+        finally:
+            self._packing.discard(seat)
 
     def seat(self, name: str) -> Seat:
         """The seat of a name. Raises BadRequest."""
