@@ -5,7 +5,7 @@ from collections.abc import Iterable, Iterator, Mapping
 from ..guest.guest import STACK_POINTER
 from ..instructions.accesses import LINE_BYTES, PAGE_BYTES, REGISTER_BYTES
 from ..machine.lines import DIGITS
-from .machine_state import EXECUTE, READ, TOUCHING, Machine
+from .machine_state import EXECUTE, READ, TOUCHING, WRITE, Machine
 
 NO_TYPE = 1 << 63  # vtype of a machine that has begun, with vl 0
 TRACED = 16  # addresses that a trace has at most
@@ -121,11 +121,14 @@ class _SetUp:
         self._x[10] = len(data)
 
     def _fault(self, vstart: int) -> Iterator[str]:
-        """A load that faults at an element, so that it leaves vstart and no trace. There has to be a page to read."""
-        readable = [page for page, allowed in self.user.pages.items() if allowed & READ]
-        end = next((page + PAGE_BYTES for page in readable if page + PAGE_BYTES not in readable), 0)
-        yield from self._step(self._code, "vl8re8.v v0, (x5)", x5=(end or NO_TYPE) - vstart)
-        self._vectors[:8] = [b""] * 8  # unknown
+        """A load or store that faults at an element, so that it leaves vstart and no trace; where a page allows one."""
+        for permission, text in ((READ, "vl8re8.v v0, (x5)"), (WRITE, "vs8r.v v0, (x5)")):
+            pages = [page for page, allowed in self.user.pages.items() if allowed & permission]
+            for end in [page + PAGE_BYTES for page in pages if page + PAGE_BYTES not in pages][:1]:
+                yield from self._step(self._code, text, x5=end - vstart)
+                self._vectors[:8] = [b""] * 8  # unknown now, as what stands in the page
+                self._spoil(end - vstart, vstart)
+                return
 
     def _step(self, place: int, text: str, **registers: int) -> Iterator[str]:
         """Carries out an instruction at a place."""
