@@ -27,8 +27,6 @@ def add_arguments(parser: argparse.ArgumentParser) -> None:
 
 def run(arguments: argparse.Namespace) -> int:
     """Prints the script, when it has given the same lines. Raises LabError where there is none."""
-    if not (arguments.folder / "class.json").is_file():
-        raise LabError(f"{arguments.folder} has no class")
     script = solo(Store(arguments.folder, find_program(), is_reading=True), arguments.seat)
     sys.stdout.writelines(f"{line}\n" for line in script)
     return 0

@@ -173,6 +173,8 @@ class Store:
 
     def _open(self, images: Mapping[str, pathlib.Path], quantum: int | None, machines: int | None) -> None:
         kept = self.read("class.json", Facts)
+        if self._is_reading and not kept.program:
+            raise BadFolder(f"{self.folder} has no class")
         facts = self._facts(kept, images, quantum, machines) if kept.program else self._begin(images, quantum, machines)
         self._program_digest = facts.program
         self.quantum = facts.quantum
