@@ -20,7 +20,7 @@ class Beside:
 
     async def run(self, module: str, *words: str, script: bytes = b"") -> bytes:
         """What a module puts out, given words and its input. Raises LabError where it fails."""
-        command = (sys.executable, "-B", "-m", f"vecmon_lab.{module}", *words)
+        command = (sys.executable, "-PB", "-m", f"vecmon_lab.{module}", *words)  # nothing of the folder it is called in
         environment = os.environ | {"PYTHONPATH": str(LAB)}
         async with self._places:
             try:
