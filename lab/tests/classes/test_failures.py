@@ -46,7 +46,7 @@ async def test_a_program_that_is_killed_or_hangs(tmp_path: pathlib.Path) -> None
 
 
 async def test_pages_are_told_of_a_machine_that_is_rebuilt(tmp_path: pathlib.Path) -> None:
-    async with process(tmp_path / "class") as room:
+    async with process(tmp_path / "class", makes_checkpoints=False) as room:
         tab, other, teacher = await room.sit("A1"), await room.sit("A2"), await room.sit("teacher")
         await tab.do(*LOOP, "go")
         await teacher.do(*["slices 1000"] * 250, machine="A")  # which takes a while each time

@@ -103,7 +103,7 @@ def test_a_start_that_fails_leaves_an_empty_class(tmp_path: pathlib.Path, progra
 def test_a_script_file(tmp_path: pathlib.Path) -> None:
     path = tmp_path / "A.script"
     path.write_bytes(b"1 enter\n1 step 1\n1 st")
-    file = ScriptFile(path)
+    file = ScriptFile(tmp_path, "A")
     assert file.kept == b"1 enter\n1 step 1\n" == path.read_bytes()
     file.append("1 go")
     assert path.read_bytes() == b"1 enter\n1 step 1\n1 go\n"
@@ -138,7 +138,6 @@ def test_what_the_command_refuses(
     folder = tmp_path / "class"
     first = Store(folder, program)
     assert "served by another server" in failed("class", str(folder))
-    assert "served by another server" in failed("solo", str(folder), "A1")
     first.close()
     with socket.create_server(("127.0.0.1", 0)) as taken:
         port = str(taken.getsockname()[1])

@@ -80,7 +80,7 @@ async def test_no_frame_of_the_wall_has_another_code(room: Served) -> None:
         told = await listen(lambda told: told["kind"] == "answer")
         assert (told["id"], told["error"]) == (number, "the wall only looks"), ask
     assert (await room.get("A/script"))[1] == script
-    for path in ("A/script", "A/transcript"):
+    for path in ("A/script", "A/transcript", "A1/home"):
         assert (await room.get(path, "wall"))[0] == 404
     await tab.do("step 1")
     await listen(lambda told: wall.view["state"].get("x", {}).get("5") == "1" and wall.view["state"]["pc"] == "10000")

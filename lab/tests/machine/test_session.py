@@ -81,6 +81,39 @@ def test_a_process_that_ended_is_replaced(counting: Session, ending: signal.Sign
     assert counting.script.decode("ascii").splitlines() == [*COUNTING, "1 step 9", "1 step 3"]
 
 
+def spare_of(session: Session) -> int:
+    """The system's number of a session's spare process, once it has followed; 0 without one."""
+    session.follow()
+    return session._spare.process.number if session._spare else 0
+
+
+def test_a_spare_takes_the_place_of_a_process_that_ended(counting: Session) -> None:
+    counting.do("1 step 9")
+    spare = spare_of(counting)
+    counting.do("1 step 3")
+    for is_there in (True, False):
+        assert counting.process not in (None, spare)
+        os.kill(counting.process or 0, signal.SIGKILL)
+        counting.do("1 step 2")
+        assert (counting.process == spare) == is_there
+        spare = 0
+    assert count_of(counting) == 8
+    os.kill(spare_of(counting), signal.SIGKILL)
+    counting.do("1 step 2")
+    with pytest.raises(ProgramGone):
+        counting.follow()
+    assert count_of(counting) == 9
+    for number in (spare_of(counting), counting.process or 0):  # both are gone
+        os.kill(number, signal.SIGKILL)
+    assert count_of(counting) == 9
+    spare = spare_of(counting)
+    counting.end()
+    counting.close()
+    assert spare_of(counting) == 0
+    with pytest.raises(ProcessLookupError):
+        os.kill(spare, 0)
+
+
 def test_a_process_that_hangs_is_replaced(program: pathlib.Path) -> None:
     with Session(program, patience=2.0, script="\n".join(COUNTING).encode("ascii")) as session:
         first = session.process

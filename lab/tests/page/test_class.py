@@ -4,6 +4,7 @@ import os
 import pathlib
 import signal
 import time
+import zipfile
 from typing import TYPE_CHECKING
 
 import pytest
@@ -330,7 +331,7 @@ def test_lines_of_before_and_refusals(sit: Sit) -> None:
 
 
 def test_the_teacher_sees_and_settles(sit: Sit, tmp_path: pathlib.Path, served: Served) -> None:
-    """A student's stop stands on the teacher's page; rights, operator's lines, a new code, downloads."""
+    """A student's stop stands on the teacher's page; rights, operator's lines, a new code, downloads; what is taken home."""
     tab, teacher = sit("A5"), sit("teacher")
     row = "tr[data-seat='A5']"
     tab.begin(*COUNT_UP)
@@ -358,6 +359,13 @@ def test_the_teacher_sees_and_settles(sit: Sit, tmp_path: pathlib.Path, served: 
         while not path.exists() or path.stat().st_size < len(expected):  # it is there, and empty, before it is written
             time.sleep(0.02)
         assert path.read_bytes() == expected
+    tab.click("#home")
+    while not (tmp_path / "A5.zip").exists():
+        time.sleep(0.02)
+    with zipfile.ZipFile(tmp_path / "A5.zip") as packed:
+        assert packed.namelist() == ["A5/A5.script", "A5/A5.html"]
+        assert b"5 break 10004\n" in packed.read("A5/A5.script")
+    tab.wait("!id('home').disabled && !id('hint').textContent")
     old = served.codes["A5"]
     teacher.click(f"{row} [aria-label^='New code']")
     tab.wait("!id('join').hidden && id('head').hidden")

@@ -33,6 +33,11 @@ def add_arguments(parser: argparse.ArgumentParser) -> None:
     parser.add_argument(
         "--no-clock", action="store_true", help="a new machine's clock is off until the teacher turns it on"
     )
+    parser.add_argument(
+        "--spare",
+        action="store_true",
+        help="a second process follows each machine, and takes its place where it is gone",
+    )
     patience = between(1, 3600)
     parser.add_argument("--patience", metavar="S", type=patience, default=10, help="seconds of silence; else 10")
 
@@ -47,9 +52,9 @@ def run(arguments: argparse.Namespace) -> int:
     except LabError:
         store.close()
         raise
-    address = arguments.address or ""
-    members = Class(store, arguments.patience, _tell, not arguments.no_clock, address)
-    names = {*arguments.name, urlsplit(address).hostname or host}
+    members = Class(store, arguments.patience, _tell, not arguments.no_clock, arguments.spare)
+    members.address = arguments.address or ""
+    names = {*arguments.name, urlsplit(members.address).hostname or host}
     asyncio.run(serve(members, host, doors, names))
     return 0
 

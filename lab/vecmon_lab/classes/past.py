@@ -60,6 +60,14 @@ class Past:
         elif line[2:5] in _PLACES or line[2:3] == " ":
             self._places[digit].append(done)
 
+    def set_up(self, line: str, answer: Sequence[str]) -> None:
+        """Takes up a line that sets the machine up, as an earlier script left it: only what a seat watches is known by it."""
+        self._count, digit = self._count + 1, line[0]
+        if answer[0][2:].partition(" ")[0] in _BEGINNINGS:
+            self._places[digit] = []
+        if digit in self._places:
+            self._places[digit].append((self._count, line, answer))
+
     def tell(self, seats: Seats) -> None:
         """Tells the seats, which know nothing yet."""
         for _, line, answer in chain(*self._places.values()):

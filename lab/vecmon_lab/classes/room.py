@@ -16,8 +16,9 @@ from ..assembler.source import Program, SourceError, in_order, read_source, refu
 from ..assembler.trial import all_mistakes
 from ..machine.answers import Granted, OutOfStep, Position, Refused, read
 from ..machine.lines import DIGITS, is_look
-from ..machine.session import TOGETHER, ProgramGone, ReplayDiffers, ScriptFull, Session
+from ..machine.session import TOGETHER, Checkpoint, ProgramGone, ReplayDiffers, ScriptFull, Session
 from ..page.state import State
+from .beside import Beside
 from .clock import Clock
 from .live import GO, OUT, STOP, with_output
 from .past import Past
@@ -28,6 +29,9 @@ from .store import Notes, ScriptFile
 SEAT_BYTES = 1_500_000  # of a seat's lines in the script: eight leave 3,000,000 to the operator and the clock
 SOURCE_LINES = 4096
 WATCH_SECONDS = 0.5  # between looks at a program that runs
+FOLLOW_SECONDS, SHORTEN_SECONDS = 0.2, 0.5  # between a spare's parts; and between looks at how long a script has become
+NEXT_SCRIPT_BYTES, NEXT_SCRIPT_SECONDS = 12_000_000, 300.0  # after which another one begins: a server begins with it
+MOST_SET_UP_BYTES = 9_000_000  # of another one's beginning
 UNSEEN_SECONDS = 60.0  # after which a program that runs is stopped, if nobody looks at it
 
 
@@ -57,19 +61,24 @@ class _Work:
 class Room:
     """A machine, its seats, and its clock.
 
-    `changed` is called with the names of seats that have news; `watched` answers whom somebody looks at.
+    `changed` is called with the names of seats that have news; `watched` answers whom somebody looks at; `keep` keeps
+    notes beside the script, and answers whether that went well.
     """
 
-    def __init__(self, letter: str, session: Session, file: ScriptFile) -> None:
-        self.letter, self.session, self.file = letter, session, file
+    def __init__(self, letter: str, session: Session, file: ScriptFile, makers: Beside) -> None:
+        """makers: places where checkpoints are made"""
+        self.letter, self.session, self.file, self._makers = letter, session, file, makers
         self.seats, self.clock = Seats(letter), Clock(self._tick)
         self.own_slices = True
+        self.scripts: Sequence[int] = [0]  # of each one, how many lines at its beginning set the machine up
         self.changed: Callable[[Iterable[str]], None] = lambda names: None
+        self.keep: Callable[[Notes], bool] = lambda notes: False
         self.watched: Callable[[], Container[str]] = set
         self._has_run = False  # whether slices were granted since programs were looked at
         self.stopped = self.down = self.rebuilding = ""
         self._lock = asyncio.Lock()
         self._thread = concurrent.futures.ThreadPoolExecutor(1)
+        self._follower = concurrent.futures.ThreadPoolExecutor(1)  # of the spare process
         self._assembler = concurrent.futures.ThreadPoolExecutor(1)  # which needs no machine
 
     @property
@@ -88,9 +97,9 @@ class Room:
         progress: is told how far that is, a sentence at a time
         """
         self.session.progress = lambda percent: progress(rebuilding(self.letter, percent))
-        past = Past()
-        for line, answer in self.file.replay(self.session, notes):
-            past.add(line, answer)
+        past, self.scripts = Past(), notes.scripts
+        for number, (line, answer) in enumerate(self.file.replay(self.session, notes)):
+            (past.set_up if number < notes.scripts[-1] else past.add)(line, answer)
         past.tell(self.seats)
         self.seats.take(self.seats.look(self.session, [], DIGITS))
         self.own_slices = notes.own_slices
@@ -104,7 +113,7 @@ class Room:
     def notes(self) -> Notes:
         """What is kept beside the script."""
         clock = asdict(self.clock.settings)
-        return Notes(self.session.lines, self.session.digest, clock, self.own_slices)
+        return Notes(self.session.lines, self.session.digest, clock, self.own_slices, self.scripts)
 
     def is_busy(self) -> bool:
         """Whether somebody has the machine."""
@@ -206,6 +215,7 @@ class Room:
         self.stopped = self.stopped or "the server ends"
         self.session.end()
         self._thread.shutdown()
+        self._follower.shutdown()
         self._assembler.shutdown()
         self.session.close()
         self.file.close()
@@ -217,6 +227,75 @@ class Room:
             has_run, self._has_run = self._has_run, False
             for digit in sorted(self.seats.running()) if has_run else ():
                 await self._attend(self.seats.users[digit])
+
+    async def shorten(self) -> None:
+        """Makes checkpoints, so that a new process is soon where the last one was; goes for ever."""
+        least = 1.0  # the weight of a script that gets one; more where there was none
+        while True:
+            await asyncio.sleep(SHORTEN_SECONDS)
+            if self.session.weight >= least:
+                try:
+                    await self.make_checkpoint()
+                    least = 1.0
+                    if self.session.size > NEXT_SCRIPT_BYTES or self.session.total > NEXT_SCRIPT_SECONDS:
+                        await self.begin_script()
+                except (LabError, OSError):
+                    least = max(1.0, 1.5 * self.session.weight)
+
+    async def follow(self) -> None:
+        """Keeps a spare process where the machine is; goes for ever."""
+        while True:
+            with contextlib.suppress(LabError):  # whoever loses the machine itself is told
+                await asyncio.get_running_loop().run_in_executor(self._follower, self.session.follow)
+            await asyncio.sleep(FOLLOW_SECONDS)
+
+    async def make_checkpoint(self) -> None:
+        """Makes a checkpoint beside the class, of this moment or shortly before. Raises LabError where there is none."""
+        async with self._lock:
+            session = self.session
+            script, spent = session.short_script, session.spent
+        program, *words = session.command
+        words = [program, f"{session.quantum}", *words[words.index("/dev/stdin") + 1 :]]
+        number, _, lines = (await self._makers.run("checkpoints.checkpoint", *words, script=script)).partition(b"\n")
+        async with self._lock:
+            session.shorten(Checkpoint(int(number), lines))
+            session.spent -= spent
+
+    async def begin_script(self) -> None:
+        """Goes on in another script, which begins with the last checkpoint.
+
+        Raises LabError and OSError where that can't be; then the script goes on.
+        """
+
+        def begin() -> None:
+            heir = self.session.renewed()
+            scripts = [*self.scripts, heir.lines]
+            try:
+                if heir.size > MOST_SET_UP_BYTES or not self.file.is_saved:
+                    raise LabError("there is no room for another script")
+                file = self.file.successor(len(scripts), heir.script)
+                if not self.keep(replace(self.notes(), lines=heir.lines, answers=heir.digest, scripts=scripts)):
+                    file.close()
+                    raise LabError("the notes beside the script aren't saved")
+            except BaseException:
+                heir.close()
+                raise
+            old, self.session = self.session, heir
+            old.end()
+            old.close()
+            self.file.close()
+            self.file, self.scripts = file, scripts
+
+        async with self._lock:
+            begun = asyncio.get_running_loop().run_in_executor(self._thread, begin)
+            try:
+                await asyncio.shield(begun)
+            except asyncio.CancelledError:
+                await begun  # so that no notes are made meanwhile
+                raise
+            for seat in (*self.seats.users.values(), self.seats.operator):
+                seat.used = 0
+        self.changed(self.seats.names())
 
     async def _attend(self, seat: Seat) -> None:
         """Shows a program that runs, if somebody looks at it. One that runs in vain is stopped, with a sentence."""

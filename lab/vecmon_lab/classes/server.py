@@ -18,10 +18,11 @@ from functools import partial
 from aiohttp import web
 from aiohttp.http import HttpProcessingError
 
+from .. import LabError
 from ..page.pages import Page
 from ..page.reference import reference_text
 from .codes import TEACHER
-from .store import BadFolder
+from .store import BadFolder, script_name
 from .tab_socket import CLOSED, READ_SECONDS, TabSocket
 from .view import Class, Tab
 
@@ -53,6 +54,8 @@ class Server:
         application.router.add_get("/", self._get_page)
         application.router.add_get("/socket", self._socket)
         application.router.add_get("/{machine:[A-L]}/{what:script|transcript}", self._get_file)
+        application.router.add_get("/{seat:[A-L][1-8]}/home", self._get_home)
+        application.router.add_get("/{machine:[A-L]}.{number:[1-9][0-9]*}/{what:script|transcript}", self._get_file)
         return application
 
     def is_ours(self, host: str, origin: str | None) -> bool:
@@ -120,7 +123,11 @@ class Server:
         if self.members.codes.who(code) != TEACHER or room is None:
             await asyncio.sleep(WRONG_CODE_SECONDS)
             raise web.HTTPNotFound
-        data = room.session.script
+        data, number = room.session.script, int(request.match_info.get("number", len(room.scripts)))
+        if number > len(room.scripts):
+            raise web.HTTPNotFound
+        if number < len(room.scripts):
+            data = await asyncio.to_thread((self.members.store.folder / script_name(room.letter, number)).read_bytes)
         if request.match_info["what"] == "transcript":
             data = await asyncio.to_thread(_transcript, room.session.command, data)
             try:
@@ -128,6 +135,16 @@ class Server:
             except BadFolder as error:
                 raise web.HTTPServiceUnavailable from error
         return web.Response(body=data, content_type="text/plain")
+
+    async def _get_home(self, request: web.Request) -> web.Response:
+        code, seat = request.headers.get("Authorization", "").removeprefix("Bearer "), request.match_info["seat"]
+        if self.members.codes.who(code) not in (TEACHER, seat) or seat[0] not in self.members.rooms:
+            await asyncio.sleep(WRONG_CODE_SECONDS)
+            raise web.HTTPNotFound
+        try:
+            return web.Response(body=await self.members.take_home(seat), content_type="application/zip")
+        except LabError as error:
+            raise web.HTTPServiceUnavailable(text=str(error)) from error
 
     async def _socket(self, request: web.Request) -> web.WebSocketResponse:
         if self._nameless.locked():
@@ -179,7 +196,8 @@ async def served(members: Class, doors: Iterable[socket.socket], names: set[str]
         work = [
             server.sweep(runner),
             _keep(members),
-            *(each for room in rooms for each in (room.clock.run(), room.watch())),
+            *(each for room in rooms for each in (room.clock.run(), room.watch(), room.shorten())),
+            *(room.follow() for room in rooms if members.has_spares),
         ]
         tasks = [asyncio.create_task(each) for each in work]
         yield runner.addresses[0][1]

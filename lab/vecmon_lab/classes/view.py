@@ -5,6 +5,7 @@ import contextlib
 import json
 from collections.abc import Callable, Iterable, Mapping
 from dataclasses import asdict
+from functools import partial
 from typing import TypedDict
 
 from .. import LabError
@@ -13,6 +14,7 @@ from ..assembler.source import read_source
 from ..machine.session import SCRIPT_BYTES
 from ..page.pages import merge_patch
 from ..page.state import State
+from .beside import Beside
 from .codes import TEACHER, WALL
 from .requests import (
     BadRequest,
@@ -93,6 +95,7 @@ class MachineView(TypedDict):
     clock: Clock
     own_slices: bool
     script: int
+    scripts: int
     of: int
     lines: int
     digest: str
@@ -137,26 +140,30 @@ class Class:
         patience: float,
         progress: Callable[[str], object] = lambda sentence: None,
         clock: bool = True,
-        address: str = "",
+        has_spares: bool = False,
     ) -> None:
         """Starts the machines, and brings each to where it was. Raises LabError where that can't be.
 
-        progress: is told how far that is, in sentences; clock: whether that of a new machine is on; address: where
-        students reach the class, or "", with a slash at its end
+        progress: is told how far that is, in sentences; clock: whether that of a new machine is on; has_spares: whether
+        a second process follows each machine
         """
-        self.store, self.codes, self.address = store, store.codes, address
+        self.has_spares = has_spares
+        self.store, self.codes = store, store.codes
+        self.address = ""  # where students reach the class, with a slash at its end
         self.wall: Seat | None = None  # the seat that it shows
         self.tabs: set[Tab] = set()
         self.rooms: dict[str, Room] = {}
         self.sources: dict[str, SeatSource] = {}
         self._kept: dict[str, Notes] = {}
+        makers, self._packers, self._packing = Beside(1), Beside(2), set[str]()
         try:
             for letter in store.machines:
-                file = ScriptFile(store.folder / f"{letter}.script")
-                self.rooms[letter] = room = Room(letter, store.session(patience), file)
-                room.changed, room.watched = self._tell, self._watched
+                notes = store.read(f"{letter}.json", Notes)
+                file = ScriptFile(store.folder, letter, len(notes.scripts))
+                self.rooms[letter] = room = Room(letter, store.session(patience), file, makers)
+                room.changed, room.watched, room.keep = self._tell, self._watched, partial(self._keep, letter)
                 room.set_clock({"on": clock})
-                room.restore(store.read(f"{letter}.json", Notes), progress)
+                room.restore(notes, progress)
                 for seat in room.seats.users.values():
                     self.sources[seat.name] = source = SeatSource(seat.name, store)
                     if source.written:
@@ -187,13 +194,30 @@ class Class:
             if room.trouble != before:
                 self._tell(room.seats.names())
             notes = room.notes()
-            name = f"{room.letter}.json"
-            if room.file.is_saved and self._kept.get(name) != notes and self.store.write(name, asdict(notes)):
-                self._kept[name] = notes
+            if room.file.is_saved and self._kept.get(room.letter) != notes:
+                self._keep(room.letter, notes)
         if self.store.waits("codes.json"):
             self.store.write("codes.json", self.codes.codes)
         if self.store.trouble != trouble:
             self._tell([])
+
+    def _keep(self, letter: str, notes: Notes) -> bool:
+        """Keeps what stands beside a machine's script; whether that went well."""
+        is_kept = self.store.write(f"{letter}.json", asdict(notes))
+        if is_kept:
+            self._kept[letter] = notes
+        return is_kept
+
+    async def take_home(self, seat: str) -> bytes:
+        """The archive that a student takes home. Raises LabError where there is none, or it is being made already."""
+        if seat in self._packing:
+            raise LabError("it is being made already")
+        self._packing.add(seat)
+        try:
+            self.keep()
+            return await self._packers.run("classes.take_home", f"{self.store.folder}", f"{self.store.program}", seat)
+        finally:
+            self._packing.discard(seat)
 
     def seat(self, name: str) -> Seat:
         """The seat of a name. Raises BadRequest."""
@@ -327,6 +351,7 @@ class Class:
             "clock": asdict(room.clock.settings),
             "own_slices": room.own_slices,
             "script": room.session.size,
+            "scripts": len(room.scripts),
             "of": SCRIPT_BYTES,
             "lines": room.session.lines,
             "digest": room.session.digest,

@@ -1,5 +1,7 @@
 // The way to the class: one WebSocket, one request after the other, growing pauses where it is gone.
 
+import { offerFile } from "./elements.js";
+
 const [FIRST_PAUSE, LONGEST_PAUSE] = [500, 15000]; // ms
 const LONGEST_SILENCE = 60000; // until a request without an answer tells that the connection is broken
 const ENDINGS = { 4403: "This code isn't valid, or not any more.", 4429: "This seat is open in too many tabs." };
@@ -47,6 +49,15 @@ export class Connection {
       this.waiting.push({ request: { id: ++this.number, ...request }, words, done });
       if (this.waiting.length === 1) this.next();
     });
+  }
+
+  /** Saves what the server has at a place as a file; whether it has it. */
+  async download(place, name) {
+    const headers = { Authorization: `Bearer ${this.code}` };
+    const answer = await fetch(place, { headers }).catch(() => null);
+    if (!answer?.ok) return false;
+    offerFile(name, await answer.blob());
+    return true;
   }
 
   next() {

@@ -57,11 +57,20 @@ export class Student {
     on("new", "click", () => this.beginAnew("New machine", NEW_MACHINE));
     on("images", "change", () => this.beginAnew("Load", [`load ${byId("images").value}`]));
     on("assemble", "click", () => this.write());
+    on("home", "click", () => this.takeHome());
     on("find", "input", () => showReference(byId("find").value));
     on("edit-close", "click", () => byId("edit").close());
     on("machine", "click", (event) => this.edit(event.target.closest("[data-edit]")));
     document.addEventListener("keydown", (event) => this.pressed(event));
     document.addEventListener("selectionchange", () => this.tellNames());
+  }
+
+  /** Saves what there is to take home, which takes a while to be made. */
+  async takeHome() {
+    byId("home").disabled = true;
+    const isThere = await this.connection.download(`${this.seat}/home`, `${this.seat}.zip`);
+    byId("home").disabled = false;
+    this.refuse(isThere ? "" : "There is nothing to take home yet, or it can't be made now.");
   }
 
   /** Tells of the name that the caret stands in. */
@@ -73,6 +82,7 @@ export class Student {
 
   show(view, logs, isAnew) {
     const { run } = view.state;
+    this.seat = view.seat;
     document.title = `Seat ${view.seat} – vecmon`;
     put(byId("who"), `Seat ${view.seat}`);
     const stop = run === "stopped" && view.state.stop && view.stop.split(" ")[0];

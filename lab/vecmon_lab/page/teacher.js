@@ -3,7 +3,7 @@
 import { CodeField, closeSheet, openSheet } from "./codes.js";
 import { Desk } from "./desk.js";
 import { Editor } from "./editor.js";
-import { button, byId, header, make, offerFile, put, say } from "./elements.js";
+import { button, byId, header, make, put, say } from "./elements.js";
 import { LineField, inParts, nameOf, unfitLines } from "./lines.js";
 import { Sides } from "./sides.js";
 import { Source } from "./source.js";
@@ -33,7 +33,7 @@ class ClassMachine {
       });
     }
     on("own", "change", () => ask({ ask: "rights", own_slices: this.part("own").checked }));
-    for (const name of ["script", "transcript"]) on(name, "click", () => teacher.download(letter, name));
+    for (const name of ["script", "transcript"]) on(name, "click", () => teacher.download(letter, name, this.scripts));
   }
 
   row(seat, teacher) {
@@ -48,6 +48,7 @@ class ClassMachine {
   }
 
   show(machine, share, shoulder) {
+    this.scripts = machine.scripts;
     for (const { seat, look, tabs, run, pc, stop, line, used } of this.rows) {
       const told = machine.seats[seat[1]];
       put(tabs, `${told.tabs || "–"}`);
@@ -156,10 +157,12 @@ export class Teacher {
     Object.entries(answer?.codes ?? {}).forEach(([name, code]) => this.codes[name].show(code, this.address));
   }
 
-  async download(letter, name) {
-    const headers = { Authorization: `Bearer ${this.connection.code}` };
-    const answer = await fetch(`${letter}/${name}`, { headers }).catch(() => null);
-    if (!answer?.ok) return say("gone", `The ${name} can't be fetched.`);
-    return offerFile(`${letter}.${name}.txt`, await answer.blob());
+  /** Saves a machine's script or transcript; all of them where it has several. */
+  async download(letter, name, scripts) {
+    for (let number = 1; number <= scripts; number++) {
+      const place = number < scripts ? `${letter}.${number}` : letter;
+      const isThere = await this.connection.download(`${place}/${name}`, `${place}.${name}.txt`);
+      if (!isThere) say("gone", `The ${name} can't be fetched.`);
+    }
   }
 }
