@@ -38,6 +38,7 @@ class Served:
             f"sum={SUM}",
             "--port",
             str(self.port),
+            "--no-clock",
         ]
         environment = os.environ | {"VECMON": str(self.program), "PYTHONPATH": str(TOP)}
         self.server = subprocess.Popen(
@@ -94,14 +95,17 @@ class Served:
 
 
 class Tab:
-    """A tab of the browser at a seat, or the teacher's."""
+    """A tab of the browser at a seat, the teacher's, or the wall's."""
 
-    def __init__(self, browser: "Chrome", served: Served, who: str) -> None:
+    def __init__(self, browser: "Chrome", served: Served, who: str, before: str = "") -> None:
+        """before: a script that is carried out before the page's."""
         self.browser, self.served, self.who = browser, served, who
         browser.switch_to.new_window("tab")
         self.handle = browser.current_window_handle
+        browser.execute_cdp_cmd("Page.addScriptToEvaluateOnNewDocument", {"source": before})
         browser.get(served.address(who))
-        self.wait(f"id('who').textContent === '{'Teacher' if who == 'teacher' else f'Seat {who}'}'")
+        name = who.title() if who in ("teacher", "wall") else f"Seat {who}"
+        self.wait("document.title === arguments[0]", f"{name} – vecmon")
 
     def front(self) -> "Chrome":
         """The browser, with this tab before all others."""
@@ -136,16 +140,25 @@ class Tab:
 
         self.front().find_element(By.CSS_SELECTOR, selector).send_keys(*keys)
 
+    def choose(self, selector: str, text: str) -> None:
+        """Chooses what has this text in a list."""
+        from selenium.webdriver.common.by import By
+        from selenium.webdriver.support.select import Select
+
+        Select(self.front().find_element(By.CSS_SELECTOR, selector)).select_by_visible_text(text)
+
     def command(self, *lines: str) -> None:
         """Enters lines at the command line, and waits until all are answered."""
-        asked = "all('#log .asked').length"
-        before = self.run(asked)
+        self.run("all('#log li').forEach((item) => item.classList.add('before'))")  # of which there are 500 at most
         self.run("arguments[0].forEach((line) => (id('line').value = line, id('command').requestSubmit()))", lines)
-        self.wait(f"{asked} >= arguments[0] && !one('#log li:last-child').matches('.asked')", before + len(lines))
+        asked = "all('#log .asked:not(.before)').length"
+        self.wait(f"{asked} >= arguments[0] && !one('#log li:last-child').matches('.asked')", len(lines))
 
     def begin(self, *lines: str) -> None:
         """A new machine with these instructions at 10000 on."""
         self.click("#new")
+        if self.run("id('ask').open"):
+            self.click("#yes")
         self.wait("one('#log li:nth-last-child(2)')?.textContent === '> setpc 10000'")
         self.command(*(f"asm {0x10000 + 4 * place:x} {line}" for place, line in enumerate(lines)))
 

@@ -16,7 +16,7 @@ import aiohttp
 
 from support.places import SUM, TOP
 from vecmon_lab.classes import server as class_server
-from vecmon_lab.classes.store import Store
+from vecmon_lab.classes.store import Store, script_name
 from vecmon_lab.classes.view import Class
 from vecmon_lab.machine.program import find_program
 
@@ -114,7 +114,9 @@ class Served:
         """The process of the one machine of a server's process."""
         assert self.server
         tasks = pathlib.Path(f"/proc/{self.server.pid}/task").glob("*/children")
-        (child,) = (int(word) for path in tasks for word in path.read_text().split())
+        children = [int(word) for path in tasks for word in path.read_text().split()]
+        is_python = {each: pathlib.Path(f"/proc/{each}/comm").read_text().startswith("python") for each in children}
+        (child,) = (each for each in children if not is_python[each])  # the others make checkpoints
         return child
 
     async def end(self, sign: signal.Signals = signal.SIGTERM) -> int:
@@ -128,21 +130,27 @@ class Served:
         teacher = await self.sit("teacher")
         script = (await self.get(f"{machine}/script"))[1]
         images = [f"{name}={self.folder}/images/{name}.elf" for name in teacher.view["images"]]
-        command = [str(find_program()), "/dev/stdin", *images]
+        command = [str(find_program()), "--quantum", str(teacher.view["quantum"]), "/dev/stdin", *images]
         done = subprocess.run(command, input=script, stdout=subprocess.PIPE, check=True)
         assert hashlib.sha256(done.stdout).hexdigest() == teacher.view["machines"][machine]["digest"]
         assert (await self.get(f"{machine}/transcript"))[1] == done.stdout
-        assert not is_saved or (self.folder / f"{machine}.script").read_bytes() == script
+        name = script_name(machine, teacher.view["machines"][machine]["scripts"])
+        assert not is_saved or (self.folder / name).read_bytes() == script
         await teacher.socket.close()
         return script, done.stdout
 
 
 @asynccontextmanager
 async def served(
-    folder: pathlib.Path, images: Mapping[str, pathlib.Path] = {}, machines: int = 1, name: str = "class"
+    folder: pathlib.Path,
+    images: Mapping[str, pathlib.Path] = {},
+    machines: int = 1,
+    name: str = "class",
+    quantum: int | None = None,
+    clock: bool = False,
 ) -> AsyncIterator[Served]:
     """A class that is served in this process."""
-    members = Class(Store(folder, find_program(), images, None, machines), 5.0)
+    members = Class(Store(folder, find_program(), images, quantum, machines), 5.0, clock=clock)
     async with class_server.served(
         members, class_server.listening("127.0.0.1", 0), {name}
     ) as port, _session() as session:
@@ -151,15 +159,22 @@ async def served(
         yield room
 
 
-def command(folder: pathlib.Path, *words: str) -> list[str]:
+def command(folder: pathlib.Path, *words: str, makes_checkpoints: bool = True) -> list[str]:
     """The command that serves a class."""
-    return [sys.executable, "-m", "vecmon_lab", "class", str(folder), *words, "--port", "0"]
+    begin = (
+        "from vecmon_lab.classes import room; room.SHORTEN_SECONDS = 1e9; import vecmon_lab.__main__ as lab; lab.main()"
+    )
+    lab = ["-m", "vecmon_lab"] if makes_checkpoints else ["-c", begin]
+    return [sys.executable, *lab, "class", str(folder), *words, "--port", "0", "--no-clock"]
 
 
 @asynccontextmanager
-async def process(folder: pathlib.Path, *words: str, **options: Any) -> AsyncIterator[Served]:
+async def process(
+    folder: pathlib.Path, *words: str, makes_checkpoints: bool = True, **options: Any
+) -> AsyncIterator[Served]:
     """A class that a process of its own serves; `server` in it. What is still there at the end is killed."""
-    server = await asyncio.create_subprocess_exec(*command(folder, *words), cwd=TOP, stdout=subprocess.PIPE, **options)
+    call = command(folder, *words, makes_checkpoints=makes_checkpoints)
+    server = await asyncio.create_subprocess_exec(*call, cwd=TOP, stdout=subprocess.PIPE, **options)
     assert server.stdout
     try:
         line = await asyncio.wait_for(server.stdout.readline(), SECONDS)

@@ -1,7 +1,7 @@
 """How long a class's pages take: `python lab/tools/page_times.py [CLICKS]`, with VECMON as for the lab.
 
-Prints medians, and the ninth of ten, in ms: a click on Step until it is painted, alone and while seven others step; a
-stop until it stands on the teacher's page.
+Prints medians, and the ninth of ten, in ms: a click on Step until it is painted, alone, while seven others step, and with
+3,900 rows in the listing; a stop until it stands on the teacher's page.
 """
 
 import pathlib
@@ -15,6 +15,7 @@ from support.class_pages import Served, Tab
 from vecmon_lab.machine.program import find_program
 
 PROGRAM = ["vsetivli x0, 8, e32, m1, ta, ma", "vid.v v1", "vadd.vx v2, v2, x10", "addi x10, x10, 1", "jal x0, -8"]
+LONG = "vid.v v1\n" + "addi a0, a0, 1\n" * 3899
 CLICKS = """const [count, done] = arguments, log = document.getElementById("log"), taken = [];
 const click = () => {
   const begun = performance.now();
@@ -67,6 +68,9 @@ def main(count: int) -> None:
             )
             for tab in students[1:]:
                 tab.run("clearInterval(window.busy)")
+            students[0].run("(id('source').value = arguments[0], id('assemble').click())", LONG)
+            students[0].wait("id('listing').textContent.includes('vid.v')")
+            told("the first one with 3,900 rows", students[0].front().execute_async_script(CLICKS, count))
             teacher, taken = Tab(browser, served, "teacher"), []
             teacher.front().execute_script(SEEN)
             for _ in range(count // 3):

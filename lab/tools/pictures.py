@@ -1,8 +1,8 @@
 """The pictures of the pages: `python lab/tools/pictures.py docs/pictures`, with VECMON as for the lab.
 
-Writes lesson.png, student.png and teacher.png to the folder: Chromium's pictures of a lesson and of a class, in light
-colours, 1280 pixels wide. In the class six students have each come to another place, and the teacher looks over the
-shoulder of the third.
+Writes lesson.png, student.png, teacher.png and wall.png to the folder: Chromium's pictures of a lesson and of a class, in
+light colours, 1280 pixels wide. In the class six students have each come to another place, and the teacher looks over the
+shoulder of the third, whose seat is on the wall as well.
 """
 
 import base64
@@ -20,7 +20,7 @@ from vecmon_lab.machine.program import find_program
 if TYPE_CHECKING:
     from selenium.webdriver import Chrome
 
-WIDTH, HEIGHT = 1280, 800
+WIDTH, HEIGHT, WALL_HEIGHT = 1280, 800, 720
 EXAMPLE = EXAMPLES / "strip_mined.s"
 MASKED = 22  # of the example's instructions, the masked one in the loop's second round
 COUNT_UP = ["addi x5, x5, 1", "jal x0, -4"]
@@ -66,7 +66,7 @@ def seat_students(browser: "Chrome", served: Served) -> Tab:
 
 
 def picture_class(browser: "Chrome", served: Served, folder: pathlib.Path) -> None:
-    """The pages of the third student and of the teacher, who looked on while that student stepped."""
+    """The pages of the third student, of the teacher, who looked on while that student stepped, and of the wall."""
     student = seat_students(browser, served)
     give_room(student.front(), HEIGHT)
     teacher = Tab(browser, served, "teacher")
@@ -76,11 +76,17 @@ def picture_class(browser: "Chrome", served: Served, folder: pathlib.Path) -> No
     for line in ("slices 20", "list", "stats"):
         teacher.keys("#operator-line", f"{line}\n")
     teacher.wait("id('operator-log').textContent.includes('owner')")
+    teacher.choose("#on-wall", "A3")
+    wall = Tab(browser, served, "wall")
+    give_room(browser, WALL_HEIGHT)
+    wall.wait("id('who').textContent === 'Seat A3'")
     student.command("step 1")
     save(student.front(), folder / "student.png", HEIGHT)
     teacher.wait("id('step').textContent.includes('v0.t')")
     height = teacher.run("Math.ceil(one('.vectors').getBoundingClientRect().bottom + 8)")
     save(browser, folder / "teacher.png", height)
+    wall.wait("id('step').textContent.includes('v0.t')")
+    save(browser, folder / "wall.png", WALL_HEIGHT)
 
 
 def main(folder: pathlib.Path) -> None:

@@ -71,9 +71,9 @@ async def hours(room: Served, tabs: list[Tab]) -> str:
         "source", text="loop: vsetvli t0, a0, e32, m1, ta, ma\n" + "vadd.vv v1, v1, v1\n" * 20 + "j loop\n"
     )
     source = (room.folder / "A.script").stat().st_size - before
-    steps, clock = 8 * HOURS // 2 * len("1 step 1\n"), HOURS * 10 * len("* slices 8\n")
+    steps, clock = 8 * HOURS // 2 * len("1 step 1\n"), HOURS * 1000 // 30 * len("* slices 1000\n")
     whole = steps + 8 * 12 * source
-    return f"two hours: {whole:,} bytes of script, and {clock:,} more if the clock grants slices all the time"
+    return f"two hours: {whole:,} bytes of script, and {clock:,} more if programs run all the time"
 
 
 async def main() -> None:

@@ -97,7 +97,8 @@ def test_help_lists_the_commands() -> None:
             ],
         ),
         ("1 asm 10000 vadd.vv v1, v2 ", ["vadd.vv v1, v2", "              ^", "E15: an operand is missing at the end"]),
-        ("1 asm 10000 li x1, 5", ["li x1, 5", "^", "E15: there is no instruction li"]),
+        ("1 asm 10000 li x1, 5", ["li x1, 5", "^", "E15: li is a pseudo-instruction, which only a source has"]),
+        ("1 asm 10000 jmp 8", ["jmp 8", "^", "E15: there is no instruction jmp; near it is jal"]),
     ],
 )
 def test_refusals_in_words(session: Session, line: str, told: list[str]) -> None:

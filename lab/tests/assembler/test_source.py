@@ -9,7 +9,9 @@ from hypothesis import given, settings
 from hypothesis import strategies as st
 
 from support.places import DATA, DOCS
-from vecmon_lab.assembler.source import Program, SourceError, assemble, refusal
+from vecmon_lab.assembler.names import DIRECTIVES
+from vecmon_lab.assembler.source import Program, SourceError, assemble, read_source, refusal
+from vecmon_lab.assembler.trial import all_mistakes
 from vecmon_lab.machine.session import Session
 
 STOCK = DATA / "stock"
@@ -142,7 +144,7 @@ ERRORS = [
     (" li a0, 0x", 1, 9, "0x is no number"),
     ("a: .zero 4100\n beqz a0, a", 2, 11, "this is -4100 bytes away, and -4096 to 4094 can be reached"),
     (" beqz a0, a\n .zero 4092\na: nop", 1, 11, "this is 4096 bytes away"),
-    (" j a\n .zero 1044480\n .zero 4092\na: nop", 4, 4, "here the program grows beyond 256 pages"),
+    (" nop\n .zero 1044480\n .zero 4092\na: nop", 4, 4, "here the program grows beyond 256 pages"),
     (".data\n .zero 0x100000\n .zero 1", 3, 2, "here the program grows beyond 256 pages"),
     (' .incbin "x"', 1, 2, "there is no directive .incbin"),
     (" add a0, a1, a9", 1, 14, "a9 is no register that fits here"),
@@ -179,7 +181,14 @@ ERRORS = [
     (" * nop", 1, 2, "* stands where an instruction, a directive or a label has to"),
     ("1: nop", 1, 1, "1 is no label"),
     (" j 1b", 1, 4, "1b is no number"),
-    (" ADD a0, a0, a0", 1, 2, "there is no such instruction"),
+    (" ADD a0, a0, a0", 1, 2, "there is no instruction ADD; near it are add, addw and addi"),
+    (" jmp x", 1, 2, "there is no instruction jmp; near it are j, jr and jal"),
+    (" jmp x,, 5", 1, 2, "there is no instruction jmp"),
+    ("  frobnicate a0", 1, 3, "there is no instruction frobnicate"),
+    ("  vfadd.vv v1, v2, v3", 1, 3, "there is no instruction vfadd.vv; near it are vadd.vv"),
+    (" mov a0, a1", 1, 2, "there is no instruction mov; near it is mv"),
+    (" add a0, a0, " + "0 - " * 80 + "a0", 1, 334, "a0 is no register that fits here"),
+    (" add a0, a0, " + ", ".join(["-9"] * 80), 1, 2, "an instruction has at most 256 characters, and this one 332"),
     (".data\n nop", 2, 2, "nop stands outside of .text"),
     (".byte 1\n nop", 2, 2, "the address of nop isn't divisible by 4"),
     (".bss\n .byte 1", 2, 2, ".bss has zeros alone"),
@@ -214,9 +223,31 @@ def test_errors_name_line_and_column(text: str, line: int, column: int, message:
     assert message in caught.value.message
 
 
+def test_all_mistakes_are_told_in_order(program: pathlib.Path) -> None:
+    """Of form, and of the machine, where it takes what is right; a line has one, and right lines have none."""
+    text = """here: jmp here
+        addi a0, a0, 4096
+        .dword 1, 22222222222222222222
+        vadd.vv v1, v2
+        j nowhere
+        add a0, a0 a1
+        .zero 4294967296
+        j here
+        nop, ,
+        .align 2"""
+    told = [(each.line, each.message.split(" ")[0]) for each in all_mistakes(read_source(text), program)]
+    words = ["there", "4096", "22222222222222222222", "an", "nowhere", "a1", "here", "an"]
+    assert told == [*zip([1, 2, 3, 4, 5, 6, 7, 9], words)]
+
+
+def test_the_first_hundred_mistakes_are_told() -> None:
+    mistakes = read_source("j later\n" + "jmp x\n" * 4999 + "later: nop").mistakes
+    assert [each.line for each in mistakes] == [*range(2, 102)]
+    mistakes = read_source("j nowhere\n" * 5000 + "jmp x").mistakes
+    assert [each.line for each in mistakes] == [*range(1, 101)]
+
+
 REFUSED = [
-    ("  frobnicate a0", 3, "there is no instruction frobnicate"),
-    ("  vfadd.vv v1, v2, v3", 3, "there is no instruction vfadd.vv"),
     ("  addi   s11, a0, 4096  # too much", 19, "4096 doesn't fit here"),
     ("  addi   s11, a0, -2049", 19, "doesn't fit here"),
     ("a: addi s11,s11,1,2", 19, "there is an operand too many, as the machine reads it: addi x27, x27, 1, 2"),
@@ -318,3 +349,21 @@ def test_any_text_is_assembled_or_has_an_error_in_it(text: str) -> None:
     else:
         assert all(re.fullmatch("[ -~]{0,1022}", line) for line in program.lines)
         assert all(1 <= item.line <= len(lines) for item in program.statements)
+
+
+def test_lines_beside_words() -> None:
+    """Beside the first word of a line stands the line, with its comment, or with one that stands alone above it."""
+    text = "# Counts.\nloop: one: addi t0, t0, 1 # up\n// Two words.\n\tli a0, 0x12345\n\n# none\n.data\n.word 1\n.text\nnop\r\n ret\n"
+    assert read_source(text).source_lines(text) == {
+        "10000": "addi t0, t0, 1 # up",
+        "10004": "li a0, 0x12345  // Two words.",
+        "1000c": "nop",
+        "10010": "ret",
+    }
+
+
+def test_directives_are_known() -> None:
+    for name in DIRECTIVES:
+        told = str(read_source(f"{name} 1, 2").mistakes)
+        assert "there is no directive" not in told, name
+    assert ".frob" not in DIRECTIVES

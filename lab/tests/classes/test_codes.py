@@ -5,7 +5,7 @@ from vecmon_lab.classes.codes import CODE_LETTERS, Codes, new_code
 
 def test_codes() -> None:
     codes = Codes("AB", {"A1": "kept", "C1": "gone"})
-    assert list(codes.codes) == ["teacher", *(f"{letter}{digit}" for letter in "AB" for digit in "12345678")]
+    assert list(codes.codes) == ["teacher", "wall", *(f"{letter}{digit}" for letter in "AB" for digit in "12345678")]
     assert codes.who("kept") == "A1" and codes.who(codes.codes["teacher"]) == "teacher"
     assert [codes.who(code) for code in ("", "gone", None, 5, "é", "\ud800")] == [None] * 6
     codes.renew("A1")

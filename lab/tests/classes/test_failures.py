@@ -4,6 +4,7 @@ import asyncio
 import json
 import os
 import pathlib
+import re
 import resource
 import shutil
 import signal
@@ -13,8 +14,9 @@ import sys
 
 import pytest
 
-from support.class_tabs import LOOP, SECONDS, process, served
+from support.class_tabs import LOOP, SECONDS, command, process, served
 from support.places import TOP
+from support.terminal import INTERRUPT, Terminal
 from vecmon_lab import LabError
 from vecmon_lab.classes.requests import Lines
 from vecmon_lab.classes.room import Stopped
@@ -41,6 +43,30 @@ async def test_a_program_that_is_killed_or_hangs(tmp_path: pathlib.Path) -> None
         assert await other.do("step 1") == [["stepped 1 pc=0000000000010004"]]
         await room.check_replay()
         assert await room.end() == 0
+
+
+async def test_pages_are_told_of_a_machine_that_is_rebuilt(tmp_path: pathlib.Path) -> None:
+    async with process(tmp_path / "class", makes_checkpoints=False) as room:
+        tab, other, teacher = await room.sit("A1"), await room.sit("A2"), await room.sit("teacher")
+        await tab.do(*LOOP, "go")
+        await teacher.do(*["slices 1000"] * 250, machine="A")  # which takes a while each time
+        os.kill(room.machine(), signal.SIGKILL)
+        waiting = asyncio.create_task(tab.do("stop"))
+        sentence = re.compile(r"machine A is being rebuilt: \d?\d %")
+        await other.until(lambda view: sentence.fullmatch(view["trouble"]) and not view["ready"])
+        await teacher.until(lambda view: sentence.fullmatch(view["machines"]["A"]["trouble"]))
+        await teacher.until(lambda view: view["machines"]["A"]["loss"] == "the program ended by SIGKILL")
+        assert [answer[:7] for (answer,) in await waiting] == ["stopped"]
+        await other.until(lambda view: not view["trouble"] and view["ready"])
+        await teacher.until(lambda view: not view["machines"]["A"]["trouble"])
+        await room.check_replay()
+        assert await room.end(signal.SIGKILL) == -signal.SIGKILL
+    with Terminal(command(tmp_path / "class"), {"PYTHONPATH": str(TOP / "lab")}) as terminal:
+        told = terminal.expect("teacher: http")
+        assert sentence.findall(told)[0] == "machine A is being rebuilt: 0 %"
+        assert told.endswith("machine A is being rebuilt: 100 %\nteacher: http")
+        terminal.type(INTERRUPT)
+        assert terminal.end()[0] == 0
 
 
 @pytest.mark.parametrize("sign", [signal.SIGINT, signal.SIGTERM])
@@ -127,7 +153,7 @@ async def test_a_server_that_is_killed_and_begun_again(tmp_path: pathlib.Path) -
         assert {**again.view["state"], "instruction": "10000"} == tab.view["state"]
         assert last.view["state"]["run"] == "running" and not last.view["own_slices"]
         now = teacher.view["machines"]["A"]
-        assert now["clock"] == {"on": False, "slices": 3, "ms": 50}
+        assert now["clock"] == {"on": False, "slices": 3, "ms": 50, "limit": 50_000_000}
         assert now["seats"]["2"] | {"tabs": 1} == seats["2"]
         assert await again.do("step 1") == [["stepped 1 pc=0000000000010000"]]
         await room.check_replay()
@@ -219,6 +245,27 @@ async def test_a_full_disk(tmp_path: pathlib.Path) -> None:
         assert await room.end() == 0
 
 
+async def test_a_new_code_while_the_disk_is_full(tmp_path: pathlib.Path) -> None:
+    folder = tmp_path / "class"
+    async with process(folder) as room:
+        tab, teacher = await room.sit("A1"), await room.sit("teacher")
+        await tab.do(*LOOP)
+        assert room.server
+        limit, infinity = resource.RLIMIT_FSIZE, resource.RLIM_INFINITY
+        resource.prlimit(room.server.pid, limit, (100, infinity))  # a script may grow so far, and no other file
+        new = (await teacher.ask("renew", seat="A2"))["codes"]["A2"]
+        await teacher.until(lambda view: view["trouble"].startswith("codes.json isn't saved"))
+        await tab.do("step 1")  # so that the machine's notes wait as well
+        resource.prlimit(room.server.pid, limit, (infinity, infinity))
+        await teacher.until(lambda view: not view["trouble"])
+        assert json.loads((folder / "codes.json").read_text())["A2"] == new != room.codes["A2"]
+        await room.end(signal.SIGKILL)
+    async with served(folder) as again:
+        assert (await (await again.open(new)).receive())["who"] == "A2"
+        with pytest.raises(EOFError, match="4403"):
+            await (await again.open(room.codes["A2"])).receive()
+
+
 async def test_a_server_that_is_killed_while_the_disk_is_full(tmp_path: pathlib.Path) -> None:
     folder = tmp_path / "class"
     async with process(folder, preexec_fn=fill_the_disk) as room:
@@ -254,7 +301,7 @@ async def test_a_flood(tmp_path: pathlib.Path) -> None:
         assert asked > 2  # the teacher and the other machine were answered all the while
         transcript = (await room.check_replay())[1].decode().splitlines()
         for digit, lines in zip("12345678", told):
-            own = [line[2:] for line in transcript if line[0] == digit]
+            own = [line[2:] for line in transcript if line[0] == digit and line[2:] != "out 0"]  # which the server asks
             assert own[len(LOOP) :] == lines and len(lines) == 1_000
         assert await room.end() == 0
 

@@ -53,6 +53,8 @@ def test_requests(message: dict[str, object], is_teacher: bool, request_: Reques
         ({"ask": "lines", "do": "regs"}, False, "lists of 256 lines"),
         ({"ask": "lines", "do": ["regs"] * 200, "look": ["regs"] * 57}, False, "lists of 256 lines"),
         ({"ask": "lines", "do": [5]}, False, "a line is a text"),
+        ({"ask": "lines", "do": ["é"]}, False, r"character 1 of a line, '\\xe9', isn't printable ASCII"),
+        ({"ask": "lines", "machine": "A", "do": ["list\n"]}, True, r"character 5 of a line, '\\n', isn't"),
         ({"ask": "lines", "do": ["x" * 1023]}, False, "at most 1,022 characters"),
         ({"ask": "lines", "look": ["regs", "step 1"]}, False, "'step 1' isn't a line that only looks"),
         ({"ask": "lines", "look": ["regs"]}, True, "'regs' isn't a line that only looks"),

@@ -8,6 +8,7 @@ from typing import Any
 
 import pytest
 
+from vecmon_lab.classes.beside import Beside
 from vecmon_lab.classes.requests import Lines
 from vecmon_lab.classes.room import Room
 from vecmon_lab.classes.seats import Seat
@@ -51,7 +52,7 @@ class Machine:
     def __init__(self, folder: pathlib.Path) -> None:
         self.session: Any = StandIn(folder / "A.script")
         session: Session = self.session
-        self.room = Room("A", session, ScriptFile(folder / "A.script"))
+        self.room = Room("A", session, ScriptFile(folder, "A"), Beside(1))
 
     def ask(self, seat: Seat, *lines: str) -> "asyncio.Task[Any]":
         """A request that is under way."""

@@ -1,6 +1,7 @@
 """The server of a class through its sockets. Nothing waits on a clock: each test awaits the message that it needs."""
 
 import asyncio
+import gc
 import json
 import os
 import pathlib
@@ -30,7 +31,7 @@ async def room(tmp_path: pathlib.Path) -> AsyncIterator[Served]:
 @pytest.mark.by_command("class")
 async def test_a_step(room: Served) -> None:
     tab = await room.sit("A3")
-    assert tab.view["state"] == {"run": "absent", "labels": {}}
+    assert tab.view["state"] == {"run": "absent", "labels": {}, "lines": {}}
     assert (tab.view["seat"], tab.view["images"], tab.view["quantum"]) == ("A3", ["sum"], 100)
     assert await tab.do(*LOOP) == [
         ["entered"],
@@ -152,16 +153,17 @@ async def test_messages_that_are_too_large_or_no_text(room: Served) -> None:
             await tab.until(lambda view: False)
 
 
-@pytest.mark.parametrize("ask", ["clock", "rights", "renew", "shoulder"])
+@pytest.mark.parametrize("ask", ["clock", "rights", "renew", "shoulder", "wall", "codes"])
 async def test_what_the_teacher_alone_may_ask(room: Served, ask: str) -> None:
     tab, teacher = await room.sit("A1"), await room.sit("teacher")
-    before = teacher.view["machines"]["A"]["seats"]["2"]["code"]
+    before = room.codes["A2"]
     words = {"machine": "A", "on": True, "own_slices": False, "seat": "A2"}
     assert "no such request" in (await tab.ask(ask, **words))["error"]
     assert "A2" not in json.dumps(tab.view) and before not in json.dumps(tab.view) and "machines" not in tab.view
     await teacher.do("list", machine="A")
     machine = teacher.view["machines"]["A"]
-    assert (machine["clock"]["on"], machine["own_slices"], machine["seats"]["2"]["code"]) == (False, True, before)
+    assert (machine["clock"]["on"], machine["own_slices"], teacher.view["wall"]) == (False, True, "")
+    assert (await teacher.ask("codes", seat="A2"))["codes"] == {"A2": before}
     assert (await tab.ask("lines", machine="A", do=["slices 1"]))["do"] == [["E03"]]  # as user 1
 
 
@@ -181,12 +183,11 @@ async def test_wrong_codes(room: Served) -> None:
 
 async def test_a_new_code_ends_the_old_one(room: Served) -> None:
     tab, other, teacher = await room.sit("A1"), await room.sit("A2"), await room.sit("teacher")
-    await teacher.ask("renew", seat="A1")
+    renewed = (await teacher.ask("renew", seat="A1"))["codes"]["A1"]
     with pytest.raises(EOFError, match="4403"):
         await tab.until(lambda view: False)
     with pytest.raises(EOFError, match="4403"):
         await (await room.open(room.codes["A1"])).receive()
-    renewed = teacher.view["machines"]["A"]["seats"]["1"]["code"]
     assert renewed != room.codes["A1"] and json.loads((room.folder / "codes.json").read_text())["A1"] == renewed
     assert (await (await room.open(renewed)).receive())["who"] == "A1"
     assert await other.do("enter") == [["entered"]]
@@ -239,7 +240,9 @@ async def test_what_is_served(room: Served) -> None:
         assert answer.headers["Cache-Control"] == "no-store"
         assert "Set-Cookie" not in answer.headers
     assert "default-src 'none'" in policy and "frame-ancestors 'none'" in policy and "unsafe" not in policy
-    assert page.count("<script") == policy.split("script-src")[1].split(";")[0].count("sha256-")
+    scripts = [kind for kind in re.findall('<script type="([^"]*)"', page) if kind != "application/json"]
+    assert scripts == ["module"] and policy.split("script-src")[1].split(";")[0].count("sha256-") == 1
+    assert page.count("<script") == 2  # the other one has data
     assert not re.search(r"""(src|href)\s*=\s*["'](?!data:)|\son\w+\s*=|\sstyle\s*=""", page.split("<script")[0])
     assert not [code for code in room.codes.values() if code in page]
     for path in ("A", "A/", "A/json", "codes.json", "A/../codes.json", "lab", "B/script", "socket/"):
@@ -285,7 +288,8 @@ async def test_own_slices(room: Served) -> None:
     assert tab.view["stop"] == "break pc=0000000000010000" and tab.view["state"]["run"] == "stopped"
     script = (await room.check_replay())[0].decode().splitlines()
     assert script.count("* run 4") == 4  # the stop ended them
-    assert tab.view["share"]["used"] == sum(len(line) + 1 for line in script) > used
+    own = [line for line in script if not line.endswith(" ")]  # and not the server's
+    assert tab.view["share"]["used"] == sum(len(line) + 1 for line in own) > used
     await teacher.ask("rights", machine="A", own_slices=False)
     await tab.until(lambda view: not view["own_slices"])
     assert "teacher's to grant" in (await tab.ask("lines", do=["go"], slices=1))["error"]
@@ -318,15 +322,42 @@ async def test_a_source(room: Served) -> None:
         await tab.do("step 6")
         assert tab.view["state"]["x"]["11"] == "4" or tab.view["state"]["x"]["11"] == "3"
         await tab.do("go")
-    told = await tab.ask("source", text="addi a0, a0, 5000\nadd a0, a0\nvadd.vv v1, v2, q\n")
-    assert [(each["line"]) for each in told["mistakes"]] == [2] or len(told["mistakes"]) >= 1
+    script = (await room.get("A/script"))[1]
+    told = await tab.ask("source", text="addi a0, a0, 5000\njmp x\nvadd.vv v1, v2, v3\nvadd.vv v1, v2, q\n")
+    assert [(each["line"], each["column"]) for each in told["mistakes"]] == [(1, 14), (2, 1), (4, 17)]
+    assert "near it are j, jr and jal" in told["mistakes"][1]["message"]
+    assert (await room.get("A/script"))[1] == script  # nothing was done
     told = await tab.ask("source", text="nop\naddi a0, a0, 5000\nnop\nslli a0, a0, 99\n")
     assert [(each["line"], each["column"]) for each in told["mistakes"]] == [(2, 14), (4, 14)]
     assert "doesn't fit" in told["mistakes"][0]["message"]
     assert (await tab.ask("source", text="b nowhere"))["mistakes"][0]["line"] == 1
+    told = await tab.ask("source", text="vadd.vv v1, v2\n" * 200)
+    assert [each["line"] for each in told["mistakes"]] == [*range(1, 101)]
     told = await tab.ask("source", text="nop\n" * 5000)
     assert "4096 lines at most" in told["error"]
     await room.check_replay()
+
+
+async def test_others_have_turns_while_a_source_is_written(room: Served) -> None:
+    tab, other = await room.sit("A5"), await room.sit("A6")
+    lines = ["nop"] * 900
+    for wrong in (9, 499, 899):
+        lines[wrong] = "slli a0, a0, 99"
+    for _ in range(2):
+        written = asyncio.create_task(tab.ask("source", text="\n".join(lines)))
+        assert room.members
+        session = room.members.rooms["A"].session
+        before = session.lines
+        while session.lines == before:
+            await asyncio.sleep(0)
+        await other.do("nonsense")
+        assert not written.done()
+        assert [each["line"] for each in (await written)["mistakes"]] == [10, 500, 900]
+    assert len(tab.view["state"]["code"]) > 500 and tab.view["state"]["pc"] == "10000"
+    script = (await room.check_replay())[0].decode().splitlines()
+    others = [number for number, line in enumerate(script) if line == "6 nonsense"]
+    own = [number for number, line in enumerate(script) if line in ("5 enter", "5 setpc 10000")]
+    assert own[0] < others[0] < own[1] < own[2] < others[1] < own[3]
 
 
 async def test_over_the_shoulder(room: Served) -> None:
@@ -395,7 +426,7 @@ async def test_a_seats_share_of_the_script(room: Served) -> None:
 
 async def test_machines_apart(tmp_path: pathlib.Path) -> None:
     async with served(tmp_path / "class", machines=2) as room:
-        assert len(room.codes) == 17 and len(set(room.codes.values())) == 17
+        assert len(room.codes) == 18 and len(set(room.codes.values())) == 18
         one, two, teacher = await room.sit("A1"), await room.sit("B1"), await room.sit("teacher")
         await one.do(*LOOP, "go")
         await two.do(*LOOP, "step 1")
@@ -404,7 +435,8 @@ async def test_machines_apart(tmp_path: pathlib.Path) -> None:
         assert not two.view["clock"] and two.view["state"]["x"]["5"] == "1"
         assert list(teacher.view["machines"]) == ["A", "B"]
         await teacher.ask("clock", machine="A", on=False)
-        assert (await room.check_replay("B"))[0].count(b"\n") == len(LOOP) + 1
+        script = (await room.check_replay("B"))[0].decode().splitlines()
+        assert script == [f"1 {line}" for line in [*LOOP, "step 1", "out "]]
         assert room.members and (stuck := room.members.rooms["A"].session.process)
         os.kill(stuck, signal.SIGSTOP)
         hanging = asyncio.create_task(one.do("stop"))
@@ -465,6 +497,67 @@ async def test_clients_that_do_not_read(room: Served) -> None:
         assert connection and connection.transport
         connection.transport.abort()
     assert (members := room.members)
-    while any(tab.who == "A2" for tab in members.tabs):  # the server drops them before all they asked is carried out
+    while any(tab.who == "A2" for tab in members.tabs):  # which it keeps until all that they asked is carried out
         await asyncio.sleep(0.01)
     await room.check_replay()
+
+
+async def test_a_tab_whose_request_waits_long(tmp_path: pathlib.Path, monkeypatch: pytest.MonkeyPatch) -> None:
+    monkeypatch.setattr(class_server, "READ_SECONDS", 1.0)  # between pings, of which each wants an answer in half of it
+    async with served(tmp_path / "class") as room:
+        tab = await room.sit("A1")
+        await tab.do("enter")
+        assert room.members and (machine := room.members.rooms["A"].session.process)
+        os.kill(machine, signal.SIGSTOP)
+        waits = asyncio.create_task(tab.do(*LOOP[1:]))  # whose socket answers pings meanwhile
+        await asyncio.sleep(2.5)
+        os.kill(machine, signal.SIGCONT)
+        assert len(await waits) == 4 and not room.members.rooms["A"].session.losses
+
+
+async def test_more_requests_than_may_wait(room: Served) -> None:
+    tab = await room.sit("A1")
+    assert room.members and (machine := room.members.rooms["A"].session.process)
+    os.kill(machine, signal.SIGSTOP)
+    for number in range(70):
+        await tab.socket.send_json({"id": number, "ask": "lines", "do": [f"set x5 {number:x}" if number else "enter"]})
+    told = [await tab.receive() for _ in range(5)]  # one is carried out, and 64 wait
+    assert [each["id"] for each in told] == [65, 66, 67, 68, 69]
+    assert all(each["error"].startswith("64 requests of this tab wait already") for each in told)
+    await tab.socket.close()
+    os.kill(machine, signal.SIGCONT)
+    again = await room.sit("A1")
+    await again.until(
+        lambda view: view["state"].get("x", {}).get("5") == "40"
+    )  # what waited isn't dropped with its tab
+    assert (await room.check_replay())[0] == b"1 enter\n" + b"".join(b"1 set x5 %x\n" % each for each in range(1, 65))
+
+
+async def test_what_waits_when_a_code_ends(room: Served) -> None:
+    tab, teacher = await room.sit("A1"), await room.sit("teacher")
+    assert room.members and (machine := room.members.rooms["A"].session.process)
+    os.kill(machine, signal.SIGSTOP)
+    for number in range(5):
+        await tab.socket.send_json({"id": number, "ask": "lines", "do": ["enter"]})
+    await teacher.ask("renew", seat="A1")
+    os.kill(machine, signal.SIGCONT)
+    while any(each.who == "A1" for each in room.members.tabs):
+        await asyncio.sleep(0.01)
+    assert (await room.check_replay())[0] == b"1 enter\n"  # which was under way
+
+
+async def test_a_client_that_resets(room: Served, caplog: pytest.LogCaptureFixture) -> None:
+    tab, other = await room.sit("A1"), await room.sit("A1")
+    await tab.do(*LOOP)
+    connection = other.socket._response.connection
+    assert connection and connection.transport
+    connection.transport.pause_reading()  # so that the server's news don't get through
+    for _ in range(80):
+        await tab.do(*["peek 10000 256"] * 240)
+    connection.transport.abort()
+    assert room.members
+    while len(room.members.tabs) > 1:
+        await tab.do("step 1")
+    await asyncio.sleep(0)
+    gc.collect()
+    assert not caplog.records

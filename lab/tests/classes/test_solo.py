@@ -9,7 +9,8 @@ import pytest
 
 from support.class_tabs import LOOP, SECONDS, served
 from support.places import SUM, TOP, TOURS
-from vecmon_lab.classes.solo import own_lines, solo_script
+from vecmon_lab.classes.solo import Part, own_lines
+from vecmon_lab.machine.lines import is_look
 from vecmon_lab.machine.session import Session
 
 CLASS_OF_THREE = TOURS / "class_of_three"
@@ -53,12 +54,14 @@ def random_class(draws: random.Random) -> list[str]:
 
 @pytest.mark.parametrize("seed", range(12))
 def test_random_classes(program: pathlib.Path, seed: int) -> None:
-    lines = random_class(random.Random(seed))
+    lines = [line for line in random_class(random.Random(seed)) if not is_look(line)]
     script = "".join(f"{line}\n" for line in lines).encode()
     whole = subprocess.run([program, "/dev/stdin", f"sum={SUM}"], input=script, stdout=subprocess.PIPE, check=True)
     for digit in "12345":
-        with Session(program, {"sum": SUM}) as session:
-            alone, expected = solo_script(session, lines, digit)
+        part = Part(digit)
+        with Session(program, {"sum": SUM}) as session, Session(program, {"sum": SUM}) as single:
+            part.follow(session, single, script)
+        alone, expected = part.script, part.answers
         assert expected == [line for line in whole.stdout.decode().splitlines() if line[0] == digit]
         own = "".join(f"{line}\n" for line in alone).encode()
         told = subprocess.run([program, "/dev/stdin", f"sum={SUM}"], input=own, stdout=subprocess.PIPE, check=True)
@@ -68,11 +71,12 @@ def test_random_classes(program: pathlib.Path, seed: int) -> None:
 
 @pytest.mark.parametrize("digit", "123")
 def test_the_tours_class_of_three(program: pathlib.Path, digit: str) -> None:
-    lines = CLASS_OF_THREE.read_text().splitlines()
+    lines = [line for line in CLASS_OF_THREE.read_text().splitlines() if line and not is_look(line)]
+    part = Part(digit)
+    with Session(program) as session, Session(program) as single:
+        part.follow(session, single, "".join(f"{line}\n" for line in lines).encode())
     with Session(program) as session:
-        alone, expected = solo_script(session, lines, digit)
-    with Session(program) as session:
-        assert own_lines(session, alone, digit) == expected != []
+        assert own_lines(session, part.script, digit) == part.answers != []
 
 
 @pytest.mark.asyncio
@@ -92,7 +96,7 @@ async def test_the_command(tmp_path: pathlib.Path) -> None:
         text=True,
         timeout=SECONDS,
     )
-    expected = [*LOOP, "go", "* slices 1", "* slices 1", "* slices 4", "stop", "step 1", "load sum", "go", "* slices 1"]
+    expected = [*LOOP, "go", "* slices 6", "stop", "step 1", "load sum", "go", "* slices 3"]
     own = [line if line[0] == "*" else f"3 {line}" for line in expected]
     assert (run.returncode, run.stderr) == (0, "")
     assert run.stdout.splitlines()[: len(own)] == own

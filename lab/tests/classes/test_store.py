@@ -31,7 +31,7 @@ def test_what_is_kept(store: Store, program: pathlib.Path) -> None:
     folder = store.folder
     assert stat.S_IMODE(folder.stat().st_mode) == 0o700
     codes = store.codes.codes
-    assert len(codes) == 17 and json.loads((folder / "codes.json").read_text()) == codes
+    assert len(codes) == 18 and json.loads((folder / "codes.json").read_text()) == codes
     store.close()
     kinds: list[tuple[Any, ...]] = [(), ({"sum": SUM}, 50, 1), ({}, None, 2)]
     for words in kinds:
@@ -103,7 +103,7 @@ def test_a_start_that_fails_leaves_an_empty_class(tmp_path: pathlib.Path, progra
 def test_a_script_file(tmp_path: pathlib.Path) -> None:
     path = tmp_path / "A.script"
     path.write_bytes(b"1 enter\n1 step 1\n1 st")
-    file = ScriptFile(path)
+    file = ScriptFile(tmp_path, "A")
     assert file.kept == b"1 enter\n1 step 1\n" == path.read_bytes()
     file.append("1 go")
     assert path.read_bytes() == b"1 enter\n1 step 1\n1 go\n"
@@ -138,7 +138,6 @@ def test_what_the_command_refuses(
     folder = tmp_path / "class"
     first = Store(folder, program)
     assert "served by another server" in failed("class", str(folder))
-    assert "served by another server" in failed("solo", str(folder), "A1")
     first.close()
     with socket.create_server(("127.0.0.1", 0)) as taken:
         port = str(taken.getsockname()[1])
@@ -146,7 +145,7 @@ def test_what_the_command_refuses(
     (tmp_path / "file").touch()
     for bad in ("/proc/nowhere", str(tmp_path / "file"), str(tmp_path)):
         failed("class", bad)
-    numbers = ("--port 70000", "--machines 13", "--patience 0", "--patience nan")
+    numbers = ("--port 70000", "--machines 13", "--patience 0", "--patience nan", "--address x")
     for option in ("--host 192.0.2.1", "--host nowhere.invalid", *numbers):
         failed("class", str(folder), *option.split())
     assert "are required: DIR;" in failed("class")

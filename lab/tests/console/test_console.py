@@ -222,7 +222,7 @@ def test_a_breakpoint_where_the_ticks_of_a_round_end(tmp_path: pathlib.Path) -> 
         ("source", "the form is source FILE"),
         ("source nothing.s", "nothing.s: No such file or directory"),
         ("source lab", "lab: Is a directory"),
-        ("policy \N{SNOWMAN}", r"character 10 of a line, '\u2603', isn't printable ASCII"),
+        ("policy \N{SNOWMAN}", r"character 8 of a line, '\u2603', isn't printable ASCII"),
         ("a" * 1023, "a line has at most 1,022 characters after its user, and this one has 1,023"),
     ],
 )
@@ -234,9 +234,9 @@ def test_lines_that_are_refused(line: str, told: str) -> None:
 
 
 def test_bytes_that_are_no_text() -> None:
-    told = shown(b"regs\xff\nstate\0\nstate")
+    told = shown(b"regs\xff\n1 state\0\nstate")
     assert told[1:] == [
-        r"character 7 of a line, '\ufffd', isn't printable ASCII",
+        r"character 5 of a line, '\ufffd', isn't printable ASCII",
         r"character 8 of a line, '\x00', isn't printable ASCII",
         "state stopped pc=0000000000000000",
     ]

@@ -200,7 +200,11 @@ def test_the_first_wrong_place_is_told(echo: Echo, change: tuple[str, str], reas
             "a.asm",
             "line 2: 'ret' has no user's digit and space before it; a source's name ends in .s or .S",
         ),
-        ("1 map 10000 1 rx\n1 asm 10000 nop", "script", "asm 10000 nop: E15: there is no instruction nop"),
+        (
+            "1 map 10000 1 rx\n1 asm 10000 nop",
+            "script",
+            "asm 10000 nop: E15: nop is a pseudo-instruction, which only a source has",
+        ),
         ("", "script", "No instruction can be fetched at 0x0: its page isn't mapped, or has no permission x."),
         ("", "empty.s", "No instruction can be fetched at 0x10000: its page isn't mapped, or has no permission x."),
         (b"\x7fELF", "image", "the machine refuses image (E09 Short): the file has less than 64 bytes"),

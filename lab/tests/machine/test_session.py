@@ -1,15 +1,17 @@
 """The session: its script, its replays, and what it remembers, against the machine's own answers."""
 
+import hashlib
 import os
 import pathlib
 import shutil
 import signal
+import subprocess
 
 import pytest
 
 from support.places import SCRIPTS
 from vecmon_lab.machine.program import NoProgram
-from vecmon_lab.machine.session import OutOfStep, ProgramGone, ReplayDiffers, ScriptFull, Session
+from vecmon_lab.machine.session import BadLine, OutOfStep, ProgramGone, ReplayDiffers, ScriptFull, Session
 
 SUM = SCRIPTS / "images" / "sum"
 SHORT = SCRIPTS / "short"
@@ -77,6 +79,39 @@ def test_a_process_that_ended_is_replaced(counting: Session, ending: signal.Sign
     os.kill(counting.process, ending)
     assert count_of(counting) == 6
     assert counting.script.decode("ascii").splitlines() == [*COUNTING, "1 step 9", "1 step 3"]
+
+
+def spare_of(session: Session) -> int:
+    """The system's number of a session's spare process, once it has followed; 0 without one."""
+    session.follow()
+    return session._spare.process.number if session._spare else 0
+
+
+def test_a_spare_takes_the_place_of_a_process_that_ended(counting: Session) -> None:
+    counting.do("1 step 9")
+    spare = spare_of(counting)
+    counting.do("1 step 3")
+    for is_there in (True, False):
+        assert counting.process not in (None, spare)
+        os.kill(counting.process or 0, signal.SIGKILL)
+        counting.do("1 step 2")
+        assert (counting.process == spare) == is_there
+        spare = 0
+    assert count_of(counting) == 8
+    os.kill(spare_of(counting), signal.SIGKILL)
+    counting.do("1 step 2")
+    with pytest.raises(ProgramGone):
+        counting.follow()
+    assert count_of(counting) == 9
+    for number in (spare_of(counting), counting.process or 0):  # both are gone
+        os.kill(number, signal.SIGKILL)
+    assert count_of(counting) == 9
+    spare = spare_of(counting)
+    counting.end()
+    counting.close()
+    assert spare_of(counting) == 0
+    with pytest.raises(ProcessLookupError):
+        os.kill(spare, 0)
 
 
 def test_a_process_that_hangs_is_replaced(program: pathlib.Path) -> None:
@@ -159,6 +194,56 @@ def test_a_replay_that_differs_is_refused(program: pathlib.Path, tmp_path: pathl
         shutil.copy(SUM, image)
         assert session.look("1 regs") == registers
         assert session.script == b"1 enter\n1 load it\n"
+
+
+TURNS = """1 enter
+1 map 10000 1 rwx
+1 asm 10000 addi x5, x5, 1
+1 asm 10004 jal x0, -4
+1 setpc 10000
+1 nonsense
+1 policy ones
+2 enter
+1 break 10004
+1 go
+* slices 3
+* run 2
+2 leave
+1 step 9
+""".encode()
+
+
+def test_a_recorded_script_in_bulk(program: pathlib.Path) -> None:
+    steps = b"1 step 1\n" * 30_000  # more than fits into pipes, and so are the answers
+    plain = subprocess.run([program], input=TURNS + steps, stdout=subprocess.PIPE, check=True).stdout
+    progress = list[int]()
+    with Session(program) as session:
+        session.progress = progress.append
+        done = list(session.do_script(TURNS + steps))
+        assert "".join(f"{line}\n" for line, _ in done).encode() == TURNS + steps == session.script
+        assert "".join(f"{part}\n" for _, answer in done for part in answer).encode() == plain
+        assert session.digest == hashlib.sha256(plain).hexdigest()
+        assert done[10] == ("* slices 3", ["1 break pc=0000000000010004", "* granted 1"])
+        assert (session.lines, session.policy) == (30_014, {1: "ones"})
+        assert progress[0] == 0 and progress == sorted(set(progress)) and progress[-1] == 100 and len(progress) > 3
+        progress.clear()
+        first = session.process
+        assert first
+        os.kill(first, signal.SIGKILL)
+        assert session.do("1 step 1")[0].startswith("1 stepped 1 ") and session.process != first
+        assert progress[0] == 0 and progress == sorted(set(progress)) and progress[-1] == 100
+        assert session.losses == ["the program ended by SIGKILL"]
+
+
+@pytest.mark.parametrize("script", [b"1 enter", b"9 enter\n", b"1 \xff\n", b"\n", b"1 " + b"x" * 1023 + b"\n"])
+def test_what_no_session_has_recorded(session: Session, script: bytes) -> None:
+    with pytest.raises(BadLine):
+        list(session.do_script(script))
+
+
+def test_answers_that_are_none_to_a_recorded_script(session: Session) -> None:
+    with pytest.raises(OutOfStep):
+        list(session.do_script(b"1 enter\n1 regs\n"))  # which only looks, with nine lines
 
 
 def test_a_program_that_ends_again_and_again(program: pathlib.Path, tmp_path: pathlib.Path) -> None:

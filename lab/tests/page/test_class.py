@@ -4,53 +4,20 @@ import os
 import pathlib
 import signal
 import time
-from collections.abc import Callable, Iterator
+import zipfile
 from typing import TYPE_CHECKING
 
 import pytest
 
 from support.browser import CONTRAST, media, press
-from support.class_pages import Served, Tab, close_all, digest_of
+from page.conftest import Sit
+from support.class_pages import Served, Tab, digest_of
 from support.places import EXAMPLES
 
 if TYPE_CHECKING:
     from selenium.webdriver import Chrome
 
 COUNT_UP = ["addi x5, x5, 1", "jal x0, -4"]
-Sit = Callable[[str], Tab]
-
-
-@pytest.fixture(scope="module")
-def served(program: pathlib.Path, tmp_path_factory: pytest.TempPathFactory) -> Iterator[Served]:
-    """A class for all tests that leave its server alone."""
-    served = Served(tmp_path_factory.mktemp("class") / "class", program)
-    yield served
-    served.end()
-
-
-@pytest.fixture
-def own_class(program: pathlib.Path, tmp_path: pathlib.Path) -> Iterator[Served]:
-    """A class for a test that ends its server."""
-    served = Served(tmp_path / "class", program)
-    yield served
-    served.end()
-
-
-@pytest.fixture
-def tabs(browser: "Chrome") -> Iterator["Chrome"]:
-    """The browser, for tabs, closed behind the test. Its console has said nothing then but of refused reconnections."""
-    first = browser.current_window_handle
-    browser.get_log("browser")
-    yield browser
-    said = browser.get_log("browser")
-    close_all(browser, [first])
-    assert [entry for entry in said if "/socket' failed: " not in entry["message"]] == []
-
-
-@pytest.fixture
-def sit(tabs: "Chrome", served: Served) -> Sit:
-    """Opens a tab for somebody of the class."""
-    return lambda who: Tab(tabs, served, who)
 
 
 def test_eight_tabs_alone(tabs: "Chrome", own_class: Served) -> None:
@@ -126,6 +93,168 @@ def test_a_mistake_leads_to_its_place(sit: Sit) -> None:
     assert tab.run("document.activeElement.id") == "source"
 
 
+def test_pastes(sit: Sit, served: Served) -> None:
+    """A source and lines are taken as they are, or refused in a sentence before anything is sent."""
+    from selenium.webdriver.common.keys import Keys
+
+    tab, teacher = sit("A8"), sit("teacher")
+    paste = "(id(arguments[0]).focus(), document.execCommand('insertText', false, arguments[1]))"
+    put = "((field) => (field.setRangeText(arguments[1]), field.dispatchEvent(new Event('input'))))(id(arguments[0]))"
+    lines = [
+        "# three lines",
+        "enter",
+        "map 10000 1 rwx",
+        "",
+        "map 10000 1 rwx",
+        *(f"set x5 {n:x}" for n in range(1, 99)),
+    ]
+    tab.run(paste, "line", "\r\n".join(lines))
+    assert tab.run("id('line').rows") == 8 and tab.run("id('log').childElementCount") == 0
+    tab.keys("#line", Keys.ENTER)
+    tab.wait("one(\"[data-edit='set x5']\")?.textContent === '62'")
+    asked = tab.run("all('#log .asked').map((item) => item.textContent.slice(2))")
+    assert asked == [line for line in lines if line and line[0] != "#"]
+    assert "a page is mapped already" in tab.text("#stop")
+    script = served.fetch("A/script")
+    refused = {
+        "regs\nset x5 \u00e9": "Character 8 of line 2, \u00e9, isn't printable ASCII: nothing was sent.",
+        "set x5 1\n" * 4097: "These are 4097 lines, and at most 4096 go at once: nothing was sent.",
+        "asm 10000 " + "x" * 1013: "1023 characters are in the line, and at most 1022 may be: nothing was sent.",
+    }
+    for text, told in refused.items():
+        tab.run(put, "line", text)
+        tab.keys("#line", Keys.ENTER)
+        assert tab.text("#stop") == told
+        teacher.run(put, "operator-line", text)
+        teacher.keys("#operator-line", Keys.ENTER)
+        assert teacher.text("#gone").replace("`", "") == told
+    tab.click("#show-source")
+    for text in ("nop\n" * 16384 + "#", "#" * 6_000_000):  # the second one has no room in the tab's storage
+        tab.run("id('source').value = ''")
+        tab.run(put, "source", text)
+        tab.click("#assemble")
+        assert f"This source has {len(text):,} characters, and 65,536 are taken at most" in tab.text("#stop")
+    assert served.fetch("A/script") == script
+    tab.run("id('source').value = ''")
+    tab.run(put, "source", "nop\n" * 1000 + "#" * 61536)
+    assert tab.run("id('source').maxLength") == -1 and tab.run("id('source').value.length") == 65536
+    tab.click("#assemble")
+    tab.wait("!id('listing').hidden && id('listing').textContent.includes('10000')")
+
+
+def test_first_sight_and_keys(sit: Sit) -> None:
+    """The source is open; it is written, stepped and changed by keys alone; names are told of."""
+    from selenium.webdriver.common.keys import Keys
+
+    tab = sit("A6")
+    assert tab.run("!id('editor').hidden && id('listing').hidden") and "Write a program" in tab.text("#editor")
+    tab.keys("#source", Keys.CONTROL, Keys.HOME, Keys.NULL, *[Keys.ARROW_DOWN] * 3, *[Keys.ARROW_RIGHT] * 10)
+    tab.wait("id('entry').textContent.startsWith('vadd.vv vd, vs2, vs1')")
+    tab.keys("#source", Keys.CONTROL, Keys.ENTER)
+    tab.wait("id('editor').hidden && !id('listing').hidden && one('#listing .next')")
+    tab.keys("#listing", Keys.ARROW_DOWN, Keys.ARROW_DOWN, Keys.ENTER)
+    tab.wait("one('#listing .breakpoint')?.closest('tr').dataset.address === '10004'")
+    tab.keys("#listing", Keys.F9)
+    tab.wait("id('run').textContent === 'running'")
+    tab.keys("#listing", Keys.SHIFT, Keys.F9)
+    tab.wait("id('run').textContent === 'stopped'")
+    tab.keys("#listing", Keys.SHIFT, Keys.F8)
+    tab.wait("id('run').textContent === 'break'")
+    for box, keys, place, text in (
+        ("registers", [Keys.ARROW_DOWN, Keys.ARROW_DOWN, Keys.ARROW_RIGHT], "set x17", "5"),
+        ("elements", [Keys.ARROW_DOWN, Keys.ARROW_DOWN, Keys.ARROW_LEFT], "vset v1 32 7 hexadecimal", "00000005"),
+    ):
+        tab.keys(f"#{box}", *keys, Keys.ENTER)
+        tab.wait("id('edit').open")
+        tab.keys("#value", Keys.CONTROL, "a", Keys.NULL, "5", Keys.ENTER)
+        tab.wait("one(`[data-edit='${arguments[0]}']`).firstChild.data === arguments[1]", place, text)
+        assert (
+            tab.run("document.activeElement.id") == box
+            and tab.run("one(`#at-${arguments[0]}`).dataset.edit", box) == place
+        )
+    tab.keys("#line", "help peek\n")
+    assert tab.text("#stop") == "peek ADDR N: 1 to 256 bytes from ADDR on are shown"
+    assert tab.run("!id('reference').hidden && one('#entries code').textContent") == "peek ADDR N"
+    tab.keys("#line", "help dance\n")
+    assert "no command and no instruction dance" in tab.text("#stop")
+    tab.keys("#line", "pe")
+    assert tab.text("#hint") == ""
+    tab.keys("#line", "ek 10000")
+    tab.keys("#line", Keys.HOME)
+    tab.wait("id('hint').textContent.startsWith('peek ADDR N')")
+    tab.keys("#line", Keys.CONTROL, "a", Keys.NULL, Keys.DELETE, Keys.F1)
+    tab.wait("all('#entries code').length > 700 && all('#entries h3').length === 5")
+    assert "help" not in tab.text("#log")
+
+
+def test_sizes(sit: Sit) -> None:
+    """Type grows with the window, which is filled; with few pixels program and vectors, or the buttons, stay in sight."""
+    tab = sit("A5")
+    tab.begin("vsetvli x10, x11, e16, mf2, ta, mu", "vadd.vv v2, v1, v1")
+    tab.run("id('show-listing').click()")
+    tab.click("#one")
+    tab.wait("one('#listing .told')")
+    box = "one(arguments[0]).getBoundingClientRect().toJSON()"
+
+    def resize(width: int, height: int) -> None:
+        size = {"width": width, "height": height, "deviceScaleFactor": 1, "mobile": False}
+        tab.front().execute_cdp_cmd("Emulation.setDeviceMetricsOverride", size)
+        tab.wait("innerWidth === arguments[0] && innerHeight === arguments[1]", width, height)
+        assert tab.run("document.documentElement.scrollWidth") <= width
+
+    try:
+        for (width, height), letters in {
+            (1280, 800): 12,
+            (1920, 1080): 16.2,
+            (1366, 768): 12,
+            (2560, 1440): 21.6,
+        }.items():
+            resize(width, height)
+            assert float(tab.run("getComputedStyle(one('#listing table')).fontSize")[:-2]) == pytest.approx(letters)
+            assert (
+                tab.run("document.documentElement.scrollHeight") <= height
+                and tab.run(box, "#foot")["bottom"] > height - 20
+            )
+            assert tab.run("id('listing').scrollWidth <= id('listing').clientWidth")
+        for width, height in ((640, 400), (960, 540)):  # 1280 by 800 and 1920 by 1080 at 200 %
+            resize(width, height)
+            for panel in ("#listing", "#elements"):
+                assert tab.run(box, panel)["top"] < height - 100, panel
+        resize(400, 800)
+        for place in (0, 400, 1e9):
+            tab.run("scrollTo(0, arguments[0])", place)
+            for button in ("#one", "#many", "#go", "#halt"):
+                where = tab.run(box, button)
+                assert 0 <= where["top"] < where["bottom"] <= 800 and 0 <= where["left"] < where["right"] <= 400
+    finally:
+        tab.front().execute_cdp_cmd("Emulation.clearDeviceMetricsOverride", {})
+
+
+def test_rows_out_of_sight_are_not_made(tabs: "Chrome", own_class: Served) -> None:
+    """A listing of 3,900 rows is as high as if it had all; the next instruction comes into sight, and what is scrolled to."""
+    tab = Tab(tabs, own_class, "A1")
+    source = "vid.v v1\n" + "addi a0, a0, 1\n" * 3898 + "last: ebreak\n"
+    tab.run("(id('source').value = arguments[0], id('assemble').click())", source)
+    tab.wait("!id('listing').hidden && id('registers').textContent.includes('pc10000')")
+    seen = """((row, box) => row && row.top >= box.top - 2 && row.bottom <= box.bottom + 2)(
+        one(`#listing [data-address='${arguments[0]}']`)?.getBoundingClientRect(), id('listing').getBoundingClientRect())"""
+    for address in ("10000", "13ce8", "12000"):
+        tab.keys("#line", f"setpc {address}\n")
+        tab.wait(f"one('#listing .next')?.dataset.address === arguments[0] && {seen}", address)
+        assert 40 < tab.run("all('#listing tr').length") < 150
+        rows = tab.run("one('#listing table').getBoundingClientRect().height / one('#listing .next').offsetHeight")
+        assert rows == pytest.approx(3901, abs=3)
+    tab.click("#one")
+    tab.wait("one('#listing .told')?.dataset.address === '12000' && one('#listing .next')?.dataset.address === '12004'")
+    tab.run("id('listing').scrollTop = 1e9")
+    tab.wait(seen, "13cec")
+    assert "last:" in tab.text("#listing")
+    tab.click("#listing [data-address='13cec'] .text")
+    tab.wait("one('#listing .breakpoint')?.closest('tr').dataset.address === '13cec'")
+    tab.run("id('listing').scrollTop = 0")
+    tab.wait(seen, "10000")
+
+
 def test_values_are_changed_by_clicks_and_keys(sit: Sit) -> None:
     from selenium.webdriver.common.keys import Keys
 
@@ -182,13 +311,15 @@ def test_lines_of_before_and_refusals(sit: Sit) -> None:
     tab.command("asm 10000 vle32.v v1, (x1)", "setpc 10000", "step 1")
     assert "vill" in tab.text("#stop") and tab.text("#run") == "fault"
     tab.keys("#line", "é\n")
-    tab.wait("id('stop').textContent.includes('printable ASCII')")
+    tab.wait("id('stop').textContent.includes(\"Character 1 of the line, é, isn't printable ASCII\")")
     teacher = sit("teacher")
     teacher.click("tr[data-seat='A4'] td:nth-child(2) button")
     teacher.wait("id('log').textContent.includes(arguments[0])", tag)
     assert "vill" in teacher.text("#stop") and "vle32.v" in teacher.text("#listing")
     teacher.keys("#operator-line", f"{tag}\n")
-    teacher.wait("id('operator-log').textContent.includes('E03') && !one('img')")
+    teacher.wait("id('operator-log').textContent.includes('E03there is no command <img') && !one('img')")
+    teacher.keys("#operator-line", "slices 0\n")
+    teacher.wait("id('operator-log').textContent.includes(\"0 isn't from 1 to 1,000; the form is * slices N\")")
     assert teacher.run("document.title") == "Teacher – vecmon" and tab.run("!one('img') && document.title").startswith(
         "Seat"
     )
@@ -200,7 +331,7 @@ def test_lines_of_before_and_refusals(sit: Sit) -> None:
 
 
 def test_the_teacher_sees_and_settles(sit: Sit, tmp_path: pathlib.Path, served: Served) -> None:
-    """A student's stop stands on the teacher's page; rights, operator's lines, a new code, downloads."""
+    """A student's stop stands on the teacher's page; rights, operator's lines, a new code, downloads; what is taken home."""
     tab, teacher = sit("A5"), sit("teacher")
     row = "tr[data-seat='A5']"
     tab.begin(*COUNT_UP)
@@ -228,8 +359,15 @@ def test_the_teacher_sees_and_settles(sit: Sit, tmp_path: pathlib.Path, served: 
         while not path.exists() or path.stat().st_size < len(expected):  # it is there, and empty, before it is written
             time.sleep(0.02)
         assert path.read_bytes() == expected
+    tab.click("#home")
+    while not (tmp_path / "A5.zip").exists():
+        time.sleep(0.02)
+    with zipfile.ZipFile(tmp_path / "A5.zip") as packed:
+        assert packed.namelist() == ["A5/A5.script", "A5/A5.html"]
+        assert b"5 break 10004\n" in packed.read("A5/A5.script")
+    tab.wait("!id('home').disabled && !id('hint').textContent")
     old = served.codes["A5"]
-    teacher.click(f"{row} td:nth-child(3) button")
+    teacher.click(f"{row} [aria-label^='New code']")
     tab.wait("!id('join').hidden && id('head').hidden")
     assert "isn't valid" in tab.text("#join-says") and tab.run("sessionStorage.getItem('code')") is None
     assert served.codes["A5"] != old
@@ -246,6 +384,8 @@ def test_a_code_is_kept_for_the_tab_alone(sit: Sit, served: Served) -> None:
     assert tab.run("location.hash + document.cookie + localStorage.length + history.length")[:-1] == "0"
     assert code not in tab.run("document.documentElement.outerHTML")
     tab.click("#forget")
+    assert "forgets its code" in tab.text("#question")
+    tab.click("#yes")
     tab.wait("!id('join').hidden")
     assert tab.run("sessionStorage.length") == 0
     tab.keys("#code", "wrong\n")

@@ -220,7 +220,7 @@ def test_stops_and_refusals_are_told(opened: Callable[[str], "Chrome"], program:
         press(browser, Keys.ARROW_RIGHT)
     assert told[0].startswith("1 peek 0 1: E11: ") and told[1].startswith("E06: ")
     assert "0x0" in told[2] and told[6].startswith("Not sent: ")
-    assert told[4] == "li x1, 1\n^\nE15: there is no instruction li"
+    assert told[4] == "li x1, 1\n^\nE15: li is a pseudo-instruction, which only a source has"
     assert told[5] == "E04: 300 isn't from 1 to 256; the form is step N"
 
 

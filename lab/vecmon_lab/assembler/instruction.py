@@ -7,6 +7,7 @@ from string import Formatter
 
 from ..tables.table import read_table
 from .line import Operand, SourceError, Token
+from .names import INSTRUCTION_NAMES, PSEUDO_NAMES, no_instruction
 from .value import Symbols, Value
 
 _TEXT_BYTES = 256
@@ -40,8 +41,10 @@ def refusal(statement: Statement, column: int) -> SourceError:
         message = "an operand is missing at the end"
     elif token[0] == ",":
         message = f"there is an operand too many, as the machine reads it: {statement.text}"
+    elif column == 1 and token[0] in PSEUDO_NAMES:
+        message = f"{token[0]} is a pseudo-instruction, which only a source has"
     elif column == 1:
-        message = f"there is no instruction {token[0]}"
+        message = no_instruction(token[0], INSTRUCTION_NAMES)
     else:
         message = f"{token[0]} doesn't fit here, as the machine reads it: {statement.text}"
     return SourceError(statement.line, statement.columns[column - 1], message)
@@ -66,8 +69,8 @@ class Instruction:
                 pieces.append((literal, operand[0].column if operand and pieces else self.name.column))
                 pieces += self._pieces(symbols, operand, what or "") if operand else []
             text = "".join(piece for piece, _ in pieces)
-            if len(text) > _TEXT_BYTES or not re.match("[a-z0-9._]+(?: |$)", text):
-                raise self.name.error("there is no such instruction")
+            if len(text) > _TEXT_BYTES:
+                raise self.name.error(f"an instruction has at most {_TEXT_BYTES} characters, and this one {len(text)}")
             columns = [column for piece, column in pieces for _ in piece] + [last.column + len(last.text)]
             yield Statement(self.place.resolved() + 4 * index, self.name.line, text, tuple(columns))
 

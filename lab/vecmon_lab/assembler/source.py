@@ -4,17 +4,21 @@ The text begins at the origin, data at the first page behind it, bss at the firs
 and execute the text, and read and write data and bss; asm and poke ask only that a page is there.
 """
 
-from collections.abc import Callable
+import contextlib
+from collections.abc import Callable, Iterable, Iterator
 from dataclasses import dataclass
 from functools import partial
 
 from ..instructions.accesses import PAGE_BYTES
 from .instruction import Instruction, Statement, refusal
 from .line import Kind, Operand, SourceError, Token, check_count, operands_of, tokens_of
+from .names import SOURCE_NAMES, no_instruction
 from .pseudo import templates
 from .value import Section, Symbols, Value
 
-__all__ = ["Program", "SourceError", "Statement", "assemble", "refusal"]
+__all__ = ["Program", "SourceError", "Statement", "assemble", "in_order", "read_source", "refusal"]
+
+MOST_MISTAKES = 100
 
 _USER_PAGES = 256
 _WIDTHS = {".byte": 1, ".half": 2, ".word": 4, ".dword": 8}
@@ -23,12 +27,16 @@ _STRINGS = {".ascii": b"", ".asciz": b"\0", ".string": b"\0"}  # and what ends t
 
 @dataclass(frozen=True)
 class Program:
-    """Lines of the monitor (map, asm, poke) behind digit and space, addresses by label, where the program begins."""
+    """Lines of the monitor (map, asm, poke) behind digit and space, addresses by label, where the program begins.
+
+    mistakes: of form, one for a line of the source and MOST_MISTAKES at most, in order; with any there are no lines
+    """
 
     lines: list[str]
     labels: dict[str, int]
     statements: list[Statement]
     entry: int
+    mistakes: list[SourceError]
 
     def names(self) -> dict[str, list[str]]:
         """The labels by address, which is in hexadecimal digits."""
@@ -37,15 +45,45 @@ class Program:
             names.setdefault(f"{address:x}", []).append(label)
         return names
 
+    def source_lines(self, text: str) -> dict[str, str]:
+        """What the lines of the source, which has this text, say behind their labels, by the address of their first word.
+
+        Behind a line without a comment stands that of the line above, if that has nothing else.
+        """
+        lines, first = ["", *text.split("\n")], dict[int, Statement]()
+        for statement in self.statements:
+            first.setdefault(statement.line, statement)
+        told = {}
+        for number, statement in first.items():
+            own, above = lines[number][statement.columns[0] - 1 :].strip(), lines[number - 1].strip()
+            is_alone = above.startswith(("#", "//")) and "#" not in own and "//" not in own
+            told[f"{statement.address:x}"] = f"{own}  {above}" if is_alone else own
+        return told
+
 
 def assemble(text: str, origin: int = 0x10000) -> Program:
-    """Assembles a source. The text's address is the origin, a multiple of 4,096. Raises SourceError."""
+    """Assembles a source. The text's address is the origin, a multiple of 4,096. Raises SourceError for a mistake."""
+    program = read_source(text, origin)
+    if program.mistakes:
+        raise program.mistakes[0]
+    return program
+
+
+def read_source(text: str, origin: int = 0x10000) -> Program:
+    """Assembles a source that may have mistakes; what is right in it has its statements."""
     if origin % PAGE_BYTES or not 0 <= origin <= (1 << 48) - _USER_PAGES * PAGE_BYTES:
         raise ValueError(f"{origin:#x} is no multiple of {PAGE_BYTES} with room for {_USER_PAGES} pages below 2^48")
     assembler = _Assembler()
     for number, line in enumerate(text.split("\n"), 1):
-        assembler.read(tokens_of(line.removesuffix("\r"), number))
+        if len(assembler.mistakes) == MOST_MISTAKES:
+            return Program([], {}, [], origin, list(assembler.mistakes.values()))
+        assembler.read(line.removesuffix("\r"), number)
     return assembler.finish(origin)
+
+
+def in_order(mistakes: Iterable[SourceError]) -> list[SourceError]:
+    """The first of the mistakes, as they stand in the source."""
+    return sorted(mistakes, key=lambda mistake: (mistake.line, mistake.column))[:MOST_MISTAKES]
 
 
 class _Assembler:
@@ -57,6 +95,7 @@ class _Assembler:
         self._section = self._text
         self._symbols = Symbols()
         self._instructions: list[Instruction] = []
+        self.mistakes: dict[int, SourceError] = {}  # the first one of a line, by its number
         self._directives: dict[str, Callable[[Token, list[Operand]], None]] = {
             **dict.fromkeys((*self._sections, ".section"), self._enter_section),
             **dict.fromkeys((".globl", ".global", ".type", ".size", ".option"), lambda name, operands: None),
@@ -67,8 +106,21 @@ class _Assembler:
             ".zero": self._put_zeros,
         }
 
-    def read(self, tokens: list[Token]) -> None:
-        """Reads the next line: labels, and an instruction or a directive. Raises SourceError."""
+    def read(self, line: str, number: int) -> None:
+        """Reads the next line, which has this number."""
+        with self._noting():
+            self._read(tokens_of(line, number))
+
+    @contextlib.contextmanager
+    def _noting(self) -> Iterator[None]:
+        """Notes a mistake, and goes on behind it."""
+        try:
+            yield
+        except SourceError as error:
+            self.mistakes.setdefault(error.line, error)
+
+    def _read(self, tokens: list[Token]) -> None:
+        """Reads labels, and an instruction or a directive. Raises SourceError."""
         while len(tokens) > 1 and tokens[1].text == ":":
             label, _, *tokens = tokens
             if label.kind is not Kind.NAME:
@@ -76,27 +128,38 @@ class _Assembler:
             self._symbols.define(label, self._here())
         if not tokens:
             return
-        name, operands = tokens[0], operands_of(tokens[1:])
+        name = tokens[0]
         if name.kind is not Kind.NAME:
             raise name.error(f"{name.text} stands where an instruction, a directive or a label has to")
         if name.text.startswith(".") and name.text not in self._directives:
             raise name.error(f"there is no directive {name.text}")
+        if not name.text.startswith(".") and name.text not in SOURCE_NAMES:
+            raise name.error(no_instruction(name.text))
+        operands = operands_of(tokens[1:])
         if name.text in (*_WIDTHS, *_STRINGS) and not operands:
             raise name.error(f"{name.text} takes one operand or more")
         self._directives.get(name.text, self._read_instruction)(name, operands)
 
     def finish(self, origin: int) -> Program:
-        """The program, with its text at the origin."""
+        """The program, with its text at the origin, or what is wrong with it."""
         for section in self._sections.values():
             section.base = origin
             origin += section.pages() * PAGE_BYTES
-        statements = [statement for item in self._instructions for statement in item.statements(self._symbols)]
+        statements, pokes = list[Statement](), list[str]()
+        for item in self._instructions:
+            with self._noting():
+                statements += item.statements(self._symbols)
         filled = [section for section in self._sections.values() if section.size]
+        for section in filled:
+            for _, make in section.contents:
+                with self._noting():
+                    make()
+        labels, mistakes = self._symbols.addresses(), in_order(self.mistakes.values())
         lines = [f"map {section.base:x} {section.pages()} {section.permissions}" for section in filled]
         lines += [statement.command for statement in statements]
-        lines += [line for section in filled for line in section.pokes()]
-        labels = self._symbols.addresses()
-        return Program(lines, labels, statements, labels.get("_start", self._text.base))
+        lines += [] if mistakes else [line for section in filled for line in section.pokes()]
+        entry = labels.get("_start", self._text.base)
+        return Program([] if mistakes else lines, labels, statements, entry, mistakes)
 
     def _here(self) -> Value:
         return Value(self._section.size, self._section)
@@ -109,6 +172,7 @@ class _Assembler:
             self._section.contents.append((self._section.size, make))
         self._section.size += size
         if sum(section.pages() for section in self._sections.values()) > _USER_PAGES:
+            self._section.size -= size  # so that others may fit
             raise name.error(
                 f"here the program grows beyond {_USER_PAGES} pages of {PAGE_BYTES} bytes, all that a user has"
             )

@@ -6,12 +6,14 @@ import errno
 import os
 import pathlib
 import socket
+import sys
+from urllib.parse import urlsplit
 
 from .. import LabError
 from ..arguments import between
 from ..machine.program import find_program, images_of
 from .codes import LETTERS
-from .server import listening, serve
+from .server import HOST, listening, serve
 from .store import Store
 from .view import Class
 
@@ -23,10 +25,19 @@ def add_arguments(parser: argparse.ArgumentParser) -> None:
     parser.add_argument("--host", default="127.0.0.1", help="the address to serve at; 0.0.0.0 is a whole network")
     port = between(0, 65535)
     parser.add_argument("--port", metavar="P", type=port, default=8765, help="0 is one that is free; else %(default)s")
+    parser.add_argument("--address", metavar="URL", type=_address, help="where students reach the class")
     parser.add_argument("--name", action="append", default=[], help="a host name that the page is opened under as well")
     machines = between(1, len(LETTERS))
     parser.add_argument("--machines", metavar="N", type=machines, help="eight seats each, 1 to 12; else 1")
     parser.add_argument("--quantum", metavar="N", type=int, help="the ticks of a slice, 1 to 1000; else 100")
+    parser.add_argument(
+        "--no-clock", action="store_true", help="a new machine's clock is off until the teacher turns it on"
+    )
+    parser.add_argument(
+        "--spare",
+        action="store_true",
+        help="a second process follows each machine, and takes its place where it is gone",
+    )
     patience = between(1, 3600)
     parser.add_argument("--patience", metavar="S", type=patience, default=10, help="seconds of silence; else 10")
 
@@ -41,9 +52,25 @@ def run(arguments: argparse.Namespace) -> int:
     except LabError:
         store.close()
         raise
-    members = Class(store, arguments.patience)
-    asyncio.run(serve(members, host, doors, set(arguments.name)))
+    members = Class(store, arguments.patience, _tell, not arguments.no_clock, arguments.spare)
+    members.address = arguments.address or ""
+    names = {*arguments.name, urlsplit(members.address).hostname or host}
+    asyncio.run(serve(members, host, doors, names))
     return 0
+
+
+def _address(text: str) -> str:
+    """An address of the class, with a slash at its end. Raises ArgumentTypeError."""
+    scheme, _, host = text.removesuffix("/").partition("://")
+    if scheme not in ("http", "https") or not HOST.fullmatch(host):
+        raise argparse.ArgumentTypeError(f"{text} isn't http:// or https://, a host, and a port or none")
+    return f"{scheme}://{host}/"
+
+
+def _tell(sentence: str) -> None:
+    """Tells at a terminal how far a machine has been rebuilt."""
+    if sys.stderr.isatty():
+        print(f"\r{sentence}", end="\n" if sentence.endswith(" 100 %") else "", file=sys.stderr, flush=True)
 
 
 def _listening(host: str, port: int) -> list[socket.socket]:

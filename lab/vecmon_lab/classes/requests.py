@@ -4,7 +4,8 @@ from collections.abc import Mapping
 from dataclasses import dataclass
 
 from .. import LabError
-from ..machine.lines import check_line, is_look
+from ..machine.lines import check_text, is_look
+from .live import is_servers
 
 REQUEST_LINES, SOURCE_LETTERS = 256, 1 << 16
 MOST_SLICES = 100
@@ -26,18 +27,22 @@ class Lines:
 
 @dataclass(frozen=True)
 class Source:
-    """An assembler source for a new machine of the student's."""
+    """An assembler source for a new machine of the student's; None for that of the machine that there is."""
 
-    text: str
+    text: str | None
 
 
 @dataclass(frozen=True)
 class Settings:
-    """Of a clock: whether it is on, how many slices it grants at once, and how many milliseconds it waits before."""
+    """Of a clock: whether it is on, how many slices it grants at once, and how many milliseconds it waits before.
 
-    on: bool = False
-    slices: int = 8
-    ms: int = 100
+    limit: the ticks that a program has without a stop, about; then the server stops it
+    """
+
+    on: bool = True
+    slices: int = 1000
+    ms: int = 30
+    limit: int = 50_000_000
 
 
 @dataclass(frozen=True)
@@ -70,10 +75,48 @@ class LookOver:
     seat: str
 
 
-Request = Lines | Source | SetClock | SetRights | Renew | LookOver
+@dataclass(frozen=True)
+class PutOnWall:
+    """The seat that the wall shows; "" for none."""
+
+    seat: str
 
 
-_LIMITS = {"on": (0, 1), "slices": (1, 1000), "ms": (10, 10_000)}  # of a clock's settings
+@dataclass(frozen=True)
+class ShowCodes:
+    """The code of a seat, or of the wall; "" for all of them. Pictures are those of a sheet to print."""
+
+    seat: str
+    pictures: bool
+
+
+@dataclass(frozen=True)
+class Draft:
+    """The source that a student types, and the number that it had."""
+
+    text: str
+    number: int
+
+
+@dataclass(frozen=True)
+class ReadVersion:
+    """A version of the source of a student's seat, or of that which a teacher looks at."""
+
+    number: int
+
+
+@dataclass(frozen=True)
+class Give:
+    """A source for a seat; "" for all."""
+
+    seat: str
+    text: str
+
+
+Request = Lines | Source | Draft | ReadVersion | Give | SetClock | SetRights | Renew | LookOver | PutOnWall | ShowCodes
+
+
+_LIMITS = {"on": (0, 1), "slices": (1, 1000), "ms": (10, 10_000), "limit": (100_000, 10**12)}  # of a clock's settings
 
 
 def read_request(message: Mapping[str, object], is_teacher: bool) -> Request:
@@ -82,10 +125,15 @@ def read_request(message: Mapping[str, object], is_teacher: bool) -> Request:
         case "lines", _:
             return _lines(message, is_teacher)
         case "source", False:
-            text = message.get("text")
-            if not isinstance(text, str) or len(text) > SOURCE_LETTERS:
-                raise BadRequest(f"a source is a text of {SOURCE_LETTERS} characters at most")
-            return Source(text)
+            return Source(_text(message))
+        case "again", False:
+            return Source(None)
+        case "draft", False:
+            return Draft(_text(message), _number(message))
+        case "version", _:
+            return ReadVersion(_number(message))
+        case "give", True:
+            return Give(_name(message, "seat"), _text(message))
         case "clock", True:
             return SetClock(_name(message, "machine"), _settings(message))
         case "rights", True:
@@ -94,6 +142,10 @@ def read_request(message: Mapping[str, object], is_teacher: bool) -> Request:
             return Renew(_name(message, "seat"))
         case "shoulder", True:
             return LookOver(_name(message, "seat"))
+        case "wall", True:
+            return PutOnWall(_name(message, "seat"))
+        case "codes", True:
+            return ShowCodes(_name(message, "seat"), bool(message.get("pictures")))
     raise BadRequest("there is no such request for this seat")
 
 
@@ -104,7 +156,10 @@ def _lines(message: Mapping[str, object], is_teacher: bool) -> Lines:
     if not isinstance(slices, int) or not 0 <= slices <= MOST_SLICES:
         raise BadRequest(f"a request grants 0 to {MOST_SLICES} slices")
     for text in (*do, *look):
-        check_line(f"{'*' if is_teacher else '1'} {text}" if isinstance(text, str) else text)
+        check_text(text)
+    for text in do:
+        if is_servers(f"1 {text}"):
+            raise BadRequest(f"{text!r} with a space at its end is the server's own line")
     for text in look:
         if not is_look(f"{'*' if is_teacher else '1'} {text}"):
             raise BadRequest(f"{text[:40]!r} isn't a line that only looks")
@@ -120,6 +175,22 @@ def _settings(message: Mapping[str, object]) -> Mapping[str, int]:
             raise BadRequest(f"{name} of the clock is {least} to {most}")
         settings[name] = bool(value) if name == "on" else value
     return settings
+
+
+def _text(message: Mapping[str, object]) -> str:
+    """The source of a message."""
+    text = message.get("text")
+    if not isinstance(text, str) or len(text) > SOURCE_LETTERS:
+        raise BadRequest(f"a source is a text of {SOURCE_LETTERS} characters at most")
+    return text.encode("utf-8", "replace").decode()
+
+
+def _number(message: Mapping[str, object]) -> int:
+    """The number that a message has."""
+    number = message.get("number")
+    if not isinstance(number, int):
+        raise BadRequest("a source and its versions have whole numbers")
+    return number
 
 
 def _name(message: Mapping[str, object], kind: str) -> str:

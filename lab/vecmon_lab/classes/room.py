@@ -5,32 +5,54 @@ The machine blocks in a thread of its own. What was done is told to seats by the
 
 import asyncio
 import concurrent.futures
-from collections.abc import Callable, Iterable, Mapping, Sequence
+import contextlib
+import pathlib
+from collections.abc import Callable, Container, Iterable, Mapping, Sequence
 from dataclasses import asdict, dataclass, field, replace
+from functools import partial
 
 from .. import LabError
-from ..assembler.source import SourceError, assemble, refusal
+from ..assembler.source import Program, SourceError, in_order, read_source, refusal
+from ..assembler.trial import all_mistakes
 from ..machine.answers import Granted, OutOfStep, Position, Refused, read
 from ..machine.lines import DIGITS, is_look
-from ..machine.session import TOGETHER, ProgramGone, ReplayDiffers, ScriptFull, Session
+from ..machine.session import TOGETHER, Checkpoint, ProgramGone, ReplayDiffers, ScriptFull, Session
 from ..page.state import State
+from .beside import Beside
 from .clock import Clock
+from .live import GO, OUT, STOP, with_output
+from .past import Past
 from .requests import BadRequest, Lines
 from .seats import Done, Seat, Seats
 from .store import Notes, ScriptFile
 
 SEAT_BYTES = 1_500_000  # of a seat's lines in the script: eight leave 3,000,000 to the operator and the clock
 SOURCE_LINES = 4096
+WATCH_SECONDS = 0.5  # between looks at a program that runs
+FOLLOW_SECONDS, SHORTEN_SECONDS = 0.2, 0.5  # between a spare's parts; and between looks at how long a script has become
+NEXT_SCRIPT_BYTES, NEXT_SCRIPT_SECONDS = 12_000_000, 300.0  # after which another one begins: a server begins with it
+MOST_SET_UP_BYTES = 9_000_000  # of another one's beginning
+UNSEEN_SECONDS = 60.0  # after which a program that runs is stopped, if nobody looks at it
 
 
 class Stopped(LabError):
     """The machine was stopped for good, since a replay differs."""
 
 
+def rebuilding(letter: str, percent: int) -> str:
+    """How far a new process has carried out a machine's script."""
+    return f"machine {letter} is being rebuilt: {percent} %"
+
+
 @dataclass
 class _Work:
-    """What the machine's thread has done: lines with their answers, looks, and states that may be others now."""
+    """What the machine's thread has done: lines with their answers, looks, and states that may be others now.
 
+    before, is_last: what was done in turns before for the same request; whether that has no more turns
+    """
+
+    before: Sequence[Done] = ()
+    is_last: bool = True
     done: list[Done] = field(default_factory=list)
     looks: list[list[str]] = field(default_factory=list)
     states: dict[str, tuple[State, State]] = field(default_factory=dict)
@@ -39,44 +61,59 @@ class _Work:
 class Room:
     """A machine, its seats, and its clock.
 
-    `changed` is called with the names of seats that have news.
+    `changed` is called with the names of seats that have news; `watched` answers whom somebody looks at; `keep` keeps
+    notes beside the script, and answers whether that went well.
     """
 
-    def __init__(self, letter: str, session: Session, file: ScriptFile) -> None:
-        self.letter, self.session, self.file = letter, session, file
+    def __init__(self, letter: str, session: Session, file: ScriptFile, makers: Beside) -> None:
+        """makers: places where checkpoints are made"""
+        self.letter, self.session, self.file, self._makers = letter, session, file, makers
         self.seats, self.clock = Seats(letter), Clock(self._tick)
         self.own_slices = True
+        self.scripts: Sequence[int] = [0]  # of each one, how many lines at its beginning set the machine up
         self.changed: Callable[[Iterable[str]], None] = lambda names: None
-        self.stopped = self.down = ""
+        self.keep: Callable[[Notes], bool] = lambda notes: False
+        self.watched: Callable[[], Container[str]] = set
+        self._has_run = False  # whether slices were granted since programs were looked at
+        self.stopped = self.down = self.rebuilding = ""
         self._lock = asyncio.Lock()
         self._thread = concurrent.futures.ThreadPoolExecutor(1)
+        self._follower = concurrent.futures.ThreadPoolExecutor(1)  # of the spare process
+        self._assembler = concurrent.futures.ThreadPoolExecutor(1)  # which needs no machine
 
     @property
     def trouble(self) -> str:
         """What is wrong with the machine, or the disk."""
-        return self.stopped or self.down or self.file.trouble
+        return self.stopped or self.down or self.rebuilding or self.file.trouble
 
     @property
     def loss(self) -> str:
         """Why the program was replaced last."""
         return self.session.losses[-1] if self.session.losses else ""
 
-    def restore(self, notes: Notes) -> None:
-        """Brings the machine to where an earlier server left it. Raises BadFolder where it answers otherwise."""
-        for line, answer in self.file.replay(self.session, notes):
-            self.seats.follow(line, answer)
-            self.seats.observe(line, answer, is_told=not line.startswith(("* slices", "* run")))
+    def restore(self, notes: Notes, progress: Callable[[str], object]) -> None:
+        """Brings the machine to where an earlier server left it. Raises BadFolder where it answers otherwise.
+
+        progress: is told how far that is, a sentence at a time
+        """
+        self.session.progress = lambda percent: progress(rebuilding(self.letter, percent))
+        past, self.scripts = Past(), notes.scripts
+        for number, (line, answer) in enumerate(self.file.replay(self.session, notes)):
+            (past.set_up if number < notes.scripts[-1] else past.add)(line, answer)
+        past.tell(self.seats)
         self.seats.take(self.seats.look(self.session, [], DIGITS))
         self.own_slices = notes.own_slices
-        for digit, labels in notes.labels.items():
-            self.seats.users[digit].labels = labels
         self.set_clock(notes.clock)
+
+    def _follow_rebuilding(self, loop: asyncio.AbstractEventLoop, percent: int) -> None:
+        """Tells seats how far a new process has come; called in the machine's thread."""
+        self.rebuilding = "" if percent == 100 else rebuilding(self.letter, percent)
+        loop.call_soon_threadsafe(self.changed, [self.letter, *self.seats.names()])
 
     def notes(self) -> Notes:
         """What is kept beside the script."""
-        labels = {seat.digit: seat.labels for seat in self.seats.users.values() if seat.labels}
         clock = asdict(self.clock.settings)
-        return Notes(self.session.lines, self.session.digest, clock, self.own_slices, labels)
+        return Notes(self.session.lines, self.session.digest, clock, self.own_slices, self.scripts)
 
     def is_busy(self) -> bool:
         """Whether somebody has the machine."""
@@ -110,38 +147,58 @@ class Room:
                 await self._hop(work, carry_out, seat)
         finally:
             done += [[part[2:] for part in answer] for _, answer in work.done[: len(own)]]
+        if not (self.clock.settings.on or slices or seat.state["run"] != "running") and "go" in request.do:
+            own_way = ", or Slice grants some slices" if self.own_slices else ""
+            self.note(seat, f"!The clock is off, so the program waits: the teacher can turn it on{own_way}.")
         return [[part[2:] for part in answer] for answer in work.looks]
 
-    async def source(self, seat: Seat, text: str) -> list[SourceError]:
-        """Brings an assembler source into a new machine of the seat's; the mistakes in it."""
-        mistakes: list[SourceError] = []
-        labels: dict[str, list[str]] = {}
+    async def source(self, seat: Seat, text: str | None) -> list[SourceError]:
+        """Brings an assembler source into a new machine of the seat's; the mistakes in it.
+
+        Without one, that of the machine that there is, whose breakpoints stay.
+        """
+        async with seat.turn:
+            is_again, text = text is None, seat.written if text is None else text
+            if is_again and not text:
+                raise BadRequest("no source stands in this machine, so none can be written again")
+            loop, vecmon = asyncio.get_running_loop(), pathlib.Path(self.session.command[0])
+            program = await loop.run_in_executor(self._assembler, read_source, text)
+            if program.mistakes:
+                return await loop.run_in_executor(self._assembler, all_mistakes, program, vecmon)
+            if (number := len(program.lines)) > SOURCE_LINES:
+                raise BadRequest(f"a source becomes {SOURCE_LINES} lines at most, and this one {number}")
+            mistakes = await self._bring_in(seat, program, sorted(seat.watch.breaks) if is_again else [])
+            seat.take(text, program)
+            self.changed([seat.name])
+        return mistakes
+
+    async def _bring_in(self, seat: Seat, program: Program, breaks: Iterable[int]) -> list[SourceError]:
+        """Brings a program in, some dozens of lines at a turn, so that others have theirs between; what is refused."""
+        statements = {f"{seat.digit} {each.command}": each for each in program.statements}
+        lines, mistakes, done = list[str](), list[SourceError](), list[Done]()
 
         def carry_out(work: _Work) -> None:
-            program = assemble(text)
-            if len(program.lines) > SOURCE_LINES:
-                raise BadRequest(f"a source becomes {SOURCE_LINES} lines at most, and this one {len(program.lines)}")
-            ways = {"absent": list[str](), "running": ["stop", "leave"], "stopped": ["leave"]}
-            lines = [*ways[seat.state["run"]], "enter", *program.lines, f"setpc {program.entry:x}"]
-            self._check_share(seat, [f"{seat.digit} {line}" for line in lines])
-            statements = {each.command: each for each in program.statements}
-            for line in lines:
-                match read(*self._do(work, f"{seat.digit} {line}")):
+            part = lines[len(done) : len(done) + TOGETHER]
+            work.is_last = len(done) + len(part) == len(lines)
+            for line, answer in zip(part, self._do(work, *part)):
+                match read(answer):
                     case Refused("E15", column):
                         mistakes.append(refusal(statements[line], int(column)))
                     case Refused(code):
-                        raise BadRequest(f"the machine answers {code} to {line[:60]}")
-            labels.update(program.names())
+                        raise BadRequest(f"the machine answers {code} to {line[2:60]}")
 
-        async with seat.turn, self._lock:
-            try:
-                await self._hop(_Work(), carry_out, seat)
-            except SourceError as mistake:
-                mistakes = [mistake]
-            else:
-                seat.labels = labels
-                self.changed([seat.name])
-        return mistakes
+        while not lines or len(done) < len(lines):
+            async with self._lock:
+                if not lines:
+                    ways = {"absent": list[str](), "running": ["stop", "leave"], "stopped": ["leave"]}
+                    begin = [*ways[seat.state["run"]], "enter", *program.lines, f"setpc {program.entry:x}"]
+                    stops = [f"break {address:x}" for address in breaks]
+                    lines = [f"{seat.digit} {command}" for command in [*begin, *stops]]
+                    self._check_share(seat, lines)
+                work = _Work(before=done)
+                await self._hop(work, carry_out, seat)
+            done = [*done, *work.done]
+        return in_order(mistakes)
 
     def set_clock(self, settings: Mapping[str, int]) -> None:
         """Sets what is named of the clock's settings."""
@@ -158,8 +215,111 @@ class Room:
         self.stopped = self.stopped or "the server ends"
         self.session.end()
         self._thread.shutdown()
+        self._follower.shutdown()
+        self._assembler.shutdown()
         self.session.close()
         self.file.close()
+
+    async def watch(self) -> None:
+        """Shows programs that run to those who look at them, twice a second; goes for ever."""
+        while True:
+            await asyncio.sleep(WATCH_SECONDS)
+            has_run, self._has_run = self._has_run, False
+            for digit in sorted(self.seats.running()) if has_run else ():
+                await self._attend(self.seats.users[digit])
+
+    async def shorten(self) -> None:
+        """Makes checkpoints, so that a new process is soon where the last one was; goes for ever."""
+        least = 1.0  # the weight of a script that gets one; more where there was none
+        while True:
+            await asyncio.sleep(SHORTEN_SECONDS)
+            if self.session.weight >= least:
+                try:
+                    await self.make_checkpoint()
+                    least = 1.0
+                    if self.session.size > NEXT_SCRIPT_BYTES or self.session.total > NEXT_SCRIPT_SECONDS:
+                        await self.begin_script()
+                except (LabError, OSError):
+                    least = max(1.0, 1.5 * self.session.weight)
+
+    async def follow(self) -> None:
+        """Keeps a spare process where the machine is; goes for ever."""
+        while True:
+            with contextlib.suppress(LabError):  # whoever loses the machine itself is told
+                await asyncio.get_running_loop().run_in_executor(self._follower, self.session.follow)
+            await asyncio.sleep(FOLLOW_SECONDS)
+
+    async def make_checkpoint(self) -> None:
+        """Makes a checkpoint beside the class, of this moment or shortly before. Raises LabError where there is none."""
+        async with self._lock:
+            session = self.session
+            script, spent = session.short_script, session.spent
+        program, *words = session.command
+        words = [program, f"{session.quantum}", *words[words.index("/dev/stdin") + 1 :]]
+        number, _, lines = (await self._makers.run("checkpoints.checkpoint", *words, script=script)).partition(b"\n")
+        async with self._lock:
+            session.shorten(Checkpoint(int(number), lines))
+            session.spent -= spent
+
+    async def begin_script(self) -> None:
+        """Goes on in another script, which begins with the last checkpoint.
+
+        Raises LabError and OSError where that can't be; then the script goes on.
+        """
+
+        def begin() -> None:
+            heir = self.session.renewed()
+            scripts = [*self.scripts, heir.lines]
+            try:
+                if heir.size > MOST_SET_UP_BYTES or not self.file.is_saved:
+                    raise LabError("there is no room for another script")
+                file = self.file.successor(len(scripts), heir.script)
+                if not self.keep(replace(self.notes(), lines=heir.lines, answers=heir.digest, scripts=scripts)):
+                    file.close()
+                    raise LabError("the notes beside the script aren't saved")
+            except BaseException:
+                heir.close()
+                raise
+            old, self.session = self.session, heir
+            old.end()
+            old.close()
+            self.file.close()
+            self.file, self.scripts = file, scripts
+
+        async with self._lock:
+            begun = asyncio.get_running_loop().run_in_executor(self._thread, begin)
+            try:
+                await asyncio.shield(begun)
+            except asyncio.CancelledError:
+                await begun  # so that no notes are made meanwhile
+                raise
+            for seat in (*self.seats.users.values(), self.seats.operator):
+                seat.used = 0
+        self.changed(self.seats.names())
+
+    async def _attend(self, seat: Seat) -> None:
+        """Shows a program that runs, if somebody looks at it. One that runs in vain is stopped, with a sentence."""
+        now, is_watched, limit = (
+            asyncio.get_running_loop().time(),
+            seat.name in self.watched(),
+            self.clock.settings.limit,
+        )
+        seat.seen = now if is_watched or not seat.seen else seat.seen
+        why = f"nobody looked at it for {UNSEEN_SECONDS:g} s" if now - seat.seen > UNSEEN_SECONDS else ""
+        if seat.slices * self.session.quantum >= limit:
+            why = f"it ran for {limit:,} ticks without a stop"
+        if not why and not is_watched:
+            return
+        async with self._lock:
+            with contextlib.suppress(LabError):  # whoever asks next is told
+                await self._hop(_Work(), partial(self._show, seat, not why), None)
+        if why and seat.state["run"] == "stopped":
+            self.note(seat, f"!The server stopped the program, since {why}. go lets it run on.")
+
+    def note(self, seat: Seat, entry: str) -> None:
+        """Adds an entry to a seat's log, which its pages are told."""
+        seat.note(entry)
+        self.changed([seat.name])
 
     async def _tick(self) -> None:
         """Grants the clock's slices, if somebody's program runs."""
@@ -185,6 +345,8 @@ class Room:
         """
         if self.stopped:
             raise Stopped(self.stopped)
+        loop = asyncio.get_running_loop()
+        self.session.progress = partial(self._follow_rebuilding, loop)
 
         def hop() -> None:
             try:
@@ -192,10 +354,12 @@ class Room:
             except (BadRequest, ScriptFull):
                 self._look(work)
                 raise
-            self._look(work)
+            if work.is_last:
+                self._take_output(work)
+                self._look(work)
 
         try:
-            await asyncio.get_running_loop().run_in_executor(self._thread, hop)
+            await loop.run_in_executor(self._thread, hop)
             self.down = ""
         except ReplayDiffers as error:
             self.stopped = f"machine {self.letter} was stopped, so that nothing goes on in doubt: {error}"
@@ -205,14 +369,35 @@ class Room:
             self.down = f"machine {self.letter} is down: {error}"
             raise
         finally:
+            self.rebuilding = ""
             for line, answer in work.done:
                 self.seats.observe(line, answer, asker is not None and line[0] == asker.digit)
             self.seats.take(work.states)
             self.changed([self.letter, *self.seats.names()])
 
+    def _take_output(self, work: _Work) -> None:
+        """Takes what programs have put out that stand still now. One whose buffer was full goes on."""
+        states = {digit: seat.state for digit, seat in self.seats.users.items()}
+        for digit, goes_on in with_output(work.done, states).items():
+            self._do(work, f"{digit} {OUT}", *([f"{digit} {GO}"] if goes_on else []))
+
+    def _show(self, seat: Seat, goes_on: bool, work: _Work) -> None:
+        """Looks at a running program, which stops for that, and may go on; at no breakpoint, since `go` passes one."""
+        work.is_last = False
+        place = read(self.session.look(f"{seat.digit} state"))
+        if not isinstance(place, Position) or place.run != "running" or place.pc in seat.watch.breaks:
+            return
+        self._do(work, f"{seat.digit} {STOP}", f"{seat.digit} {OUT}")
+        self._look(work)
+        if goes_on:
+            self._do(work, f"{seat.digit} {GO}")
+            for state in work.states[seat.digit]:
+                state["run"] = "running"
+
     def _look(self, work: _Work) -> None:
         """Looks at whom the work may have changed."""
-        work.states = self.seats.look(self.session, work.done, self.seats.touched(work.done))
+        done = [*work.before, *work.done]
+        work.states = self.seats.look(self.session, done, self.seats.touched(done))
 
     def _do(self, work: _Work, *lines: str) -> list[list[str]]:
         """Carries out lines in the machine's thread. Those that are recorded are on the disk before they are sent."""
@@ -225,6 +410,7 @@ class Room:
             self.file.cut(self.session.size)
             raise
         for line, answer in zip(lines, answers):
+            self._has_run = self._has_run or line[0] == "*"
             self.seats.follow(line, answer)
             work.done.append((line, answer))
         return answers

@@ -6,14 +6,16 @@ from collections.abc import Iterable, Sequence
 from dataclasses import dataclass, field
 
 from ..assembler.commands import log_entries
+from ..assembler.source import Program
 from ..guest.guest import Guest
-from ..machine.answers import is_refusal, is_stop, told
+from ..machine.answers import Granted, is_refusal, is_stop, read, told
 from ..machine.lines import DIGITS, is_look, words_of
 from ..machine.session import Session
+from .live import is_servers
 from ..page.state import ABSENT, RowChoice, State, Watch, look_at, with_rows
 
 LOG_ENTRIES = 500
-OUTPUT_DIGITS = 8192
+BLOCK_DIGITS, BLOCKS = 2048, 64  # of output, of which a page has the last 64 KB
 
 Done = tuple[str, Sequence[str]]
 """A line that was carried out, and its answer."""
@@ -25,8 +27,12 @@ class Seat:
 
     log, number: its last entries, and how many there were
     state, shown: all that is known of the user, and what pages show of it
+    written, labels, lines: the source that stands in the machine, its labels, and its line for each word, by address
     stop, line, answer: the last stop, command and line of an answer, without the digit
+    output: the last of what the program has put out, in hexadecimal digits, in blocks by number
     used: the bytes of the script that are the seat's
+    slices, seen: how many were granted to the program, about, since it stopped last or its student let it go; and when
+        somebody looked at it last while it ran, in seconds of the event loop, or 0
     """
 
     name: str
@@ -39,15 +45,32 @@ class Seat:
     watch: Watch = field(default_factory=Watch)
     rows: RowChoice = field(default_factory=RowChoice)
     labels: dict[str, list[str]] = field(default_factory=dict)
+    lines: dict[str, str] = field(default_factory=dict)
+    written: str = ""
+    output: dict[str, str] = field(default_factory=dict)
     stop: str = ""
     line: str = ""
     answer: str = ""
     used: int = 0
+    slices: float = 0.0
+    seen: float = 0.0
 
     def note(self, entry: str) -> None:
         """Adds an entry to the log."""
         self.log.append(entry)
         self.number += 1
+
+    def take(self, source: str, program: Program) -> None:
+        """Takes up which source stands in the machine now."""
+        self.written, self.labels, self.lines = source, program.names(), program.source_lines(source)
+
+    def put_out(self, digits: str) -> None:
+        """Takes up what the program has put out. Full blocks stay as they are, so that pages aren't told them again."""
+        *full, last = list(self.output.items()) or [("0", "")]
+        text = last[1] + digits
+        blocks = (text[at : at + BLOCK_DIGITS] for at in range(0, len(text), BLOCK_DIGITS))
+        new = {f"{number}": block for number, block in enumerate(blocks, int(last[0]))}
+        self.output = dict([*full, *new.items()][-BLOCKS:])
 
 
 class Seats:
@@ -64,6 +87,11 @@ class Seats:
     def running(self) -> set[str]:
         """The digits of users whose programs run."""
         return {digit for digit, seat in self.users.items() if seat.state["run"] == "running"}
+
+    def _grant(self, slices: int, digits: set[str]) -> None:
+        """Counts slices that went round among the programs of users."""
+        for digit in digits:
+            self.users[digit].slices += slices / len(digits)
 
     def follow(self, line: str, answer: Sequence[str]) -> None:
         """Takes up what a user's line says of the user's memory."""
@@ -91,8 +119,7 @@ class Seats:
             carried_out = before["code"].get(before["pc"], "")[9:] if single else ""
             is_done = not all(map(is_look, lines))
             state = look_at(Guest(session, int(digit)), seat.watch, before, own, carried_out, is_done)
-            if "output" in state:
-                state["output"] = state["output"][-OUTPUT_DIGITS:]
+            state.pop("output", None)  # which the seat has
             seat.rows.add(state)
             states[digit] = state, with_rows(state, seat.rows.rows(seat.watch))
         return states
@@ -103,8 +130,20 @@ class Seats:
             self.users[digit].state, self.users[digit].shown = pair
 
     def observe(self, line: str, answer: Sequence[str], is_told: bool) -> None:
-        """Tells seats of a line and its answer. Lines of the clock, and those that grant own slices, aren't told."""
+        """Tells seats of a line and its answer. Lines of the clock, and those that grant own slices, aren't told.
+
+        Of the server's own lines it is told how many bytes a program has put out.
+        """
         asker, words = self.users.get(line[0], self.operator), words_of(line)
+        if line[0] == "*" and isinstance(granted := read(answer), Granted):
+            self._grant(granted.slices, set(words[1:]) if words[0] == "run" else self.running())
+        if words == ["out"] and not is_refusal(answer):
+            asker.put_out("".join(answer[0].split()[3:]))
+        if is_servers(line):
+            if words == ["out"] and answer[0][2:] != "out 0":
+                asker.note("=" + " ".join(answer[0].split()[:3]))
+            asker.stop = "" if words == ["go"] else asker.stop
+            return
         if is_told:
             asker.note(f">{line}")
             asker.line = line[2:]
@@ -113,9 +152,9 @@ class Seats:
         elif not is_look(line):
             asker.used += len(line) + 1
         if _begins_anew(line, answer):
-            asker.stop, asker.labels = "", {}
+            asker.stop, asker.written, asker.labels, asker.lines, asker.output = "", "", {}, {}, {}
         elif words == ["go"] and not is_refusal(answer):
-            asker.stop = ""
+            asker.stop, asker.slices, asker.seen = "", 0.0, 0.0
         for part, entry in zip(answer, log_entries(line, answer)):
             seat = self.users.get(part[0], self.operator)
             if is_told or seat is not self.operator:
@@ -123,6 +162,7 @@ class Seats:
                 seat.answer = part[2:]
             if is_stop(part):
                 seat.stop = part[2:]
+                seat.slices = seat.slices if seat.stop.startswith("outfull") else 0.0
 
 
 def _begins_anew(line: str, answer: Sequence[str]) -> bool:

@@ -13,20 +13,23 @@ import subprocess
 import sys
 import weakref
 from collections.abc import AsyncIterator, Awaitable, Callable, Iterable
+from functools import partial
 
-from aiohttp import WSMsgType, web
+from aiohttp import web
 from aiohttp.http import HttpProcessingError
 
+from .. import LabError
 from ..page.pages import Page
+from ..page.reference import reference_text
 from .codes import TEACHER
-from .store import BadFolder
-from .view import Class, Message, Tab
+from .store import BadFolder, script_name
+from .tab_socket import CLOSED, READ_SECONDS, TabSocket
+from .view import Class, Tab
 
 MESSAGE_BYTES = 400_000
 PATIENCE = 10.0  # seconds for a first request, and for a tab's code
 UNKNOWN = 500  # connections without a whole request, and sockets without a code
 SOCKETS = 8  # of a seat; of the teacher twice as many
-READ_SECONDS = 20.0  # in which a tab has to take a message
 WRONG_CODE_SECONDS = 0.5
 HEADERS = {
     "Cache-Control": "no-store",
@@ -35,7 +38,7 @@ HEADERS = {
     "Cross-Origin-Opener-Policy": "same-origin",
 }
 HOST = re.compile(r"(?:\[([0-9a-fA-F:.]+)\]|([A-Za-z0-9.-]+))(?::[0-9]+)?")
-CLOSED, CROWDED = 4403, 4429  # why a socket is closed: its code is none, or none any more; the seat has too many
+CROWDED = 4429  # why a socket is closed: the seat has too many
 
 
 class Server:
@@ -57,6 +60,8 @@ class Server:
         application.router.add_get("/", self._get_page)
         application.router.add_get("/socket", self._socket)
         application.router.add_get("/{machine:[A-L]}/{what:script|transcript}", self._get_file)
+        application.router.add_get("/{seat:[A-L][1-8]}/home", self._get_home)
+        application.router.add_get("/{machine:[A-L]}.{number:[1-9][0-9]*}/{what:script|transcript}", self._get_file)
         return application
 
     def is_ours(self, host: str, origin: str | None) -> bool:
@@ -108,7 +113,7 @@ class Server:
         response.headers.update({"Content-Security-Policy": own + sockets} | HEADERS)
 
     async def _get_page(self, request: web.Request) -> web.Response:
-        return web.Response(text=self._page.text("vecmon class"), content_type="text/html")
+        return web.Response(text=self._page.text("vecmon class", reference_text()), content_type="text/html")
 
     async def _get_file(self, request: web.Request) -> web.Response:
         code = request.headers.get("Authorization", "").removeprefix("Bearer ")
@@ -116,7 +121,11 @@ class Server:
         if self.members.codes.who(code) != TEACHER or room is None:
             await asyncio.sleep(WRONG_CODE_SECONDS)
             raise web.HTTPNotFound
-        data = room.session.script
+        data, number = room.session.script, int(request.match_info.get("number", len(room.scripts)))
+        if number > len(room.scripts):
+            raise web.HTTPNotFound
+        if number < len(room.scripts):
+            data = await asyncio.to_thread((self.members.store.folder / script_name(room.letter, number)).read_bytes)
         if request.match_info["what"] == "transcript":
             data = await asyncio.to_thread(_transcript, room.session.command, data)
             try:
@@ -124,6 +133,16 @@ class Server:
             except BadFolder as error:
                 raise web.HTTPServiceUnavailable from error
         return web.Response(body=data, content_type="text/plain")
+
+    async def _get_home(self, request: web.Request) -> web.Response:
+        code, seat = request.headers.get("Authorization", "").removeprefix("Bearer "), request.match_info["seat"]
+        if self.members.codes.who(code) not in (TEACHER, seat) or seat[0] not in self.members.rooms:
+            await asyncio.sleep(WRONG_CODE_SECONDS)
+            raise web.HTTPNotFound
+        try:
+            return web.Response(body=await self.members.take_home(seat), content_type="application/zip")
+        except LabError as error:
+            raise web.HTTPServiceUnavailable(text=str(error)) from error
 
     async def _socket(self, request: web.Request) -> web.WebSocketResponse:
         if self._nameless.locked():
@@ -139,7 +158,7 @@ class Server:
         elif others >= (2 * SOCKETS if who == TEACHER else SOCKETS):
             await own.close(code=CROWDED, message=b"too many tabs")
         else:
-            await self._serve(request, own, Tab(who))
+            await TabSocket(self.members, own, Tab(who), partial(_abort, request)).serve(lambda: self._is_ending)
         return own
 
     async def _who(self, own: web.WebSocketResponse) -> str | None:
@@ -152,42 +171,6 @@ class Server:
         if who is None:
             await asyncio.sleep(WRONG_CODE_SECONDS)
         return who
-
-    async def _serve(self, request: web.Request, own: web.WebSocketResponse, tab: Tab) -> None:
-        """Answers a tab's requests in turn, and pushes news to it from the first message on."""
-
-        async def send(message: Message) -> None:
-            try:
-                await asyncio.wait_for(own.send_str(json.dumps(message, separators=(",", ":"))), READ_SECONDS)
-            except asyncio.TimeoutError:
-                if request.transport:
-                    request.transport.abort()  # a close would wait for what the tab doesn't read
-
-        async def push() -> None:
-            while tab.is_open:
-                await tab.changed.wait()
-                if tab.is_open and (news := self.members.news(tab)):
-                    news["kind"] = "news"
-                    await send(news)
-                await asyncio.sleep(0.1 if tab.who == TEACHER else 0.02)  # what changes meanwhile goes together
-            await own.close(code=CLOSED, message=b"another code")
-
-        pusher: asyncio.Task[None] | None = None
-        try:
-            await send(self.members.hello(tab))
-            pusher = asyncio.create_task(push())
-            async for message in own:
-                if message.type is not WSMsgType.TEXT or not tab.is_open:
-                    break
-                await send(await self.members.answer(tab, message.data))
-            code = 1001 if self._is_ending else 1000 if tab.is_open else CLOSED
-            await own.close(code=code)  # as whoever closes it from elsewhere, who may come later
-        except ConnectionError:
-            pass  # the tab is gone
-        finally:
-            self.members.leave(tab)
-            if pusher:
-                pusher.cancel()
 
 
 def listening(host: str, port: int) -> list[socket.socket]:
@@ -207,7 +190,13 @@ async def served(members: Class, doors: Iterable[socket.socket], names: set[str]
     try:
         for door in doors:
             await web.SockSite(runner, door, shutdown_timeout=2.0).start()
-        work = [server.sweep(runner), _keep(members), *(room.clock.run() for room in members.rooms.values())]
+        rooms = members.rooms.values()
+        work = [
+            server.sweep(runner),
+            _keep(members),
+            *(each for room in rooms for each in (room.clock.run(), room.watch(), room.shorten())),
+            *(room.follow() for room in rooms if members.has_spares),
+        ]
         tasks = [asyncio.create_task(each) for each in work]
         yield runner.addresses[0][1]
     finally:
@@ -239,6 +228,12 @@ async def serve(members: Class, host: str, doors: Iterable[socket.socket], names
                 raise BadFolder(f"the class has ended, since {members.store.program} isn't there any more")
             with contextlib.suppress(asyncio.TimeoutError):
                 await asyncio.wait_for(ended.wait(), 1)
+
+
+def _abort(request: web.Request) -> None:
+    """Ends a connection without a word."""
+    if request.transport:
+        request.transport.abort()
 
 
 def _is_ours(record: logging.LogRecord) -> bool:

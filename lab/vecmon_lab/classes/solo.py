@@ -1,101 +1,120 @@
 """One student's part of a class: a script that gives the same lines again, alone on a machine."""
 
 import argparse
-import contextlib
 import pathlib
 import sys
-from collections.abc import Iterable, Iterator
+from collections import deque
+from collections.abc import Iterator, Sequence
 
 from .. import LabError
-from ..machine.answers import is_refusal, is_stop
+from ..machine.answers import Granted, is_refusal, read
 from ..machine.lines import DIGITS, words_of
 from ..machine.program import find_program
 from ..machine.session import Session
-from .store import ScriptFile, Store
+from .store import Store
 
 PATIENCE = 30.0
+MOST_SLICES = 1000  # that a line grants
 
 
 def add_arguments(parser: argparse.ArgumentParser) -> None:
     """The words of `vecmon-lab solo`."""
-    parser.add_argument("folder", metavar="DIR", type=pathlib.Path, help="the folder of a class that isn't served now")
+    parser.add_argument(
+        "folder", metavar="DIR", type=pathlib.Path, help="the folder of a class, which may be served now"
+    )
     parser.add_argument("seat", metavar="SEAT", help="A1 to L8")
 
 
 def run(arguments: argparse.Namespace) -> int:
     """Prints the script, when it has given the same lines. Raises LabError where there is none."""
-    if not (arguments.folder / "class.json").is_file():
-        raise LabError(f"{arguments.folder} has no class")
-    with contextlib.closing(Store(arguments.folder, find_program())) as store:
-        machine, digit = arguments.seat[:-1], arguments.seat[-1:]
-        if not machine or machine not in list(store.machines) or digit not in list(DIGITS):
-            raise LabError(f"there is no seat {arguments.seat}; A1 is one")
-        lines = ScriptFile(arguments.folder / f"{machine}.script").kept.decode("ascii").splitlines()
-        with store.session(PATIENCE) as session:
-            script, expected = solo_script(session, lines, digit)
-        with store.session(PATIENCE) as session:
-            if own_lines(session, script, digit) != expected:
-                raise LabError(f"the lines of {arguments.seat} alone are others than in the class")
+    script = solo(Store(arguments.folder, find_program(), is_reading=True), arguments.seat)
     sys.stdout.writelines(f"{line}\n" for line in script)
     return 0
 
 
-def own_lines(session: Session, lines: Iterable[str], digit: str) -> list[str]:
+def solo(store: Store, seat: str) -> list[str]:
+    """A student's script of all that was answered, when it has given the same lines. Raises LabError where there is none."""
+    machine, digit = seat[:-1], seat[-1:]
+    if not machine or machine not in list(store.machines) or digit not in list(DIGITS):
+        raise LabError(f"there is no seat {seat}; A1 is one")
+    part = Part(digit)
+    for set_up, script in store.scripts(machine):
+        with store.session(PATIENCE) as whole, store.session(PATIENCE) as single:
+            for session in (whole, single):
+                deque(session.do_script(set_up), 0)
+            part.follow(whole, single, script)
+    with store.session(PATIENCE) as session:
+        if own_lines(session, part.script, digit) != part.answers:
+            raise LabError(f"the lines of {seat} alone are others than in the class")
+    return part.script
+
+
+def own_lines(session: Session, lines: Sequence[str], digit: str) -> list[str]:
     """What a user is answered where these lines are carried out."""
-    return [part for line in lines for part in session.do(line) if part[0] == digit]
+    script = "".join(f"{line}\n" for line in lines).encode("ascii")
+    return [part for _, answer in session.do_script(script) for part in answer if part[0] == digit]
 
 
-def solo_script(session: Session, lines: Iterable[str], digit: str) -> tuple[list[str], list[str]]:
-    """A user's own lines, with the slices that the user was granted; and what the user was answered.
+class Part:
+    """A user's part of a class, whose scripts follow each other.
 
-    The session carries out the class's lines, with their slices granted one at a time.
+    script, answers: the user's own lines, with the slices that the user was granted; and what the user was answered
     """
-    script, answers = list[str](), list[str]()
-    turns = _Turns()
-    for line in lines:
-        granted = 0
-        for single in _singly(line, turns):
-            answer = session.do(single)
-            granted += turns.follow(single, answer) == digit
-            answers += [part for part in answer if part[0] == digit]
-        if line[0] == digit:
-            script.append(line)
-        elif granted:
-            script.append(f"* slices {granted}")
-    return script, answers
 
+    def __init__(self, digit: str) -> None:
+        self.script, self.answers = list[str](), list[str]()
+        self._digit, self._running, self._last = digit, set[str](), DIGITS[-1]  # slices go round among those who run
+        self._granted = 0  # since the user's last line
 
-def _singly(line: str, turns: "_Turns") -> Iterator[str]:
-    """A line as it is; but slices one at a time, as many as there are programs for."""
-    match words_of(line):
-        case ["slices", number] if line[0] == "*" and number.isdecimal() and number[0] != "0" and int(number) <= 1000:
-            for _ in range(int(number)):
-                if turns.running:
-                    yield "* slices 1"
-        case _:
-            yield line
+    def follow(self, whole: Session, single: Session, script: bytes) -> None:
+        """Takes up a script, on two machines as it begins: one carries out its lines.
 
+        The other one follows as far as the place of a stop among slices has to be found: there they are granted singly.
+        """
+        waiting = bytearray()
+        for line, answer in whole.do_script(script):
+            self.answers += [part for part in answer if part[0] == self._digit]
+            granted = read(answer) if line[0] == "*" else None
+            if isinstance(granted, Granted) and granted.stops and words_of(line)[0] == "slices":
+                deque(single.do_script(bytes(waiting)), 0)
+                waiting.clear()
+                for _ in range(granted.slices):
+                    self._grant("* slices 1", single.do("* slices 1"))
+                continue
+            waiting += line.encode("ascii") + b"\n"
+            if line[0] == "*":
+                self._grant(line, answer)
+            elif line[0] == self._digit:
+                self.script += [*self._slices(), line]
+            self._follow_running(line, answer)
+        self.script += self._slices()
 
-class _Turns:
-    """Whose turn it is: slices go round among the users whose programs run."""
+    def _slices(self) -> Iterator[str]:
+        """Lines that grant what the user was granted, of which nothing is left then."""
+        while self._granted:
+            number = min(self._granted, MOST_SLICES)
+            self._granted -= number
+            yield f"* slices {number}"
 
-    def __init__(self) -> None:
-        self.running: set[str] = set()
-        self._last = DIGITS[-1]
+    def _grant(self, line: str, answer: Sequence[str]) -> None:
+        """Takes up the slices of an operator's line, in which nobody stops but with the last one."""
+        granted, words = read(answer), words_of(line)
+        if not isinstance(granted, Granted) or not granted.slices:
+            return
+        if words[0] == "run":
+            self._granted += words[1] == self._digit
+        else:
+            place = DIGITS.index(self._last) + 1
+            order = [digit for digit in DIGITS[place:] + DIGITS[:place] if digit in self._running]
+            rounds, rest = divmod(granted.slices, len(order))
+            self._granted += rounds * (self._digit in order) + (self._digit in order[:rest])
+            self._last = order[rest - 1]
+        self._running -= {digit for digit, _ in granted.stops}
 
-    def follow(self, line: str, answer: list[str]) -> str:
-        """Takes up a line and its answer; the digit of the user whom it granted a slice, if anybody."""
-        granted = ""
+    def _follow_running(self, line: str, answer: Sequence[str]) -> None:
+        """Takes up a user's line."""
         match words_of(line):
-            case ["slices", "1"] if line[0] == "*" and self.running:
-                place = DIGITS.index(self._last) + 1
-                granted = next(digit for digit in DIGITS[place:] + DIGITS[:place] if digit in self.running)
-                self._last = granted
-            case ["run", digit] if line[0] == "*" and digit in self.running:
-                granted = digit
             case ["go"] if line[0] != "*" and not is_refusal(answer):
-                self.running.add(line[0])
+                self._running.add(line[0])
             case ["stop"] | ["leave"] if line[0] != "*" and not is_refusal(answer):
-                self.running.discard(line[0])
-        self.running -= {part[0] for part in answer if is_stop(part)}
-        return granted
+                self._running.discard(line[0])

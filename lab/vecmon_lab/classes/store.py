@@ -2,7 +2,10 @@
 
 class.json: the digest (SHA-256) of the program, the quantum, the images by name with their digests, the machines
 codes.json: the code of each seat and of the teacher
-A.script, A.json: a machine's script; how many of its lines were answered by a digest, and what the teacher has set
+A3.s, A3.written.s, sources/: a seat's source as it is, that which stands in its machine, and versions of it
+A.script, A.2.script ..: a machine's scripts, each of which begins where the one before ended
+A.json: which lines of them set the machine up; how many of the last one's were answered by a digest, and what the
+    teacher has set
 images/NAME.elf: the images, as they were when the class began
 lock: held by the server that serves the class
 """
@@ -20,7 +23,7 @@ from dataclasses import asdict, dataclass, field, replace
 from typing import TypeVar
 
 from .. import LabError
-from ..machine.session import Session
+from ..machine.session import BadLine, OutOfStep, Session
 from .codes import LETTERS, Codes
 
 
@@ -40,13 +43,14 @@ class Facts:
 
 @dataclass(frozen=True)
 class Notes:
-    """What is kept beside a script: how many lines were answered by a digest, the clock, rights, labels by digit."""
+    """What is kept beside a machine's last script: how many lines were answered by a digest, the clock, rights;
+    and of each script how many lines at its beginning set the machine up, as the one before left it."""
 
     lines: int = 0
     answers: str = ""
     clock: Mapping[str, int] = field(default_factory=dict)
     own_slices: bool = True
-    labels: Mapping[str, dict[str, list[str]]] = field(default_factory=dict)
+    scripts: Sequence[int] = field(default_factory=lambda: [0])
 
 
 Kept = TypeVar("Kept")
@@ -58,9 +62,10 @@ class ScriptFile:
     Where the disk takes nothing, lines wait in memory and follow later; `trouble` says so. For one thread at a time.
     """
 
-    def __init__(self, path: pathlib.Path) -> None:
-        """Opens the file, and cuts off a last line without its newline; `kept` has the rest."""
-        self._machine = path.stem
+    def __init__(self, folder: pathlib.Path, machine: str, number: int = 1) -> None:
+        """Opens a machine's script of this number, and cuts off a last line without its newline; `kept` has the rest."""
+        self._folder, self._machine = folder, machine
+        path = folder / script_name(machine, number)
         self._file = os.open(path, os.O_RDWR | os.O_CREAT, 0o600)
         data = path.read_bytes()
         self.kept = data[: data.rfind(b"\n") + 1]
@@ -70,14 +75,29 @@ class ScriptFile:
         os.ftruncate(self._file, self._saved)
 
     def replay(self, session: Session, notes: Notes) -> Iterator[tuple[str, Sequence[str]]]:
-        """Carries out what was kept: each line and its answer. Raises BadFolder where it is answered otherwise."""
-        script = self.kept.decode("latin-1").split("\n")[:-1]
+        """Carries out what was kept: each line and its answer. Raises BadFolder where it is answered otherwise.
+
+        Notes have the digest of its first answers; lines behind them were written shortly before a server was killed.
+        """
+        script = self.kept.splitlines(keepends=True)
         if len(script) < notes.lines:
             raise BadFolder(f"the script of machine {self._machine} has lost lines: it had {notes.lines}")
-        for number, line in enumerate(script, 1):
-            yield line, session.do(line)
-            if number == notes.lines and session.digest != notes.answers:
-                raise BadFolder(f"machine {self._machine} answers the first {number} lines otherwise than before")
+        others = f"machine {self._machine} answers the first {notes.lines} lines otherwise than before"
+        try:
+            yield from session.do_script(b"".join(script[: notes.lines]))
+        except (BadLine, OutOfStep) as error:
+            raise BadFolder(others) from error
+        if notes.lines and session.digest != notes.answers:
+            raise BadFolder(others)
+        yield from session.do_script(b"".join(script[notes.lines :]))
+
+    def successor(self, number: int, script: bytes) -> "ScriptFile":
+        """The file of the machine's script of this number, which is on the disk as a whole then. Raises OSError."""
+        with (self._folder / script_name(self._machine, number)).open("wb") as file:
+            file.write(script)
+            file.flush()
+            os.fsync(file.fileno())
+        return ScriptFile(self._folder, self._machine, number)
 
     @property
     def is_saved(self) -> bool:
@@ -122,13 +142,19 @@ class Store:
         images: Mapping[str, pathlib.Path] = {},
         quantum: int | None = None,
         machines: int | None = None,
+        is_reading: bool = False,
     ) -> None:
-        """Opens a class, or begins one in a folder that is empty or isn't there.
+        """Opens a class, or begins one in a folder that is empty or isn't there; to read, one that may be served now.
 
         A class that is there has to have this program, and those images, quantum and machines that are named; there may
         be more machines than before. Raises BadFolder, OSError, and ProgramGone where the program refuses the images.
         """
-        self.folder, self.program, self.trouble = folder, program, ""
+        self.folder, self.program = folder, program
+        self._troubles: dict[str, str] = {}  # by the name of what isn't saved
+        self._is_reading = is_reading
+        if is_reading:
+            self._open(images, quantum, machines)
+            return
         folder.mkdir(mode=0o700, parents=True, exist_ok=True)
         if strangers := {path.name for path in folder.iterdir()} - {"lock", "images"}:
             if "class.json" not in strangers:
@@ -147,23 +173,37 @@ class Store:
 
     def _open(self, images: Mapping[str, pathlib.Path], quantum: int | None, machines: int | None) -> None:
         kept = self.read("class.json", Facts)
+        if self._is_reading and not kept.program:
+            raise BadFolder(f"{self.folder} has no class")
         facts = self._facts(kept, images, quantum, machines) if kept.program else self._begin(images, quantum, machines)
         self._program_digest = facts.program
         self.quantum = facts.quantum
         self.machines = LETTERS[: facts.machines]
         self.images = {name: self._image(name) for name in facts.images}
         self.codes = Codes(self.machines, self.read("codes.json", dict[str, str]))
-        if not (self.write("class.json", asdict(facts)) and self.write("codes.json", self.codes.codes)):
+        if not self._is_reading and not (
+            self.write("class.json", asdict(facts)) and self.write("codes.json", self.codes.codes)
+        ):
             raise BadFolder(self.trouble)
 
     def close(self) -> None:
         """Leaves the folder to others."""
-        os.close(self._lock)
+        if not self._is_reading:
+            os.close(self._lock)
 
     def session(self, patience: float) -> Session:
         """A new machine of this class, of which each process has the program that the class was begun with."""
         check = self.check_program
         return Session(self.program, self.images, quantum=self.quantum, patience=patience, check=check)
+
+    def scripts(self, machine: str) -> Iterator[tuple[bytes, bytes]]:
+        """A machine's scripts: of each the lines that set the machine up, and those behind them that were answered."""
+        notes = self.read(f"{machine}.json", Notes)
+        for number, begin in enumerate(notes.scripts, 1):
+            path = self.folder / script_name(machine, number)
+            lines = path.read_bytes().splitlines(keepends=True) if path.exists() else []
+            end = notes.lines if number == len(notes.scripts) else len(lines)
+            yield b"".join(lines[:begin]), b"".join(lines[begin:end])
 
     def check_program(self) -> bool:
         """Whether the program is there. Raises BadFolder where another stands in its place, as after an upgrade."""
@@ -183,17 +223,42 @@ class Store:
         except (ValueError, TypeError) as error:
             raise BadFolder(f"{self.folder / name} isn't what a server wrote") from error
 
+    @property
+    def trouble(self) -> str:
+        """Why something isn't saved; empty if all is."""
+        return next(iter(self._troubles.values()), "")
+
+    def waits(self, name: str) -> bool:
+        """Whether what this name has wasn't saved when it was tried last."""
+        return name in self._troubles
+
+    def read_text(self, name: str) -> str:
+        """A text that was kept; empty if there is none."""
+        path = self.folder / name
+        return path.read_bytes().decode("utf-8", "replace") if path.exists() else ""
+
     def write(self, name: str, value: Mapping[str, object]) -> bool:
         """Keeps an object, as a whole or not at all; whether that went well. `trouble` says why not."""
+        return self.write_text(name, json.dumps(value, indent=1))
+
+    def write_text(self, name: str, text: str) -> bool:
+        """Keeps a text as `write` does an object."""
         new = self.folder / f"{name}.new"
         try:
-            new.write_text(json.dumps(value, indent=1), "utf-8")
+            new.parent.mkdir(exist_ok=True)
+            new.write_bytes(text.encode("utf-8", "replace"))
             new.replace(self.folder / name)
         except OSError as error:
-            self.trouble = f"{name} isn't saved: {error.strerror}"
+            self._troubles[name] = f"{name} isn't saved: {error.strerror}"
             return False
-        self.trouble = ""
+        self._troubles.pop(name, None)
         return True
+
+    def remove(self, name: str) -> None:
+        """Keeps it no more, whether it was saved or not."""
+        self._troubles.pop(name, None)
+        with contextlib.suppress(OSError):
+            (self.folder / name).unlink()
 
     def _image(self, name: str) -> pathlib.Path:
         return self.folder / "images" / f"{name}.elf"
@@ -224,6 +289,11 @@ class Store:
         if quantum not in (None, kept.quantum):
             raise BadFolder(f"{self.folder} was begun with --quantum {kept.quantum}")
         return replace(kept, machines=max(kept.machines, machines or 1))
+
+
+def script_name(machine: str, number: int) -> str:
+    """The name of a machine's script: the first one's is the shortest."""
+    return f"{machine}.script" if number == 1 else f"{machine}.{number}.script"
 
 
 def _digest(path: pathlib.Path) -> str:

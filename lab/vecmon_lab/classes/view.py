@@ -3,19 +3,39 @@
 import asyncio
 import contextlib
 import json
-from collections.abc import Iterable, Mapping
+from collections.abc import Callable, Iterable, Mapping
 from dataclasses import asdict
+from functools import partial
 from typing import TypedDict
 
 from .. import LabError
 from ..assembler.commands import refusal_on_pages
+from ..assembler.source import read_source
 from ..machine.session import SCRIPT_BYTES
 from ..page.pages import merge_patch
 from ..page.state import State
-from .codes import TEACHER
-from .requests import BadRequest, Lines, LookOver, Renew, Request, SetClock, SetRights, Source, read_request
+from .beside import Beside
+from .codes import TEACHER, WALL
+from .requests import (
+    BadRequest,
+    Draft,
+    Give,
+    Lines,
+    LookOver,
+    PutOnWall,
+    ReadVersion,
+    Renew,
+    Request,
+    SetClock,
+    SetRights,
+    ShowCodes,
+    Source,
+    read_request,
+)
 from .room import SEAT_BYTES, Room
 from .seats import Seat
+from .sheet import pictures
+from .sources import SeatSource, Version
 from .store import Notes, ScriptFile, Store
 
 Logs = dict[str, list[str]]
@@ -23,6 +43,7 @@ Answers = list[list[str]]
 Clock = Mapping[str, int]
 Mistake = TypedDict("Mistake", {"line": int, "column": int, "message": str})
 Share = TypedDict("Share", {"used": int, "of": int})
+SourceView = TypedDict("SourceView", {"text": str, "number": int, "versions": list[Version]}, total=False)
 
 
 class Message(TypedDict, total=False):
@@ -34,9 +55,12 @@ class Message(TypedDict, total=False):
     do: Answers
     look: Answers
     mistakes: list[Mistake]
+    text: str
     error: str
     done: Answers
     words: list[str]
+    codes: dict[str, str]
+    pictures: dict[str, str]
     patch: dict[str, object]
     logs: Logs
 
@@ -52,11 +76,15 @@ class StudentView(TypedDict):
     clock: bool
     own_slices: bool
     share: Share
+    source: SourceView
+    again: bool
+    ready: bool
     trouble: str
 
 
+WallView = TypedDict("WallView", {"seat": str, "state": State, "stop": str, "trouble": str})
 SeatView = TypedDict(
-    "SeatView", {"code": str, "tabs": int, "run": str, "pc": str, "stop": str, "line": str, "answer": str, "used": int}
+    "SeatView", {"tabs": int, "run": str, "pc": str, "stop": str, "line": str, "answer": str, "used": int}
 )
 
 
@@ -67,6 +95,7 @@ class MachineView(TypedDict):
     clock: Clock
     own_slices: bool
     script: int
+    scripts: int
     of: int
     lines: int
     digest: str
@@ -85,6 +114,9 @@ class TeacherView(TypedDict):
     trouble: str
     shoulder: str
     state: State
+    wall: str
+    address: str
+    source: SourceView
 
 
 class Tab:
@@ -102,18 +134,40 @@ class Tab:
 class Class:
     """The machines of a class by letter, its codes, and the tabs that are open."""
 
-    def __init__(self, store: Store, patience: float) -> None:
-        """Starts the machines, and brings each to where it was. Raises LabError where that can't be."""
+    def __init__(
+        self,
+        store: Store,
+        patience: float,
+        progress: Callable[[str], object] = lambda sentence: None,
+        clock: bool = True,
+        has_spares: bool = False,
+    ) -> None:
+        """Starts the machines, and brings each to where it was. Raises LabError where that can't be.
+
+        progress: is told how far that is, in sentences; clock: whether that of a new machine is on; has_spares: whether
+        a second process follows each machine
+        """
+        self.has_spares = has_spares
         self.store, self.codes = store, store.codes
+        self.address = ""  # where students reach the class, with a slash at its end
+        self.wall: Seat | None = None  # the seat that it shows
         self.tabs: set[Tab] = set()
         self.rooms: dict[str, Room] = {}
+        self.sources: dict[str, SeatSource] = {}
         self._kept: dict[str, Notes] = {}
+        makers, self._packers, self._packing = Beside(1), Beside(2), set[str]()
         try:
             for letter in store.machines:
-                file = ScriptFile(store.folder / f"{letter}.script")
-                self.rooms[letter] = room = Room(letter, store.session(patience), file)
-                room.changed = self._tell
-                room.restore(store.read(f"{letter}.json", Notes))
+                notes = store.read(f"{letter}.json", Notes)
+                file = ScriptFile(store.folder, letter, len(notes.scripts))
+                self.rooms[letter] = room = Room(letter, store.session(patience), file, makers)
+                room.changed, room.watched, room.keep = self._tell, self._watched, partial(self._keep, letter)
+                room.set_clock({"on": clock})
+                room.restore(notes, progress)
+                for seat in room.seats.users.values():
+                    self.sources[seat.name] = source = SeatSource(seat.name, store)
+                    if source.written:
+                        seat.take(source.written, read_source(source.written))
         except BaseException:
             self.end()
             raise
@@ -126,19 +180,44 @@ class Class:
 
     def keep(self) -> None:
         """Keeps what is another than before beside each script, and brings scripts up to date where the disk was full."""
+        trouble = self.store.trouble
         for room in self.rooms.values():
+            for seat in room.seats.users.values():
+                source = self.sources[seat.name]
+                source.written = seat.written
+                if source.keep():
+                    self._tell([seat.name])
             if room.is_busy():
                 continue
-            trouble = room.trouble
+            before = room.trouble
             room.file.catch_up()
-            if room.trouble != trouble:
+            if room.trouble != before:
                 self._tell(room.seats.names())
             notes = room.notes()
-            name = f"{room.letter}.json"
-            if room.file.is_saved and self._kept.get(name) != notes and self.store.write(name, asdict(notes)):
-                self._kept[name] = notes
-        if self.store.trouble and self.store.write("codes.json", self.codes.codes):
+            if room.file.is_saved and self._kept.get(room.letter) != notes:
+                self._keep(room.letter, notes)
+        if self.store.waits("codes.json"):
+            self.store.write("codes.json", self.codes.codes)
+        if self.store.trouble != trouble:
             self._tell([])
+
+    def _keep(self, letter: str, notes: Notes) -> bool:
+        """Keeps what stands beside a machine's script; whether that went well."""
+        is_kept = self.store.write(f"{letter}.json", asdict(notes))
+        if is_kept:
+            self._kept[letter] = notes
+        return is_kept
+
+    async def take_home(self, seat: str) -> bytes:
+        """The archive that a student takes home. Raises LabError where there is none, or it is being made already."""
+        if seat in self._packing:
+            raise LabError("it is being made already")
+        self._packing.add(seat)
+        try:
+            self.keep()
+            return await self._packers.run("classes.take_home", f"{self.store.folder}", f"{self.store.program}", seat)
+        finally:
+            self._packing.discard(seat)
 
     def seat(self, name: str) -> Seat:
         """The seat of a name. Raises BadRequest."""
@@ -159,8 +238,8 @@ class Class:
         self.tabs.discard(tab)
         self._tell([tab.who])
 
-    async def answer(self, tab: Tab, text: str) -> Message:
-        """The answer to a request, with what is new."""
+    async def answer(self, tab: Tab, text: str, refusal: str = "") -> Message:
+        """The answer to a request, with what is new. With a refusal, which is a sentence, nothing is done."""
         answer: Message = {"kind": "answer", "id": 0}
         done: Answers = []
         try:
@@ -168,6 +247,10 @@ class Class:
             if not isinstance(message, dict) or type(message.get("id")) is not int:
                 raise BadRequest("a request is an object with a whole number as id")
             answer["id"] = message["id"]
+            if refusal:
+                raise BadRequest(refusal)
+            if tab.who == WALL:
+                raise BadRequest("the wall only looks")
             answer.update(await self._carry_out(tab, read_request(message, tab.who == TEACHER), done))
         except (LabError, ValueError, RecursionError) as error:
             answer.update({"error": str(error), "done": done})
@@ -183,8 +266,7 @@ class Class:
     def news(self, tab: Tab) -> Message:
         """What the tab hasn't been told: a patch of its view, and entries of logs."""
         tab.changed.clear()
-        view: Mapping[str, object]
-        view = self._teacher_view(tab) if tab.who == TEACHER else self._student_view(self.seat(tab.who))
+        view = self._view(tab)
         patch, tab.view = merge_patch(tab.view, view), view
         news, logs = Message(), Logs()
         if patch:
@@ -198,15 +280,25 @@ class Class:
             news["logs"] = logs
         return news
 
+    def _view(self, tab: Tab) -> Mapping[str, object]:
+        """All that a tab is told of, but logs."""
+        if tab.who == TEACHER:
+            return self._teacher_view(tab)
+        return self._wall_view() if tab.who == WALL else self._student_view(self.seat(tab.who))
+
     def _logs(self, tab: Tab) -> list[Seat]:
+        if tab.who == WALL:
+            return []
         if tab.who != TEACHER:
             return [self.seat(tab.who)]
         operators = [room.seats.operator for room in self.rooms.values()]
         return operators if tab.shoulder is None else [*operators, tab.shoulder]
 
     def _tell(self, names: Iterable[str]) -> None:
-        """Wakes the tabs of these seats, and the teacher's."""
+        """Wakes the tabs of these seats, and the teacher's; the wall's where it shows one of them."""
         names = {TEACHER, *names}
+        if self.wall and self.wall.name in names:
+            names.add(WALL)
         for tab in self.tabs:
             if tab.who in names:
                 tab.changed.set()
@@ -222,8 +314,18 @@ class Class:
             "clock": room.clock.settings.on,
             "own_slices": room.own_slices,
             "share": {"used": seat.used, "of": SEAT_BYTES},
+            "source": self._source_view(seat),
+            "again": bool(seat.written),
+            "ready": not room.rebuilding,
             "trouble": room.trouble,
         }
+
+    def _wall_view(self) -> WallView:
+        """What a wall shows: no code, nor anything of other seats."""
+        if self.wall is None:
+            return {"seat": "", "state": {}, "stop": "", "trouble": ""}
+        trouble = self.rooms[self.wall.name[0]].trouble
+        return {"seat": self.wall.name, "state": _shown(self.wall), "stop": self.wall.stop, "trouble": trouble}
 
     def _teacher_view(self, tab: Tab) -> TeacherView:
         return {
@@ -234,7 +336,14 @@ class Class:
             "trouble": self.store.trouble,
             "shoulder": tab.shoulder.name if tab.shoulder else "",
             "state": _shown(tab.shoulder) if tab.shoulder else {},
+            "wall": self.wall.name if self.wall else "",
+            "address": self.address,
+            "source": self._source_view(tab.shoulder) if tab.shoulder else {},
         }
+
+    def _source_view(self, seat: Seat) -> SourceView:
+        source = self.sources[seat.name]
+        return {"text": source.text, "number": source.number, "versions": source.versions}
 
     def _machine_view(self, room: Room) -> MachineView:
         return {
@@ -242,6 +351,7 @@ class Class:
             "clock": asdict(room.clock.settings),
             "own_slices": room.own_slices,
             "script": room.session.size,
+            "scripts": len(room.scripts),
             "of": SCRIPT_BYTES,
             "lines": room.session.lines,
             "digest": room.session.digest,
@@ -252,7 +362,6 @@ class Class:
 
     def _seat_view(self, seat: Seat) -> SeatView:
         return {
-            "code": self.codes.codes[seat.name],
             "tabs": sum(tab.who == seat.name for tab in self.tabs),
             "run": seat.state["run"],
             "pc": seat.state.get("pc", ""),
@@ -270,19 +379,47 @@ class Class:
                 return {"do": done, "look": await self.rooms[seat.name[0]].lines(seat, request, done)}
             case Source(text):
                 seat = self.seat(tab.who)
+                if text is not None:
+                    self.sources[seat.name].write(text)
                 mistakes = await self.rooms[seat.name[0]].source(seat, text)
                 return {"mistakes": [{"line": it.line, "column": it.column, "message": it.message} for it in mistakes]}
+            case Draft(text, number):
+                self.sources[tab.who].draft(text, number)
+                self._tell([tab.who])
+            case ReadVersion(number):
+                name = tab.who if tab.who != TEACHER else tab.shoulder.name if tab.shoulder else ""
+                return {"text": self.sources[self.seat(name).name].version(number)}
+            case Give(name, text):
+                for name in [self.seat(name).name] if name else self.sources:
+                    self.sources[name].give(text)
+                    self.rooms[name[0]].note(
+                        self.seat(name), "!The teacher gave a source. Your own is kept, as a version."
+                    )
             case SetClock(machine, settings):
                 self._room(machine).set_clock(settings)
             case SetRights(machine, own_slices):
                 self._room(machine).set_rights(own_slices)
             case Renew(name):
-                self._renew(self.seat(name).name)
+                self._renew(name if name == WALL else self.seat(name).name)
+                return {"codes": self.codes.shown(name)}
             case LookOver(name):
                 tab.shoulder = self.seat(name) if name else None
                 if tab.shoulder:
                     tab.since.pop(tab.shoulder.name, None)
+            case PutOnWall(name):
+                self.wall = self.seat(name) if name else None
+                self._tell([WALL])
+            case ShowCodes(name, with_pictures):
+                if not (codes := self.codes.shown(name)):
+                    raise BadRequest("there is no such seat")
+                shown = await asyncio.to_thread(pictures, self.address, codes) if with_pictures and self.address else {}
+                return {"codes": codes, "pictures": shown}
         return {}
+
+    def _watched(self) -> set[str]:
+        """The names of seats that somebody looks at: with a tab, over the shoulder, or on a wall."""
+        looked_at = {tab.who for tab in self.tabs} | {tab.shoulder.name for tab in self.tabs if tab.shoulder}
+        return looked_at | ({self.wall.name} if self.wall and WALL in looked_at else set())
 
     def _renew(self, name: str) -> None:
         """Gives a seat a new code, and ends its tabs."""
@@ -301,5 +438,7 @@ class Class:
 def _shown(seat: Seat) -> State:
     """A seat's state as pages show it."""
     shown = seat.shown.copy()
-    shown["labels"] = seat.labels
+    shown["labels"], shown["lines"] = seat.labels, seat.lines
+    if seat.output:
+        shown["outputs"] = seat.output
     return shown

@@ -30,7 +30,7 @@ from ..machine.answers import (
     VectorRegister,
     read,
 )
-from ..machine.lines import is_look
+from ..machine.lines import check_text, is_look
 from ..machine.program import find_program
 from ..machine.session import Session
 from ..tables.table import read_table
@@ -147,6 +147,8 @@ class Console:
     def _monitor(self, words: Sequence[str]) -> None:
         """Carries out a line of the monitor, whose user or operator may stand before it, and shows the answer."""
         has_user = len(words[0]) == 1 and words[0] in "12345678*"
+        if not has_user:
+            check_text(" ".join(words))
         line = " ".join(words if has_user else [str(self._guest.user), *words])
         lines = self._guest.session.do(line)
         answer = read(lines)

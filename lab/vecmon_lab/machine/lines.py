@@ -13,6 +13,7 @@ LOOKS = {f"{digit} {word}" for digit in DIGITS for word in "regs vcsr vreg dis p
 LOOKS |= {"* list", "* stats"}
 
 _LINE = re.compile(r"[1-8*] [ -~]{0,1022}")
+_ODD = re.compile("[^ -~]")
 
 
 class BadLine(LabError, ValueError):
@@ -27,10 +28,17 @@ def check_line(line: str) -> None:
         return
     if not re.match("[1-8*] ", line):
         raise BadLine(f"a line begins with `1 ` to `8 ` or `* `: {line[:40]!a}")
-    odd = re.search("[^ -~]", line)
-    if odd:
+    check_text(line, 2)
+
+
+def check_text(text: str, begin: int = 0) -> None:
+    """Raises BadLine unless a text is 1,022 printable ASCII characters at most from `begin` on, behind the user."""
+    if not isinstance(text, str):
+        raise BadLine("a line is a text")
+    if odd := _ODD.search(text, begin):
         raise BadLine(f"character {odd.start() + 1} of a line, {odd[0]!a}, isn't printable ASCII")
-    raise BadLine(f"a line has at most 1,022 characters after its user, and this one has {len(line) - 2:,}")
+    if len(text) - begin > 1022:
+        raise BadLine(f"a line has at most 1,022 characters after its user, and this one has {len(text) - begin:,}")
 
 
 def words_of(line: str) -> list[str]:

@@ -7,10 +7,18 @@ import contextlib
 import hashlib
 import os
 import pathlib
+import re
 import select
 import signal
 import subprocess
-from collections.abc import Callable, Mapping, Sequence
+import threading
+import time
+import zlib
+from array import array
+from collections import deque
+from collections.abc import Callable, Iterator, Mapping, Sequence
+from dataclasses import dataclass
+from functools import partial
 
 from .. import LabError
 from .answers import OutOfStep, Users, is_refusal, is_whole, read
@@ -21,8 +29,11 @@ __all__ = ["BadLine", "OutOfStep", "ProgramGone", "ReplayDiffers", "ScriptFull",
 
 SCRIPT_BYTES = 15_000_000  # a process takes 16,777,216 bytes at most, and lines that look need room as well
 TOGETHER = 40  # lines that go to the program at once: each has to fit into its pipe
-MARK_BYTES = 8
+WEIGHTY_BYTES, WEIGHTY_SECONDS = 1_000_000, 1.0  # of lines that a new process carries out again
+BLOCK_BYTES = 65536  # that are written, or read, at once
 NEW_MACHINE = Users(dict.fromkeys(DIGITS, "-"))
+_RECORDED = re.compile(rb"(?:[1-8*] [ -~]{0,1022}+\n)*+")
+DIFFERS = "a new process answers the script otherwise than the one before"
 
 
 class ProgramGone(LabError):
@@ -35,6 +46,14 @@ class ScriptFull(LabError):
 
 class ReplayDiffers(LabError):
     """A new process answered the script otherwise than the one before."""
+
+
+@dataclass(frozen=True)
+class Checkpoint:
+    """Lines that stand for the first so many lines of a script: they leave a new machine as those do."""
+
+    number: int
+    lines: bytes
 
 
 class _Process:
@@ -68,15 +87,47 @@ class _Process:
         if self._unread or self._receive(0):
             raise OutOfStep(f"before {lines[0][:60]!r} was sent there came {self._unread[:60]!r}")
         data = "".join(f"{line}\n" for line in lines).encode("ascii")
-        try:
-            os.write(self._feed, data)
-        except OSError as error:
-            raise ProgramGone(self._end()) from error
+        self._put(memoryview(data))
         self.fed += len(data)
         answers = [self._answer(line) for line in lines]
         if self._unread:
             raise OutOfStep(f"after the answer to {lines[-1][:60]!r} there came {self._unread[:60]!r}")
         return answers
+
+    def pour(self, script: bytes) -> Iterator[bytes]:
+        """Feeds lines that do, as the process takes them, and gives their answers as they come, in whole lines.
+
+        Nobody looks how the answers are made. Raises ProgramGone.
+        """
+        left = memoryview(script + b"* list\n")  # whose answer is the last one: no line that does is answered so
+        self.fed += len(left)
+        os.set_blocking(self._feed, False)
+        ends = select.poll()
+        ends.register(self._source, select.POLLIN)
+        ends.register(self._feed, select.POLLOUT)
+        while True:
+            ready = {end for end, _ in ends.poll(self._patience * 1000)}
+            if not ready:
+                raise ProgramGone(f"the program says nothing for {self._patience:g} s")
+            if self._feed in ready:
+                left = left[self._put(left[:BLOCK_BYTES]) :]
+                if not left:
+                    ends.unregister(self._feed)
+            if self._source in ready and self._receive(0):
+                block, newline, self._unread = self._unread.rpartition(b"\n")
+                answers, _, last = block.rpartition(b"\n")
+                if last.startswith(b"* list ") and not left:
+                    yield answers + newline if answers else b""
+                    break
+                yield block + newline
+        os.set_blocking(self._feed, True)
+
+    def _put(self, data: memoryview) -> int:
+        """Writes what the process takes now; how many bytes. Raises ProgramGone."""
+        try:
+            return os.write(self._feed, data)
+        except OSError as error:
+            raise ProgramGone(self._end()) from error
 
     def _answer(self, line: str) -> list[str]:
         """The lines of the next answer."""
@@ -97,7 +148,7 @@ class _Process:
         """Waits at most so long for what the process says, and takes it; whether it said anything."""
         if not self._readable.poll(seconds * 1000):
             return False
-        data = os.read(self._source, 65536)
+        data = os.read(self._source, BLOCK_BYTES)
         if not data:
             raise ProgramGone(self._end())
         self._unread += data
@@ -124,13 +175,24 @@ class _Process:
             pass
 
 
+@dataclass
+class _Copy:
+    """A process that has carried out the script as far as it was: so many lines, which have so many bytes."""
+
+    process: _Process
+    number: int
+    size: int
+
+
 class Session(contextlib.AbstractContextManager["Session"]):
     """A machine for eight users, and the script that makes it anew.
 
     Its process is replaced where it ended, hangs, or has no room for more lines; then the new one carries out the
-    script again. `policy` has the policy for agnostic elements, `keep` or `ones`, of each user who is there: no
+    script again, or a checkpoint's lines and the lines since. `policy` has the policy for agnostic elements, `keep` or `ones`, of each user who is there: no
     command shows it. `quantum` is the ticks of a slice. `command` starts the program, and `losses` says why processes
-    that were asked gave no answer, and were replaced.
+    that were asked gave no answer, and were replaced. `total` is how many seconds the lines of the script have taken, and
+    `spent` those that a new process would carry out. `progress` is called while a new process carries out the script,
+    with how much of it that has done in percent: 0 first, and 100 at the end.
     """
 
     def __init__(
@@ -153,25 +215,33 @@ class Session(contextlib.AbstractContextManager["Session"]):
         options = [] if quantum is None else ["--quantum", str(quantum)]
         words = [f"{name}={path}" for name, path in images.items()]
         self.command = [str(program), *options, "--", "/dev/stdin", *words]  # images are taken after a script alone
+        self._opening = partial(
+            Session, program, images, quantum=quantum, patience=patience, script_bytes=script_bytes, check=check
+        )
         self._patience = patience
         self._script_bytes = script_bytes
         self._check = check
         self._script = bytearray()
         self._answers = hashlib.sha256()
-        self._marks = bytearray()  # the first bytes of the digest after each line: where a replay differs first
+        self._marks = array("I")  # the CRC-32 of each answer, by which a replay is compared
+        self._base = Checkpoint(0, b""), 0  # and how many bytes of the script it stands for
+        self._spare: _Copy | None = None
+        self._spare_turn = threading.RLock()
+        self.spent = self.total = 0.0
         self._has_ended = False
         self.policy: dict[int, str] = {}
         self.losses: list[str] = []
+        self.progress: Callable[[int], object] = lambda percent: None
+        self._percent = 100
+        self._process: _Process | None = None
         try:
-            self._process: _Process | None = self._replay()
-        except (ProgramGone, OutOfStep):
-            check_is_vecmon(program)
-            raise
-        try:
+            self._replay()
             for line in filter(None, script.decode("latin-1").split("\n")):
                 self.do(line)
-        except BaseException:
+        except BaseException as error:
             self.close()
+            if isinstance(error, ProgramGone | OutOfStep):
+                check_is_vecmon(program)
             raise
 
     def __exit__(self, *error: object) -> None:
@@ -190,7 +260,7 @@ class Session(contextlib.AbstractContextManager["Session"]):
     @property
     def lines(self) -> int:
         """How many lines the script has."""
-        return len(self._marks) // MARK_BYTES
+        return len(self._marks)
 
     @property
     def digest(self) -> str:
@@ -219,6 +289,71 @@ class Session(contextlib.AbstractContextManager["Session"]):
             raise ScriptFull(f"the script has {self._script_bytes:,} bytes at most, so only lines that look go on")
         return self._ask(lines)
 
+    def do_script(self, script: bytes) -> Iterator[tuple[str, list[str]]]:
+        """Does lines that a session recorded, in bulk: each line and its answer, as they come.
+
+        Nobody looks whether an answer is one to its line: the digest tells. Raises BadLine, ProgramGone and OutOfStep,
+        and then the session is of no use any more, as where it isn't gone through to its end.
+        """
+        if not _RECORDED.fullmatch(script):
+            raise BadLine("a script has lines that no session records")
+        began = time.monotonic()
+        for line, answer in self._piped(self._process or self._replay(), script, self._tell):
+            self._take_up(line, answer)
+            yield line, answer
+        self._script += script
+        self._spend(began)
+
+    @property
+    def short_script(self) -> bytes:
+        """Lines that leave the machine as the script does: those of the last checkpoint, and the lines since."""
+        checkpoint, covered = self._base
+        return checkpoint.lines + self._script[covered:]
+
+    @property
+    def weight(self) -> float:
+        """How much a new process would carry out: from 1 on it is time for a checkpoint."""
+        return (len(self._script) - self._base[1]) / WEIGHTY_BYTES + self.spent / WEIGHTY_SECONDS
+
+    def shorten(self, checkpoint: Checkpoint) -> None:
+        """Takes up a checkpoint of `short_script`, as that was some time ago: a new process begins with its lines."""
+        before, covered = self._base
+        gone = max(0, checkpoint.number - before.lines.count(b"\n"))
+        for _ in range(gone):
+            covered = self._script.index(b"\n", covered) + 1
+        self._base = Checkpoint(before.number + gone, checkpoint.lines), covered
+
+    def follow(self) -> None:
+        """Brings a spare process to where the machine is, in a thread of its own: it takes the place of one that is gone.
+
+        Raises as a replay does; then there is no spare.
+        """
+        with self._spare_turn:
+            if self._spare and self._spare.process.fed > self._script_bytes:
+                self._spare.process.close()
+                self._spare = None
+            if not self._has_ended:
+                self._spare = self._spare or self._copy()
+                try:
+                    self._bring_up(self._spare)
+                except BaseException:
+                    self._spare = None
+                    raise
+
+    def renewed(self) -> "Session":
+        """A session on the same machine whose script is `short_script`. Raises as a replay does."""
+        heir = self._opening()
+        try:
+            deque(heir.do_script(self.short_script), 0)
+            since = self._marks[self._base[0].number :]
+            if heir._marks[heir.lines - len(since) :] != since:
+                raise ReplayDiffers(DIFFERS)
+        except BaseException:
+            heir.close()
+            raise
+        heir.losses = self.losses
+        return heir
+
     def look(self, line: str) -> list[str]:
         """The answer to a line that only looks. Raises BadLine for any other one, and else as `do`."""
         return self.look_all([line])[0]
@@ -236,23 +371,32 @@ class Session(contextlib.AbstractContextManager["Session"]):
         if self._process:
             self._process.close()
         self._process = None
+        if self._has_ended:
+            with self._spare_turn:
+                if self._spare:
+                    self._spare.process.close()
+                self._spare = None
 
     def end(self) -> None:
         """Ends the process for good, also while another thread waits for it: that one gets ProgramGone."""
-        self._has_ended = True
-        if self._process:
-            self._process.kill()
+        self._has_ended, spare = True, self._spare
+        for process in (self._process, spare.process if spare else None):
+            if process:
+                process.kill()
 
     def _ask(self, lines: Sequence[str]) -> list[list[str]]:
         """The answers to lines, which are recorded unless they only look. No process outlives an error or interrupt."""
         size = sum(map(len, lines))
         if self._process and self._process.fed + size >= self._script_bytes + self._script_bytes // 10:
             self.close()
+        began = time.monotonic()
         try:
             answers = self._answers_to(lines)
             for line, answer in zip(lines, answers):
                 if not is_look(line):
                     self._record(line, answer)
+                    self._spend(began)
+                    began = time.monotonic()
         except BaseException:
             self.close()
             raise
@@ -266,38 +410,106 @@ class Session(contextlib.AbstractContextManager["Session"]):
             except ProgramGone as gone:
                 self.losses.append(str(gone))
                 self.close()
-        self._process = self._replay()
-        return self._process.ask(lines)
+        return self._replay().ask(lines)
 
     def _replay(self) -> _Process:
-        """A new process that has carried out the script, and has answered as the one before."""
-        process, answers = _Process(self.command, self._patience), hashlib.sha256()
+        """A process that has carried out the script, and has answered as the one before: the spare, or a new one."""
+        with self._spare_turn:
+            spare, self._spare = self._spare, None
+            if spare:
+                with contextlib.suppress(ProgramGone):
+                    self._with_process(spare).ask(["* list"])  # whether it lives
+                    return spare.process
+                spare.process.close()
+            return self._with_process(self._copy())
+
+    def _with_process(self, copy: _Copy) -> _Process:
+        """A copy's process, which is the session's now, brought up. Raises as a replay does, and then it is closed."""
+        self._process = copy.process
+        try:
+            self._bring_up(copy, self._tell)
+        except BaseException:
+            self.close()
+            raise
+        return copy.process
+
+    def _copy(self) -> _Copy:
+        """A new process, which has carried out a checkpoint's lines, if there is one, in place of the first lines."""
+        process, (checkpoint, covered) = _Process(self.command, self._patience), self._base
         try:
             if read(process.ask(["* list"])[0]) != NEW_MACHINE:
                 raise OutOfStep("the program doesn't begin with a new machine")
             self._check()
-            for number, line in enumerate(self._script.decode("ascii").splitlines(), 1):
-                if self._has_ended:
-                    break
-                (answer,) = process.ask([line])
-                _count(answers, answer)
-                mark = self._marks[(number - 1) * MARK_BYTES : number * MARK_BYTES]
-                if answers.digest()[:MARK_BYTES] != mark:
-                    now = f"line {number}, {line[:60]!r}, now with {answer[0][:60]!r}"
-                    raise ReplayDiffers(f"a new process answers the script otherwise than the one before: {now}")
-            if self._has_ended:
-                raise ProgramGone("the session has ended")
+            deque(self._piped(process, checkpoint.lines), 0)
         except BaseException:
             process.close()
             raise
-        return process
+        return _Copy(process, checkpoint.number, covered)
+
+    def _bring_up(self, copy: _Copy, tell: Callable[[int], object] = lambda percent: None) -> None:
+        """Carries out what the script has since. No process outlives an error."""
+        script = bytes(self._script[copy.size :])
+        try:
+            for line, answer in self._piped(copy.process, script, tell):
+                if zlib.crc32(_printed(answer)) != self._marks[copy.number]:
+                    told = f"line {copy.number + 1}, {line[:60]!r}, now with {answer[0][:60]!r}"
+                    raise ReplayDiffers(f"{DIFFERS}: {told}")
+                copy.number += 1
+        except BaseException:
+            copy.process.close()
+            raise
+        copy.size += len(script)
+
+    def _piped(
+        self, process: _Process, script: bytes, tell: Callable[[int], object] = lambda percent: None
+    ) -> Iterator[tuple[str, list[str]]]:
+        """Lines that a session recorded, and their answers, as they come; tells how far it is, in percent.
+
+        Raises ProgramGone, and OutOfStep where there are more answers than lines, or fewer.
+        """
+        lines, line, answer, done = script.decode("ascii").split("\n")[:-1], "", list[str](), 0
+        if lines:
+            tell(0)
+        for block in process.pour(script) if lines else ():
+            if self._has_ended:
+                raise ProgramGone("the session has ended")
+            for part in block.decode("latin-1").split("\n")[:-1]:
+                if done == len(lines):
+                    raise OutOfStep(f"after the answers to a script there came {part[:60]!r}")
+                answer.append(part)
+                if lines[done][0] != "*" or part[:1] == "*":  # before an operator's answer stand stops
+                    yield lines[done], answer
+                    done, answer = done + 1, []
+            tell(min(99, 100 * done // len(lines)))
+        if done < len(lines):
+            raise OutOfStep("the program hasn't answered all lines of a script")
+        tell(100)
+
+    def _tell(self, percent: int) -> None:
+        """Tells how much of the script is carried out, where that is another number than before."""
+        if percent != self._percent:
+            self._percent = percent
+            self.progress(percent)
+
+    def _spend(self, began: float) -> None:
+        """Counts the time since then."""
+        seconds = time.monotonic() - began
+        self.spent, self.total = self.spent + seconds, self.total + seconds
 
     def _record(self, line: str, answer: Sequence[str]) -> None:
-        """Adds a line to the script, and its answer to the digest; follows the policy of the line's user."""
-        self._script += line.encode("ascii") + b"\n"
-        _count(self._answers, answer)
-        self._marks += self._answers.digest()[:MARK_BYTES]
-        if line[0] == "*" or is_refusal(answer):
+        """Adds a line to the script, and takes up its answer."""
+        self._take_up(line, answer)
+        self._script += line.encode("ascii") + b"\n"  # each line there has its mark, also for a spare's thread
+
+    def _take_up(self, line: str, answer: Sequence[str]) -> None:
+        """Adds a line's answer to the digest; follows the policy of the line's user."""
+        printed = _printed(answer)
+        self._answers.update(printed)
+        self._marks.append(zlib.crc32(printed))
+        self._follow_policy(line, answer)
+
+    def _follow_policy(self, line: str, answer: Sequence[str]) -> None:
+        if line[2:3] not in "elp " or line[0] == "*" or is_refusal(answer):
             return
         match words_of(line):
             case ["enter"] | ["load", _]:
@@ -308,6 +520,6 @@ class Session(contextlib.AbstractContextManager["Session"]):
                 del self.policy[int(line[0])]
 
 
-def _count(answers: "hashlib._Hash", answer: Sequence[str]) -> None:
-    """Adds an answer to the digest of answers."""
-    answers.update("".join(f"{part}\n" for part in answer).encode("ascii"))
+def _printed(answer: Sequence[str]) -> bytes:
+    """An answer as the machine prints it."""
+    return ("\n".join(answer) + "\n").encode("latin-1")

@@ -1,10 +1,14 @@
 // A tab of the class: its code, what it was told, and whose page it is.
 
+import { ask } from "./ask.js";
 import { Connection } from "./connection.js";
 import { byId, put, say } from "./elements.js";
 import { patched } from "./patches.js";
 import { Student } from "./student.js";
 import { Teacher } from "./teacher.js";
+import { Wall } from "./wall.js";
+
+const LEAVING = "This tab forgets its code, without which nobody comes back. What was done here stays at the class.";
 
 /** Begins anew with a code, or with none, that is kept for this tab's session alone, and not in the address. */
 function sitDown(code) {
@@ -33,15 +37,15 @@ class ClassTab {
     this.view = patched(isAnew ? {} : this.view, patch);
     if (!this.page) {
       for (const id of ["head", "desk"]) byId(id).hidden = false;
-      document.body.className = who === "teacher" ? "teaching" : "studying";
-      this.page = who === "teacher" ? new Teacher(this.connection) : new Student(this.connection);
+      document.body.classList.add({ teacher: "teaching", wall: "watching" }[who] ?? "studying");
+      this.page = new ({ teacher: Teacher, wall: Wall }[who] ?? Student)(this.connection);
     }
     this.page.show(this.view, logs, isAnew);
   }
 }
 
 window.addEventListener("hashchange", () => (sitDown(location.hash.slice(1)), location.reload()));
-byId("forget").addEventListener("click", () => (sitDown(""), location.reload()));
+byId("forget").addEventListener("click", () => ask(LEAVING, "Leave", () => (sitDown(""), location.reload())));
 document.addEventListener("submit", (event) => event.preventDefault());
 byId("join").addEventListener("submit", () => (sitDown(byId("code").value.trim()), location.reload()));
 if (location.hash) sitDown(location.hash.slice(1));

@@ -1,5 +1,7 @@
 // The way to the class: one WebSocket, one request after the other, growing pauses where it is gone.
 
+import { offerFile } from "./elements.js";
+
 const [FIRST_PAUSE, LONGEST_PAUSE] = [500, 15000]; // ms
 const LONGEST_SILENCE = 60000; // until a request without an answer tells that the connection is broken
 const ENDINGS = { 4403: "This code isn't valid, or not any more.", 4429: "This seat is open in too many tabs." };
@@ -41,11 +43,20 @@ export class Connection {
       this.gone(`The class isn't there now. ${this.lost}`);
       return null;
     }
-    if (this.lost && request.ask !== "shoulder") this.gone((this.lost = ""));
+    if (this.lost && !["shoulder", "wall", "draft"].includes(request.ask)) this.gone((this.lost = ""));
     return new Promise((done) => {
       this.waiting.push({ request: { id: ++this.number, ...request }, words, done });
       if (this.waiting.length === 1) this.next();
     });
+  }
+
+  /** Saves what the server has at a place as a file; whether it has it. */
+  async download(place, name) {
+    const headers = { Authorization: `Bearer ${this.code}` };
+    const answer = await fetch(place, { headers }).catch(() => null);
+    if (!answer?.ok) return false;
+    offerFile(name, await answer.blob());
+    return true;
   }
 
   next() {
@@ -61,8 +72,8 @@ export class Connection {
     this.socket = null;
     this.isReady = false;
     const lost = this.waiting.splice(0);
-    const names = lost.map(({ words }) => words);
-    this.lose(names.slice(0, 1), names.slice(1));
+    const [underWay, ...unsent] = lost.map(({ words }) => words);
+    this.lose([underWay].filter(Boolean), unsent.filter(Boolean)); // what has no words is sent again by whoever asks for it
     lost.forEach(({ done }) => done(null));
     if (ENDINGS[reason]) return this.ended(ENDINGS[reason]);
     setTimeout(() => this.open(), this.pause * (0.75 + Math.random() / 2));

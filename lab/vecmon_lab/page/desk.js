@@ -1,47 +1,54 @@
 // A seat's machine, live: what was told of it is painted where it changed.
 
-import { byId, make, prose } from "./elements.js";
+import { byId, make } from "./elements.js";
+import { Past } from "./past.js";
 import { showStep, showStop } from "./stage.js";
-import { addToLog, entryParts, logEntry } from "./transcript.js";
+import { addToLog, toldEntry } from "./transcript.js";
 import { paintState, whenFormsChange } from "./view.js";
-
-/** An entry of a seat's log; a refusal with its words. */
-function seatEntry(entry) {
-  const item = logEntry(entry, true);
-  const [, words] = entryParts(entry);
-  if (words) item.append(make("small", "", ...prose(words.replace(/^E\d\d.*?: /m, ""))));
-  return item;
-}
 
 /** A machine's state, painted where it changed: at its seat, and for a teacher who looks over the shoulder. */
 export class Desk {
   constructor() {
     whenFormsChange(() => this.paint());
+    this.past = new Past(() => this.paintMoment());
     this.state = this.before = { run: "absent" };
     this.used = new Set(); // vector registers that weren't zero since the machine began
     this.refusal = ""; // of what was sent last
   }
 
-  show(state, entries, isAnew) {
+  show(seat, state, entries, isAnew) {
     if (isAnew) byId("log").replaceChildren();
-    addToLog(byId("log"), entries.map(seatEntry));
+    if (seat !== this.seat) this.past.forget();
+    this.seat = seat;
+    addToLog(byId("log"), entries.map((entry) => toldEntry(entry, true)));
     if (state === this.state) return;
     this.before = isAnew ? state : this.state;
     this.state = state;
-    if (isAnew || !state.v) this.used.clear();
+    if (isAnew || !state.v) this.used = new Set();
     for (const [number, bytes] of Object.entries(state.v ?? {})) if (/[^0]/.test(bytes)) this.used.add(Number(number));
+    this.past.add({ state, before: this.before, used: this.used, entry: byId("log").lastElementChild });
     this.paint();
   }
 
-  /** Paints it. A machine that runs may never have been looked at. */
+  /** Paints another moment, with the transcript up to it. */
+  paintMoment() {
+    this.paint();
+    byId("log").scrollTop = byId("log").scrollHeight;
+  }
+
+  /** Paints it, or the moment of the past that is shown. A machine that runs may never have been looked at. */
   paint() {
-    paintState(this.state.x ? this.state : { run: "absent" }, this.before.x && this.before, this.used);
+    const { state, before, used } = this.past.moment ?? this;
+    paintState(state.x ? state : { run: "absent" }, before.x && before, used);
+    byId("log").querySelector(".until")?.classList.remove("until");
+    this.past.moment?.entry?.classList.add("until");
     this.showStage();
   }
 
   showStage() {
-    const absent = make("small", "", "nobody has entered: a new machine or a source begins");
-    showStep(this.state, ...(this.state.run === "absent" ? [absent] : []));
-    showStop([this.refusal, this.state.stop].filter(Boolean).join(" "));
+    const state = this.past.moment?.state ?? this.state;
+    const absent = make("small", "", "there is no machine here yet");
+    showStep(state, ...(state.run === "absent" ? [absent] : []));
+    showStop([this.past.moment ? "" : this.refusal, state.stop].filter(Boolean).join(" "));
   }
 }

@@ -10,6 +10,9 @@ export function make(tag, kind, ...contents) {
   return element;
 }
 
+/** A button whose name says more than its text. */
+export const button = (text, ariaLabel, onclick) => Object.assign(make("button", "", text), { ariaLabel, onclick });
+
 /** Words for whoever can't see colour and form. */
 export const unseen = (text) => make("span", "unseen", text);
 
@@ -21,6 +24,13 @@ export const table = (caption, ...parts) => make("table", "", make("caption", "u
 
 /** A text of the author's, in which backquotes stand around what is code, as elements. */
 export const prose = (text) => text.split("`").map((part, place) => (place % 2 ? make("code", "", part) : part));
+
+/** Lets the browser save a file. */
+export function offerFile(download, blob) {
+  const link = Object.assign(make("a", ""), { href: URL.createObjectURL(blob), download });
+  link.click();
+  setTimeout(() => URL.revokeObjectURL(link.href), 60000);
+}
 
 /** Puts a text in only where it is another one, so that it isn't read aloud again. */
 export function put(element, text, contents = [text]) {

@@ -1,15 +1,24 @@
 // The program: labels, breakpoints, the program counter, the instruction that is told of, and words that are new.
 
 import { byId, header, make, unseen } from "./elements.js";
-import { inOrder, paintRows } from "./rows.js";
-import { target, withNames } from "./words.js";
+import { RowTable, placesOf } from "./rows.js";
+import { saysMore, target, withNames } from "./words.js";
 
-const TABLE = { caption: "Program", names: ["marks", "address", "word", "instruction"], bytes: 4 };
+const NAMES = ["marks", "address", "word", "instruction", "source"];
+const rows = new RowTable(byId("listing"), "Program", NAMES, "No program stands in memory yet.");
+let [code, labels, places] = [null, null, []];
+let [pc, seen] = ["", ""]; // where the program stood, and what was brought into sight
 
 export function paintListing(state, before) {
   const abi = byId("names").value === "abi";
-  const rows = inOrder(Object.keys(state.code)).map((address) => listingRow(state, before, address, abi));
-  paintRows(byId("listing"), TABLE, rows, state.labels, "No program stands in memory yet.");
+  if (state.code !== code || state.labels !== labels) {
+    [code, labels] = [state.code, state.labels];
+    places = placesOf(Object.keys(code), 4, labels);
+  }
+  if (state.code[state.instruction]) seen = state.instruction;
+  else if (state.pc !== pc) seen = state.pc;
+  pc = state.pc;
+  rows.show(places, (address) => listingRow(state, before, address, abi), seen);
 }
 
 function listingRow(state, before, address, abi) {
@@ -24,7 +33,9 @@ function listingRow(state, before, address, abi) {
   if (goal) text.append(make("span", "goal", ` → ${state.labels?.[goal]?.[0] ?? goal}`));
   const word = make("td", "word", line.slice(0, 8));
   if (before.code[address] !== line && (before.code[address] || !state.instruction)) word.classList.add("changed");
-  const row = make("tr", kinds.join(" "), marks, header("row", address), word, text);
+  const said = state.lines?.[address] ?? "";
+  const source = Object.assign(make("td", "source", saysMore(said, line.slice(9))), { title: said });
+  const row = make("tr", kinds.join(" "), marks, header("row", address), word, text, source);
   Object.assign(row.dataset, { address, edit: `break ${address}` });
   return row;
 }

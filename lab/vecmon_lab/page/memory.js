@@ -1,20 +1,23 @@
 // Memory in rows of 16 bytes, with a gap where rows are left out; and what the program has put out.
 
 import { byId, header, make } from "./elements.js";
-import { inOrder, paintRows } from "./rows.js";
+import { RowTable, placesOf } from "./rows.js";
 
 const NAMES = ["address", "bytes 0 to 3", "4 to 7", "8 to 11", "12 to 15", "text"];
-const TABLE = { caption: "Memory", names: NAMES, bytes: 16 };
+const rows = new RowTable(byId("bytes"), "Memory", NAMES, "No memory but the program is in use yet.");
 
+/** A change comes into sight, the first one where there are more. */
 export function paintMemory(state, before) {
+  const places = placesOf(Object.keys(state.memory), 16, state.labels);
   const row = (address) => memoryRow(address, state.memory[address], before.memory[address]);
-  const rows = inOrder(Object.keys(state.memory)).map(row);
-  paintRows(byId("bytes"), TABLE, rows, state.labels, "No memory but the program is in use yet.");
+  const isOther = ({ address }) => ![undefined, state.memory[address]].includes(before.memory[address]);
+  rows.show(places, row, places.find(isOther)?.address);
 }
 
 export function paintOutput(state) {
-  byId("output-box").hidden = !state.output;
-  byId("output").textContent = outputText(state.output ?? "");
+  const digits = state.output ?? Object.values(state.outputs ?? {}).join("");
+  byId("output-box").hidden = !digits;
+  byId("output").textContent = outputText(digits);
 }
 
 function memoryRow(address, digits, digitsBefore) {

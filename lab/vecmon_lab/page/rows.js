@@ -2,24 +2,107 @@
 
 import { header, make, table, unseen } from "./elements.js";
 
+const MOST_MADE = 200; // rows that are made whether they are in sight or not
+const [ROWS_AROUND, ROWS_TOGETHER] = [30, 10]; // made around those in sight; those by which it moves on
+
 /** Addresses, which are hexadecimal digits, in rising order. */
 export const inOrder = (addresses) =>
   addresses.sort((one, other) => one.length - other.length || (one < other ? -1 : 1));
 
-/** A table of rows by address, so many bytes each, with gaps and labels; a sentence where there are none. */
-export function paintRows(box, { caption, names, bytes }, rows, labels, empty) {
-  const body = make("tbody", "");
-  for (const row of rows) body.append(...rowsBefore(body, row.dataset.address, bytes, labels), row);
-  const heads = make("tr", "", ...names.map((name) => header("col", unseen(name))));
-  box.replaceChildren(rows.length ? table(caption, make("thead", "", heads), body) : make("p", "empty", empty));
+/**
+ * What stands in a table of rows by address, so many bytes each: { address } for a row, { text, kind } for a gap where
+ * one doesn't follow the one before, and for a label.
+ */
+export function placesOf(addresses, bytes, labels = {}) {
+  const named = inOrder(Object.keys(labels)).map((address) => [BigInt("0x" + address), labels[address]]);
+  let end = null;
+  return inOrder(addresses).flatMap((address) => {
+    const place = BigInt("0x" + address);
+    const places = end === null || end === place ? [] : [{ text: "⋯", kind: "gap" }];
+    end = place + BigInt(bytes);
+    while (named.length && named[0][0] < end) {
+      const [at, names] = named.shift();
+      if (at >= place) places.push(...names.map((name) => ({ text: `${name}:`, kind: "label" })));
+    }
+    return [...places, { address }];
+  });
 }
 
-/** The rows before one of the listing or of memory: a gap where it doesn't follow the one before, and labels. */
-function rowsBefore(body, address, bytes, labels) {
-  const place = BigInt("0x" + address);
-  const last = body.lastChild?.dataset.address;
-  const gap = last && BigInt("0x" + last) + BigInt(bytes) !== place ? [make("td", "gap", "⋯")] : [];
-  const offsets = Array.from({ length: bytes }, (_, offset) => (place + BigInt(offset)).toString(16));
-  const own = offsets.flatMap((each) => labels?.[each] ?? []).map((label) => make("td", "label", `${label}:`));
-  return [...gap, ...own].map((cell) => make("tr", "", Object.assign(cell, { colSpan: 6 })));
+/**
+ * A table in a box that scrolls, of whose many rows those that are out of sight aren't made; all are equally high.
+ * Where the box stands and how high it is are told by events, so that nobody waits for a layout.
+ */
+export class RowTable {
+  /** names: of its columns; empty: a sentence where there are no rows. */
+  constructor(box, caption, names, empty) {
+    const heads = make("tr", "", ...names.map((name) => header("col", unseen(name))));
+    this.body = make("tbody", "");
+    this.table = table(caption, make("thead", "", heads), this.body);
+    Object.assign(this, { box, empty: make("p", "empty", empty), columns: names.length, places: [], made: "" });
+    Object.assign(this, { top: 0, room: 0, height: 18 }); // px: what is scrolled away, what is in sight, a row
+    box.addEventListener("scroll", () => this.moved(box.scrollTop));
+    new ResizeObserver(() => this.resized()).observe(box);
+  }
+
+  /** Shows places, each row as `makeRow` makes it of its address. The row of `seen` comes into sight, once. */
+  show(places, makeRow, seen) {
+    const isOther = seen !== this.seen || places.length !== this.places.length;
+    Object.assign(this, { places, makeRow, seen, made: "" });
+    const shown = places.length ? this.table : this.empty;
+    if (this.box.firstChild !== shown) this.box.replaceChildren(shown);
+    this.table.ariaRowCount = `${places.length}`;
+    this.paint();
+    if (isOther) this.bringIntoSight();
+  }
+
+  moved(top) {
+    this.top = top;
+    this.paint();
+  }
+
+  resized() {
+    const { room, height } = this;
+    this.room = this.box.clientHeight;
+    this.height = parseFloat(getComputedStyle(this.body).lineHeight) || height;
+    if (this.height !== height) this.made = "";
+    this.moved((this.top * this.height) / height); // the same rows stay in sight
+    this.box.scrollTop = this.top;
+    if (Math.abs(this.room - room) > 60) this.bringIntoSight(); // it was hidden, or the window is another one
+  }
+
+  /** Has two rows before the one that is to be seen, and two behind it, in sight; else it comes to the upper third. */
+  bringIntoSight() {
+    const { top, room, seen, height } = this;
+    const place = this.places.findIndex(({ address }) => address && address === seen) * height;
+    if (!room || place < 0 || (place >= top + 2 * height && place <= top + room - 3 * height)) return;
+    this.moved(Math.max(0, Math.min(place - room / 3, this.places.length * height - room)));
+    this.box.scrollTop = this.top;
+  }
+
+  /** Makes the rows in sight, and some around them. */
+  paint() {
+    const { top, room, height, places } = this;
+    const count = places.length <= MOST_MADE ? places.length : Math.ceil(room / height) + 2 * ROWS_AROUND;
+    const wanted = Math.floor(top / height / ROWS_TOGETHER) * ROWS_TOGETHER - ROWS_AROUND;
+    const first = Math.max(0, Math.min(wanted, places.length - count));
+    if (this.made === `${first} ${count}`) return;
+    this.made = `${first} ${count}`;
+    const rows = places.slice(first, first + count).map((place, at) => {
+      const row = place.address ? this.makeRow(place.address) : this.otherRow(place);
+      return Object.assign(row, { ariaRowIndex: `${first + at + 1}` });
+    });
+    this.body.replaceChildren(this.space(first), ...rows, this.space(places.length - first - rows.length));
+  }
+
+  otherRow({ text, kind }) {
+    return make("tr", "", Object.assign(make("td", kind, text), { colSpan: this.columns }));
+  }
+
+  /** The room of so many rows that aren't made. */
+  space(count) {
+    const row = make("tr", "space");
+    row.style.height = `${count * this.height}px`;
+    row.hidden = count === 0;
+    return row;
+  }
 }

@@ -2,7 +2,7 @@
 
 import re
 from collections import Counter
-from collections.abc import Iterator, Sequence
+from collections.abc import Iterable, Iterator, Mapping, Sequence
 from typing import TypedDict
 
 from ..guest.guest import Guest
@@ -34,7 +34,8 @@ class State(TypedDict, total=False):
     instruction: the address of the instruction that was carried out last, or faulted, in what was just done
     stop: why the program stopped in what was just done, in words
     output: the bytes that answers to `out` have shown
-    labels: in a class, names by address of the source that was assembled last
+    outputs: in a class in place of it, the last 64 KB of them, in blocks by number
+    labels, lines: in a class, names and lines by address of the source that was assembled last
     """
 
     run: str
@@ -55,7 +56,9 @@ class State(TypedDict, total=False):
     faulted: bool
     stop: str
     output: str
+    outputs: Mapping[str, str]
     labels: dict[str, list[str]]
+    lines: dict[str, str]
 
 
 ABSENT: State = {"run": "absent"}
@@ -69,19 +72,20 @@ _STORE = re.compile(r"(s[bhwd]|vs\S+) .*\(x\d+\)")
 
 
 class Watch:
-    """The places of one user's memory that are looked at: words of the program, and pages of data."""
+    """The places of one user's memory that are looked at: words of the program, and pages of data; and breakpoints."""
 
     def __init__(self) -> None:
         self.code: set[int] = set()  # addresses of words
         self.pages: set[int] = set()  # addresses of pages
         self.named: set[int] = set()  # addresses of rows that lines named
+        self.breaks: set[int] = set()  # where the program stops, of which a look at one that runs doesn't tell
         self.trace: Sequence[int] = []  # as it was when it was looked at last
 
     def follow(self, line: str) -> None:
         """Takes up the places that a user's line names, which was accepted."""
         match words_of(line):
             case ["enter"] | ["leave"] | ["load", _]:
-                for places in (self.code, self.pages, self.named):
+                for places in (self.code, self.pages, self.named, self.breaks):
                     places.clear()
             case ["map", address, pages, _]:
                 self._add_pages(int(address, 16), int(pages) * PAGE_BYTES, MAPPED_PAGES)
@@ -91,6 +95,10 @@ class Watch:
                 self._name(int(address, 16), int(length))
             case ["asm", address, *_]:
                 self.code.add(int(address, 16))
+            case ["break", address]:
+                self.breaks.add(int(address, 16))
+            case ["unbreak", address]:
+                self.breaks.discard(int(address, 16))
 
     def _name(self, address: int, length: int) -> None:
         self.named.update(range(address // ROW_BYTES * ROW_BYTES, address + length, ROW_BYTES))
@@ -106,14 +114,15 @@ class Watch:
         if base:
             self._add_pages((int(registers[base[2]], 16) + int(base[1] or "0")) % (1 << 48), 1)
 
-    def runs(self) -> list[list[int]]:
-        """The addresses of the program's words, in runs of at most 16 that stand one behind another."""
-        runs: list[list[int]] = []
-        for address in sorted(self.code):
-            if not runs or len(runs[-1]) == 16 or address != runs[-1][-1] + 4:
-                runs.append([])
-            runs[-1].append(address)
-        return runs
+
+def runs_of(addresses: Iterable[int]) -> list[list[int]]:
+    """The addresses of words in runs of at most 16 that stand one behind another."""
+    runs: list[list[int]] = []
+    for address in sorted(addresses):
+        if not runs or len(runs[-1]) == 16 or address != runs[-1][-1] + 4:
+            runs.append([])
+        runs[-1].append(address)
+    return runs
 
 
 def look_at(
@@ -145,12 +154,15 @@ def look_at(
         state["v"] = _vectors(guest)
     trace = guest.told("trace", Addresses).addresses
     stepped = any(isinstance(answer, Position) and answer.kind == "stepped" for answer in answers)
-    state["code"] = _code(guest, watch, place.pc, trace)
-    state["operands"] = {address: shown_operands(int(line[:8], 16)) for address, line in state["code"].items()}
+    may_store = not carried_out or _STORE.match(carried_out) is not None
+    code = _code(guest, watch, place.pc, trace, {} if may_store else state["code"])
+    if code != state.get("code"):
+        state["code"] = code
+        state["operands"] = {address: shown_operands(int(line[:8], 16)) for address, line in code.items()}
     text = state["code"].get(state["pc"], "")
     pages = len(watch.pages)
     watch.add_accessed(text[9:], state["x"])
-    if not carried_out or _STORE.match(carried_out) or len(watch.pages) > pages:
+    if may_store or len(watch.pages) > pages:
         state["memory"] = _memory(guest, watch)
     if trace and (stepped or trace != watch.trace):
         state["instruction"] = f"{trace[-1]:x}"
@@ -218,14 +230,18 @@ def _vectors(guest: Guest) -> dict[str, str]:
     return {str(answer.number): answer.data.hex() for answer in answers if isinstance(answer, VectorRegister)}
 
 
-def _code(guest: Guest, watch: Watch, pc: int, trace: Sequence[int]) -> dict[str, str]:
-    """The listing: words that lines wrote, words that were carried out, and some from the program counter on."""
+def _code(guest: Guest, watch: Watch, pc: int, trace: Sequence[int], known: dict[str, str]) -> dict[str, str]:
+    """The listing: words that lines wrote, words that were carried out, and some from the program counter on.
+
+    What is known of it is as it was.
+    """
     if len(watch.code) < MOST_WORDS:
         watch.code.update(trace)
         watch.code.update(_ahead(guest, pc))
-    answers = guest.ask(*(f"dis {run[0]:x} {len(run)}" for run in watch.runs()))
+    new = {address for address in watch.code if f"{address:x}" not in known}
+    answers = guest.ask(*(f"dis {run[0]:x} {len(run)}" for run in runs_of(new)))
     words = [word for answer in answers if isinstance(answer, Listing) for word in answer.words]
-    return {f"{word.address:x}": f"{word.word:08x} {word.text}" for word in words}
+    return known | {f"{word.address:x}": f"{word.word:08x} {word.text}" for word in words}
 
 
 def _ahead(guest: Guest, pc: int) -> Iterator[int]:

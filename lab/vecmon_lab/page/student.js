@@ -1,10 +1,18 @@
 // A student's page: what is done at the desk becomes lines.
 
+import { ask } from "./ask.js";
+import { Cursor } from "./cursor.js";
 import { Desk } from "./desk.js";
+import { Editor } from "./editor.js";
 import { byId, make, put, say } from "./elements.js";
+import { LineField, inParts, nameOf, unfitLines } from "./lines.js";
+import { entryText, showReference, tellName } from "./reference.js";
+import { Sides } from "./sides.js";
+import { MOST_LETTERS, Source } from "./source.js";
 
 const MOST_WAITING = 5; // requests: keys that repeat faster are left out
-const NEW_MACHINE = ["enter", "map 10000 1 rwx", "map 20000 1 rw", "setpc 10000"];
+const NEW_MACHINE = ["map 10000 1 rwx", "map 20000 1 rw", "setpc 10000"];
+const LOSS = "Registers, memory and breakpoints of this machine would be lost. The source stays, and Back shows what was seen.";
 
 /** The bytes of a register with another element; all bytes in hexadecimal, the least first. */
 function withElement(bytes, width, place, value) {
@@ -14,51 +22,76 @@ function withElement(bytes, width, place, value) {
   return turned((others | (BigInt.asUintN(width, value) << shift)).toString(16).padStart(bytes.length, "0"));
 }
 
+/** Whether a state has nothing that could be lost. */
+const isBlank = ({ run, x, v, memory, code }) =>
+  run !== "running" && [x, v, memory, code].flatMap((part) => Object.values(part ?? {})).every((digits) => /^0*( |$)/.test(digits));
+
+/** What was refused of a request, in words. */
+function refusals({ do: lines }, answer) {
+  const told = (answer?.words ?? []).map((why, place) => why && `\`${lines[place]}\`: ${why}.`);
+  return [...told, answer?.error].filter(Boolean).join(" ");
+}
+
 /** A student's desk: buttons, keys, the command line, values to click, and the source. */
 export class Student {
   constructor(connection) {
     this.connection = connection;
     this.desk = new Desk();
-    this.past = []; // lines that were typed
-    this.place = 0; // among them
-    byId("log").after(byId("command"));
-    byId("listing").before(byId("editor"));
-    byId("program-title").after(byId("sides"));
-    byId("source").value = sessionStorage.getItem("source") ?? byId("source").value;
+    this.side = "listing"; // what is shown since one entered, or left
+    byId("log").after(byId("command"), byId("hint"));
+    this.sides = new Sides(["listing", "source", "reference"], (side) => side === "reference" && this.refer(""));
+    this.source = new Source(new Editor(byId("source"), () => this.source.typed()), connection);
     byId("foot").hidden = false;
     this.listen();
-    this.numberLines();
   }
 
   listen() {
     const on = (id, event, heard) => byId(id).addEventListener(event, heard);
     document.querySelectorAll("[data-do]").forEach(({ id, dataset }) => on(id, "click", () => this.send([dataset.do])));
     on("steps", "submit", () => this.send([`step ${byId("number").value}`]));
-    on("command", "submit", () => this.command());
+    new LineField("line", (lines) => this.enter(lines));
+    new Cursor((place) => this.edit(place));
     on("change", "submit", () => this.change());
-    on("slice", "click", () => this.request({ ask: "lines", slices: 1 }, "a slice"));
-    on("new", "click", () => this.send([...this.leaving(), ...NEW_MACHINE]));
-    on("images", "change", () => this.send([...this.leaving(), "enter", `load ${byId("images").value}`]));
-    on("line", "keydown", (event) => this.recall(event));
-    on("source", "input", () => this.numberLines());
-    on("source", "scroll", () => (byId("numbers-of-lines").scrollTop = byId("source").scrollTop));
-    on("assemble", "click", () => this.assemble());
-    for (const side of ["listing", "source"]) on(`show-${side}`, "click", () => this.showSide(side));
+    on("slice", "click", () => this.request({ ask: "lines", slices: 100 }, "slices"));
+    on("again", "click", () => this.assemble({ ask: "again" }));
+    on("new", "click", () => this.beginAnew("New machine", NEW_MACHINE));
+    on("images", "change", () => this.beginAnew("Load", [`load ${byId("images").value}`]));
+    on("assemble", "click", () => this.write());
+    on("home", "click", () => this.takeHome());
+    on("find", "input", () => showReference(byId("find").value));
     on("edit-close", "click", () => byId("edit").close());
     on("machine", "click", (event) => this.edit(event.target.closest("[data-edit]")));
     document.addEventListener("keydown", (event) => this.pressed(event));
+    document.addEventListener("selectionchange", () => this.tellNames());
+  }
+
+  /** Saves what there is to take home, which takes a while to be made. */
+  async takeHome() {
+    byId("home").disabled = true;
+    const isThere = await this.connection.download(`${this.seat}/home`, `${this.seat}.zip`);
+    byId("home").disabled = false;
+    this.refuse(isThere ? "" : "There is nothing to take home yet, or it can't be made now.");
+  }
+
+  /** Tells of the name that the caret stands in. */
+  tellNames() {
+    const fields = { source: "entry", line: "hint" };
+    const told = fields[document.activeElement.id];
+    if (told) tellName(byId(told), document.activeElement);
   }
 
   show(view, logs, isAnew) {
     const { run } = view.state;
+    this.seat = view.seat;
     document.title = `Seat ${view.seat} – vecmon`;
     put(byId("who"), `Seat ${view.seat}`);
     const stop = run === "stopped" && view.state.stop && view.stop.split(" ")[0];
     put(byId("run"), run === "absent" ? "not entered" : stop || run);
     byId("run").className = `pill ${run}`;
-    for (const id of ["one", "many", "number", "go", "out"]) byId(id).disabled = run !== "stopped";
-    byId("halt").disabled = byId("slice").disabled = run !== "running";
+    for (const id of ["one", "many", "number", "go"]) byId(id).disabled = run !== "stopped" || !view.ready;
+    byId("halt").disabled = byId("slice").disabled = run !== "running" || !view.ready;
     byId("slice").hidden = !view.own_slices;
+    byId("again").disabled = !view.again || !view.ready;
     put(byId("clock"), `the clock is ${view.clock ? "on" : "off"}`);
     const share = Math.floor((100 * view.share.used) / view.share.of);
     const warning = share < 90 ? "" : `${share} % of this seat's share of the script is used up.`;
@@ -66,21 +99,40 @@ export class Student {
     const images = ["Load …", ...view.images].map((name) => make("option", "", name));
     if (byId("images").length < images.length) byId("images").replaceChildren(...images);
     Object.assign(byId("images"), { hidden: view.images.length === 0, selectedIndex: 0 });
-    this.desk.show(view.state, logs[view.seat] ?? [], isAnew);
+    this.desk.show(view.seat, view.state, logs[view.seat] ?? [], isAnew);
+    const side = run === "absent" ? "source" : "listing";
+    if (side !== this.side) this.sides.show((this.side = side));
+    this.showSource(view);
     byId("log").ariaLive = "polite";
   }
 
   /** Sends a request; what was refused is told in words. */
   async request(request, words) {
+    this.desk.past.show(Infinity);
     const answer = await this.connection.ask(request, words);
-    const lines = request.do ?? [];
-    const told = (answer?.words ?? []).map((why, place) => why && `\`${lines[place]}\`: ${why}.`).filter(Boolean);
-    this.refuse([...told, answer?.error ?? ""].join(" ").trim());
+    this.refuse(refusals(request, answer));
     return answer;
   }
 
-  send(lines) {
-    return this.request({ ask: "lines", do: lines }, lines.join(", "));
+  /** Carries out what was typed: `help` and a name, or lines. */
+  enter(lines) {
+    const [, name] = /^help\b *(.*)$/.exec(lines[0]) ?? [];
+    if (lines.length > 1 || name === undefined) return this.send(lines);
+    this.sides.show("reference");
+    this.refer(name);
+    return this.refuse(entryText(name) || (name && `There is no command and no instruction \`${name}\`.`));
+  }
+
+  /** Sends lines, in requests one behind the other, unless one of them can't be sent. */
+  async send(lines) {
+    const unfit = unfitLines(lines);
+    this.desk.past.show(Infinity);
+    if (unfit) return this.refuse(unfit);
+    const requests = inParts(lines).map((part) => ({ ask: "lines", do: part }));
+    const asked = requests.map((request) => this.connection.ask(request, nameOf(request.do)));
+    const answers = await Promise.all(asked);
+    const told = requests.map((request, place) => refusals(request, answers[place]));
+    return this.refuse(told.filter(Boolean).join(" "));
   }
 
   refuse(words) {
@@ -88,39 +140,28 @@ export class Student {
     this.desk.showStage();
   }
 
-  /** The lines that end the machine that there is. */
-  leaving() {
-    return { absent: [], stopped: ["leave"], running: ["stop", "leave"] }[this.desk.state.run];
-  }
-
-  command() {
-    const line = byId("line").value.trim();
-    byId("line").value = "";
-    if (!line) return;
-    this.past = [...this.past.filter((each) => each !== line), line];
-    this.place = this.past.length;
-    this.send([line]);
-  }
-
-  /** Lines of before, by arrow keys. */
-  recall(event) {
-    const step = { ArrowUp: -1, ArrowDown: 1 }[event.key];
-    if (!step) return;
-    event.preventDefault();
-    this.place = Math.min(this.past.length, Math.max(0, this.place + step));
-    byId("line").value = this.past[this.place] ?? "";
+  /** Begins a new machine with lines, and asks before where something would be lost. */
+  beginAnew(name, lines) {
+    const leaving = { absent: [], stopped: ["leave"], running: ["stop", "leave"] };
+    const begin = () => this.send([...leaving[this.desk.state.run], "enter", ...lines]);
+    byId("images").selectedIndex = 0;
+    if (isBlank(this.desk.state)) begin();
+    else ask(LOSS, name, begin);
   }
 
   pressed(event) {
-    const id = { F8: "one", F9: event.shiftKey ? "halt" : "go" }[event.key];
-    if (!id || byId("edit").open) return;
+    if (byId("edit").open || byId("ask").open) return;
+    const key = `${event.ctrlKey || event.metaKey ? "Ctrl " : ""}${event.shiftKey ? "Shift " : ""}${event.key}`;
+    const id = { F1: "show-reference", F8: "one", "Shift F8": "many", F9: "go", "Shift F9": "halt", "Ctrl F9": "again" }[key];
+    const own = key === "Ctrl Enter" && event.target === byId("source") ? "assemble" : id;
+    if (!own) return;
     event.preventDefault();
-    if (this.connection.waiting.length < MOST_WAITING) byId(id).click();
+    if (this.connection.waiting.length < MOST_WAITING) byId(own).click();
   }
 
   /** Sets or removes a breakpoint, or asks for another value. */
   edit(place) {
-    if (!place || this.desk.state.run !== "stopped") return undefined;
+    if (!place || this.desk.state.run !== "stopped" || this.desk.past.moment) return undefined;
     const [word, first, , index] = place.dataset.edit.split(" ");
     if (word === "break") return this.send([`${this.desk.state.breaks.includes(first) ? "un" : ""}break ${first}`]);
     this.changed = place.dataset.edit;
@@ -146,22 +187,36 @@ export class Student {
     return this.send([`${word} ${first} ${bytes ?? BigInt.asUintN(64, value).toString(16)}`]);
   }
 
-  showSide(side) {
-    byId("editor").hidden = side === "listing";
-    byId("listing").hidden = side === "source";
-    for (const each of ["listing", "source"]) byId(`show-${each}`).ariaPressed = `${each === side}`;
+  /** Shows the reference, or what is found in it. */
+  refer(find) {
+    byId("find").value = find;
+    showReference(find);
+    if (document.activeElement.id !== "line") byId("find").focus();
   }
 
-  numberLines() {
-    const lines = byId("source").value.split("\n");
-    byId("numbers-of-lines").textContent = lines.map((_, place) => place + 1).join("\n");
-    sessionStorage.setItem("source", byId("source").value);
+  /** Shows the seat's source; one that the teacher has just given is opened. */
+  showSource({ seat, source }) {
+    const isOther = this.source.told && this.source.told.versions !== source.versions;
+    const isGiven = isOther && source.versions.at(-1)?.why === "given";
+    this.source.show(seat, source);
+    if (!isGiven || source.text !== this.source.editor.text) return;
+    this.sides.show("source");
+    byId("source").scrollTop = 0;
   }
 
-  async assemble() {
-    const { mistakes } = (await this.request({ ask: "source", text: byId("source").value }, "the source")) ?? {};
+  async write() {
+    const text = byId("source").value;
+    const [size, most] = [text.length, MOST_LETTERS].map((each) => each.toLocaleString("en"));
+    if (text.length > MOST_LETTERS) {
+      return this.refuse(`This source has ${size} characters, and ${most} are taken at most: nothing was sent.`);
+    }
+    return this.source.bring(text, () => this.assemble({ ask: "source", text }));
+  }
+
+  async assemble(request) {
+    const { mistakes } = (await this.request(request, "the source")) ?? {};
     byId("mistakes").replaceChildren(...(mistakes ?? []).map((mistake) => this.mistake(mistake)));
-    if (mistakes?.length === 0) this.showSide("listing");
+    return mistakes && this.sides.show(mistakes.length ? "source" : "listing");
   }
 
   /** A mistake of the source, which leads to its place. */
@@ -172,7 +227,7 @@ export class Student {
       const start = lines.slice(0, line - 1).reduce((sum, each) => sum + each.length + 1, 0);
       byId("source").focus();
       byId("source").setSelectionRange(start + column - 1, start + lines[line - 1].length);
-      byId("source").scrollTop = 17 * (line - 3);
+      byId("source").scrollTop = parseFloat(getComputedStyle(byId("source")).lineHeight) * (line - 3);
     });
     return make("li", "", button);
   }

@@ -1,6 +1,6 @@
 // The transcript: lines and answers, and which of them tell of a stop or a refusal.
 
-import { make } from "./elements.js";
+import { make, prose } from "./elements.js";
 
 const LOG_LENGTH = 500;
 export const STOP_LINE = /^[1-8] (e?break|exit|outfull|fault) /;
@@ -12,15 +12,24 @@ export function entryParts(entry) {
 }
 
 /**
- * A line or an answer in the transcript: lines begin with `>`, answers with `<`, other sentences with `!`.
+ * A line or an answer in the transcript: lines begin with `>`, answers with `<`, those to the server's own lines with `=`,
+ * and other sentences with `!`.
  * Of an only user's entries the digit is left out; `place` stands before all.
  */
 export function logEntry(entry, isOnly = false, place = "") {
   const [text, words] = entryParts(entry);
   const stopped = entry[0] === "!" || (entry[0] === "<" && (STOP_LINE.test(text) || words));
-  const kind = { ">": "asked", "<": "answered", "!": "unsent" }[entry[0]];
+  const kind = { ">": "asked", "<": "answered", "=": "served", "!": "unsent" }[entry[0]];
   const item = make("li", stopped ? `${kind} stopped` : kind);
   item.textContent = place + (entry[0] === ">" ? "> " : "") + (isOnly && entry[0] !== "!" ? text.slice(2) : text);
+  return item;
+}
+
+/** An entry as `logEntry` makes it; below a refusal stands what it means. */
+export function toldEntry(entry, isOnly, place = "") {
+  const item = logEntry(entry, isOnly, place);
+  const [, words] = entryParts(entry);
+  if (words) item.append(make("small", "", ...prose(words.replace(/^E\d\d.*?: /m, ""))));
   return item;
 }
 

@@ -27,7 +27,7 @@ export function paintFacts(state, before) {
 export function paintElements(state, before, used) {
   const type = vectorType(state.vtype);
   const told = operandGroups(state.operands[state.instruction] ?? [], type);
-  const shapes = registerShapes(operandGroups(Object.values(state.operands).flat(), type), told, type);
+  const shapes = registerShapes(state, told, type);
   const all = byId("rows").value === "all";
   const sections = [];
   for (let register = 0, shown = 0; register < 32; ) {

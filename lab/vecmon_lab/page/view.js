@@ -25,15 +25,4 @@ export function paintState(state, previous, used) {
   paintRegisters(state, before);
   paintMemory(state, before);
   paintOutput(state);
-  scrollIntoBox(byId("listing"), ".told", ".next"); // behind all changes, so that the layout is made once
-  scrollIntoBox(byId("bytes"), ".changed");
-}
-
-/** Scrolls a box, and not the page, until what the first selector that fits names can be seen with rows around it. */
-function scrollIntoBox(box, ...selectors) {
-  const row = selectors.map((selector) => box.querySelector(selector)).find(Boolean);
-  if (!row) return;
-  const place = row.getBoundingClientRect().top - box.getBoundingClientRect().top + box.scrollTop;
-  const isSeen = place >= box.scrollTop + 30 && place <= box.scrollTop + box.clientHeight - 60;
-  if (!isSeen) box.scrollTop = place - box.clientHeight / 3;
 }

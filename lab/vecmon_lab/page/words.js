@@ -37,6 +37,13 @@ export const signedText = (hexadecimal) => BigInt.asIntN(64, BigInt("0x" + hexad
 /** An instruction's text with the chosen names of scalar registers. */
 export const withNames = (text, abi) => (abi ? text.replace(/\bx(\d+)\b/g, (_, number) => ABI_NAMES[number]) : text);
 
+/** What a source's line says beside its instruction, whose text is the machine's: all of it, or its comment alone. */
+export function saysMore(line, text) {
+  const [own] = line.split(/\s*(?:#|\/\/)/);
+  const numbered = own.replace(/\b[a-z]+\d*\b/g, (name) => (ABI_NAMES.includes(name) ? `x${ABI_NAMES.indexOf(name)}` : name));
+  return numbered.replace(/\s+/g, " ").replace(/ ?, ?/g, ", ") === text ? line.slice(own.length).trim() : line;
+}
+
 /** Where a branch or a jump goes to: an address in hexadecimal, or "" for any other instruction. */
 export function target(address, text) {
   const distance = /^(?:b\w+ x\d+, x\d+|jal x\d+), (-?\d+)$/.exec(text);

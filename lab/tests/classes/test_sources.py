@@ -1,0 +1,161 @@
+"""The sources of a class: what is kept of them, who gives and sees them, and what they begin."""
+
+import pathlib
+from collections.abc import AsyncIterator
+
+import pytest
+import pytest_asyncio
+
+from support.class_tabs import Served, served
+
+pytestmark = pytest.mark.asyncio
+LOOP = "loop:   addi t0, t0, 1   # counts\n        li a0, 5\n        j loop\n"
+
+
+@pytest_asyncio.fixture  # type: ignore[misc]
+async def room(tmp_path: pathlib.Path) -> AsyncIterator[Served]:
+    async with served(tmp_path / "class") as room:
+        yield room
+
+
+async def test_again(room: Served) -> None:
+    """A new machine has the source of this one, and its breakpoints; a machine without a source has none again."""
+    tab = await room.sit("A3")
+    assert "no source" in (await tab.ask("again"))["error"] and not tab.view["again"]
+    assert (await tab.ask("source", text="nop\n nop 5\n"))["mistakes"] and not tab.view["again"]
+    assert (await tab.ask("source", text=LOOP))["mistakes"] == [] and tab.view["again"]
+    await tab.do("break 10004", "break 10008", "unbreak 10008", "step 2")
+    assert tab.view["state"]["x"]["5"] == "1"
+    assert (await tab.ask("again"))["mistakes"] == []
+    state = tab.view["state"]
+    assert (state["pc"], state["x"]["5"], state["breaks"], state["labels"]) == (
+        "10000",
+        "0",
+        ["10004"],
+        {"10000": ["loop"]},
+    )
+    await tab.do("go")
+    assert (await tab.ask("again"))["mistakes"] == [] and tab.view["state"]["breaks"] == ["10004"]
+    script = (await room.check_replay())[0].decode().splitlines()
+    assert script.count("3 enter") == 3 and script[-1] == "3 break 10004"
+    await tab.do("leave", "enter")
+    assert not tab.view["again"]
+
+
+async def test_what_is_typed_is_the_seats(room: Served) -> None:
+    """A draft is in other tabs and in a new one, and before the teacher who looks; others see nothing of it."""
+    tab, other, teacher = await room.sit("A3"), await room.sit("A3"), await room.sit("teacher")
+    stranger = await room.sit("A4")
+    assert tab.view["source"] == {"text": "", "number": 0, "versions": []}
+    await teacher.ask("shoulder", seat="A3")
+    await tab.ask("draft", text="nop\r\n\tadd \u00e9", number=0)
+    for each in (other, teacher):
+        await each.until(lambda view: view["source"]["text"] == "nop\r\n\tadd \u00e9")
+    assert (await room.sit("A3")).view["source"] == {"text": "nop\r\n\tadd \u00e9", "number": 1, "versions": []}
+    await stranger.do("enter")
+    assert "nop" not in str(stranger.view)
+    await teacher.ask("shoulder", seat="")
+    assert teacher.view["source"] == {}
+    for text, number in ((5, 1), ("x" * 65537, 1), ("x", None), ("x", "1")):
+        assert "error" in await tab.ask("draft", text=text, number=number)
+    assert "no such request" in (await teacher.ask("draft", text="x", number=0))["error"]
+    await tab.ask("draft", text="\ud800", number=1)
+    assert tab.view["source"]["text"] == "?"
+
+
+async def test_a_draft_that_comes_late_is_a_version(room: Served) -> None:
+    """Of two tabs that type at once the first one's text stays; the other's isn't lost."""
+    tab, other = await room.sit("A1"), await room.sit("A1")
+    await tab.ask("draft", text="first", number=0)
+    await other.ask("draft", text="second", number=0)
+    source = other.view["source"]
+    assert (source["text"], source["number"], [each["why"] for each in source["versions"]]) == ("first", 1, ["typed"])
+    assert (await other.ask("version", number=1))["text"] == "second"
+    for number in (0, 2, -1, None, "1"):
+        assert "error" in await other.ask("version", number=number)
+
+
+async def test_a_source_that_is_given(room: Served) -> None:
+    """The teacher gives a source to one seat or to all; what the pupil had is a version of the seat."""
+    tab, other, teacher = await room.sit("A1"), await room.sit("A2"), await room.sit("teacher")
+    await tab.ask("draft", text="mine", number=0)
+    await teacher.ask("give", seat="A1", text="theirs")
+    await tab.until(lambda view: view["source"]["text"] == "theirs")
+    assert [each["why"] for each in tab.view["source"]["versions"]] == ["typed", "given"]
+    assert [(await tab.ask("version", number=number))["text"] for number in (1, 2)] == ["mine", "theirs"]
+    assert "gave a source" in tab.logs["A1"][-1] and other.view["source"]["text"] == ""
+    await teacher.ask("give", seat="", text="all")
+    for each in (tab, other):
+        await each.until(lambda view: view["source"]["text"] == "all")
+    assert "error" in await teacher.ask("give", seat="A9", text="x")
+    assert "no such request" in (await tab.ask("give", seat="A2", text="x"))["error"]
+    assert (await room.check_replay())[0] == b""
+
+
+async def test_versions_are_kept(room: Served, monkeypatch: pytest.MonkeyPatch) -> None:
+    """Writes are versions, and each half minute of typing; the last 50 of a seat stand in the folder."""
+    tab, members = await room.sit("A1"), room.members
+    assert members
+    assert (await tab.ask("source", text="nop"))["mistakes"] == [] and (await tab.ask("source", text="nop 5"))[
+        "mistakes"
+    ]
+    await tab.ask("source", text="nop 5")
+    members.keep()
+    told = tab.view["source"]["versions"]
+    assert [(each["number"], each["why"]) for each in told] == [(1, "written"), (2, "written")]
+    assert (room.folder / "A1.s").read_text() == "nop 5"
+    assert (room.folder / "sources" / "A1.1.written.s").read_text() == "nop"
+    await tab.ask("draft", text="typed", number=tab.view["source"]["number"])
+    members.keep()
+    assert (room.folder / "A1.s").read_text() == "typed" and len(tab.view["source"]["versions"]) == 2
+    monkeypatch.setattr("vecmon_lab.classes.sources.TYPING_SECONDS", 0)
+    members.keep()
+    await tab.until(lambda view: len(view["source"]["versions"]) == 3)
+    members.keep()
+    for number in range(60):
+        await tab.ask("source", text=f"# {number}")
+    members.keep()
+    assert [each["number"] for each in tab.view["source"]["versions"]] == list(range(14, 64))
+    assert len(list((room.folder / "sources").iterdir())) == 50
+    assert "error" in await tab.ask("version", number=13)
+
+
+async def test_a_class_that_goes_on_has_its_sources(tmp_path: pathlib.Path) -> None:
+    """After a restart a seat has its text and versions, and of its machine's source labels, lines and *Again*."""
+    for number in range(2):
+        async with served(tmp_path / "class") as room:
+            tab = await room.sit("A3")
+            if number == 0:
+                assert (await tab.ask("source", text=LOOP))["mistakes"] == []
+                await tab.ask("draft", text="later", number=1)
+            source, state = tab.view["source"], tab.view["state"]
+            assert source["text"] == "later" and [each["why"] for each in source["versions"]] == ["written"]
+            assert (await tab.ask("version", number=1))["text"] == LOOP
+            assert state["labels"] == {"10000": ["loop"]} and tab.view["again"]
+            assert state["lines"] == {"10000": "addi t0, t0, 1   # counts", "10004": "li a0, 5", "10008": "j loop"}
+    async with served(tmp_path / "class") as room:
+        tab = await room.sit("A3")
+        assert (await tab.ask("again"))["mistakes"] == []
+        await tab.do("leave")
+        assert tab.view["state"]["lines"] == {} and not tab.view["again"]
+    async with served(tmp_path / "class") as room:
+        assert not (await room.sit("A3")).view["again"]
+
+
+async def test_a_full_disk(room: Served, monkeypatch: pytest.MonkeyPatch) -> None:
+    """What the disk doesn't take is told, stays with the class, and is kept as soon as there is room."""
+    tab, teacher, members = await room.sit("A1"), await room.sit("teacher"), room.members
+    assert members
+
+    def refuse(path: pathlib.Path, data: bytes) -> int:
+        raise OSError(28, "No space left on device")
+
+    with monkeypatch.context() as full:
+        full.setattr(pathlib.Path, "write_bytes", refuse)
+        await tab.ask("source", text="nop")
+        members.keep()
+        await teacher.until(lambda view: "A1.s isn't saved: No space left on device" in view["trouble"])
+        assert (await tab.ask("version", number=1))["text"] == "nop"
+    members.keep()
+    await teacher.until(lambda view: view["trouble"] == "")
+    assert (room.folder / "sources" / "A1.1.written.s").read_text() == "nop"

@@ -1,0 +1,101 @@
+"""A class's page goes back through what it saw, and asks where something would be lost."""
+
+from page.conftest import Sit
+
+TOLD = "one('#listing .told')?.dataset.address"
+V1 = "all(\"#elements [data-register='1'] td\").map((cell) => cell.firstChild.data).join(' ')"
+DOUBLES = "vsetivli zero, 8, e32, m1, ta, ma\nvid.v v1\nvadd.vv v2, v1, v1\nli a0, 7\nebreak\n"
+
+
+def test_back_and_forth(sit: Sit) -> None:
+    """What was seen is shown again, plainly as the past, in which nothing can be done; Now returns, and so does a line."""
+    from selenium.webdriver.common.keys import Keys
+
+    tab, teacher = sit("A1"), sit("teacher")
+    tab.run("id('source').value = arguments[0]", DOUBLES)
+    tab.click("#assemble")
+    tab.wait("one('#listing .next')")
+    teacher.click("tr[data-seat='A1'] td:nth-child(2) button")
+    teacher.wait("one('#listing .next')")
+    for address in ("10000", "10004", "10008"):
+        tab.click("#one")
+        tab.wait(f"{TOLD} === arguments[0]", address)
+        teacher.wait(f"{TOLD} === arguments[0]", address)
+    for page in (tab, teacher):
+        assert page.run("[id('forth').disabled, id('now').disabled, id('says-past').hidden]") == [True, True, True]
+        page.click("#backward")
+        assert page.run(f"[{TOLD}, id('says-past').textContent]") == ["10004", "This is the past, one moment ago."]
+    tab.keys("#listing", Keys.F7)
+    assert tab.run(TOLD) == "10000" and "2 moments" in tab.text("#says-past")
+    assert "vsetivli" in tab.text("#step") and tab.run("id('facts').textContent.includes('vl8 of 8')")
+    seen = "all('#log li').filter((item) => item.checkVisibility()).at(-1).textContent"
+    assert tab.run(seen) == "stepped 1 pc=0000000000010004"
+    tab.keys("#listing", Keys.SHIFT, Keys.F7, Keys.NULL)
+    assert tab.run(TOLD) == "10004" and tab.run(V1) == " ".join(f"{element:08x}" for element in range(8))
+    asked = tab.run("all('#log .asked').length")
+    for button in ("one", "many", "go", "again", "new"):
+        assert tab.run("id(arguments[0]).matches(':disabled')", button)
+    tab.keys("#listing", Keys.F8, Keys.F9)
+    tab.click("#listing [data-address='10008'] .text")
+    tab.click("[data-edit='set x10']")
+    assert tab.run("all('#log .asked').length") == asked and not tab.run("id('edit').open || one('.breakpoint')")
+    tab.keys("#listing", Keys.ESCAPE)
+    assert (
+        tab.run(TOLD) == "10008" and tab.run("id('says-past').hidden") and not tab.run("id('one').matches(':disabled')")
+    )
+    tab.run("(id('moment').value = 0, id('moment').dispatchEvent(new Event('input')))")
+    assert tab.run(TOLD) is None and tab.run("id('backward').disabled") and "3 moments" in tab.text("#says-past")
+    tab.command("step 1")
+    assert tab.run(TOLD) == "1000c" and tab.text("[data-edit='set x10']") == "7" and tab.run("id('says-past').hidden")
+    assert teacher.run(TOLD) == "10004" and "2 moments" in teacher.text("#says-past")  # who stays in the past
+    teacher.click("#now")
+    assert teacher.run(TOLD) == "1000c"
+    teacher.click("tr[data-seat='A1'] td:nth-child(2) button")
+    teacher.wait("id('desk').hidden")
+
+
+def test_what_ran_is_gone_back_over(sit: Sit) -> None:
+    """Of a program that runs no moment is kept; before it lies the state in which it was let go."""
+    tab, teacher = sit("A2"), sit("teacher")
+    tab.begin("addi x5, x5, 1", "jal x0, -4")
+    tab.command("set x5 0", "go")
+    tab.wait("id('run').textContent === 'running'")
+    teacher.keys("#operator-line", "slices 3\n")
+    tab.wait("id('registers').textContent.includes('x5')")
+    tab.command("stop")
+    tab.wait("id('run').textContent === 'stopped' && one(\"[data-edit='set x5']\").textContent !== '0'")
+    tab.click("#backward")
+    assert tab.text("[data-edit='set x5']") == "0" and "one moment" in tab.text("#says-past")
+    tab.click("#now")
+
+
+def test_again_and_what_would_be_lost(sit: Sit) -> None:
+    """Again begins with the same source and breakpoints in one click; a new machine asks where this one has anything."""
+    tab = sit("A3")
+    assert tab.run("id('again').disabled")
+    tab.run("id('source').value = arguments[0]", DOUBLES)
+    tab.click("#assemble")
+    tab.wait("one('#listing .next')")
+    tab.click("#listing [data-address='10008'] .text")
+    tab.wait("one('.breakpoint')")
+    tab.run("id('number').value = 3")
+    tab.click("#many")
+    tab.wait("id('run').textContent === 'break'")
+    tab.run("id('source').value = 'nop'")  # not written
+    tab.click("#again")
+    tab.wait("id('run').textContent === 'stopped' && one('#listing .next').dataset.address === '10000'")
+    assert tab.run("one('.breakpoint').closest('tr').dataset.address") == "10008" and not tab.run(TOLD)
+    assert "li a0, 7" in DOUBLES and "addi x10, x0, 7" in tab.text("#listing")
+    tab.click("#new")
+    assert "would be lost" in tab.text("#question")
+    tab.click("#no")
+    assert "vid.v" in tab.text("#listing") and "> setpc 10000" != tab.run("all('#log .asked').at(-1).textContent")
+    tab.click("#new")
+    tab.click("#yes")
+    tab.wait("!id('listing').textContent.includes('vid.v') && id('again').disabled")
+    tab.click("#new")  # which has nothing
+    tab.wait("all('#log .asked').filter((item) => item.textContent === '> enter').length === 4")
+    assert not tab.run("id('ask').open")
+    tab.click("#forget")
+    tab.click("#no")
+    assert tab.text("#who") == "Seat A3" and not tab.run("id('ask').open")

@@ -1,0 +1,30 @@
+"""What a class's page tells of names, beside the pages of the manual."""
+
+import json
+import re
+
+from support.places import DOCS
+from vecmon_lab.page.reference import reference, reference_text
+
+
+def test_it_has_what_the_manuals_list() -> None:
+    told = reference()
+    instructions = re.findall(r"^\| `([^`]+)` \| `", (DOCS / "INSTRUCTIONS.md").read_text("utf-8"), re.MULTILINE)
+    assert [form for _, form, _ in told["Instructions"]] == [each for each in instructions if each[0] != "."]
+    page = (DOCS / "COMMANDS.md").read_text("utf-8")
+    rows = re.findall(r"^\| `([^`]+)` \| (.+?) \|", page, re.MULTILINE)
+    commands = {form for _, form, _ in told["Commands"]}
+    assert len(commands) > 20 and commands <= {form for form, _ in rows}
+    refusals = re.findall(r"^\| (E\d\d) \|", page.replace("`", ""), re.MULTILINE)
+    assert [code for code, *_ in told["Refusals"]] == refusals
+
+
+def test_each_entry_begins_with_its_name() -> None:
+    for entries in reference().values():
+        assert entries and all(form == name or form.startswith(f"{name} ") for name, form, _ in entries)
+    pseudo = {form: does for _, form, does in reference()["Pseudo-instructions"]}
+    assert pseudo["ret"] == "jalr x0, 0(x1)" and pseudo["vmsge.vx vd, vs2, rs1"].count(";") == 1
+
+
+def test_a_page_may_have_it() -> None:
+    assert "<" not in reference_text() and json.loads(reference_text()) == reference()

@@ -1,0 +1,203 @@
+"""The source of a seat: its editor, and how tabs, the class and the teacher share it, in Chromium."""
+
+import pathlib
+import time
+from typing import TYPE_CHECKING
+
+from page.conftest import Sit
+from support.class_pages import Served, Tab
+
+if TYPE_CHECKING:
+    from selenium.webdriver import Chrome
+
+COUNTS = "loop:   addi t0, t0, 1   # counts\n        li a0, 0x12345   # two words\n        vid.v v1\n        j loop\n"
+TEXT = "id('source').value"
+
+
+def empty(tab: Tab, field: str = "source") -> None:
+    """Empties a source by keys."""
+    from selenium.webdriver.common.keys import Keys
+
+    tab.keys(f"#{field}", Keys.CONTROL, "a", Keys.NULL, Keys.DELETE)
+
+
+def test_the_editor(sit: Sit) -> None:
+    """Lines are numbered, words have colours, Tab and Enter indent, names are offered, and undo goes back over a write."""
+    from selenium.webdriver.common.keys import Keys
+
+    tab = sit("A1")
+    empty(tab)
+    tab.keys("#source", "loop: vadd.v")
+    offered = "all('#editor .choices li').map((item) => item.textContent)"
+    assert tab.run(offered) == [
+        f"vadd.v{kind} vd, vs2, {last}[, v0.t]" for kind, last in (("i", "imm"), ("v", "vs1"), ("x", "rs1"))
+    ]
+    tab.keys("#source", *[Keys.ARROW_DOWN] * 4, Keys.ENTER)
+    assert tab.run(TEXT) == "loop: vadd.vx" and tab.run("one('#editor .choices').hidden")
+    tab.keys(
+        "#source",
+        " v1, v2, x5",
+        Keys.ENTER,
+        "j lo",
+        Keys.TAB,
+        Keys.ENTER,
+        "nop",
+        Keys.TAB,
+        "# it's an add",
+        Keys.ENTER,
+        "fro",
+    )
+    expected = "loop: vadd.vx v1, v2, x5\n        j loop\n        nop     # it's an add\n        fro"
+    assert tab.run(TEXT) == expected and tab.run("one('#editor .numbers').textContent") == "1\n2\n3\n4"
+    assert tab.run("one('#editor .colours').textContent") == expected + "\n"
+    pieces = "all('#editor .colours span').map((piece) => `${piece.className} ${piece.textContent}`)"
+    assert tab.run(pieces) == [
+        *("label loop", "instruction vadd.vx", "register v1", "register v2", "register x5", "instruction j"),
+        *("instruction nop", "comment # it's an add", "unknown fro"),
+    ]
+    same = "['fontFamily', 'fontSize', 'lineHeight', 'paddingLeft', 'paddingTop', 'tabSize', 'whiteSpace']"
+    styles = f"{same}.map((name) => getComputedStyle(one(arguments[0]))[name])"
+    assert tab.run(styles, "#editor .colours") == tab.run(styles, "#source")
+    tab.keys("#source", Keys.SHIFT, Keys.TAB)
+    assert tab.run(TEXT).endswith("\nfro")
+    tab.keys("#source", Keys.CONTROL, "a", Keys.NULL, Keys.TAB)
+    assert tab.run(TEXT).splitlines()[1] == " " * 16 + "j loop"
+    tab.keys("#source", Keys.CONTROL, "z", Keys.NULL, Keys.CONTROL, "z", Keys.NULL)
+    assert tab.run(TEXT) == expected
+    tab.keys("#source", Keys.CONTROL, "y", Keys.NULL)
+    assert tab.run(TEXT).endswith("\nfro")
+    tab.keys("#source", Keys.CONTROL, Keys.END, Keys.NULL, *[Keys.BACKSPACE] * 3, Keys.CONTROL, Keys.ENTER)
+    tab.wait("id('editor').hidden && one('#listing .next')")
+    tab.command("set x5 1")
+    tab.click("#show-source")
+    tab.keys("#source", Keys.CONTROL, "z", Keys.NULL)
+    assert tab.run(TEXT).endswith("\nfro")
+    for _ in range(30):
+        tab.keys("#source", Keys.CONTROL, "z", Keys.NULL)
+    assert tab.run(TEXT).startswith("# Doubles")
+    for paste in ("# one\n", "# two\n"):  # each is undone by itself
+        tab.front().execute_cdp_cmd("Input.insertText", {"text": paste})
+    tab.keys("#source", "# three", Keys.CONTROL, "z", Keys.NULL, Keys.CONTROL, "z", Keys.NULL)
+    assert "# one" in tab.run(TEXT) and "# two" not in tab.run(TEXT)
+    tab.keys("#source", Keys.ESCAPE, Keys.TAB)
+    assert tab.run("document.activeElement.id") == "assemble"
+
+
+def test_a_long_source_has_colours_in_sight(sit: Sit) -> None:
+    """Of 4,000 lines those in sight are painted, at the height of the field's own."""
+    tab = sit("A5")
+    tab.run(
+        "(id('source').value = arguments[0], id('source').dispatchEvent(new Event('input')))",
+        "nop # one\n" * 4000 + "last: ret",
+    )
+    tab.run("id('source').scrollTop = 1e9")
+    tab.wait("one('#editor .colours').textContent.trim().endsWith('last: ret')")
+    assert tab.run("all('#editor .colours span').length") < 200
+    boxes = "['.colours', 'textarea'].map((css) => one(`#editor ${css}`)).map((box) => box.scrollHeight)"
+    colours, field = tab.run(boxes)
+    assert abs(colours - field) < 20  # its last newline is a line more
+    last = tab.run("all('#editor .colours .label').at(-1).getBoundingClientRect().bottom")
+    assert tab.run("id('source').getBoundingClientRect().bottom") - last < 40
+    tab.run("id('source').value = 'nop'")
+
+
+def test_a_source_is_the_seats(sit: Sit) -> None:
+    """What is typed is in another tab of the seat, after a reload, and before the teacher; nobody else has it."""
+    from selenium.webdriver.common.keys import Keys
+
+    tab, other, stranger, teacher = sit("A2"), sit("A2"), sit("A3"), sit("teacher")
+    teacher.click("tr[data-seat='A2'] td:nth-child(2) button")
+    teacher.wait("!id('desk').hidden")
+    teacher.click("#show-source")
+    tab.keys("#source", Keys.CONTROL, Keys.END, Keys.NULL, "# mine")
+    for page in (other, teacher):
+        page.wait(f"{TEXT}.endsWith('# mine')")
+    tab.keys("#source", " and more")
+    tab.front().refresh()  # before it is sent by itself
+    tab.wait(f"id('who').textContent === 'Seat A2' && {TEXT}.endsWith('# mine and more')")
+    other.wait(f"{TEXT}.endsWith('# mine and more')")
+    other.keys("#source", Keys.CONTROL, "z", Keys.NULL)
+    tab.wait(f"{TEXT}.endsWith('# mine')")
+    tab.keys("#source", Keys.CONTROL, Keys.END, Keys.NULL, " again")
+    other.wait(f"{TEXT}.endsWith('# mine again')")
+    other.keys("#source", Keys.CONTROL, "z", Keys.NULL)
+    tab.wait(f"{TEXT}.endsWith('# mine')")
+    other.keys("#source", Keys.CONTROL, "y", Keys.NULL)
+    tab.wait(f"{TEXT}.endsWith('# mine again')")
+    other.keys("#source", Keys.CONTROL, "z", Keys.NULL)
+    tab.wait(f"{TEXT}.endsWith('# mine')")
+    assert "mine" not in stranger.run(TEXT)
+    teacher.keys("#source", "x")
+    assert teacher.run(f"{TEXT}.endsWith('# mine')")
+
+
+def test_a_source_is_given(sit: Sit, tmp_path: pathlib.Path) -> None:
+    """The teacher copies, changes and gives a source; it opens at the seat, whose own is an undo and a version away."""
+    from selenium.webdriver.common.keys import Keys
+
+    tab, other, teacher = sit("A3"), sit("A4"), sit("teacher")
+    empty(tab)
+    tab.keys("#source", "nop # mine", Keys.CONTROL, Keys.ENTER)
+    tab.wait("id('editor').hidden && one('#listing .next')")
+    teacher.click("tr[data-seat='A3'] td:nth-child(2) button")
+    teacher.wait(f"!id('desk').hidden && {TEXT} === 'nop # mine'")
+    teacher.click("#show-source")
+    teacher.click("#take")
+    assert teacher.run("id('given').value") == "nop # mine"
+    teacher.keys("#given", Keys.CONTROL, Keys.HOME, Keys.NULL, "# theirs", Keys.ENTER)
+    teacher.run("id('receiver').value = 'A3'")
+    teacher.click("#give")
+    tab.wait(f"{TEXT} === '# theirs\\nnop # mine' && !id('editor').hidden")
+    assert "The teacher gave a source" in tab.text("#log") and "theirs" not in other.run(TEXT)
+    tab.keys("#source", Keys.CONTROL, "z", Keys.NULL)
+    assert tab.run(TEXT) == "nop # mine"
+    assert [
+        each.split(" ", 1)[1] for each in tab.run("[...id('versions').options].map((each) => each.textContent)")
+    ] == [*("…", "given by the teacher", "written into memory")]
+    tab.run("(id('versions').selectedIndex = 1, id('versions').dispatchEvent(new Event('change')))")
+    tab.wait(f"{TEXT}.startsWith('# theirs')")
+    teacher.run("id('receiver').value = ''")
+    teacher.keys("#given", "# all ")
+    teacher.click("#give")
+    for page in (tab, other):
+        page.wait(f"{TEXT}.includes('# all')")
+    tab.front().execute_cdp_cmd("Browser.setDownloadBehavior", {"behavior": "allow", "downloadPath": str(tmp_path)})
+    tab.click("#save")
+    while not (tmp_path / "A3.s").exists() or not (tmp_path / "A3.s").stat().st_size:
+        time.sleep(0.02)
+    assert (tmp_path / "A3.s").read_text("utf-8") == tab.run(TEXT)
+    teacher.click("tr[data-seat='A3'] td:nth-child(2) button")
+    teacher.wait("id('desk').hidden")
+
+
+def test_the_listing_has_the_sources_lines(sit: Sit) -> None:
+    """Beside a word stands its line where that says something else, or its comment; of one line's words beside the first."""
+    tab = sit("A6")
+    tab.run("id('source').value = arguments[0]", COUNTS)
+    tab.click("#assemble")
+    tab.wait("one('#listing .next')")
+    beside = "all('#listing tr[data-address]').map((row) => [row.dataset.address, row.lastChild.textContent, row.lastChild.title])"
+    assert tab.run(beside) == [
+        ["10000", "# counts", "addi t0, t0, 1   # counts"],
+        ["10004", "li a0, 0x12345   # two words", "li a0, 0x12345   # two words"],
+        ["10008", "", ""],
+        ["1000c", "", "vid.v v1"],
+        ["10010", "j loop", "j loop"],
+    ]
+    assert tab.run("id('listing').scrollWidth <= id('listing').clientWidth")
+
+
+def test_a_source_outlives_the_server(tabs: "Chrome", own_class: Served) -> None:
+    """What is typed while the server is gone, and what it hadn't kept yet, is there when it is back."""
+    from selenium.webdriver.common.keys import Keys
+
+    tab = Tab(tabs, own_class, "A1")
+    tab.keys("#source", Keys.CONTROL, Keys.END, Keys.NULL, "# typed")
+    own_class.kill()
+    tab.wait("id('gone').textContent.includes('is gone')")
+    tab.keys("#source", " on")
+    own_class.begin()
+    tab.wait("id('gone').hidden")
+    other = Tab(tabs, own_class, "A1")
+    other.wait(f"{TEXT}.endsWith('# typed on')")
+    assert tab.run(f"{TEXT}.endsWith('# typed on')")

@@ -1,0 +1,128 @@
+"""The wall, and codes on the teacher's page, in Chromium."""
+
+import base64
+import pathlib
+from collections.abc import Iterator
+from typing import TYPE_CHECKING
+
+import pytest
+
+from page.conftest import Sit
+from support.browser import CONTRAST, media
+from support.class_pages import Served, Tab
+
+if TYPE_CHECKING:
+    from selenium.webdriver import Chrome
+
+ADDRESS = "http://class.school.example/"
+PAGE = "document.documentElement.outerHTML"
+# Keeps all frames of the page's sockets, and counts what is stored.
+KEEP = """window.told = []; window.WebSocket = class extends WebSocket {
+    constructor(...words) { super(...words); this.addEventListener("message", ({ data }) => told.push(data)); }
+    send(data) { told.push(data); super.send(data); } };"""
+
+
+@pytest.fixture(scope="module")
+def served(program: pathlib.Path, tmp_path_factory: pytest.TempPathFactory) -> Iterator[Served]:
+    """A class that knows where students reach it."""
+    served = Served(tmp_path_factory.mktemp("class") / "class", program, "--address", ADDRESS)
+    yield served
+    served.end()
+
+
+def test_codes_and_the_sheet(sit: Sit, served: Served) -> None:
+    """Codes stand on the teacher's page while they are shown: one, all, or on a sheet to print, with pictures."""
+    teacher, codes = sit("teacher"), served.codes
+    teacher_code = codes.pop("teacher")
+    seats = [f"A{number}" for number in range(1, 9)]
+
+    def seen() -> list[str]:
+        page = teacher.run(PAGE)
+        return [name for name, code in codes.items() if code in page]
+
+    assert seen() == []
+    for _ in range(2):
+        teacher.click("tr[data-seat='A3'] [aria-label^='Code']")
+        teacher.wait("one(\"tr[data-seat='A3'] a\").href === arguments[0]", f"{ADDRESS}#{codes['A3']}")
+        assert seen() == ["A3"]
+        teacher.click("tr[data-seat='A3'] [aria-label^='Code']")
+        assert seen() == []
+    teacher.click("#show-codes")
+    teacher.wait("id('wall-code').textContent.includes(arguments[0])", codes["wall"])
+    assert teacher.run("all('.seats td a').map((link) => link.textContent)") == [codes[seat] for seat in seats]
+    teacher.click("#show-codes")
+    assert seen() == []
+    teacher.click("#open-sheet")
+    teacher.wait("all('#slips img').length === 8 && all('#slips img').every((image) => image.complete)")
+    assert teacher.run("all('#slips img').every((image) => image.naturalWidth > 0 && image.offsetWidth > 100)")
+    slips = teacher.run("all('#slips li').map((slip) => slip.innerText.split(/\\s*\\n\\s*/))")
+    assert slips == [[f"Seat {seat}", ADDRESS, codes[seat]] for seat in seats]
+    assert teacher.run("!id('teacher').checkVisibility() && !id('sheet-says').checkVisibility()")
+    told = teacher.browser.execute_cdp_cmd("Page.printToPDF", {"paperWidth": 8.27, "paperHeight": 11.69})["data"]
+    assert base64.b64decode(told).count(b"/Type /Page\n") == 1
+    assert seen() == seats and teacher_code not in teacher.run(PAGE)
+    teacher.click("#close-sheet")
+    assert seen() == [] and teacher.run("id('teacher').checkVisibility()")
+    assert teacher.run("Object.values({ ...sessionStorage, ...localStorage })") == [teacher_code]
+
+
+def test_the_wall(tabs: "Chrome", served: Served) -> None:
+    """It fills the screen with vectors and six lines; no other code is in its page, state, frames or address."""
+    codes = served.codes
+    tab, teacher = Tab(tabs, served, "A7"), Tab(tabs, served, "teacher")
+    wall = Tab(tabs, served, "wall", KEEP)
+    assert "shows no seat" in wall.text("#who") and not wall.run("id('desk').checkVisibility()")
+    tab.begin("vsetivli x0, 8, e16, m2, ta, ma", *["vadd.vi v2, v2, 3"] * 20)
+    teacher.choose("#on-wall", "A7")
+    wall.wait("id('who').textContent === 'Seat A7' && id('desk').checkVisibility()")
+    tab.run("id('number').value = 12")
+    tab.click("#many")
+    wall.wait("one('#listing .told')?.dataset.address === '1002c'")
+    rows = """((box) => all('#listing tr[data-address]').filter((row) => row.getBoundingClientRect().top >= box.top - 2 &&
+        row.getBoundingClientRect().bottom <= box.bottom + 2))(id('listing').getBoundingClientRect())"""
+    try:
+        for width, height, letters in ((1920, 1080, 25), (1024, 768, 15), (1280, 800, 19), (3840, 2160, 51)):
+            size = {"width": width, "height": height, "deviceScaleFactor": 1, "mobile": False}
+            wall.front().execute_cdp_cmd("Emulation.setDeviceMetricsOverride", size)
+            wall.wait("innerWidth === arguments[0] && innerHeight === arguments[1]", width, height)
+            seen = wall.run(f"{rows}.map((row) => row.dataset.address)")
+            assert len(seen) == 6 and {"1002c", "10030"} <= set(seen), size
+            for box in ("#elements", "#listing"):
+                where = wall.run("one(arguments[0]).getBoundingClientRect().toJSON()", box)
+                assert 0 <= where["top"] < where["bottom"] <= height and 0 <= where["left"] < where["right"] <= width
+                assert float(wall.run("getComputedStyle(one(`${arguments[0]} table`)).fontSize", box)[:-2]) >= letters
+            assert wall.run("id('elements').scrollWidth <= id('elements').clientWidth")
+        for scheme in ("light", "dark"):
+            media(wall.browser, prefers_color_scheme=scheme, prefers_reduced_motion="reduce")
+            assert wall.browser.execute_script(CONTRAST) == []
+    finally:
+        media(wall.browser)
+        wall.browser.execute_cdp_cmd("Emulation.clearDeviceMetricsOverride", {})
+    teacher.click("#show-codes")
+    teacher.click("tr[data-seat='A2'] [aria-label^='New code']")
+    tab.click("#one")
+    wall.wait("one('#listing .told')?.dataset.address === '10030'")
+    everywhere = [*wall.run("told"), wall.run(PAGE), *wall.run("[location.href, document.cookie, document.referrer]")]
+    everywhere += wall.run("Object.values({ ...sessionStorage, ...localStorage, ...history.state })")
+    others = {code for name, code in (*codes.items(), *served.codes.items()) if name != "wall"}
+    assert len(others) == 10 and len(everywhere) > 8
+    assert not [code for code in others for text in everywhere if code in text]
+    assert not wall.run("all('button, input, textarea').some((each) => each.checkVisibility())")
+    teacher.choose("#on-wall", "no seat")
+    wall.wait("!id('desk').checkVisibility()")
+    teacher.click("#show-codes")
+
+
+def test_a_wall_behind_a_new_server(tabs: "Chrome", own_class: Served) -> None:
+    """It goes on without a reload, since the teacher's page says again what it shows."""
+    tab, teacher, wall = (Tab(tabs, own_class, who) for who in ("A1", "teacher", "wall"))
+    tab.begin("vid.v v1")
+    teacher.choose("#on-wall", "A1")
+    wall.wait("id('who').textContent === 'Seat A1'")
+    own_class.kill()
+    wall.wait("id('gone').textContent.includes('is gone')")
+    own_class.begin()
+    teacher.wait("id('gone').hidden && id('on-wall').value === 'A1'")
+    wall.wait("id('gone').hidden && id('who').textContent === 'Seat A1' && id('listing').textContent.includes('vid.v')")
+    teacher.choose("#on-wall", "no seat")
+    wall.wait("id('who').textContent.includes('no seat')")

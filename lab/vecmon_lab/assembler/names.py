@@ -1,0 +1,29 @@
+"""The names of instructions and pseudo-instructions, and which are nearest to a name that is none."""
+
+import functools
+from collections.abc import Set
+from difflib import get_close_matches
+
+from ..instructions.table import instruction_table
+from ..tables.table import read_table
+
+INSTRUCTION_NAMES = frozenset(instruction_table())
+PSEUDO_NAMES = frozenset(["li", *(form.split()[0] for form, *_ in read_table("pseudo"))])
+SOURCE_NAMES = INSTRUCTION_NAMES | PSEUDO_NAMES
+DIRECTIVES = (
+    ".text .data .bss .section .globl .global .type .size .option .equ .set .align .balign .ascii .asciz .string .byte "
+    ".half .word .dword .zero"
+).split()
+MOST_NEAR = 3
+
+
+@functools.lru_cache(maxsize=1024)
+def no_instruction(name: str, names: Set[str] = SOURCE_NAMES) -> str:
+    """What is said of a name that isn't one of these: it has the nearest ones with the same first letter."""
+    own, small = sorted(each for each in names if each[0] == name[0].lower()), name.lower()
+    near = get_close_matches(small, own, MOST_NEAR)
+    if len(name) <= 3 and not near:  # as jmp, which has one letter of jal
+        near = get_close_matches(small, own, MOST_NEAR, 1 / 3)
+    *others, last = near or [""]
+    told = f"; near it {'are' if others else 'is'} {' and '.join(filter(None, [', '.join(others), last]))}"
+    return f"there is no instruction {name}{told if near else ''}"

@@ -1,0 +1,19 @@
+"""All mistakes of a source: those of form, and what the machine refuses, which a process of its own is asked."""
+
+import itertools
+import pathlib
+
+from ..machine.answers import Refused, read
+from ..machine.session import TOGETHER, Session
+from .source import Program, SourceError, in_order, refusal
+
+
+def all_mistakes(source: Program, vecmon: pathlib.Path) -> list[SourceError]:
+    """The mistakes of form of a source, and what a new machine refuses of all other instructions, in order."""
+    lines = [f"1 asm 0 {statement.text}" for statement in source.statements]
+    with Session(vecmon) as trial:
+        trial.do_all(["1 enter", "1 map 0 1 rx"])
+        answers = [trial.do_all(lines[at : at + TOGETHER]) for at in range(0, len(lines), TOGETHER)]
+    told = zip(source.statements, map(read, itertools.chain(*answers)))
+    refused = [refusal(each, int(answer.detail)) for each, answer in told if isinstance(answer, Refused)]
+    return in_order([*source.mistakes, *refused])

@@ -1,0 +1,217 @@
+"""All that a machine is: what the lines of its script say, what looks show, and what is found out by destroying it."""
+
+import pathlib
+import struct
+from collections.abc import Callable, Iterator, Mapping
+from dataclasses import dataclass, field
+
+from ..guest.guest import STACK_END, Guest
+from ..instructions.accesses import PAGE_BYTES
+from ..machine.answers import (
+    Addresses,
+    Answer,
+    ControlRegisters,
+    Granted,
+    Output,
+    Position,
+    ScalarRegisters,
+    Switches,
+    VectorRegister,
+    is_refusal,
+    read,
+)
+from ..machine.lines import DIGITS, words_of
+from ..machine.session import Session
+
+EXECUTE, WRITE, READ = 1, 2, 4  # permissions, as an image's program headers have them
+TOUCHING = "vadd.vv v0, v1, v2, v0.t"
+"""An instruction that is illegal under each vector type: it makes its user the vector unit's owner and changes nothing."""
+
+Opening = Callable[[], Session]
+"""Opens a session on a new machine."""
+
+_PERMISSIONS = {"x": EXECUTE, "w": WRITE, "r": READ}
+_STACK_PAGES = 4
+_FOLLOWED = set(" elmpv")  # how the commands begin that `_follow` knows
+
+
+@dataclass
+class User:
+    """What lines say of a user who is there.
+
+    image: the name of the one that was loaded, if any
+    maps: since then, each an address, a number of pages and a permission
+    has_area: whether the vector unit's save area has a state of the user's; as far as lines say, whether `vset` was given
+    """
+
+    image: str = ""
+    maps: list[tuple[int, int, str]] = field(default_factory=list)
+    policy: str = "keep"
+    has_area: bool = False
+    pages: dict[int, int] = field(default_factory=dict)  # permissions, by address
+
+    def first(self, permission: int) -> int | None:
+        """The address of the first page with a permission."""
+        return next((page for page, allowed in self.pages.items() if allowed & permission), None)
+
+
+@dataclass(frozen=True)
+class Shown:
+    """What looks show of a user who is stopped, with memory by the addresses of pages."""
+
+    is_running: bool
+    registers: ScalarRegisters
+    control: ControlRegisters
+    vectors: list[bytes]
+    breakpoints: list[int]
+    trace: list[int]
+    memory: dict[int, bytes]
+    output: bytes
+
+    @property
+    def is_at_breakpoint(self) -> bool:
+        """Whether the program runs, and stands at a breakpoint."""
+        return self.is_running and self.registers.pc in self.breakpoints
+
+
+@dataclass(frozen=True)
+class Machine:
+    """A machine, but for the counts of its vector unit; users by digit.
+
+    owner, is_dirty: whose state the vector unit holds, or 0, and whether it was changed since it came there
+    last: the user whose turn was the last
+    """
+
+    users: Mapping[str, User]
+    shown: Mapping[str, Shown]
+    owner: str
+    is_dirty: bool
+    last: str
+
+
+def carry_out(session: Session, script: bytes) -> dict[str, User]:
+    """Carries out a script that a session recorded; its users by digit."""
+    users = dict[str, User]()
+    for line, answer in session.do_script(script):
+        if line[2:3] in _FOLLOWED and line[0] != "*" and not is_refusal(answer):
+            _follow(users, line)
+    return users
+
+
+def machine_after(session: Session, script: bytes, images: Mapping[str, pathlib.Path]) -> Machine:
+    """The machine that a script leaves in a new session, which is of no use any more then."""
+    users = carry_out(session, script)
+    for user in users.values():
+        user.pages = dict(_pages(user, images))
+    owner = _switches(session)["owner"]
+    shown = {digit: _look(Guest(session, int(digit)), user) for digit, user in users.items()}
+    is_dirty = _find_areas(session, users, str(owner))
+    return Machine(users, shown, str(owner), is_dirty, _last(session))
+
+
+def fresh_memory(opening: Opening, user: User) -> dict[int, bytes]:
+    """What a user's pages hold before anything is written, by their addresses."""
+    memory = dict.fromkeys(user.pages, bytes(PAGE_BYTES))
+    if user.image:
+        with opening() as session:
+            guest = Guest(session)
+            guest.ask("enter", f"load {user.image}")
+            memory = {page: guest.peek(page, PAGE_BYTES) or memory[page] for page in user.pages}
+    return memory
+
+
+def _follow(users: dict[str, User], line: str) -> None:
+    """Takes up a user's line that was accepted."""
+    digit = line[0]
+    match words_of(line):
+        case ["enter"]:
+            users[digit] = User()
+        case ["load", image]:
+            users[digit] = User(image)
+        case ["leave"]:
+            del users[digit]
+        case ["map", address, pages, permission]:
+            users[digit].maps.append((int(address, 16), int(pages), permission))
+        case ["policy", policy]:
+            users[digit].policy = policy
+        case ["vset", *_]:
+            users[digit].has_area = True
+
+
+def _pages(user: User, images: Mapping[str, pathlib.Path]) -> Iterator[tuple[int, int]]:
+    """The addresses of a user's pages, with what programs may do there."""
+    if user.image:
+        yield from _image_pages(images[user.image].read_bytes()).items()
+    for address, pages, permission in user.maps:
+        for page in range(address, address + pages * PAGE_BYTES, PAGE_BYTES):
+            yield page, sum(_PERMISSIONS[letter] for letter in permission)
+
+
+def _image_pages(image: bytes) -> dict[int, int]:
+    """The pages of an image that `load` takes, by its program headers, and those of its stack."""
+    stack = range(STACK_END - _STACK_PAGES * PAGE_BYTES, STACK_END, PAGE_BYTES)
+    pages = dict.fromkeys(stack, READ | WRITE)
+    (place,), (size, number) = struct.unpack_from("<Q", image, 32), struct.unpack_from("<HH", image, 54)
+    for header in range(place, place + number * size, size):
+        kind, flags, _, address, _, _, length = struct.unpack_from("<IIQQQQQ", image, header)
+        if kind == 1 and length:
+            for page in range(address // PAGE_BYTES * PAGE_BYTES, address + length, PAGE_BYTES):
+                pages[page] = pages.get(page, 0) | flags & 7
+    return pages
+
+
+def _look(guest: Guest, user: User) -> Shown:
+    """Looks at a user, whose program is stopped for that, and whose output buffer is emptied."""
+    is_running = guest.told("state", Position).run == "running"
+    if is_running:
+        guest.told("stop", Position)
+    vectors = guest.ask(*(f"vreg v{number} 64" for number in range(32)))
+    return Shown(
+        is_running,
+        guest.told("regs", ScalarRegisters),
+        guest.told("vcsr", ControlRegisters),
+        [vector.data for vector in vectors if isinstance(vector, VectorRegister)],
+        list(guest.told("breaks", Addresses).addresses),
+        list(guest.told("trace", Addresses).addresses),
+        {page: guest.peek(page, PAGE_BYTES) for page in user.pages},
+        guest.told("out", Output).data,
+    )
+
+
+def _switches(session: Session) -> dict[str, int]:
+    """The counts of the vector unit, and its owner."""
+    switches = read(session.do("* stats"))
+    assert isinstance(switches, Switches)
+    return switches.counts
+
+
+def _find_areas(session: Session, users: Mapping[str, User], owner: str) -> bool:
+    """Finds out who has a save area, and whether the owner's state was changed: each touches the unit, the owner last."""
+    touching = {digit: page for digit, user in users.items() if (page := user.first(EXECUTE)) is not None}
+    own_page, is_dirty = touching.pop(owner, None), False
+    if own_page is not None:
+        stranger = next((digit for digit in DIGITS if digit not in touching and digit != owner), "")
+        if not touching:
+            for command in ("leave", "enter", "map 0 1 x"):
+                session.do(f"{stranger} {command}")
+        touching = (touching or {stranger: 0}) | {owner: own_page}
+    before = first = _switches(session)
+    for digit, page in touching.items():
+        for command in (f"asm {page:x} {TOUCHING}", f"setpc {page:x}", "step 1"):
+            session.do(f"{digit} {command}")
+        now = _switches(session)
+        is_dirty = is_dirty or before is first and now["saves"] > before["saves"]
+        if digit in users:
+            users[digit].has_area = now["restores"] > before["restores"]
+        before = now
+    return is_dirty
+
+
+def _last(session: Session) -> str:
+    """Whose turn was the last: now each user's program runs, and faults at once."""
+    for digit in DIGITS:
+        for command in ("leave", "enter", "go"):
+            session.do(f"{digit} {command}")
+    granted = read(session.do("* slices 1"))
+    assert isinstance(granted, Granted)
+    return DIGITS[DIGITS.index(granted.stops[0][0]) - 1]

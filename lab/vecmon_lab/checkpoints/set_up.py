@@ -1,0 +1,177 @@
+"""The lines that set a machine up in a state, from a new machine on."""
+
+from collections.abc import Iterable, Iterator, Mapping
+
+from ..guest.guest import STACK_POINTER
+from ..instructions.accesses import LINE_BYTES, PAGE_BYTES, REGISTER_BYTES
+from ..machine.lines import DIGITS
+from .machine_state import EXECUTE, READ, TOUCHING, WRITE, Machine
+
+NO_TYPE = 1 << 63  # vtype of a machine that has begun, with vl 0
+TRACED = 16  # addresses that a trace has at most
+_GAP = 16  # bytes that are poked though they stay, so that there are fewer lines
+
+Memory = Mapping[int, bytes]
+
+
+def lines_of(machine: Machine, fresh: Mapping[str, Memory]) -> list[str]:
+    """The lines that set a machine up in a state. Counts of the vector unit are as they come.
+
+    fresh: what the pages of each user hold before anything is written, by their addresses
+    """
+    lines, users = list[str](), {digit: _SetUp(digit, machine, fresh[digit]) for digit in sorted(machine.users)}
+    if machine.last != DIGITS[-1]:  # somebody's program faults at once
+        lines += [f"{machine.last} enter", f"{machine.last} go", "* slices 1", f"{machine.last} leave"]
+    owner = users.get(machine.owner)
+    touching = [user for user in users.values() if user is not owner and user.has_vector_state]
+    if owner and not machine.is_dirty and owner.user.has_area and owner.has_vector_state:
+        touching.insert(0, owner)
+    for user in touching:
+        lines += user.lines(is_touching=True)
+    if touching and (owner is None or not machine.is_dirty and touching == [owner]):
+        digit = next(digit for digit in DIGITS if digit != machine.owner and users.get(digit) not in touching)
+        lines += [f"{digit} {command}" for command in ("enter", "map 0 1 x", f"asm 0 {TOUCHING}", "step 1", "leave")]
+    if owner and machine.is_dirty:
+        lines += owner.lines(is_touching=True)
+    elif owner:
+        lines += ([] if owner in touching else owner.lines(is_touching=False)) + owner.touching()
+    for user in users.values():
+        if user is not owner and user not in touching:
+            lines += user.lines(is_touching=False)
+    return lines + [line for user in users.values() for line in user.ending()]
+
+
+class _SetUp:
+    """The lines for one user.
+
+    has_vector_state: whether there is vector state that instructions alone make
+    """
+
+    def __init__(self, digit: str, machine: Machine, fresh: Memory) -> None:
+        self.user, self._shown, self._digit = machine.users[digit], machine.shown[digit], digit
+        control = self._shown.control
+        self._fixed_point = control.vxrm << 1 | control.vxsat
+        self._has_type = (control.vl, control.vtype) != (0, NO_TYPE)
+        self.has_vector_state = self._has_type or control.vstart != 0 or self._fixed_point != 0
+        self._memory = {page: bytearray(data) for page, data in fresh.items()}  # as far as it is known
+        self._texts = dict[int, str]()  # instructions that stand there
+        self._x = {2: STACK_POINTER} if self.user.image else dict[int, int]()
+        self._vectors = [bytes(REGISTER_BYTES)] * 32
+        self._code = self.user.first(EXECUTE) or 0
+
+    def lines(self, is_touching: bool) -> list[str]:
+        """Sets all up but for policy, breakpoints and running. The user touches the vector unit, or doesn't."""
+        begin = ["enter", *([f"load {self.user.image}"] if self.user.image else [])]
+        begin += [f"map {address:x} {pages} {permission}" for address, pages, permission in self.user.maps]
+        return self._told([*begin, *self._carried_out(is_touching), *self._written()])
+
+    def touching(self) -> list[str]:
+        """Behind all that: the user touches the unit, which has no other effect."""
+        page = self._code
+        return self._told([*self._step(page, TOUCHING), *self._restored(page), f"setpc {self._shown.registers.pc:x}"])
+
+    def ending(self) -> list[str]:
+        """The policy, the breakpoints, and whether the program runs."""
+        policy = [] if self.user.policy == "keep" else [f"policy {self.user.policy}"]
+        breakpoints = [f"break {address:x}" for address in self._shown.breakpoints]
+        return self._told(policy + breakpoints + ["go"] * self._shown.is_running)
+
+    def _told(self, commands: Iterable[str]) -> list[str]:
+        return [f"{self._digit} {command}" for command in commands]
+
+    def _carried_out(self, is_touching: bool) -> Iterator[str]:
+        """What instructions leave: output, control registers and the trace; and the vector registers."""
+        trace, vstart = self._shown.trace, self._shown.control.vstart if is_touching else 0
+        is_full = len(trace) == TRACED  # else each instruction that is carried out stands in it
+        writes = [self._shown.output[at : at + LINE_BYTES] for at in range(0, len(self._shown.output), LINE_BYTES)]
+        work = list(self._control_writes()) if is_touching else []
+        has_room = is_full or len(writes) + len(work) < len(trace)
+        work += [("csrrw x0, vstart, x5", vstart, 0)] if vstart and has_room else []
+        places = iter([self._code] * TRACED if is_full else trace)
+        for data, place in zip(writes, places):
+            yield from self._write_call(place, data)
+        for (text, first, second), place in zip(work, places):
+            yield from self._step(place, text, x5=first, x6=second)
+        for place in trace if is_full else places:
+            yield from self._step(place, "addi x0, x0, 0")
+        if vstart and not has_room:
+            yield from self._fault(vstart)
+        elif is_touching and not work:
+            yield from self._step(self._code, TOUCHING)
+        has_changed = bool(work or vstart)  # the vector unit's state
+        needs_vset = not has_changed if is_touching else self.user.has_area
+        others = [number for number in range(32) if self._vectors[number] != self._shown.vectors[number]]
+        for number in others or [0] * needs_vset:
+            yield f"vset v{number} {self._shown.vectors[number].hex()}"
+
+    def _control_writes(self) -> Iterator[tuple[str, int, int]]:
+        """Instructions that write vector control registers, but vstart, with what x5 and x6 hold then."""
+        if self._has_type:
+            yield "vsetvl x0, x5, x6", self._shown.control.vl, self._shown.control.vtype
+        if self._fixed_point:
+            yield "csrrw x0, vcsr, x5", self._fixed_point, 0
+
+    def _write_call(self, place: int, data: bytes) -> Iterator[str]:
+        """A call at a place that puts bytes into the output buffer."""
+        page = self.user.first(READ) or 0
+        block = page + LINE_BYTES * (place // LINE_BYTES * LINE_BYTES == page)
+        yield f"poke {block:x} {data.hex()}"
+        self._spoil(block, LINE_BYTES)
+        yield from self._step(place, "ecall", x17=64, x10=1, x11=block, x12=len(data))
+        self._x[10] = len(data)
+
+    def _fault(self, vstart: int) -> Iterator[str]:
+        """A load or store that faults at an element, so that it leaves vstart and no trace; where a page allows one."""
+        for permission, text in ((READ, "vl8re8.v v0, (x5)"), (WRITE, "vs8r.v v0, (x5)")):
+            pages = [page for page, allowed in self.user.pages.items() if allowed & permission]
+            for end in [page + PAGE_BYTES for page in pages if page + PAGE_BYTES not in pages][:1]:
+                yield from self._step(self._code, text, x5=end - vstart)
+                self._vectors[:8] = [b""] * 8  # unknown now, as what stands in the page
+                self._spoil(end - vstart, vstart)
+                return
+
+    def _step(self, place: int, text: str, **registers: int) -> Iterator[str]:
+        """Carries out an instruction at a place."""
+        for name, value in registers.items():
+            yield from self._set(int(name[1:]), value)
+        if self._texts.get(place) != text:
+            yield f"asm {place:x} {text}"
+            self._spoil(place, 4)
+            self._texts[place] = text
+        yield from (f"setpc {place:x}", "step 1")
+
+    def _set(self, number: int, value: int) -> Iterator[str]:
+        """Sets a scalar register where it isn't so."""
+        if self._x.get(number, 0) != value:
+            self._x[number] = value
+            yield f"set x{number} {value:x}"
+
+    def _spoil(self, address: int, length: int) -> None:
+        """Bytes, all in one page, aren't what they are to be."""
+        page, first = address // PAGE_BYTES * PAGE_BYTES, address % PAGE_BYTES
+        wanted = self._shown.memory[page][first : first + length]
+        self._memory[page][first : first + length] = bytes(byte ^ 0xFF for byte in wanted)
+        self._texts.clear()
+
+    def _written(self) -> Iterator[str]:
+        """Memory, scalar registers and the program counter."""
+        for page in self._shown.memory:
+            yield from self._restored(page)
+        for number in range(1, 32):
+            yield from self._set(number, self._shown.registers.x[number])
+        yield f"setpc {self._shown.registers.pc:x}"
+
+    def _restored(self, page: int) -> Iterator[str]:
+        """The bytes of a page that aren't so."""
+        have, wanted = self._memory[page], self._shown.memory[page]
+        runs = list[list[int]]()  # the first and the last place of each
+        for place in range(PAGE_BYTES) if have != wanted else ():
+            if have[place] == wanted[place]:
+                continue
+            if runs and place - runs[-1][1] <= _GAP and place - runs[-1][0] < LINE_BYTES:
+                runs[-1][1] = place
+            else:
+                runs.append([place, place])
+        for first, last in runs:
+            yield f"poke {page + first:x} {wanted[first : last + 1].hex()}"
+        self._memory[page] = bytearray(wanted)

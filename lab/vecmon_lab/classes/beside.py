@@ -1,0 +1,40 @@
+"""Modules of the lab that run beside a class, in processes of their own."""
+
+import asyncio
+import contextlib
+import os
+import pathlib
+import sys
+from asyncio.subprocess import PIPE
+
+from .. import LabError
+
+LAB = pathlib.Path(__file__).resolve().parents[2]
+
+
+class Beside:
+    """Places for so many processes at once: who comes later waits."""
+
+    def __init__(self, places: int) -> None:
+        self._places = asyncio.Semaphore(places)
+
+    async def run(self, module: str, *words: str, script: bytes = b"") -> bytes:
+        """What a module puts out, given words and its input. Raises LabError where it fails."""
+        command = (sys.executable, "-PB", "-m", f"vecmon_lab.{module}", *words)  # nothing of the folder it is called in
+        environment = os.environ | {"PYTHONPATH": str(LAB)}
+        async with self._places:
+            try:
+                child = await asyncio.create_subprocess_exec(
+                    *command, stdin=PIPE, stdout=PIPE, stderr=PIPE, env=environment, start_new_session=True
+                )
+            except OSError as error:
+                raise LabError(f"{sys.executable} can't be started: {error.strerror}") from error
+            try:
+                told, complaint = await child.communicate(script)
+            finally:
+                with contextlib.suppress(ProcessLookupError):
+                    child.kill()
+        if child.returncode:
+            last = complaint.decode("utf-8", "replace").strip().rpartition("\n")[2]
+            raise LabError(last.partition("Error: ")[2] or last)
+        return told

@@ -1,0 +1,92 @@
+"""A tab's socket: requests are read, and carried out in turn; answers and news go to it (docs/CLASS_PROTOCOL.md)."""
+
+import asyncio
+import contextlib
+import json
+from collections import deque
+from collections.abc import Callable
+
+from aiohttp import WSMsgType, web
+
+from .codes import TEACHER
+from .view import Class, Message, Tab
+
+READ_SECONDS = 20.0  # in which a tab has to take a message
+MOST_WAITING, WAITING_BYTES = 64, 2_000_000  # requests of a tab that wait, besides the one that is carried out
+TOO_MANY_WAIT = f"{MOST_WAITING} requests of this tab wait already, or they are too long: nothing was done"
+CLOSED = 4403  # why a socket is closed: its code is none, or none any more
+
+
+class TabSocket:
+    """What goes through the socket of a tab that has said its code.
+
+    Requests are read while others wait, so that the tab's pings are answered however long the machine takes. What waits
+    when the tab goes away is carried out all the same, unless its code opens the seat no more.
+    """
+
+    def __init__(self, members: Class, socket: web.WebSocketResponse, tab: Tab, abort: Callable[[], object]) -> None:
+        """abort: ends the connection without a word."""
+        self._members, self._socket, self._tab, self._abort = members, socket, tab, abort
+        self._waiting: deque[str] = deque()
+        self._has_come = asyncio.Event()  # set where there is one, or no more will come
+        self._is_read = False
+
+    async def serve(self, is_ending: Callable[[], bool]) -> None:
+        """Greets the tab, and serves it until its socket is closed and nothing waits, or the server ends."""
+        try:
+            await self._send(self._members.hello(self._tab))
+            async with asyncio.TaskGroup() as tasks:
+                pusher, _ = tasks.create_task(self._push()), tasks.create_task(self._answer())
+                with contextlib.suppress(ConnectionError):
+                    await self._read()
+                    code = 1001 if is_ending() else 1000 if self._tab.is_open else CLOSED
+                    await self._socket.close(code=code)  # as whoever closes it from elsewhere, who may come later
+                pusher.cancel()
+                if is_ending():
+                    self._waiting.clear()
+                self._is_read = True
+                self._has_come.set()
+        finally:
+            self._members.leave(self._tab)
+
+    async def _read(self) -> None:
+        """Takes up requests until the socket is closed."""
+        async for message in self._socket:
+            if message.type is not WSMsgType.TEXT or not self._tab.is_open:
+                return
+            if len(self._waiting) < MOST_WAITING and sum(map(len, self._waiting)) + len(message.data) <= WAITING_BYTES:
+                self._waiting.append(message.data)
+                self._has_come.set()
+            else:
+                await self._send(await self._members.answer(self._tab, message.data, TOO_MANY_WAIT))
+
+    async def _answer(self) -> None:
+        """Carries out what waits, in turn."""
+        while self._waiting or not self._is_read:
+            await self._has_come.wait()
+            while self._waiting:
+                text = self._waiting.popleft()
+                if self._tab.is_open:
+                    await self._send(await self._members.answer(self._tab, text))
+            self._has_come.clear()
+
+    async def _push(self) -> None:
+        """Sends news as they come; what changes meanwhile goes together."""
+        while self._tab.is_open:
+            await self._tab.changed.wait()
+            if self._tab.is_open and (news := self._members.news(self._tab)):
+                news["kind"] = "news"
+                await self._send(news)
+            await asyncio.sleep(0.1 if self._tab.who == TEACHER else 0.02)
+        with contextlib.suppress(ConnectionError):
+            await self._socket.close(code=CLOSED, message=b"another code")
+
+    async def _send(self, message: Message) -> None:
+        """Sends a message to the tab, which may be gone. The connection of one that doesn't take it is ended."""
+        try:
+            async with asyncio.timeout(READ_SECONDS):
+                await self._socket.send_str(json.dumps(message, separators=(",", ":")))
+        except asyncio.TimeoutError:
+            self._abort()  # a close would wait for what the tab doesn't read
+        except ConnectionError:
+            pass

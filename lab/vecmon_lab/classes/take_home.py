@@ -1,0 +1,72 @@
+"""What a student takes home: an archive with the source, the script, its images, and a lesson of it for any browser."""
+
+import contextlib
+import io
+import os
+import pathlib
+import sys
+import zipfile
+from collections.abc import Sequence
+from dataclasses import replace
+
+from .. import LabError
+from ..lessons.frames import make_frames
+from ..lessons.page import lesson_page
+from ..lessons.script import Script, Step, add_line, read_source
+from ..machine.lines import words_of
+from .live import is_servers
+from .solo import solo
+from .store import Store
+
+MOST_FRAMES, MOST_ENTRIES = 500, 200  # of a lesson; and of a frame's log
+
+
+def steps_of(lines: Sequence[str]) -> list[Step]:
+    """The last steps of a student's script, so many that they make 500 frames at most; the first has all before them."""
+    steps, left = list[Step](), MOST_FRAMES - 1
+    for line in lines:
+        joins = line[0] == "*" or is_servers(line)  # the program runs on, or its output is taken
+        if steps and joins and not _frames(steps[-1]):
+            steps[-1].lines.append(line)
+        else:
+            add_line(steps, line)
+    for place in reversed(range(len(steps))):
+        left -= _frames(steps[place]) or 1
+        if left < 0:
+            return [Step([line for step in steps[: place + 1] for line in step.lines]), *steps[place + 1 :]]
+    return steps
+
+
+def _frames(step: Step) -> int:
+    """How many frames a step makes at most that steps the program; 0 for another one."""
+    words = words_of(step.lines[0])
+    return int(words[1]) if words[0] == "step" and words[1:] and words[1].isdecimal() and len(words[1]) < 4 else 0
+
+
+def archive(store: Store, seat: str) -> bytes:
+    """The archive of a seat. Raises LabError where it has done nothing."""
+    lines, sources = solo(store, seat), [store.folder / f"{seat}{ending}" for ending in (".written.s", ".s")]
+    texts = [source.read_text("utf-8", "replace") for source in sources if source.exists()]
+    script = Script(f"Seat {seat}", steps_of(lines))
+    if texts:
+        with contextlib.suppress(LabError):  # a source that isn't finished
+            named = read_source(texts[0], seat)
+            script = replace(script, labels=named.labels, notes=named.notes)
+    frames = make_frames(script, store.program, store.images, store.quantum)
+    frames = [replace(frame, log=frame.log[-MOST_ENTRIES:]) for frame in frames]
+    files: dict[str, str | bytes] = {f"{seat}.script": "".join(f"{line}\n" for line in lines)}
+    files |= {f"{seat}.html": lesson_page(script.title, frames, script.labels)}
+    files |= {f"{seat}.s": text for text in texts[-1:]}
+    loaded = {words_of(line)[1] for line in lines if words_of(line)[:1] == ["load"] and words_of(line)[1:]}
+    files |= {f"{name}.elf": path.read_bytes() for name, path in store.images.items() if name in loaded}
+    data = io.BytesIO()
+    with zipfile.ZipFile(data, "w", zipfile.ZIP_DEFLATED) as packed:
+        for name, content in files.items():
+            packed.writestr(f"{seat}/{name}", content)
+    return data.getvalue()
+
+
+if __name__ == "__main__":
+    os.nice(10)
+    folder, program, wanted = sys.argv[1:]
+    sys.stdout.buffer.write(archive(Store(pathlib.Path(folder), pathlib.Path(program), is_reading=True), wanted))

@@ -1,0 +1,44 @@
+// Codes on the teacher's page, which are there only while they are shown; and the sheet to print.
+
+import { button, byId, make, put } from "./elements.js";
+
+/** The code of a seat, or of the wall: a link where it is shown. */
+export class CodeField {
+  constructor(name, ask) {
+    this.link = Object.assign(make("a", ""), { target: "_blank", rel: "noopener" });
+    const whose = name === "wall" ? "the wall" : `seat ${name}`;
+    const turn = () => (this.link.hash ? this.show("") : ask({ ask: "codes", seat: name }));
+    this.shows = button("Code", `Code for ${whose}`, turn);
+    const renew = button("New code", `New code for ${whose}`, () => ask({ ask: "renew", seat: name }));
+    this.parts = [this.link, this.shows, " ", renew];
+    this.show("");
+  }
+
+  /** Shows a code with the address that it belongs to, or none. */
+  show(code, address = "") {
+    put(this.link, code);
+    if (code) this.link.href = `${address}#${code}`;
+    else this.link.removeAttribute("href");
+    put(this.shows, code ? "Hide" : "Code");
+  }
+}
+
+/** Shows a sheet with a slip for each seat, in place of the page. */
+export function openSheet({ codes, pictures }, address) {
+  const slips = Object.entries(codes).filter(([name]) => name !== "wall");
+  byId("slips").replaceChildren(...slips.map(([name, code]) => slip(name, code, pictures[name], address)));
+  byId("sheet-says").hidden = address !== "";
+  document.body.classList.add("printing");
+}
+
+/** Closes the sheet; nothing is left of it. */
+export function closeSheet() {
+  document.body.classList.remove("printing");
+  byId("slips").replaceChildren();
+}
+
+function slip(name, code, picture, address) {
+  const image = picture ? [Object.assign(make("img", ""), { src: picture, alt: `QR code for seat ${name}` })] : [];
+  const words = make("div", "", make("h2", "", `Seat ${name}`), make("p", "", address), make("code", "", code));
+  return make("li", "", ...image, words);
+}

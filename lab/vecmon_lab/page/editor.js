@@ -1,0 +1,197 @@
+// A field for a source: the browser's own, with line numbers and colours around it, indents, names to choose, and undo.
+
+import { make } from "./elements.js";
+import { choicesAt, piecesOf } from "./syntax.js";
+
+const INDENT = 8; // columns
+const TOGETHER = 1000; // ms: what is typed without a longer pause is undone at once
+const [MOST_STATES, MOST_LETTERS] = [300, 4e6]; // that undo goes back to, and of their texts together
+
+const columnOf = (text) => [...text].reduce((at, letter) => at + (letter === "\t" ? INDENT - (at % INDENT) : 1), 0);
+
+export class Editor {
+  /** changed: is called when the text has become another one. */
+  constructor(field, changed = () => {}) {
+    const [numbers, colours, choices] = [make("pre", "numbers"), make("pre", "colours"), make("ul", "choices")];
+    Object.assign(this, { field, changed, numbers, colours, choices, past: [], future: [], kind: "", time: 0 });
+    numbers.ariaHidden = colours.ariaHidden = "true";
+    const box = make("div", "lines", numbers);
+    field.replaceWith(box);
+    box.append(make("div", "text", colours, field, choices));
+    this.state = { text: field.value, start: 0, end: 0 };
+    this.offer([]);
+    const heard = {
+      input: (event) => this.typed(event),
+      beforeinput: (event) => /^history/.test(event.inputType) && this.turn(event, event.inputType === "historyUndo"),
+      keydown: (event) => this.pressed(event),
+      scroll: () => this.paint(),
+      blur: () => this.offer([]),
+      pointerdown: () => this.offer([]),
+      focus: () => (this.isLeaving = true), // so Tab passes by, until something is typed or clicked
+      pointerup: () => (this.isLeaving = false),
+    };
+    for (const [kind, hear] of Object.entries(heard)) field.addEventListener(kind, hear);
+    new ResizeObserver(() => this.paint()).observe(field);
+  }
+
+  get text() {
+    return this.field.value;
+  }
+
+  /** Puts in another text, which can be undone. */
+  put(text) {
+    if (text !== this.text) this.edit(0, this.text.length, text, 0);
+  }
+
+  /** Replaces a part of the text, and selects some of it. */
+  edit(start, end, text, from = start + text.length, to = from) {
+    this.remember();
+    this.field.setRangeText(text, start, end);
+    this.took(from, to);
+  }
+
+  /** Keeps the text as it was, to undo what comes. */
+  remember() {
+    const { past } = this;
+    past.push(this.state);
+    this.future = [];
+    const isMuch = () => past.length > MOST_STATES || past.reduce((sum, { text }) => sum + text.length, 0) > MOST_LETTERS;
+    while (past.length > 1 && isMuch()) past.shift();
+  }
+
+  /** Takes up the text as it has become, and selects some of it, unless it was typed. */
+  took(from, to) {
+    if (from !== undefined) this.field.setSelectionRange(from, to);
+    if (from !== undefined) this.kind = "";
+    this.state = { text: this.text, start: this.field.selectionStart, end: this.field.selectionEnd };
+    this.offer([]);
+    this.paint();
+    this.changed();
+  }
+
+  typed({ inputType, data, timeStamp }) {
+    if (this.text === this.state.text) return; // an event more of the same paste
+    const isLetter = data?.length === 1;
+    if (inputType !== this.kind || timeStamp - this.time > TOGETHER) this.remember();
+    Object.assign(this, { kind: isLetter || inputType?.startsWith("delete") ? inputType : "", time: timeStamp });
+    this.took();
+    if (isLetter) this.suggest(2);
+  }
+
+  /** Undoes, or does again, what an event asks for. */
+  turn(event, isBack) {
+    event.preventDefault();
+    const [from, to] = isBack ? [this.past, this.future] : [this.future, this.past];
+    if (!from.length) return;
+    to.push(this.state);
+    const { text, start, end } = from.pop();
+    this.field.value = text;
+    this.took(start, end);
+  }
+
+  /** What a key does; where that answers false, the browser does its own. */
+  pressed(event) {
+    const wasLeaving = this.isLeaving;
+    this.isLeaving = wasLeaving && ["Shift", "Tab"].includes(event.key);
+    if (event.isComposing || event.altKey || this.field.readOnly) return;
+    const key = `${event.ctrlKey || event.metaKey ? "Ctrl " : ""}${event.shiftKey ? "Shift " : ""}${event.key.toLowerCase()}`;
+    const does = {
+      "Ctrl z": () => this.turn(event, true),
+      "Ctrl y": () => this.turn(event, false),
+      "Ctrl Shift z": () => this.turn(event, false),
+      "Ctrl  ": () => this.suggest(0),
+      tab: () => (this.names.length ? this.take(Math.max(0, this.chosen)) : !wasLeaving && this.indent(false)),
+      "Shift tab": () => !wasLeaving && this.indent(true),
+      enter: () => (this.chosen >= 0 ? this.take(this.chosen) : this.breakLine()),
+      escape: () => this.escape(),
+      arrowdown: () => this.choose(1),
+      arrowup: () => this.choose(-1),
+    }[key];
+    if (does && does() !== false) event.preventDefault();
+    else if (event.key.length > 1) this.offer([]);
+  }
+
+  /** Closes the names to choose; where there are none, Tab leaves the field next. */
+  escape() {
+    this.isLeaving = !this.names.length;
+    this.offer([]);
+    return !this.isLeaving;
+  }
+
+  /** Where the line of a place begins. */
+  lineStart(at) {
+    return this.text.lastIndexOf("\n", at - 1) + 1;
+  }
+
+  breakLine() {
+    const { selectionStart: start, selectionEnd: end } = this.field;
+    const line = this.text.slice(this.lineStart(start), start);
+    const indent = /^\s*/.exec(line)[0] || (/^[\w.$]+:/.test(line) ? " ".repeat(INDENT) : "");
+    this.edit(start, end, `\n${indent}`);
+  }
+
+  /** Goes to the next column that is indented to, or moves the lines that are selected. */
+  indent(isBack) {
+    const { selectionStart: start, selectionEnd: end } = this.field;
+    const first = this.lineStart(start);
+    const isSelected = this.text.slice(start, end).includes("\n");
+    if (!isBack && !isSelected) {
+      return this.edit(start, end, " ".repeat(INDENT - (columnOf(this.text.slice(first, start)) % INDENT)));
+    }
+    const last = `${this.text}\n`.indexOf("\n", isSelected ? end - 1 : end);
+    const lines = this.text.slice(first, last).split("\n");
+    const moved = lines.map((line) => (isBack ? line.replace(/^(\t| {1,8})/, "") : line && " ".repeat(INDENT) + line)).join("\n");
+    const caret = Math.max(first, start + moved.length - (last - first));
+    return this.edit(first, last, moved, ...(isSelected ? [first, first + moved.length] : [caret]));
+  }
+
+  /** Offers names that go on from the word before the caret, if it has so many letters. */
+  suggest(least) {
+    const { word, names } = choicesAt(this.text, this.field.selectionEnd, least);
+    this.offer(names, word);
+  }
+
+  /** Shows names below the word, or above it in the lower half. */
+  offer(names, word = "") {
+    const { field, choices } = this;
+    Object.assign(this, { names, word, chosen: -1 });
+    choices.hidden = !names.length;
+    choices.replaceChildren(...names.map(([name, form]) => make("li", "", make("b", "", name), form.slice(name.length))));
+    [...choices.children].forEach((item, place) => (item.onpointerdown = (event) => (event.preventDefault(), this.take(place))));
+    if (!names.length) return;
+    const before = this.text.slice(0, field.selectionEnd - word.length);
+    const column = columnOf(before.slice(this.lineStart(before.length)));
+    choices.style.left = `calc(${column}ch + 0.6rem - ${field.scrollLeft}px)`;
+    choices.style.top = `calc(${before.split("\n").length * 1.7 + 0.4}rem - ${field.scrollTop}px)`;
+    choices.classList.toggle("above", choices.offsetTop > field.clientHeight / 2);
+  }
+
+  choose(step) {
+    if (!this.names.length) return false;
+    this.chosen = Math.min(this.names.length - 1, Math.max(-1, this.chosen + step));
+    [...this.choices.children].forEach((item, place) => item.classList.toggle("chosen", place === this.chosen));
+    return true;
+  }
+
+  /** Takes a name in place of the word. */
+  take(place) {
+    const at = this.field.selectionEnd;
+    this.edit(at - this.word.length, at, this.names[place][0]);
+  }
+
+  /** Paints the numbers, and the lines in sight in their colours. */
+  paint() {
+    const { field, numbers, colours } = this;
+    if (!field.clientHeight) return;
+    const lines = this.text.split("\n");
+    if (lines.length !== this.count) numbers.textContent = lines.map((_, place) => place + 1).join("\n");
+    this.count = lines.length;
+    const height = parseFloat(getComputedStyle(field).lineHeight);
+    const first = Math.max(0, Math.floor(field.scrollTop / height) - 2);
+    const shown = lines.slice(first, first + Math.ceil(field.clientHeight / height) + 5);
+    const pieces = shown.flatMap((line) => [...piecesOf(line).map(([kind, text]) => (kind ? make("span", kind, text) : text)), "\n"]);
+    colours.replaceChildren("\n".repeat(first), ...pieces);
+    colours.style.transform = `translate(${-field.scrollLeft}px, ${-field.scrollTop}px)`;
+    numbers.scrollTop = field.scrollTop;
+  }
+}

@@ -1,0 +1,38 @@
+// Commands, instructions and refusals: all that the server's tables tell, and the entry of a name.
+
+import { byId, make, prose, put } from "./elements.js";
+
+export const SECTIONS = JSON.parse(byId("reference-data").textContent);
+const ENTRIES = Object.values(SECTIONS).flat();
+
+/** An entry as a line of its own. */
+const entryItem = ([, form, does]) => make("li", "", make("code", "", form), does && ` ${does}`);
+
+/** What is told of a name, with code between backquotes; "" of none. */
+export function entryText(name) {
+  const own = ENTRIES.filter(([each]) => [name, `* ${name}`].includes(each));
+  return own.map(([, form, does]) => `\`${form}\`${does && `: ${does}`}`).join("\n");
+}
+
+/** The word of a text that a place stands in, or at whose end it stands. */
+function wordAt(text, place) {
+  const [before] = /[\w.]*$/.exec(text.slice(Math.max(0, place - 99), place));
+  return before + /^[\w.]*/.exec(text.slice(place, place + 99))[0];
+}
+
+/** Shows those entries that have a text in their form or in what they do, or all. */
+export function showReference(text) {
+  const wanted = text.trim().toLowerCase();
+  const parts = Object.entries(SECTIONS).flatMap(([section, entries]) => {
+    const found = entries.filter(([name, form, does]) => `${name} ${form} ${does}`.toLowerCase().includes(wanted));
+    const exactFirst = [...found.filter(([name]) => name === wanted), ...found.filter(([name]) => name !== wanted)];
+    return found.length ? [make("h3", "", section), make("ul", "", ...exactFirst.map(entryItem))] : [];
+  });
+  byId("entries").replaceChildren(...(parts.length ? parts : [make("p", "empty", "Nothing is called so.")]));
+}
+
+/** Shows in an element what is told of the name that the caret of a field stands in. */
+export function tellName(element, field) {
+  const words = entryText(wordAt(field.value, field.selectionStart));
+  put(element, words, prose(words));
+}

@@ -1,0 +1,42 @@
+// What a source's words are: pieces of a line with their kinds, and the names that may go on from a place.
+
+import { SECTIONS } from "./reference.js";
+import { ABI_NAMES } from "./words.js";
+
+const MOST_CHOICES = 10;
+const LONGEST = 1000; // characters of a line that are told apart
+const TOKEN = /(#.*|\/\/.*)|("(?:[^"\\]|\\.)*"?)|([A-Za-z_.$][\w.$]*)|(\d\w*)|[^\w.$"#/]+|./g;
+const LABEL = /^\s*([A-Za-z_.$][\w.$]*):|^\s*\.(?:equ|set)\s+([A-Za-z_.$][\w.$]*)/gm;
+const REGISTERS = new Set([...ABI_NAMES, "fp", ...Array.from({ length: 32 }, (_, at) => [`x${at}`, `v${at}`]).flat()]);
+const FORMS = new Map(
+  ["Instructions", "Pseudo-instructions", "Directives"].flatMap((section) => SECTIONS[section]).map(([name, form]) => [name, form]),
+);
+
+/** What a word is that stands first in a statement. */
+const firstKind = (name) => (!FORMS.has(name) ? "unknown" : name[0] === "." ? "directive" : "instruction");
+
+/** A line in pieces, each with its kind, which is "" for marks and names. */
+export function piecesOf(line) {
+  let isFirst = true;
+  const kindOf = ({ 0: text, 1: comment, 2: string, 3: name, 4: number, index }) => {
+    if (!name) return (comment && "comment") ?? (string && "string") ?? (number && "number") ?? "";
+    if (isFirst && /^\s*:/.test(line.slice(index + text.length))) return "label";
+    const wasFirst = isFirst;
+    isFirst = false;
+    return wasFirst ? firstKind(name) : REGISTERS.has(name) ? "register" : "";
+  };
+  const pieces = [...line.slice(0, LONGEST).matchAll(TOKEN)].map((match) => [kindOf(match), match[0]]);
+  return [...pieces, ["", line.slice(LONGEST)]];
+}
+
+/** The word before a place, and names that go on from it, with their forms: of instructions and directives, or of labels. */
+export function choicesAt(text, at, least) {
+  const before = text.slice(text.lastIndexOf("\n", at - 1) + 1, at);
+  const [word] = /[\w.$]*$/.exec(before);
+  const head = before.slice(0, before.length - word.length);
+  if (word.length < least || /#|\/\/|"/.test(head) || /^[\w.$]/.test(text.slice(at, at + 1))) return { word, names: [] };
+  const labels = () => [...text.matchAll(LABEL)].map(([, label, equal]) => label ?? equal);
+  const known = /^\s*([\w.$]+:\s*)*$/.test(head) ? [...FORMS.keys()] : [...new Set(labels())];
+  const names = known.filter((name) => name !== word && name.startsWith(word)).sort().slice(0, MOST_CHOICES);
+  return { word, names: names.map((name) => [name, FORMS.get(name) ?? ""]) };
+}
