@@ -176,7 +176,7 @@ def test_the_listing_has_the_sources_lines(sit: Sit) -> None:
     tab.run("id('source').value = arguments[0]", COUNTS)
     tab.click("#assemble")
     tab.wait("one('#listing .next')")
-    beside = "all('#listing tr[data-address]').map((row) => [row.dataset.address, row.lastChild.textContent, row.lastChild.title])"
+    beside = "all('#listing tr[data-address]').map((row) => [row.dataset.address, row.lastChild.textContent.trim(), row.lastChild.title])"
     assert tab.run(beside) == [
         ["10000", "# counts", "addi t0, t0, 1   # counts"],
         ["10004", "li a0, 0x12345   # two words", "li a0, 0x12345   # two words"],
@@ -185,6 +185,10 @@ def test_the_listing_has_the_sources_lines(sit: Sit) -> None:
         ["10010", "j loop", "j loop"],
     ]
     assert tab.run("id('listing').scrollWidth <= id('listing').clientWidth")
+    tab.command("asm 1000c vsetvli x5, x10, e32, m1, ta, mu", "step 1")
+    over = "((text, source) => [text.scrollWidth - text.clientWidth > 0, source.textContent])(...all(arguments[0]))"
+    place = "#listing tr[data-address='1000c']"
+    assert tab.run(over, f"{place} .text, {place} .source") == [True, " " * 13 + "vid.v v1"]
 
 
 def test_a_source_outlives_the_server(tabs: "Chrome", own_class: Served) -> None:

@@ -5,6 +5,7 @@ import { RowTable, placesOf } from "./rows.js";
 import { saysMore, target, withNames } from "./words.js";
 
 const NAMES = ["marks", "address", "word", "instruction", "source"];
+const COLUMNS = 20; // of an instruction, as the style of a class has it
 const rows = new RowTable(byId("listing"), "Program", NAMES, "No program stands in memory yet.");
 let [code, labels, places] = [null, null, []];
 let [pc, seen] = ["", ""]; // where the program stood, and what was brought into sight
@@ -34,7 +35,8 @@ function listingRow(state, before, address, abi) {
   const word = make("td", "word", line.slice(0, 8));
   if (before.code[address] !== line && (before.code[address] || !state.instruction)) word.classList.add("changed");
   const said = state.lines?.[address] ?? "";
-  const source = Object.assign(make("td", "source", saysMore(said, line.slice(9))), { title: said });
+  const room = " ".repeat(Math.max(0, text.textContent.length + 1 - COLUMNS)); // where the instruction reaches into it
+  const source = Object.assign(make("td", "source", room, saysMore(said, line.slice(9))), { title: said });
   const row = make("tr", kinds.join(" "), marks, header("row", address), word, text, source);
   Object.assign(row.dataset, { address, edit: `break ${address}` });
   return row;
