@@ -43,9 +43,8 @@ async def test_an_archive(tmp_path: pathlib.Path) -> None:
         assert [frame["line"] for frame in lesson["frames"]][-5:] == [
             "3 step 1", "3 step 2: instruction 1", "3 step 2: instruction 2", "3 go", "3 stop"
         ]  # fmt: skip
-        assert "loop" in str(lesson["labels"]) and "A vector of indices." in [
-            frame["note"] for frame in lesson["frames"]
-        ]
+        assert "loop" in str(lesson["labels"]) and lesson["lines"]["1000c"] == "j loop"
+        assert "A vector of indices." in [frame["note"] for frame in lesson["frames"]]
         status, data = await room.get("A4/home")  # to the teacher
         assert zipfile.ZipFile(io.BytesIO(data)).read("A4/sum.elf") == SUM.read_bytes()
         assert [(await room.get(place, who))[0] for place, who in (("A4/home", "A3"), ("A3/home", None))] == [404, 404]

@@ -10,6 +10,7 @@ from collections.abc import Sequence
 from dataclasses import replace
 
 from .. import LabError
+from ..assembler.source import assemble
 from ..lessons.frames import make_frames
 from ..lessons.page import lesson_page
 from ..lessons.script import Script, Step, add_line, read_source
@@ -47,15 +48,16 @@ def archive(store: Store, seat: str) -> bytes:
     """The archive of a seat. Raises LabError where it has done nothing."""
     lines, sources = solo(store, seat), [store.folder / f"{seat}{ending}" for ending in (".written.s", ".s")]
     texts = [source.read_text("utf-8", "replace") for source in sources if source.exists()]
-    script = Script(f"Seat {seat}", steps_of(lines))
+    script, said = Script(f"Seat {seat}", steps_of(lines)), dict[str, str]()
     if texts:
         with contextlib.suppress(LabError):  # a source that isn't finished
             named = read_source(texts[0], seat)
             script = replace(script, labels=named.labels, notes=named.notes)
+            said = assemble(texts[0]).source_lines(texts[0])
     frames = make_frames(script, store.program, store.images, store.quantum)
     frames = [replace(frame, log=frame.log[-MOST_ENTRIES:]) for frame in frames]
     files: dict[str, str | bytes] = {f"{seat}.script": "".join(f"{line}\n" for line in lines)}
-    files |= {f"{seat}.html": lesson_page(script.title, frames, script.labels)}
+    files |= {f"{seat}.html": lesson_page(script.title, frames, script.labels, said)}
     files |= {f"{seat}.s": text for text in texts[-1:]}
     loaded = {words_of(line)[1] for line in lines if words_of(line)[:1] == ["load"] and words_of(line)[1:]}
     files |= {f"{name}.elf": path.read_bytes() for name, path in store.images.items() if name in loaded}

@@ -6,8 +6,10 @@ from ..page.pages import lone_page, merge_patch
 from .frames import Frame
 
 
-def lesson_page(title: str, frames: Sequence[Frame], labels: Mapping[str, list[str]] = {}) -> str:
-    """The page, in HTML."""
+def lesson_page(
+    title: str, frames: Sequence[Frame], labels: Mapping[str, list[str]] = {}, lines: Mapping[str, str] = {}
+) -> str:
+    """The page, in HTML, with labels and the lines of a source by address."""
     before: list[Mapping[str, object]] = [{}, *(frame.states for frame in frames)]
     differences = [vars(frame) | {"states": merge_patch(old, frame.states)} for old, frame in zip(before, frames)]
-    return lone_page("lesson", title, {"labels": labels, "frames": differences})
+    return lone_page("lesson", title, {"labels": labels, "lines": lines, "frames": differences})

@@ -9,8 +9,9 @@ import { paintState, whenFormsChange } from "./view.js";
 const ADDRESS_DELAY = 300; // ms: a browser takes only so many new addresses in a time
 
 class Lesson {
-  constructor({ frames, labels }) {
-    Object.assign(this, { frames, labels, states: [], user: "" }); // user: chosen to be shown; else it is the line's
+  constructor({ frames, labels, lines }) {
+    Object.assign(this, { frames, labels, lines, states: [], user: "" }); // user: chosen to be shown; else it is the line's
+    document.body.classList.toggle("sourced", Object.keys(lines).length > 0);
     whenFormsChange(() => this.show(this.place));
     let states = {};
     for (const frame of frames) this.states.push((states = patched(states, frame.states)));
@@ -69,7 +70,7 @@ class Lesson {
     this.showPlace(user, states);
     this.showStage(frame, state, user, states);
     this.showLog(frame.log.length);
-    paintState({ ...state, labels: this.labels }, this.states[this.place - 1]?.[user], this.used[user]);
+    paintState({ ...state, labels: this.labels, lines: this.lines }, this.states[this.place - 1]?.[user], this.used[user]);
     byId("log").scrollTop = byId("log").scrollHeight;
     clearTimeout(this.address);
     this.address = setTimeout(() => history.replaceState(null, "", `#${this.place + 1}`), ADDRESS_DELAY);

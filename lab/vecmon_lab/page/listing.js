@@ -5,7 +5,7 @@ import { RowTable, placesOf } from "./rows.js";
 import { saysMore, target, withNames } from "./words.js";
 
 const NAMES = ["marks", "address", "word", "instruction", "source"];
-const COLUMNS = 20; // of an instruction, as the style of a class has it
+const COLUMNS = 20; // of an instruction, as the style has it
 const rows = new RowTable(byId("listing"), "Program", NAMES, "No program stands in memory yet.");
 let [code, labels, places] = [null, null, []];
 let [pc, seen] = ["", ""]; // where the program stood, and what was brought into sight
