@@ -154,7 +154,7 @@ async def test_a_server_that_is_killed_and_begun_again(tmp_path: pathlib.Path) -
         assert last.view["state"]["run"] == "running" and not last.view["own_slices"]
         now = teacher.view["machines"]["A"]
         assert now["clock"] == {"on": False, "slices": 3, "ms": 50, "limit": 50_000_000}
-        assert now["seats"]["2"] | {"tabs": 1} == seats["2"]
+        assert now["seats"]["2"] | {"tabs": 1, "since": seats["2"]["since"]} == seats["2"]
         assert await again.do("step 1") == [["stepped 1 pc=0000000000010000"]]
         await room.check_replay()
 

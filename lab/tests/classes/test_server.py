@@ -265,7 +265,7 @@ async def test_a_stop_comes_by_itself(room: Served) -> None:
     assert tab.view["stop"] == "break pc=0000000000010004" and tab.view["clock"]
     assert tab.logs["A2"][-1] == "<2 break pc=0000000000010004"
     assert tab.view["state"]["stop"].startswith("The program stands at a breakpoint") or tab.view["state"]["stop"]
-    await teacher.until(lambda view: view["machines"]["A"]["seats"]["2"]["stop"] == "break pc=0000000000010004")
+    await teacher.until(lambda view: view["machines"]["A"]["seats"]["2"]["stands"] == "at a breakpoint")
     assert teacher.view["machines"]["A"]["seats"]["3"]["run"] == "running"
     assert not [entry for entry in teacher.logs.get("A", []) if "slices" in entry]
     assert await other.do("stop") and other.view["state"]["run"] == "stopped"
@@ -388,7 +388,12 @@ async def test_a_reload_keeps_the_seat(room: Served) -> None:
     teacher = await room.sit("teacher")
     await teacher.until(lambda view: view["machines"]["A"]["seats"]["7"]["tabs"] == 1)
     seat = teacher.view["machines"]["A"]["seats"]["7"]
-    assert (seat["line"], seat["answer"], seat["run"], seat["pc"]) == ("setpc 10000", "ok", "stopped", "10000")
+    assert (seat["line"], seat["answer"], seat["run"], seat["stands"]) == (
+        "setpc 10000",
+        "ok",
+        "stopped",
+        "at jal x0, 0",
+    )
 
 
 async def test_two_tabs_of_a_seat(room: Served) -> None:

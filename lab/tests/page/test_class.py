@@ -340,9 +340,9 @@ def test_the_teacher_sees_and_settles(sit: Sit, tmp_path: pathlib.Path, served: 
     teacher.wait(f"one(\"{row} .pill\").textContent === 'running'")
     teacher.click(f"{row} td:nth-child(2) button")
     teacher.keys("#operator-line", "run 5\n")
-    teacher.wait(f"one(\"{row}\").textContent.includes('break')")
+    teacher.wait(f"one(\"{row}\").textContent.includes('at a breakpoint, 0 s')")
     teacher.wait("id('operator-log').textContent.includes('granted 1') && id('listing').querySelector('.breakpoint')")
-    assert teacher.text(f"{row} .pill") == "stopped" and teacher.text(f"{row} td:nth-child(6)") == "10004"
+    assert teacher.text(f"{row} .pill") == "stopped"
     tab.wait("id('run').textContent === 'break'")
     teacher.click("[name=own]")
     tab.wait("id('slice').hidden")
@@ -432,7 +432,7 @@ def test_two_machines(program: pathlib.Path, tmp_path: pathlib.Path, tabs: "Chro
     served = Served(tmp_path / "class", program, "--machines", "2")
     tab, teacher = Tab(tabs, served, "B8"), Tab(tabs, served, "teacher")
     tab.begin(*COUNT_UP)
-    assert teacher.run("all('.seats h2').map((head) => head.textContent).join()") == "Machine A,Machine B"
+    assert teacher.run("all('#machines h2').map((head) => head.textContent).join()") == "Machine A,Machine B"
     teacher.wait("one(\"[data-seat='B8'] .pill\").textContent === 'stopped'")
     assert teacher.run("all('.seats .pill').filter((pill) => pill.textContent === 'stopped').length") == 1
     teacher.run("id('operated').value = 'B'")

@@ -314,6 +314,7 @@ class Room:
             with contextlib.suppress(LabError):  # whoever asks next is told
                 await self._hop(_Work(), partial(self._show, seat, not why), None)
         if why and seat.state["run"] == "stopped":
+            seat.stand(f"stopped, since {why}", True)
             self.note(seat, f"!The server stopped the program, since {why}. go lets it run on.")
 
     def note(self, seat: Seat, entry: str) -> None:

@@ -1,6 +1,7 @@
 """The seats of a machine: what each has been told, and what is known of its user."""
 
 import asyncio
+import time
 from collections import deque
 from collections.abc import Iterable, Sequence
 from dataclasses import dataclass, field
@@ -8,7 +9,8 @@ from dataclasses import dataclass, field
 from ..assembler.commands import log_entries
 from ..assembler.source import Program
 from ..guest.guest import Guest
-from ..machine.answers import Granted, is_refusal, is_stop, read, told
+from ..instructions.reasons import brief_stop
+from ..machine.answers import ControlRegisters, Granted, Stop, is_refusal, is_stop, read, told
 from ..machine.lines import DIGITS, is_look, words_of
 from ..machine.session import Session
 from .live import is_servers
@@ -30,6 +32,8 @@ class Seat:
     written, labels, lines: the source that stands in the machine, its labels, and its line for each word, by address
     stop, line, answer: the last stop, command and line of an answer, without the digit
     output: the last of what the program has put out, in hexadecimal digits, in blocks by number
+    stands, is_stuck, since: how its program stands, in a few words beside the state's `run`; whether its student may need
+        somebody; and since when both are so, in seconds since 1970
     used: the bytes of the script that are the seat's
     slices, seen: how many were granted to the program, about, since it stopped last or its student let it go; and when
         somebody looked at it last while it ran, in seconds of the event loop, or 0
@@ -51,6 +55,9 @@ class Seat:
     stop: str = ""
     line: str = ""
     answer: str = ""
+    stands: str = ""
+    is_stuck: bool = False
+    since: float = field(default_factory=time.time)
     used: int = 0
     slices: float = 0.0
     seen: float = 0.0
@@ -59,6 +66,18 @@ class Seat:
         """Adds an entry to the log."""
         self.log.append(entry)
         self.number += 1
+
+    def follow(self, state: State, shown: State) -> None:
+        """Takes up a state, and how the program stands then."""
+        before, self.state, self.shown = self.state, state, shown
+        stands, is_stuck = _standing(state, self.stop)
+        has_moved = state["run"] == "stopped" and before.get("pc") != state["pc"]
+        if has_moved or (before["run"], self.stands) != (state["run"], stands):
+            self.stand(stands, is_stuck)
+
+    def stand(self, stands: str, is_stuck: bool) -> None:
+        """Takes up how it stands from now on."""
+        self.stands, self.is_stuck, self.since = stands, is_stuck, time.time()
 
     def take(self, source: str, program: Program) -> None:
         """Takes up which source stands in the machine now."""
@@ -127,7 +146,7 @@ class Seats:
     def take(self, states: dict[str, tuple[State, State]]) -> None:
         """Takes up states that `look` made."""
         for digit, pair in states.items():
-            self.users[digit].state, self.users[digit].shown = pair
+            self.users[digit].follow(*pair)
 
     def observe(self, line: str, answer: Sequence[str], is_told: bool) -> None:
         """Tells seats of a line and its answer. Lines of the clock, and those that grant own slices, aren't told.
@@ -163,6 +182,18 @@ class Seats:
             if is_stop(part):
                 seat.stop = part[2:]
                 seat.slices = seat.slices if seat.stop.startswith("outfull") else 0.0
+
+
+def _standing(state: State, last: str) -> tuple[str, bool]:
+    """How a program stands in this state, in a few words, and whether with a fault; last is its last stop."""
+    if state["run"] != "stopped":
+        return "", False
+    line = state["code"].get(state["pc"], "")
+    stop = read([f"1 {last}"]) if last else None
+    if not isinstance(stop, Stop) or f"{stop.pc:x}" != state["pc"]:
+        return f"at {line[9:] or state['pc']}", False
+    view = ControlRegisters(vtype=int(state["vtype"], 16), vstart=state["vstart"])
+    return brief_stop(stop, int(line[:8], 16) if line else None, view, line[9:]), stop.kind == "fault"
 
 
 def _begins_anew(line: str, answer: Sequence[str]) -> bool:

@@ -3,6 +3,7 @@
 import asyncio
 import contextlib
 import json
+import time
 from collections.abc import Callable, Iterable, Mapping
 from dataclasses import asdict
 from functools import partial
@@ -52,6 +53,7 @@ class Message(TypedDict, total=False):
     kind: str
     id: int
     who: str
+    time: float
     do: Answers
     look: Answers
     mistakes: list[Mistake]
@@ -84,7 +86,8 @@ class StudentView(TypedDict):
 
 WallView = TypedDict("WallView", {"seat": str, "state": State, "stop": str, "trouble": str})
 SeatView = TypedDict(
-    "SeatView", {"tabs": int, "run": str, "pc": str, "stop": str, "line": str, "answer": str, "used": int}
+    "SeatView",
+    {"tabs": int, "run": str, "stands": str, "stuck": bool, "since": int, "line": str, "answer": str, "used": int},
 )
 
 
@@ -229,7 +232,7 @@ class Class:
         """The first message to a tab, which joins the class; news follow it."""
         self.tabs.add(tab)
         self._tell([tab.who])
-        hello: Message = {"kind": "hello", "who": tab.who}
+        hello: Message = {"kind": "hello", "who": tab.who, "time": time.time()}
         hello.update(self.news(tab))
         return hello
 
@@ -364,8 +367,9 @@ class Class:
         return {
             "tabs": sum(tab.who == seat.name for tab in self.tabs),
             "run": seat.state["run"],
-            "pc": seat.state.get("pc", ""),
-            "stop": seat.stop,
+            "stands": seat.stands,
+            "stuck": seat.is_stuck,
+            "since": int(seat.since),
             "line": seat.line,
             "answer": seat.answer,
             "used": seat.used,
@@ -382,6 +386,9 @@ class Class:
                 if text is not None:
                     self.sources[seat.name].write(text)
                 mistakes = await self.rooms[seat.name[0]].source(seat, text)
+                if mistakes:
+                    seat.stand(f"{len(mistakes)} mistake{'s' * (len(mistakes) > 1)} in the source", True)
+                    self._tell([seat.name])
                 return {"mistakes": [{"line": it.line, "column": it.column, "message": it.message} for it in mistakes]}
             case Draft(text, number):
                 self.sources[tab.who].draft(text, number)

@@ -127,6 +127,30 @@ def describe_stop(where: Place, word: int | None = None, view: ControlRegisters 
     sentence = _SENTENCES[where.what].format(number=where.number, pc=f"{where.pc:#x}", value=value, text=text)
     if view and where.what == "fault cause=2":
         return " ".join([sentence, *illegal_reasons(where.value, view)])
-    if view and where.cause in (5, 7) and word is not None and word & 0x7F in VECTOR_ACCESSES:
+    if view and _has_elements(where, word):
         return f"{sentence} It stopped at element {view.vstart}."
     return sentence
+
+
+_BRIEF = {
+    "break": "at a breakpoint",
+    "ebreak": "at an ebreak",
+    "exit": "ended with status {number}",
+    "outfull": "waits, since its output is full",
+    "fault cause=1": "no instruction at {pc}",
+    "fault cause=2": "illegal instruction {text}",
+}
+
+
+def brief_stop(where: Place, word: int | None, view: ControlRegisters, text: str) -> str:
+    """A stop in a few words, from what `describe_stop` is given."""
+    name = text.partition(" ")[0] or f"{where.pc:#x}"
+    if _has_elements(where, word):
+        name = f"element {view.vstart} of {name}"
+    form = _BRIEF.get(where.what, "fault at {name}")
+    return form.format(number=where.number, pc=f"{where.pc:#x}", name=name, text=text or f"{where.value:#010x}")
+
+
+def _has_elements(where: Place, word: int | None) -> bool:
+    """Whether it is a fault of a vector access, which the word is."""
+    return where.cause in (5, 7) and word is not None and word & 0x7F in VECTOR_ACCESSES

@@ -26,6 +26,7 @@ export class Connection {
   hear(message) {
     if (message.kind === "hello") {
       this.isReady = true;
+      this.ahead = message.time - Date.now() / 1000; // seconds that the server's clock is ahead of this one
       this.pause = FIRST_PAUSE;
       this.gone(this.lost && `The class is there again. ${this.lost}`);
     }

@@ -3,68 +3,28 @@
 import { CodeField, closeSheet, openSheet } from "./codes.js";
 import { Desk } from "./desk.js";
 import { Editor } from "./editor.js";
-import { button, byId, header, make, put, say } from "./elements.js";
+import { byId, make, put, say } from "./elements.js";
 import { LineField, inParts, nameOf, unfitLines } from "./lines.js";
+import { SeatTable } from "./seats.js";
 import { Sides } from "./sides.js";
 import { Source } from "./source.js";
 import { addToLog, toldEntry } from "./transcript.js";
 
-/** An answer without the leading zeros of its addresses. */
-const short = (answer) => answer.replace(/=0+(?=[0-9a-f])/g, "=");
-
 const NUMBERS = ["slices", "ms", "limit"]; // of a clock
 
-/** A machine of the class, with its eight seats. */
+/** A machine of the class: its script, and what is wrong with it. */
 class ClassMachine {
   constructor(letter, teacher) {
     this.box = byId("machine-of-class").content.cloneNode(true).firstElementChild;
-    this.part = (name) => this.box.querySelector(`[name="${name}"]`);
-    this.rows = Array.from({ length: 8 }, (_, place) => this.row(`${letter}${place + 1}`, teacher));
-    this.box.querySelector("tbody").append(...this.rows.map(({ row }) => row));
     this.box.querySelector("h2").textContent = `Machine ${letter}`;
-    const on = (name, kind, heard) => this.part(name).addEventListener(kind, heard);
-    const ask = (request) => teacher.request({ machine: letter, ...request });
-    const numbers = NUMBERS.map(this.part);
-    for (const name of ["on", ...NUMBERS]) {
-      on(name, "change", () => {
-        if (!numbers.every((part) => part.reportValidity())) return;
-        const settings = Object.fromEntries(numbers.map((part) => [part.name, Number(part.value)]));
-        ask({ ask: "clock", on: this.part("on").checked, ...settings });
-      });
+    for (const name of ["script", "transcript"]) {
+      const save = () => teacher.download(letter, name, this.scripts);
+      this.box.querySelector(`[name="${name}"]`).addEventListener("click", save);
     }
-    on("own", "change", () => ask({ ask: "rights", own_slices: this.part("own").checked }));
-    for (const name of ["script", "transcript"]) on(name, "click", () => teacher.download(letter, name, this.scripts));
   }
 
-  row(seat, teacher) {
-    const lookAt = () => teacher.request({ ask: "shoulder", seat: seat === teacher.seat ? "" : seat });
-    const look = button("Look", `Look at seat ${seat}`, lookAt);
-    const run = make("span", "pill");
-    const [tabs, pc, stop, line, used] = ["", "", "wraps", "wraps", ""].map((kind) => make("td", kind));
-    const controls = [make("td", "", look), make("td", "", ...teacher.codeField(seat).parts), tabs, make("td", "", run)];
-    const row = make("tr", "", header("row", seat), ...controls, pc, stop, line, used);
-    row.dataset.seat = seat;
-    return { seat, row, look, tabs, run, pc, stop, line, used };
-  }
-
-  show(machine, share, shoulder) {
+  show(machine) {
     this.scripts = machine.scripts;
-    for (const { seat, look, tabs, run, pc, stop, line, used } of this.rows) {
-      const told = machine.seats[seat[1]];
-      put(tabs, `${told.tabs || "–"}`);
-      put(run, told.run === "absent" ? "not entered" : told.run);
-      run.className = `pill ${told.run}`;
-      put(pc, told.pc);
-      put(stop, short(told.stop.replace(/ pc=[0-9a-f]+/, "")));
-      put(line, told.answer && `${told.line.slice(0, 40)} → ${short(told.answer.slice(0, 80))}`);
-      put(used, `${Math.ceil((100 * told.used) / share)} %`);
-      look.ariaPressed = `${seat === shoulder}`;
-    }
-    for (const name of NUMBERS) {
-      if (document.activeElement !== this.part(name)) this.part(name).value = machine.clock[name];
-    }
-    this.part("on").checked = machine.clock.on;
-    this.part("own").checked = machine.own_slices;
     this.box.querySelector(".trouble").hidden = !machine.trouble;
     put(this.box.querySelector(".trouble"), machine.trouble);
     const [lines, bytes, most] = [machine.lines, machine.script, machine.of].map((each) => each.toLocaleString("en"));
@@ -81,6 +41,11 @@ export class Teacher {
     this.machines = {};
     this.seat = this.wall = ""; // the one looked at, and the one on the wall
     this.codes = {}; // fields by name
+    this.table = new SeatTable(this);
+    const part = (name) => document.querySelector(`#clocks [name="${name}"]`);
+    this.clock = { on: part("on"), own: part("own"), numbers: NUMBERS.map(part) };
+    for (const input of [this.clock.on, ...this.clock.numbers]) input.onchange = () => this.setClocks();
+    this.clock.own.onchange = () => this.askAll({ ask: "rights", own_slices: this.clock.own.checked });
     byId("wall-code").append(...this.codeField("wall").parts);
     byId("on-wall").onchange = () => this.request({ ask: "wall", seat: byId("on-wall").value });
     byId("show-codes").onclick = () => this.showAllCodes();
@@ -105,11 +70,14 @@ export class Teacher {
       this.machines[letter] = new ClassMachine(letter, this);
       byId("machines").append(this.machines[letter].box);
       byId("operated").append(make("option", "", letter));
-      const options = () => this.machines[letter].rows.map(({ seat }) => make("option", "", seat));
+      const seats = Object.keys(view.machines[letter].seats).map((digit) => `${letter}${digit}`);
+      const options = () => seats.map((seat) => make("option", "", seat));
       for (const id of ["on-wall", "receiver"]) byId(id).append(...options());
     }
     byId("operator-machine").hidden = letters.length === 1;
-    for (const letter of letters) this.machines[letter].show(view.machines[letter], view.share, view.shoulder);
+    for (const letter of letters) this.machines[letter].show(view.machines[letter]);
+    this.table.show(view);
+    this.showClocks(Object.values(view.machines));
     say("trouble", view.trouble);
     if (isAnew) byId("operator-log").replaceChildren();
     const item = (letter) => (entry) => toldEntry(entry, false, letters.length > 1 ? `${letter} ` : "");
@@ -142,6 +110,32 @@ export class Teacher {
   async openSheet() {
     const answer = await this.connection.ask({ ask: "codes", seat: "", pictures: true }, "the sheet");
     if (answer?.codes) openSheet(answer, this.address);
+  }
+
+  /** Looks at a seat, whose machine comes into sight; "" ends it. */
+  async lookAt(seat) {
+    await this.request({ ask: "shoulder", seat });
+    if (seat && seat === this.seat) byId("shoulder").scrollIntoView();
+  }
+
+  /** Asks the same of each machine. */
+  askAll(request) {
+    Object.keys(this.machines).forEach((machine) => this.request({ machine, ...request }));
+  }
+
+  setClocks() {
+    const { on, numbers } = this.clock;
+    if (!numbers.every((part) => part.reportValidity())) return;
+    this.askAll({ ask: "clock", on: on.checked, ...Object.fromEntries(numbers.map(({ name, value }) => [name, Number(value)])) });
+  }
+
+  /** Shows the clock of all machines: the first one's numbers, and whether only some are on. */
+  showClocks(machines) {
+    const { on, own, numbers } = this.clock;
+    for (const part of numbers) if (document.activeElement !== part) part.value = machines[0].clock[part.name];
+    const [ons, owns] = [machines.filter(({ clock }) => clock.on).length, machines.filter((each) => each.own_slices).length];
+    Object.assign(on, { checked: ons === machines.length, indeterminate: ons > 0 && ons < machines.length });
+    Object.assign(own, { checked: owns === machines.length, indeterminate: owns > 0 && owns < machines.length });
   }
 
   operate(lines) {

@@ -1,0 +1,84 @@
+// The table of a class's seats: how each one stands, and for how long; who is stuck stands at its top.
+
+import { button, byId, header, make, put } from "./elements.js";
+
+const AGES_EVERY = 5000; // ms
+
+/** An answer without the leading zeros of its addresses. */
+const short = (answer) => answer.replace(/=0+(?=[0-9a-f])/g, "=");
+
+/** For how long, in words, of seconds. */
+function forHow(seconds) {
+  const minutes = Math.floor(seconds / 60);
+  if (minutes < 1) return `${Math.max(0, Math.floor(seconds))} s`;
+  return minutes < 60 ? `${minutes} min` : `${Math.floor(minutes / 60)} h ${minutes % 60} min`;
+}
+
+class SeatRow {
+  constructor(seat, teacher) {
+    this.seat = seat;
+    const lookAt = () => teacher.lookAt(seat === teacher.seat ? "" : seat);
+    this.look = button("Look", `Look at seat ${seat}`, lookAt);
+    this.run = make("span", "pill");
+    [this.tabs, this.stands, this.line, this.used] = ["", "wraps", "cut", ""].map((kind) => make("td", kind));
+    const controls = [make("td", "", this.look), make("td", "", ...teacher.codeField(seat).parts), this.tabs];
+    const row = [header("row", seat), ...controls, make("td", "", this.run), this.stands, this.line, this.used];
+    this.row = make("tr", "", ...row);
+    this.row.dataset.seat = seat;
+  }
+
+  show(told, share, isLookedAt) {
+    this.told = told;
+    put(this.tabs, `${told.tabs || "–"}`);
+    put(this.run, told.run === "absent" ? "not entered" : told.run);
+    this.run.className = `pill ${told.run}`;
+    this.row.classList.toggle("stuck", told.stuck);
+    put(this.line, told.answer && `${told.line.slice(0, 80)} → ${short(told.answer.slice(0, 80))}`);
+    this.line.title = this.line.textContent;
+    put(this.used, `${Math.ceil((100 * told.used) / share)} %`);
+    this.look.ariaPressed = `${isLookedAt}`;
+  }
+
+  /** Says how it stands, and for how long; now is the server's time in seconds. */
+  age(now) {
+    const { run, stands, since } = this.told;
+    const isThere = run !== "absent" || stands;
+    put(this.stands, isThere ? [stands, forHow(now - since)].filter(Boolean).join(", ") : "");
+  }
+}
+
+/** The seats of all machines in one table. */
+export class SeatTable {
+  constructor(teacher) {
+    this.teacher = teacher;
+    this.rows = [];
+    byId("seats").addEventListener("mouseleave", () => this.sort());
+    setInterval(() => this.age(), AGES_EVERY);
+  }
+
+  /** Shows the seats of machines by letter, which may be more than before. */
+  show({ machines, share, shoulder }) {
+    for (const letter of Object.keys(machines).slice(this.rows.length / 8)) {
+      this.rows.push(...Array.from({ length: 8 }, (_, place) => new SeatRow(`${letter}${place + 1}`, this.teacher)));
+    }
+    for (const row of this.rows) row.show(machines[row.seat[0]].seats[row.seat[1]], share, row.seat === shoulder);
+    this.age();
+    this.sort();
+  }
+
+  age() {
+    const now = Date.now() / 1000 + this.teacher.connection.ahead;
+    this.rows.forEach((row) => row.age(now));
+  }
+
+  /** Puts those who are stuck above, longest first; not while somebody points, or types, at a row. */
+  sort() {
+    const [body, focused] = [byId("seats"), document.activeElement];
+    const weight = ({ told }) => (told.stuck ? told.since : Infinity);
+    const rows = [...this.rows].sort((one, other) => (weight(one) < weight(other) ? -1 : Number(weight(one) > weight(other))));
+    const isHeld = body.matches(":hover") || (focused.matches("input") && body.contains(focused));
+    if (body.childElementCount === rows.length && (isHeld || rows.every(({ row }, place) => row === body.children[place]))) return;
+    body.append(...rows.map(({ row }) => row));
+    focused.focus({ preventScroll: true });
+  }
+}
