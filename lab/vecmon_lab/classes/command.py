@@ -13,8 +13,9 @@ from .. import LabError
 from ..arguments import between
 from ..machine.program import find_program, images_of
 from .codes import LETTERS
+from .names import NAMES
 from .server import HOST, listening, serve
-from .store import Store
+from .store import Store, forget
 from .view import Class
 
 
@@ -38,6 +39,7 @@ def add_arguments(parser: argparse.ArgumentParser) -> None:
         action="store_true",
         help="a second process follows each machine, and takes its place where it is gone",
     )
+    parser.add_argument("--forget", action="store_true", help="delete the names that DIR keeps, and serve nothing")
     patience = between(1, 3600)
     parser.add_argument("--patience", metavar="S", type=patience, default=10, help="seconds of silence; else 10")
 
@@ -45,6 +47,9 @@ def add_arguments(parser: argparse.ArgumentParser) -> None:
 def run(arguments: argparse.Namespace) -> int:
     """Serves until it is told to end. Raises LabError and OSError for a bad folder, image or address."""
     os.umask(0o077)
+    if arguments.forget:
+        forget(arguments.folder, NAMES)
+        return 0
     images, host = images_of(arguments.images), arguments.host
     store = Store(arguments.folder, find_program(), images, arguments.quantum, arguments.machines)
     try:
@@ -54,8 +59,8 @@ def run(arguments: argparse.Namespace) -> int:
         raise
     members = Class(store, arguments.patience, _tell, not arguments.no_clock, arguments.spare)
     members.address = arguments.address or ""
-    names = {*arguments.name, urlsplit(members.address).hostname or host}
-    asyncio.run(serve(members, host, doors, names))
+    hosts = {*arguments.name, urlsplit(members.address).hostname or host}
+    asyncio.run(serve(members, host, doors, hosts))
     return 0
 
 

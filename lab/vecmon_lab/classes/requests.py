@@ -113,7 +113,28 @@ class Give:
     text: str
 
 
-Request = Lines | Source | Draft | ReadVersion | Give | SetClock | SetRights | Renew | LookOver | PutOnWall | ShowCodes
+@dataclass(frozen=True)
+class SetName:
+    """The name of whoever sits at a seat, which is the student's own unless a teacher says it; "" for none."""
+
+    seat: str
+    name: str
+
+
+Request = (
+    Lines
+    | Source
+    | Draft
+    | ReadVersion
+    | Give
+    | SetName
+    | SetClock
+    | SetRights
+    | Renew
+    | LookOver
+    | PutOnWall
+    | ShowCodes
+)
 
 
 _LIMITS = {"on": (0, 1), "slices": (1, 1000), "ms": (10, 10_000), "limit": (100_000, 10**12)}  # of a clock's settings
@@ -130,6 +151,8 @@ def read_request(message: Mapping[str, object], is_teacher: bool) -> Request:
             return Source(None)
         case "draft", False:
             return Draft(_text(message), _number(message))
+        case "name", _:
+            return SetName(_name(message, "seat"), _name(message, "name"))
         case "version", _:
             return ReadVersion(_number(message))
         case "give", True:

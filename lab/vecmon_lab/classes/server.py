@@ -22,6 +22,7 @@ from .. import LabError
 from ..page.pages import Page
 from ..page.reference import reference_text
 from .codes import TEACHER
+from .room import Room
 from .store import BadFolder, script_name
 from .tab_socket import CLOSED, READ_SECONDS, TabSocket
 from .view import Class, Tab
@@ -61,6 +62,7 @@ class Server:
         application.router.add_get("/socket", self._socket)
         application.router.add_get("/{machine:[A-L]}/{what:script|transcript}", self._get_file)
         application.router.add_get("/{seat:[A-L][1-8]}/home", self._get_home)
+        application.router.add_get("/seats.csv", self._get_table)
         application.router.add_get("/{machine:[A-L]}.{number:[1-9][0-9]*}/{what:script|transcript}", self._get_file)
         return application
 
@@ -115,12 +117,21 @@ class Server:
     async def _get_page(self, request: web.Request) -> web.Response:
         return web.Response(text=self._page.text("vecmon class", reference_text()), content_type="text/html")
 
-    async def _get_file(self, request: web.Request) -> web.Response:
-        code = request.headers.get("Authorization", "").removeprefix("Bearer ")
-        room = self.members.rooms.get(request.match_info["machine"])
-        if self.members.codes.who(code) != TEACHER or room is None:
+    async def _room(self, request: web.Request, *names: str) -> Room:
+        """The machine that a request names, or the first one. Raises HTTPNotFound unless it has somebody's code of these."""
+        code, place = request.headers.get("Authorization", "").removeprefix("Bearer "), request.match_info
+        room = self.members.rooms.get(place.get("machine", place.get("seat", "A"))[0])
+        if self.members.codes.who(code) not in names or room is None:
             await asyncio.sleep(WRONG_CODE_SECONDS)
             raise web.HTTPNotFound
+        return room
+
+    async def _get_table(self, request: web.Request) -> web.Response:
+        await self._room(request, TEACHER)
+        return web.Response(body=self.members.table(), content_type="text/csv", charset="utf-8")
+
+    async def _get_file(self, request: web.Request) -> web.Response:
+        room = await self._room(request, TEACHER)
         data, number = room.session.script, int(request.match_info.get("number", len(room.scripts)))
         if number > len(room.scripts):
             raise web.HTTPNotFound
@@ -135,10 +146,8 @@ class Server:
         return web.Response(body=data, content_type="text/plain")
 
     async def _get_home(self, request: web.Request) -> web.Response:
-        code, seat = request.headers.get("Authorization", "").removeprefix("Bearer "), request.match_info["seat"]
-        if self.members.codes.who(code) not in (TEACHER, seat) or seat[0] not in self.members.rooms:
-            await asyncio.sleep(WRONG_CODE_SECONDS)
-            raise web.HTTPNotFound
+        seat = request.match_info["seat"]
+        await self._room(request, TEACHER, seat)
         try:
             return web.Response(body=await self.members.take_home(seat), content_type="application/zip")
         except LabError as error:

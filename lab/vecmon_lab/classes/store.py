@@ -1,7 +1,7 @@
 """The folder that keeps a class: what it was begun with, its codes, and each machine's script with what goes with it.
 
 class.json: the digest (SHA-256) of the program, the quantum, the images by name with their digests, the machines
-codes.json: the code of each seat and of the teacher
+codes.json: the code of each seat and of the teacher; names.json: names of those who sit there
 A3.s, A3.written.s, sources/: a seat's source as it is, that which stands in its machine, and versions of it
 A.script, A.2.script ..: a machine's scripts, each of which begins where the one before ended
 A.json: which lines of them set the machine up; how many of the last one's were answered by a digest, and what the
@@ -160,11 +160,7 @@ class Store:
             if "class.json" not in strangers:
                 raise BadFolder(f"{folder} has no class, but other files, {min(strangers)} among them")
         folder.chmod(0o700)
-        self._lock = os.open(folder / "lock", os.O_RDWR | os.O_CREAT, 0o600)
-        try:
-            fcntl.flock(self._lock, fcntl.LOCK_EX | fcntl.LOCK_NB)
-        except BlockingIOError:
-            raise BadFolder(f"{folder} is served by another server") from None
+        self._lock = _locked(folder)
         try:
             self._open(images, quantum, machines)
         except BaseException:
@@ -289,6 +285,27 @@ class Store:
         if quantum not in (None, kept.quantum):
             raise BadFolder(f"{self.folder} was begun with --quantum {kept.quantum}")
         return replace(kept, machines=max(kept.machines, machines or 1))
+
+
+def forget(folder: pathlib.Path, name: str) -> None:
+    """Deletes what a class that isn't served has kept by a name. Raises BadFolder."""
+    if not (folder / "class.json").exists():
+        raise BadFolder(f"{folder} has no class")
+    lock = _locked(folder)
+    for each in (name, f"{name}.new"):
+        (folder / each).unlink(missing_ok=True)
+    os.close(lock)
+
+
+def _locked(folder: pathlib.Path) -> int:
+    """The lock of a folder, which no other server has. Raises BadFolder."""
+    lock = os.open(folder / "lock", os.O_RDWR | os.O_CREAT, 0o600)
+    try:
+        fcntl.flock(lock, fcntl.LOCK_EX | fcntl.LOCK_NB)
+    except BlockingIOError:
+        os.close(lock)
+        raise BadFolder(f"{folder} is served by another server") from None
+    return lock
 
 
 def script_name(machine: str, number: int) -> str:

@@ -16,6 +16,7 @@ from ..lessons.page import lesson_page
 from ..lessons.script import Script, Step, add_line, read_source
 from ..machine.lines import words_of
 from .live import is_servers
+from .names import NAMES
 from .solo import solo
 from .store import Store
 
@@ -48,7 +49,8 @@ def archive(store: Store, seat: str) -> bytes:
     """The archive of a seat. Raises LabError where it has done nothing."""
     lines, sources = solo(store, seat), [store.folder / f"{seat}{ending}" for ending in (".written.s", ".s")]
     texts = [source.read_text("utf-8", "replace") for source in sources if source.exists()]
-    script, said = Script(f"Seat {seat}", steps_of(lines)), dict[str, str]()
+    name, said = store.read(NAMES, dict[str, str]).get(seat), dict[str, str]()
+    script = Script(f"Seat {seat}, {name}" if name else f"Seat {seat}", steps_of(lines))
     if texts:
         with contextlib.suppress(LabError):  # a source that isn't finished
             named = read_source(texts[0], seat)

@@ -17,6 +17,7 @@ from ..page.pages import merge_patch
 from ..page.state import State
 from .beside import Beside
 from .codes import TEACHER, WALL
+from .names import NAMES, as_csv, checked_name
 from .requests import (
     BadRequest,
     Draft,
@@ -28,6 +29,7 @@ from .requests import (
     Renew,
     Request,
     SetClock,
+    SetName,
     SetRights,
     ShowCodes,
     Source,
@@ -71,6 +73,7 @@ class StudentView(TypedDict):
     """What a student's page shows."""
 
     seat: str
+    name: str
     state: State
     stop: str
     images: list[str]
@@ -87,7 +90,17 @@ class StudentView(TypedDict):
 WallView = TypedDict("WallView", {"seat": str, "state": State, "stop": str, "trouble": str})
 SeatView = TypedDict(
     "SeatView",
-    {"tabs": int, "run": str, "stands": str, "stuck": bool, "since": int, "line": str, "answer": str, "used": int},
+    {
+        "name": str,
+        "tabs": int,
+        "run": str,
+        "stands": str,
+        "stuck": bool,
+        "since": int,
+        "line": str,
+        "answer": str,
+        "used": int,
+    },
 )
 
 
@@ -152,6 +165,7 @@ class Class:
         """
         self.has_spares = has_spares
         self.store, self.codes = store, store.codes
+        self.names = store.read(NAMES, dict[str, str])  # by seat
         self.address = ""  # where students reach the class, with a slash at its end
         self.wall: Seat | None = None  # the seat that it shows
         self.tabs: set[Tab] = set()
@@ -199,8 +213,9 @@ class Class:
             notes = room.notes()
             if room.file.is_saved and self._kept.get(room.letter) != notes:
                 self._keep(room.letter, notes)
-        if self.store.waits("codes.json"):
-            self.store.write("codes.json", self.codes.codes)
+        for name, kept in (("codes.json", self.codes.codes), (NAMES, self.names)):
+            if self.store.waits(name):
+                self.store.write(name, kept)
         if self.store.trouble != trouble:
             self._tell([])
 
@@ -310,6 +325,7 @@ class Class:
         room = self.rooms[seat.name[0]]
         return {
             "seat": seat.name,
+            "name": self.names.get(seat.name, ""),
             "state": _shown(seat),
             "stop": seat.stop,
             "images": list(self.store.images),
@@ -365,6 +381,7 @@ class Class:
 
     def _seat_view(self, seat: Seat) -> SeatView:
         return {
+            "name": self.names.get(seat.name, ""),
             "tabs": sum(tab.who == seat.name for tab in self.tabs),
             "run": seat.state["run"],
             "stands": seat.stands,
@@ -402,6 +419,8 @@ class Class:
                     self.rooms[name[0]].note(
                         self.seat(name), "!The teacher gave a source. Your own is kept, as a version."
                     )
+            case SetName(seat_name, name):
+                self._set_name(self.seat(seat_name if tab.who == TEACHER else tab.who).name, checked_name(name))
             case SetClock(machine, settings):
                 self._room(machine).set_clock(settings)
             case SetRights(machine, own_slices):
@@ -427,6 +446,23 @@ class Class:
         """The names of seats that somebody looks at: with a tab, over the shoulder, or on a wall."""
         looked_at = {tab.who for tab in self.tabs} | {tab.shoulder.name for tab in self.tabs if tab.shoulder}
         return looked_at | ({self.wall.name} if self.wall and WALL in looked_at else set())
+
+    def _set_name(self, seat: str, name: str) -> None:
+        """Keeps the name of whoever sits at a seat, or that nobody does."""
+        self.names = {each: kept for each, kept in (self.names | {seat: name}).items() if kept}
+        self.store.write(NAMES, self.names)
+        self._tell([seat])
+
+    def table(self) -> bytes:
+        """Who sits where, and how each stands, as CSV."""
+        head = ("seat", "name", "state", "how it stands", "since", "bytes of the script")
+        seats = [seat for room in self.rooms.values() for seat in room.seats.users.values()]
+        since = (time.strftime("%Y-%m-%d %H:%M:%S", time.localtime(seat.since)) for seat in seats)
+        rows = (
+            (seat.name, self.names.get(seat.name, ""), seat.state["run"], seat.stands, when, seat.used)
+            for seat, when in zip(seats, since)
+        )
+        return as_csv([head, *rows])
 
     def _renew(self, name: str) -> None:
         """Gives a seat a new code, and ends its tabs."""

@@ -47,7 +47,11 @@ class ClassTab {
 window.addEventListener("hashchange", () => (sitDown(location.hash.slice(1)), location.reload()));
 byId("forget").addEventListener("click", () => ask(LEAVING, "Leave", () => (sitDown(""), location.reload())));
 document.addEventListener("submit", (event) => event.preventDefault());
-byId("join").addEventListener("submit", () => (sitDown(byId("code").value.trim()), location.reload()));
+byId("join").addEventListener("submit", () => {
+  sitDown(byId("code").value.trim());
+  if (byId("called").value) sessionStorage.setItem("name", byId("called").value);
+  location.reload();
+});
 if (location.hash) sitDown(location.hash.slice(1));
 if (sessionStorage.getItem("code")) new ClassTab(sessionStorage.getItem("code"));
 else askForCode("");

@@ -24,9 +24,9 @@ export class CodeField {
 }
 
 /** Shows a sheet with a slip for each seat, in place of the page. */
-export function openSheet({ codes, pictures }, address) {
+export function openSheet({ codes, pictures }, address, withName) {
   const slips = Object.entries(codes).filter(([name]) => name !== "wall");
-  byId("slips").replaceChildren(...slips.map(([name, code]) => slip(name, code, pictures[name], address)));
+  byId("slips").replaceChildren(...slips.map(([name, code]) => slip(withName(name), code, pictures[name], address)));
   byId("sheet-says").hidden = address !== "";
   document.body.classList.add("printing");
 }

@@ -19,9 +19,13 @@ class SeatRow {
     this.seat = seat;
     const lookAt = () => teacher.lookAt(seat === teacher.seat ? "" : seat);
     this.look = button("Look", `Look at seat ${seat}`, lookAt);
+    const setName = () => teacher.request({ ask: "name", seat, name: this.name.value });
+    this.name = Object.assign(make("input", ""), { maxLength: 40, ariaLabel: `Name at seat ${seat}`, autocomplete: "off" });
+    this.name.onchange = async () => (await setName(), (this.name.value = this.told.name));
     this.run = make("span", "pill");
     [this.tabs, this.stands, this.line, this.used] = ["", "wraps", "cut", ""].map((kind) => make("td", kind));
-    const controls = [make("td", "", this.look), make("td", "", ...teacher.codeField(seat).parts), this.tabs];
+    const fields = [[this.look], [this.name], teacher.codeField(seat).parts];
+    const controls = [...fields.map((parts) => make("td", "", ...parts)), this.tabs];
     const row = [header("row", seat), ...controls, make("td", "", this.run), this.stands, this.line, this.used];
     this.row = make("tr", "", ...row);
     this.row.dataset.seat = seat;
@@ -29,6 +33,7 @@ class SeatRow {
 
   show(told, share, isLookedAt) {
     this.told = told;
+    if (document.activeElement !== this.name) this.name.value = told.name;
     put(this.tabs, `${told.tabs || "–"}`);
     put(this.run, told.run === "absent" ? "not entered" : told.run);
     this.run.className = `pill ${told.run}`;

@@ -57,6 +57,7 @@ export class Student {
     on("new", "click", () => this.beginAnew("New machine", NEW_MACHINE));
     on("images", "change", () => this.beginAnew("Load", [`load ${byId("images").value}`]));
     on("assemble", "click", () => this.write());
+    on("name", "change", () => this.request({ ask: "name", name: byId("name").value }, "the name"));
     on("home", "click", () => this.takeHome());
     on("find", "input", () => showReference(byId("find").value));
     on("edit-close", "click", () => byId("edit").close());
@@ -85,6 +86,7 @@ export class Student {
     this.seat = view.seat;
     document.title = `Seat ${view.seat} – vecmon`;
     put(byId("who"), `Seat ${view.seat}`);
+    this.showName(view.name);
     const stop = run === "stopped" && view.state.stop && view.stop.split(" ")[0];
     put(byId("run"), run === "absent" ? "not entered" : stop || run);
     byId("run").className = `pill ${run}`;
@@ -104,6 +106,14 @@ export class Student {
     if (side !== this.side) this.sides.show((this.side = side));
     this.showSource(view);
     byId("log").ariaLive = "polite";
+  }
+
+  /** Shows the name of whoever sits here; one that was typed with the code is told to the class. */
+  showName(name) {
+    const typed = sessionStorage.getItem("name");
+    sessionStorage.removeItem("name");
+    if (typed) this.request({ ask: "name", name: typed }, "the name");
+    if (document.activeElement !== byId("name")) byId("name").value = name;
   }
 
   /** Sends a request; what was refused is told in words. */

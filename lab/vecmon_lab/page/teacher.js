@@ -50,6 +50,7 @@ export class Teacher {
     byId("on-wall").onchange = () => this.request({ ask: "wall", seat: byId("on-wall").value });
     byId("show-codes").onclick = () => this.showAllCodes();
     byId("open-sheet").onclick = () => this.openSheet();
+    byId("save-table").onclick = () => connection.download("seats.csv", "seats.csv");
     byId("print").onclick = () => print();
     byId("close-sheet").onclick = closeSheet;
     document.title = "Teacher – vecmon";
@@ -65,6 +66,7 @@ export class Teacher {
   }
 
   show(view, logs, isAnew) {
+    this.view = view;
     const letters = Object.keys(view.machines);
     for (const letter of letters.filter((each) => !this.machines[each])) {
       this.machines[letter] = new ClassMachine(letter, this);
@@ -90,7 +92,7 @@ export class Teacher {
     const isOther = isAnew || view.shoulder !== this.seat;
     this.seat = view.shoulder;
     byId("desk").hidden = !this.seat;
-    put(byId("shoulder"), this.seat && `Seat ${this.seat}, over the shoulder`);
+    put(byId("shoulder"), this.seat && `Seat ${this.withName(this.seat)}, over the shoulder`);
     if (!this.seat) return;
     this.desk.show(this.seat, view.state, logs[this.seat] ?? [], isOther);
     this.source.show(this.seat, view.source);
@@ -109,7 +111,7 @@ export class Teacher {
 
   async openSheet() {
     const answer = await this.connection.ask({ ask: "codes", seat: "", pictures: true }, "the sheet");
-    if (answer?.codes) openSheet(answer, this.address);
+    if (answer?.codes) openSheet(answer, this.address, (seat) => this.withName(seat));
   }
 
   /** Looks at a seat, whose machine comes into sight; "" ends it. */
@@ -136,6 +138,12 @@ export class Teacher {
     const [ons, owns] = [machines.filter(({ clock }) => clock.on).length, machines.filter((each) => each.own_slices).length];
     Object.assign(on, { checked: ons === machines.length, indeterminate: ons > 0 && ons < machines.length });
     Object.assign(own, { checked: owns === machines.length, indeterminate: owns > 0 && owns < machines.length });
+  }
+
+  /** A seat with the name of whoever sits there. */
+  withName(seat) {
+    const { name } = this.view.machines[seat[0]].seats[seat[1]];
+    return name ? `${seat}, ${name}` : seat;
   }
 
   operate(lines) {

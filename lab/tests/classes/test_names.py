@@ -1,0 +1,118 @@
+"""Names of those who sit at seats: who is told them, where they are kept, and how they are deleted."""
+
+import csv
+import io
+import json
+import pathlib
+import zipfile
+
+import pytest
+
+from support.class_tabs import LOOP, served
+from vecmon_lab.__main__ import arguments_of
+from vecmon_lab.classes.command import run
+from vecmon_lab.classes.names import checked_name
+from vecmon_lab.classes.requests import BadRequest
+from vecmon_lab.classes.store import BadFolder, forget
+
+NAME = "Zoë O'Brien-Šarić Jr. 2"
+
+
+@pytest.mark.parametrize(
+    "typed, name",
+    [
+        (NAME, NAME),
+        ("  Ada  ", "Ada"),
+        ("", ""),
+        ("   ", ""),
+        ("Zoe\u0308", "Zoë"),
+        ("O’Brien", "O'Brien"),
+        ("अदिति", "अदिति"),
+        ("李小龍", "李小龍"),
+        ("a" * 40, "a" * 40),
+    ],
+)
+def test_names(typed: str, name: str) -> None:
+    assert checked_name(typed) == name
+
+
+@pytest.mark.parametrize(
+    "typed",
+    ["a" * 41, "1 Ada", "=Ada", "-Ada", "'Ada", "@Ada", ".Ada", "\u0308Ada", "Ada\n", "Ada\tL", "Ada, L", 'Ada "L"']
+    + [
+        "<b>Ada</b>",
+        "Ada &",
+        "Ada;L",
+        "Ada/L",
+        "Ada\\",
+        "Ada\0",
+        "Ada\u202e",
+        "Ada\ud800",
+        "Ada😀",
+        "Ada\u200b",
+        "A_",
+        "A+",
+    ],
+)
+def test_what_is_no_name(typed: str) -> None:
+    with pytest.raises(BadRequest, match="a name begins with a letter"):
+        checked_name(typed)
+
+
+@pytest.mark.asyncio
+async def test_who_is_told_names(tmp_path: pathlib.Path) -> None:
+    """The seat and the teacher, the table and what is taken home; no machine, no other seat, no wall, no file's name."""
+    folder = tmp_path / "class"
+    async with served(folder, machines=2) as room:
+        tab, other, wall, teacher = [await room.sit(who) for who in ("A3", "A4", "wall", "teacher")]
+        await teacher.ask("wall", seat="A3")
+        await tab.do(*LOOP, "step 1")
+        assert tab.view["name"] == "" and "error" not in await tab.ask("name", seat="A4", name=f" {NAME} ")
+        assert tab.view["name"] == NAME
+        await teacher.until(lambda view: view["machines"]["A"]["seats"]["3"]["name"] == NAME)
+        assert "error" not in await teacher.ask("name", seat="B8", name="Bo")
+        for name in ("<b>", "=1", 5, ["Ada"]):
+            assert "error" in await tab.ask("name", name=name) and "error" in await teacher.ask(
+                "name", seat="A3", name=name
+            )
+        assert (await teacher.ask("name", seat="A9", name="Ada"))["error"] == "there is no such seat"
+        assert (await wall.ask("name", seat="A3", name="Ada"))["error"] == "the wall only looks"
+        assert json.loads((folder / "names.json").read_text()) == {"A3": NAME, "B8": "Bo"}
+        status, data = await room.get("seats.csv")
+        rows = list(csv.reader(io.StringIO(data.decode("utf-8-sig"))))
+        assert status == 200 and len(rows) == 17 and rows[3][:4] == ["A3", NAME, "stopped", "at jal x0, -4"]
+        assert rows[16][:3] == ["B8", "Bo", "absent"] and rows[4][:2] == ["A4", ""]
+        assert [(await room.get("seats.csv", who))[0] for who in ("A3", "wall", None)] == [404] * 3
+        packed = zipfile.ZipFile(io.BytesIO((await room.get("A3/home", "A3"))[1]))
+        assert f"<title>Seat A3, {NAME.replace(chr(39), '&#x27;')}</title>" in packed.read("A3/A3.html").decode()
+        assert packed.namelist() == ["A3/A3.script", "A3/A3.html"]
+        await other.do("enter")
+        await wall.until(lambda view: view["state"].get("pc") == "10004")
+        told = json.dumps([other.view, other.logs, wall.view, tab.logs, teacher.logs], ensure_ascii=False)
+        assert "Zo" not in told and b"Zo" not in (await room.check_replay())[0]
+    having = [path.name for path in folder.rglob("*") if path.is_file() and "O'Brien".encode() in path.read_bytes()]
+    assert having == ["names.json"]
+    async with served(folder) as room:
+        tab = await room.sit("A3")
+        assert tab.view["name"] == NAME
+        with pytest.raises(BadFolder, match="is served by another server"):
+            forget(folder, "names.json")
+        await tab.ask("name", name="")
+        assert tab.view["name"] == "" and json.loads((folder / "names.json").read_text()) == {"B8": "Bo"}
+
+
+@pytest.mark.asyncio
+async def test_a_class_forgets_names(tmp_path: pathlib.Path) -> None:
+    """Also what a full disk has left half done; the rest of the folder stays."""
+    folder = tmp_path / "class"
+    with pytest.raises(BadFolder, match="has no class"):
+        forget(folder, "names.json")
+    async with served(folder) as room:
+        await (await room.sit("A3")).ask("name", name="Ada")
+    before = {path.name for path in folder.iterdir()}
+    (folder / "names.json.new").write_text("Ada")
+    for _ in range(2):
+        assert run(arguments_of(["class", "--forget", str(folder)])) == 0
+    assert {path.name for path in folder.iterdir()} == before - {"names.json"}
+    async with served(folder) as room:
+        assert (await room.sit("A3")).view["name"] == ""
