@@ -7,7 +7,7 @@ from .. import LabError
 from ..machine.lines import check_text, is_look
 from .live import is_servers
 
-REQUEST_LINES, SOURCE_LETTERS = 256, 1 << 16
+REQUEST_LINES, SOURCE_LETTERS, SENTENCE_LETTERS = 256, 1 << 16, 400
 MOST_SLICES = 100
 
 
@@ -121,20 +121,23 @@ class SetName:
     name: str
 
 
-Request = (
-    Lines
-    | Source
-    | Draft
-    | ReadVersion
-    | Give
-    | SetName
-    | SetClock
-    | SetRights
-    | Renew
-    | LookOver
-    | PutOnWall
-    | ShowCodes
-)
+@dataclass(frozen=True)
+class Write:
+    """A sentence of the teacher's for a seat; "" for all."""
+
+    seat: str
+    text: str
+
+
+@dataclass(frozen=True)
+class Reset:
+    """That a seat's machine is taken away."""
+
+    seat: str
+
+
+StudentRequest = Lines | Source | Draft | ReadVersion | SetName
+Request = StudentRequest | Give | Write | Reset | SetClock | SetRights | Renew | LookOver | PutOnWall | ShowCodes
 
 
 _LIMITS = {"on": (0, 1), "slices": (1, 1000), "ms": (10, 10_000), "limit": (100_000, 10**12)}  # of a clock's settings
@@ -157,6 +160,10 @@ def read_request(message: Mapping[str, object], is_teacher: bool) -> Request:
             return ReadVersion(_number(message))
         case "give", True:
             return Give(_name(message, "seat"), _text(message))
+        case "write", True:
+            return Write(_name(message, "seat"), _sentence(message))
+        case "reset", True:
+            return Reset(_name(message, "seat"))
         case "clock", True:
             return SetClock(_name(message, "machine"), _settings(message))
         case "rights", True:
@@ -206,6 +213,14 @@ def _text(message: Mapping[str, object]) -> str:
     if not isinstance(text, str) or len(text) > SOURCE_LETTERS:
         raise BadRequest(f"a source is a text of {SOURCE_LETTERS} characters at most")
     return text.encode("utf-8", "replace").decode()
+
+
+def _sentence(message: Mapping[str, object]) -> str:
+    """The sentence of a message."""
+    text = message.get("text")
+    if not isinstance(text, str) or not 0 < len(text) <= SENTENCE_LETTERS or not text.isprintable():
+        raise BadRequest(f"a line for students has 1 to {SENTENCE_LETTERS} characters that can be printed")
+    return text
 
 
 def _number(message: Mapping[str, object]) -> int:

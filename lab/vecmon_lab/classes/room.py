@@ -28,6 +28,7 @@ from .store import Notes, ScriptFile
 
 SEAT_BYTES = 1_500_000  # of a seat's lines in the script: eight leave 3,000,000 to the operator and the clock
 SOURCE_LINES = 4096
+LEAVING: Mapping[str, Sequence[str]] = {"absent": [], "running": ["stop", "leave"], "stopped": ["leave"]}
 WATCH_SECONDS = 0.5  # between looks at a program that runs
 FOLLOW_SECONDS, SHORTEN_SECONDS = 0.2, 0.5  # between a spare's parts; and between looks at how long a script has become
 NEXT_SCRIPT_BYTES, NEXT_SCRIPT_SECONDS = 12_000_000, 300.0  # after which another one begins: a server begins with it
@@ -190,8 +191,7 @@ class Room:
         while not lines or len(done) < len(lines):
             async with self._lock:
                 if not lines:
-                    ways = {"absent": list[str](), "running": ["stop", "leave"], "stopped": ["leave"]}
-                    begin = [*ways[seat.state["run"]], "enter", *program.lines, f"setpc {program.entry:x}"]
+                    begin = [*LEAVING[seat.state["run"]], "enter", *program.lines, f"setpc {program.entry:x}"]
                     stops = [f"break {address:x}" for address in breaks]
                     lines = [f"{seat.digit} {command}" for command in [*begin, *stops]]
                     self._check_share(seat, lines)
@@ -199,6 +199,12 @@ class Room:
                 await self._hop(work, carry_out, seat)
             done = [*done, *work.done]
         return in_order(mistakes)
+
+    async def reset(self, seat: Seat) -> None:
+        """Takes a seat's machine away, however much of its share is used up."""
+        async with seat.turn, self._lock:
+            lines = [f"{seat.digit} {line}" for line in LEAVING[seat.state["run"]]]
+            await self._hop(_Work(), lambda work: self._do(work, *lines), seat)
 
     def set_clock(self, settings: Mapping[str, int]) -> None:
         """Sets what is named of the clock's settings."""

@@ -28,11 +28,13 @@ from .requests import (
     ReadVersion,
     Renew,
     Request,
+    Reset,
     SetClock,
     SetName,
     SetRights,
     ShowCodes,
     Source,
+    Write,
     read_request,
 )
 from .room import SEAT_BYTES, Room
@@ -414,11 +416,15 @@ class Class:
                 name = tab.who if tab.who != TEACHER else tab.shoulder.name if tab.shoulder else ""
                 return {"text": self.sources[self.seat(name).name].version(number)}
             case Give(name, text):
-                for name in [self.seat(name).name] if name else self.sources:
-                    self.sources[name].give(text)
-                    self.rooms[name[0]].note(
-                        self.seat(name), "!The teacher gave a source. Your own is kept, as a version."
-                    )
+                for each in self._receivers(name):
+                    self.sources[each].give(text)
+                self._note(name, "The teacher gave a source. Your own is kept, as a version.")
+            case Write(name, text):
+                self._note(name, f"The teacher: {text}")
+            case Reset(name):
+                seat = self.seat(name)
+                await self.rooms[name[0]].reset(seat)
+                self._note(name, "The teacher has taken this machine away. Your source is kept.")
             case SetName(seat_name, name):
                 self._set_name(self.seat(seat_name if tab.who == TEACHER else tab.who).name, checked_name(name))
             case SetClock(machine, settings):
@@ -446,6 +452,15 @@ class Class:
         """The names of seats that somebody looks at: with a tab, over the shoulder, or on a wall."""
         looked_at = {tab.who for tab in self.tabs} | {tab.shoulder.name for tab in self.tabs if tab.shoulder}
         return looked_at | ({self.wall.name} if self.wall and WALL in looked_at else set())
+
+    def _receivers(self, name: str) -> list[str]:
+        """The seat of a name, or all for "". Raises BadRequest."""
+        return [self.seat(name).name] if name else list(self.sources)
+
+    def _note(self, name: str, sentence: str) -> None:
+        """Writes a sentence into the transcript of a seat, or of all."""
+        for each in self._receivers(name):
+            self.rooms[each[0]].note(self.seat(each), f"!{sentence}")
 
     def _set_name(self, seat: str, name: str) -> None:
         """Keeps the name of whoever sits at a seat, or that nobody does."""

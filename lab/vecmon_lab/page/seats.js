@@ -1,5 +1,6 @@
 // The table of a class's seats: how each one stands, and for how long; who is stuck stands at its top.
 
+import { ask } from "./ask.js";
 import { button, byId, header, make, put } from "./elements.js";
 
 const AGES_EVERY = 5000; // ms
@@ -26,7 +27,10 @@ class SeatRow {
     [this.tabs, this.stands, this.line, this.used] = ["", "wraps", "cut", ""].map((kind) => make("td", kind));
     const fields = [[this.look], [this.name], teacher.codeField(seat).parts];
     const controls = [...fields.map((parts) => make("td", "", ...parts)), this.tabs];
-    const row = [header("row", seat), ...controls, make("td", "", this.run), this.stands, this.line, this.used];
+    const loss = `Registers, memory and breakpoints of seat ${seat} would be lost. Its source is kept.`;
+    const resets = () => ask(loss, "Reset", () => teacher.request({ ask: "reset", seat }));
+    const reset = make("td", "", button("Reset", `Reset seat ${seat}`, resets));
+    const row = [header("row", seat), ...controls, make("td", "", this.run), this.stands, this.line, this.used, reset];
     this.row = make("tr", "", ...row);
     this.row.dataset.seat = seat;
   }

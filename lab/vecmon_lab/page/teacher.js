@@ -50,6 +50,7 @@ export class Teacher {
     byId("on-wall").onchange = () => this.request({ ask: "wall", seat: byId("on-wall").value });
     byId("show-codes").onclick = () => this.showAllCodes();
     byId("open-sheet").onclick = () => this.openSheet();
+    byId("tell").onsubmit = () => this.write();
     byId("save-table").onclick = () => connection.download("seats.csv", "seats.csv");
     byId("print").onclick = () => print();
     byId("close-sheet").onclick = closeSheet;
@@ -140,6 +141,13 @@ export class Teacher {
     Object.assign(own, { checked: owns === machines.length, indeterminate: owns > 0 && owns < machines.length });
   }
 
+  /** Writes a line to students, which stays in its field where it is refused. */
+  async write() {
+    const words = byId("words");
+    const answer = await this.request({ ask: "write", seat: byId("receiver").value, text: words.value });
+    if (answer && !answer.error) words.value = "";
+  }
+
   /** A seat with the name of whoever sits there. */
   withName(seat) {
     const { name } = this.view.machines[seat[0]].seats[seat[1]];
@@ -157,6 +165,7 @@ export class Teacher {
     const isQuiet = ["shoulder", "wall"].includes(request.ask); // which are asked again of a new server
     if (answer?.error || (answer && !isQuiet)) say("gone", answer.error ?? "");
     Object.entries(answer?.codes ?? {}).forEach(([name, code]) => this.codes[name].show(code, this.address));
+    return answer;
   }
 
   /** Saves a machine's script or transcript; all of them where it has several. */
