@@ -52,7 +52,8 @@ def seat_students(browser: "Chrome", served: Served) -> Tab:
     """A program that counts, one that has ended, a masked instruction, an illegal one, an EBREAK, a text with a mistake."""
     tabs = [Tab(browser, served, f"A{number}") for number in range(1, 7)]
     programs: list[list[str]] = [COUNT_UP, [], [], ODD_GROUP, ["vid.v v1", "ebreak"], ["vid.v v1"]]
-    for tab, program in zip(tabs, programs):
+    for tab, program, name in zip(tabs, programs, ["Ada", "Bela", "Chiara", "", "Emil", "Fatma"]):
+        tab.keys("#name", f"{name}\n")
         tab.begin(*program)
     tabs[0].command("go")
     tabs[1].command("load sum", "go")
