@@ -401,14 +401,7 @@ class Class:
                 seat = self._room(machine).seats.operator if tab.who == TEACHER else self.seat(tab.who)
                 return {"do": done, "look": await self.rooms[seat.name[0]].lines(seat, request, done)}
             case Source(text):
-                seat = self.seat(tab.who)
-                if text is not None:
-                    self.sources[seat.name].write(text)
-                mistakes = await self.rooms[seat.name[0]].source(seat, text)
-                if mistakes:
-                    seat.stand(f"{len(mistakes)} mistake{'s' * (len(mistakes) > 1)} in the source", True)
-                    self._tell([seat.name])
-                return {"mistakes": [{"line": it.line, "column": it.column, "message": it.message} for it in mistakes]}
+                return await self._write(self.seat(tab.who), text)
             case Draft(text, number):
                 self.sources[tab.who].draft(text, number)
                 self._tell([tab.who])
@@ -442,11 +435,25 @@ class Class:
                 self.wall = self.seat(name) if name else None
                 self._tell([WALL])
             case ShowCodes(name, with_pictures):
-                if not (codes := self.codes.shown(name)):
-                    raise BadRequest("there is no such seat")
-                shown = await asyncio.to_thread(pictures, self.address, codes) if with_pictures and self.address else {}
-                return {"codes": codes, "pictures": shown}
+                return await self._shown_codes(name, with_pictures)
         return {}
+
+    async def _write(self, seat: Seat, text: str | None) -> Message:
+        """Begins a seat's machine anew with a source, or with the one that stands there; the mistakes that it has."""
+        if text is not None:
+            self.sources[seat.name].write(text)
+        mistakes = await self.rooms[seat.name[0]].source(seat, text)
+        if mistakes:
+            seat.stand(f"{len(mistakes)} mistake{'s' * (len(mistakes) > 1)} in the source", True)
+            self._tell([seat.name])
+        return {"mistakes": [{"line": it.line, "column": it.column, "message": it.message} for it in mistakes]}
+
+    async def _shown_codes(self, name: str, with_pictures: bool) -> Message:
+        """The codes of a seat, or of all for "". Raises BadRequest."""
+        if not (codes := self.codes.shown(name)):
+            raise BadRequest("there is no such seat")
+        shown = await asyncio.to_thread(pictures, self.address, codes) if with_pictures and self.address else {}
+        return {"codes": codes, "pictures": shown}
 
     def _watched(self) -> set[str]:
         """The names of seats that somebody looks at: with a tab, over the shoulder, or on a wall."""
