@@ -215,6 +215,7 @@ async def served(members: Class, doors: Iterable[socket.socket], names: set[str]
         members.keep()
         members.end()
         await runner.cleanup()
+        await asyncio.gather(*tasks, return_exceptions=True)  # so that none outlives its class
 
 
 async def serve(members: Class, host: str, doors: Iterable[socket.socket], names: set[str]) -> None:
