@@ -8,6 +8,8 @@ import pytest
 NO_BROWSER = "there is no Chromium"
 NO_GDB = "there is no gdb-multiarch"
 NO_QEMU = "there is no qemu-riscv64 of version 7.2"
+NO_CLANG = "there is no clang with intrinsics of vectors"
+NO_WALL = "there is no bwrap"
 
 
 def leave_out(reason: str) -> NoReturn:

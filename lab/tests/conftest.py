@@ -13,12 +13,21 @@ from _pytest.terminal import TerminalReporter
 
 from support.browser import start_browser
 from support.commands import Lab
-from support.left_out import NO_BROWSER, NO_GDB, NO_QEMU, leave_out
+from support.left_out import NO_BROWSER, NO_CLANG, NO_GDB, NO_QEMU, NO_WALL, leave_out
+from vecmon_lab.compilers.compiler import Compiler, find_compilers
 from vecmon_lab.machine.program import find_program
 from vecmon_lab.machine.session import Session
 
 if TYPE_CHECKING:
     from selenium.webdriver import Chrome
+
+LEFT_OUT = {
+    "in a browser": NO_BROWSER,
+    "with gdb": NO_GDB,
+    "on QEMU": NO_QEMU,
+    "of sources in C": NO_CLANG,
+    "behind a wall": NO_WALL,
+}
 
 signal.signal(signal.SIGINT, signal.default_int_handler)  # which a job in the background ignores, with what it starts
 
@@ -65,9 +74,18 @@ def qemu() -> None:
         leave_out(NO_QEMU)
 
 
+@pytest.fixture(scope="session")
+def clang() -> Compiler:
+    """The newest clang; as with the browser, a test that wants it is left out and counted where there is none."""
+    found = [compiler for compiler in find_compilers() if compiler.is_clang]
+    if not found:
+        leave_out(NO_CLANG)
+    return found[0]
+
+
 def pytest_terminal_summary(terminalreporter: TerminalReporter) -> None:
-    """Says how many tests were left out, for want of a browser, of gdb or of QEMU."""
-    for what, reason in {"in a browser": NO_BROWSER, "with gdb": NO_GDB, "on QEMU": NO_QEMU}.items():
+    """Says how many tests were left out, and for want of what."""
+    for what, reason in LEFT_OUT.items():
         left_out = sum(reason in str(report.longrepr) for report in terminalreporter.getreports("skipped"))
         if left_out:
             terminalreporter.write_line(f"{left_out} tests {what} were left out: {reason}")

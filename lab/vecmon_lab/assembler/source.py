@@ -45,6 +45,10 @@ class Program:
             names.setdefault(f"{address:x}", []).append(label)
         return names
 
+    def addresses(self) -> dict[int, int]:
+        """The address of the first instruction of each line of the source that has one."""
+        return {statement.line: statement.address for statement in reversed(self.statements)}
+
     def source_lines(self, text: str) -> dict[str, str]:
         """What the lines of the source, which has this text, say behind their labels, by the address of their first word.
 

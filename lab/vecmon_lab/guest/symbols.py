@@ -81,7 +81,7 @@ class Symbols:
             from elftools.elf.elffile import ELFFile
 
             try:
-                rows = sorted(_source_rows(ELFFile(file)), key=lambda row: (row[0], row[1] != ""))
+                rows = sorted(source_rows(ELFFile(file)), key=lambda row: (row[0], row[1] != ""))
             except Exception as error:  # pylint: disable=broad-except  # as above; KeyError for clang's DWARF 5
                 reason = f"{type(error).__name__} {error}".strip()
                 return [], f"pyelftools can't read the source lines of {self.path.name} ({reason}); -gdwarf-4 helps"
@@ -104,7 +104,7 @@ def _symbols(elf: "ELFFile") -> Iterator[tuple[int, int, int, str]]:
             yield symbol["st_value"], rank, end if start <= symbol["st_value"] < end else 0, symbol.name
 
 
-def _source_rows(elf: "ELFFile") -> Iterator[tuple[int, str]]:
+def source_rows(elf: "ELFFile") -> Iterator[tuple[int, str]]:
     """The address of each row of the line tables, and its file and line; "" at the end of a sequence."""
     if not elf.has_dwarf_info():
         return

@@ -2,11 +2,12 @@
 
 import re
 from collections.abc import Sequence
-from dataclasses import dataclass, field
+from dataclasses import dataclass, field, replace
 
 from .. import LabError
 from ..assembler.commands import refusal_in_words
 from ..assembler.source import Program, SourceError, Statement, assemble, refusal
+from ..compilers.compiled import CompiledProgram
 from ..guest.guest import Guest
 from ..machine.answers import Refused
 from ..machine.lines import is_look, words_of
@@ -31,7 +32,7 @@ class Script:
     """A lesson's steps.
 
     Of a source also: its name, its labels by address, its instructions by the line that writes them, and its
-    sentences by the address of the instruction behind them.
+    sentences by the address of the instruction behind them; of one in C what its lines say, by address.
     """
 
     title: str
@@ -40,6 +41,7 @@ class Script:
     labels: dict[str, list[str]] = field(default_factory=dict)
     statements: dict[str, Statement] = field(default_factory=dict)
     notes: dict[int, str] = field(default_factory=dict)
+    said: dict[str, str] = field(default_factory=dict)
 
 
 def read_script(text: str) -> Script:
@@ -73,7 +75,23 @@ def read_source(text: str, name: str) -> Script:
         program = assemble(text)
     except SourceError as error:
         raise _mistake(name, error) from error
+    return _script_of(program, [line.strip() for line in text.split("\n")], name)
+
+
+def read_c(text: str, name: str, program: CompiledProgram) -> Script:
+    """The lesson of a source in C, for user 1, as a compiler made it. Raises LabError where it has mistakes.
+
+    Its lines that begin with `//` are as those of an assembler source that begin with `#`.
+    """
+    for error in program.mistakes:
+        raise _mistake(name, error) if error.line else LabError(f"{name}: {error.message}")
     lines = [line.strip() for line in text.split("\n")]
+    lines = [f"#{line[2:]}" if line.startswith("//") else line.replace("#", " #", 1) for line in lines]
+    return replace(_script_of(program, lines, name), said=program.source_lines(text))
+
+
+def _script_of(program: Program, lines: list[str], name: str) -> Script:
+    """The lesson of a source's program, by its lines."""
     title = next((_sentence([line]) for line in lines if line.startswith("##")), "")
     introduction, notes = _source_notes(lines, program)
     into_memory = [f"1 {line}" for line in program.lines]
@@ -120,7 +138,7 @@ def _begins(line: str) -> str:
 
 def _source_notes(lines: list[str], program: Program) -> tuple[str, dict[int, str]]:
     """The sentence before all else, and those before an instruction by its address."""
-    addresses = {statement.line: statement.address for statement in reversed(program.statements)}
+    addresses = program.addresses()
     introduction, notes, waiting = "", dict[int, str](), list[str]()
     begun = False
     for number, line in enumerate(lines, 1):

@@ -1,0 +1,181 @@
+"""Sources in C: what their images become, what compilers say of them, and six kernels beside the same in Python."""
+
+import pathlib
+import struct
+import subprocess
+import sys
+
+import pytest
+
+from support.places import EXAMPLES
+from vecmon_lab import LabError
+from vecmon_lab.compilers.compiled import compile_c, program_of
+from vecmon_lab.compilers.compiler import CHOICES, Compiler, find_compiler
+from vecmon_lab.compilers.inside import Message, read_messages
+from vecmon_lab.guest.guest import Guest
+from vecmon_lab.machine.session import Session
+
+KERNELS = EXAMPLES / "kernels"
+
+PIXELS = [(5 * i % 256, (255 - 3 * i) % 256, i * i % 256) for i in range(45)]
+LEFT = [[1000 * row - 300 * k for k in range(4)] for row in range(3)]
+RIGHT = [[70 * column + k for column in range(20)] for k in range(4)]
+OUTPUTS = {
+    "saxpy": struct.pack("<37i", *(1000 + 2 * i for i in range(37))),
+    "text_length": struct.pack("<Q", len("a text of more than thirty-two bytes that ends where its page does")),
+    "matrix_product": struct.pack(
+        "<60i", *(sum(a * b for a, b in zip(row, column)) for row in LEFT for column in zip(*RIGHT))
+    ),
+    "grey": bytes((77 * r + 150 * g + 29 * b) >> 8 for r, g, b in PIXELS),
+    "filter": b"".join(struct.pack("<i", n) for i in range(40) if (n := i * 7919 % 100) > 60),
+    "plain_sum": struct.pack("<I", sum(i * i for i in range(100))),
+}
+
+
+def run(session: Session, clang: Compiler, text: str, choice: int = 0) -> tuple[bytes, int]:
+    """What a source puts out, and its status."""
+    program = compile_c(text, clang, choice, KERNELS)
+    assert not program.mistakes, program.mistakes
+    guest = Guest(session)
+    guest.ask("enter", *program.lines, f"setpc {program.entry:x}")
+    stop = guest.go(200_000)
+    assert stop and stop.kind == "exit", stop
+    return guest.output(), stop.number
+
+
+@pytest.mark.parametrize("name", OUTPUTS)
+def test_a_kernel(session: Session, clang: Compiler, name: str) -> None:
+    assert run(session, clang, (KERNELS / f"{name}.c").read_text("ascii")) == (OUTPUTS[name], 0)
+
+
+@pytest.mark.parametrize("choice", range(len(CHOICES)))
+def test_all_options_give_the_same(session: Session, clang: Compiler, choice: int) -> None:
+    assert run(session, clang, (KERNELS / "plain_sum.c").read_text("ascii"), choice) == (OUTPUTS["plain_sum"], 0)
+
+
+def test_all_kernels_are_tried() -> None:
+    assert sorted(path.stem for path in KERNELS.glob("*.c")) == sorted(OUTPUTS)
+
+
+def test_a_kernel_is_a_short_script(clang: Compiler) -> None:
+    for path in KERNELS.glob("*.c"):
+        program = compile_c(path.read_text("ascii"), clang, 0, KERNELS)
+        assert sum(len(line) + 3 for line in program.lines) <= 12_000, path
+
+
+def test_lines_of_the_source_stand_at_their_instructions(clang: Compiler) -> None:
+    text = "int twice(int x)\n{\n    return 2 * x;\n}\n\nint main(void)\n{\n    return twice(4);\n}\n"
+    program = compile_c(text, clang, 1, KERNELS)  # -O0
+    said = program.source_lines(text)
+    first = {number: address for address, number, _ in reversed(program.rows) if number}
+    assert said[f"{first[3]:x}"] == "3  return 2 * x;"
+    assert program.labels["twice"] <= first[3] < program.labels["main"] <= first[8]
+
+
+def test_a_function_that_was_inlined_is_named(clang: Compiler) -> None:
+    text = (KERNELS / "saxpy.c").read_text("ascii")
+    said = compile_c(text, clang, 0, KERNELS).source_lines(text)
+    number = text[: text.index("sum = __riscv_vmacc")].count("\n") + 1
+    assert any(line.startswith(f"{number}  ") and line.endswith("(saxpy, inlined)") for line in said.values())
+
+
+def test_mistakes(clang: Compiler) -> None:
+    program = compile_c(
+        "int main(void)\n{ return missing; }\nint unused(void) { int y; return 0; }\n", clang, 0, KERNELS
+    )
+    assert not program.lines
+    assert [(each.line, each.column) for each in program.mistakes] == [(2, 10)]
+    assert "undeclared" in program.mistakes[0].message
+
+
+def test_what_the_linker_misses(clang: Compiler) -> None:
+    (mistake,) = compile_c("long other(void);\nint main(void) { return other(); }\n", clang, 0, KERNELS).mistakes
+    assert mistake.line == 0 and mistake.message == "undefined symbol: other"
+
+
+def test_messages() -> None:
+    told = [
+        "source.c:3:12: error: use of undeclared identifier 'x'",
+        "source.c:3:12: note: it is here",
+        "source.c:1:10: fatal error: '/etc/passwd' file not found",
+        "/lab/vecmon_lab/compilers/runtime/runtime.c:5:1: warning: odd",
+        "ld.lld-19: error: undefined symbol: f",
+        "In file included from source.c:1:",
+        "clang-19: error: linker command failed with exit code 1 (use -v to see invocation)",
+        "error: unable to open output file 'image': 'Disk quota exceeded'",
+    ]
+    assert read_messages("\n".join([*told, told[0]])) == [
+        Message(3, 12, True, "use of undeclared identifier 'x'"),
+        Message(1, 10, True, "'passwd' file not found"),
+        Message(0, 0, False, "runtime.c:5: odd"),
+        Message(0, 0, True, "undefined symbol: f"),
+        Message(0, 0, True, "unable to open output file 'image': 'Disk quota exceeded'"),
+    ]
+
+
+def test_segments_become_pages_and_bytes() -> None:
+    segments = [
+        [0x10000, "r", 0x1010, (b"\1" * 4).hex()],
+        [0x11010, "rx", 0x20, (b"\2" * 0x20).hex()],
+        [0x12000, "rw", 0x2000, ""],
+    ]
+    program = program_of({"entry": 0x11010, "segments": segments, "symbols": {"_start": 0x11010}, "rows": []})
+    assert program.lines == [
+        "map 10000 1 r",
+        "map 11000 1 rx",
+        "map 12000 2 rw",
+        "poke 10000 01010101",
+        f"poke 11010 {'02' * 0x20}",
+        "map 7fffb000 4 rw",
+        "set x2 7fffefc0",
+    ]
+    assert (program.entry, program.names()) == (0x11010, {"11010": ["_start"]})
+
+
+def test_zeros_are_not_written() -> None:
+    data = b"\1" + bytes(100) + b"\2" * 300 + bytes(8)
+    lines = program_of({"entry": 0, "segments": [[0, "rw", 4096, data.hex()]], "symbols": {}, "rows": []}).lines
+    assert lines[1:4] == ["poke 0 01", f"poke 65 {'02' * 256}", f"poke 165 {'02' * 44}"]
+
+
+def test_an_image_that_is_too_large() -> None:
+    for size, data in ((4096 * 201, b"\1"), (1 << 17, b"\1" * 65_537)):
+        with pytest.raises(LabError, match="are the most"):
+            program_of({"entry": 0, "segments": [[0, "rw", size, data.hex()]], "symbols": {}, "rows": []})
+
+
+def test_words_are_a_closed_list() -> None:
+    clang, gcc = Compiler("clang-19"), Compiler("riscv64-linux-gnu-gcc-14")
+    for compiler in (clang, gcc):
+        for choice in range(len(CHOICES)):
+            assert compiler.words(choice)[0] == compiler.name
+            assert compiler.words(choice)[-2] == "source.c"
+        for choice in (-1, len(CHOICES)):
+            with pytest.raises(LabError, match="options have numbers"):
+                compiler.words(choice)
+    assert clang.has_vectors and gcc.has_vectors and not Compiler("riscv64-linux-gnu-gcc").has_vectors
+
+
+@pytest.mark.parametrize("name", ["/bin/sh", "@file", "", "clang-19 -fplugin=x"])
+def test_a_compiler_that_is_none(name: str) -> None:
+    with pytest.raises(LabError, match="no compiler"):
+        find_compiler(name)
+
+
+@pytest.mark.by_command("lesson")
+def test_a_lesson_of_a_source_in_c(clang: Compiler, tmp_path: pathlib.Path) -> None:
+    page = tmp_path / "page.html"
+    words = ["lesson", str(KERNELS / "grey.c"), "-o", str(page), "--cc", clang.name, "--options", "O3"]
+    subprocess.run([sys.executable, "-m", "vecmon_lab", *words], check=True)
+    text = page.read_text("utf-8")
+    assert "Colours to grey: three fields of a pixel" in text and "vlseg3e8.v" in text
+    assert "length = __riscv_vsetvl_e8m1(count);" in text
+    assert "upper eight stay." in text and "vecmon.h" not in text
+
+
+def test_a_lesson_of_a_source_with_mistakes(clang: Compiler, tmp_path: pathlib.Path) -> None:
+    source = tmp_path / "wrong.c"
+    source.write_text("int main(void)\n{\n    return 1 +;\n}\n", "ascii")
+    words = ["lesson", str(source), "--cc", clang.name]
+    done = subprocess.run([sys.executable, "-m", "vecmon_lab", *words], capture_output=True, text=True)
+    assert (done.returncode, done.stderr) == (2, "vecmon-lab: wrong.c:3:15: expected expression\n")

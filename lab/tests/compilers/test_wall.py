@@ -1,0 +1,156 @@
+"""Hostile sources behind the wall: what they try to read, to fill and to keep busy; and images that are crafted."""
+
+import json
+import os
+import pathlib
+import shutil
+import struct
+import time
+from collections.abc import Callable
+from typing import Any
+
+import pytest
+
+from support.left_out import NO_WALL, leave_out
+from vecmon_lab import LabError
+from vecmon_lab.compilers.compiler import Compiler
+from vecmon_lab.compilers.debug import image_of
+from vecmon_lab.compilers.wall import SECONDS, answer_walled, check_wall
+
+MAIN = "int main(void) { return 0; }\n"
+SECRET = "root:"  # as a file of the system begins that isn't a program's
+
+
+Ask = Callable[[str], dict[str, Any]]
+
+
+@pytest.fixture
+def answer(clang: Compiler) -> Ask:
+    """What asks for what is behind the wall."""
+    if shutil.which("bwrap") is None:
+        leave_out(NO_WALL)
+
+    def ask(text: str) -> dict[str, Any]:
+        told: dict[str, Any] = json.loads(answer_walled([clang.name, "0"], text))
+        return told
+
+    return ask
+
+
+def test_a_program(answer: Ask) -> None:
+    told = answer(MAIN)
+    assert told["messages"] == [] and told["image"]
+
+
+@pytest.mark.parametrize(
+    "line",
+    [
+        "#include </etc/passwd>",
+        '#include "/etc/passwd"',
+        '__asm__(".incbin \\"/etc/passwd\\"");',
+        '__asm__(".include \\"/etc/passwd\\"");',
+        "const char text[] = {\n#embed </etc/passwd>\n};",
+        '__asm__(".incbin \\"/proc/self/environ\\"");',
+        f'#include "{pathlib.Path(__file__).resolve()}"',
+    ],
+)
+def test_files_of_the_system_are_not_there(answer: Ask, line: str) -> None:
+    told = answer(f"{line}\n{MAIN}")
+    text = json.dumps(told)
+    assert told["image"] is None and told["messages"]
+    assert SECRET not in text and SECRET.encode().hex() not in text and os.sep + "etc" not in text
+
+
+@pytest.mark.parametrize(
+    "text",
+    [
+        "char bytes[100 << 20] = {1};\n" + MAIN,
+        "#include __FILE__\n#include __FILE__\n#warning again\n" + MAIN,
+        '__asm__(".rept 100000000\\n.dword 1\\n.endr");\n' + MAIN,
+        '__asm__(".incbin \\"/dev/zero\\"");\n' + MAIN,
+        "(" * 65_000,
+        "{" * 65_000,
+        "int main(void) { return " + "-" * 60_000 + "1; }",
+    ],
+    ids=[
+        "a large array",
+        "errors without end",
+        "words without end",
+        "bytes without end",
+        "brackets",
+        "braces",
+        "signs",
+    ],
+)
+def test_what_takes_too_much_ends(answer: Ask, text: str) -> None:
+    begun = time.monotonic()
+    try:
+        told = answer(text)
+        assert told["image"] is None and told["messages"]
+    except LabError as error:
+        assert "was stopped" in str(error)
+    assert time.monotonic() - begun < SECONDS + 5
+
+
+def test_a_macro_without_end(answer: Ask) -> None:
+    doubled = "".join(f"#define A{i + 1} A{i} A{i} A{i} A{i}\n" for i in range(30))
+    begun = time.monotonic()
+    try:
+        told = answer(f"#define A0 x\n{doubled}int y = A30;\n{MAIN}")
+        assert told["image"] is None and told["messages"]
+    except LabError as error:
+        assert "was stopped" in str(error)
+    assert time.monotonic() - begun < SECONDS + 5
+
+
+def test_libraries_that_a_source_names(answer: Ask) -> None:
+    told = answer(f'#pragma comment(lib, "/etc/passwd")\n#pragma comment(lib, "c")\n{MAIN}')
+    assert SECRET not in json.dumps(told)
+
+
+def test_names_that_are_long(answer: Ask) -> None:
+    name = "f" * 60_000
+    told = answer(f"int {name}(void) {{ return 1; }}\nint main(void) {{ return {name}(); }}\n")
+    assert max(map(len, told["image"]["symbols"])) <= 100
+
+
+def test_debug_data_that_is_crafted(answer: Ask) -> None:
+    sections = [".debug_line", ".debug_info", ".debug_abbrev", ".debug_ranges", ".debug_str"]
+    junk = "".join(f'__asm__(".section {each}\\n.fill 2000, 4, 0xffffff7f\\n.text");\n' for each in sections)
+    told = answer(junk + MAIN)
+    assert told["messages"] or told["image"]
+
+
+def elf(headers: list[bytes]) -> bytes:
+    """An image with these program headers alone."""
+    head = (
+        b"\x7fELF\2\1\1"
+        + bytes(9)
+        + struct.pack("<HHIQQQIHHHHHH", 2, 243, 1, 0, 64, 0, 0, 64, 56, len(headers), 64, 0, 0)
+    )
+    return head + b"".join(headers)
+
+
+def test_more_headers_than_may_be(tmp_path: pathlib.Path) -> None:
+    path = tmp_path / "image"
+    path.write_bytes(elf([struct.pack("<IIQQQQQQ", 1, 4, 0, 0, 0, 1, 1, 1)] * 10_000))
+    with pytest.raises(ValueError, match="more than 64 segments"):
+        image_of(path)
+
+
+def test_segments_that_are_too_large(tmp_path: pathlib.Path) -> None:
+    path = tmp_path / "image"
+    for size, memory in ((1, 1 << 60), (1 << 60, 1)):
+        path.write_bytes(elf([struct.pack("<IIQQQQQQ", 1, 4, 0, 0, 0, size, memory, 1)]))
+        with pytest.raises(ValueError, match="more than"):
+            image_of(path)
+
+
+def test_root_has_no_wall(monkeypatch: pytest.MonkeyPatch) -> None:
+    monkeypatch.setattr(shutil, "which", lambda name: f"/usr/bin/{name}")
+    monkeypatch.setattr(os, "geteuid", lambda: 0)
+    with pytest.raises(LabError, match="as root"):
+        check_wall()
+    monkeypatch.setattr(shutil, "which", lambda name: None)
+    with pytest.raises(LabError, match="apt-get install bubblewrap"):
+        check_wall()

@@ -1,0 +1,100 @@
+"""The compilers that there are, and the words that they are called with: a closed list, of which a number chooses."""
+
+import pathlib
+import re
+import shutil
+from collections.abc import Sequence
+from dataclasses import dataclass
+
+from .. import LabError
+from ..machine.program import MARCH
+
+RUNTIME = pathlib.Path(__file__).parent / "runtime"
+SOURCE, IMAGE = "source.c", "image"
+"""The names that a source and its image always have."""
+
+LEAST_CLANG, LEAST_GCC = 17, 14  # which have the intrinsics of vectors by their present names
+
+_ALL = (MARCH, "-mabi=lp64", "-ffreestanding", "-fno-pic", "-nostdlib", "-static", "-Wl,--build-id=none")
+_TOLD = ("-g", "-gdwarf-4", "-Wall", "-fdiagnostics-color=never")
+_CLANG = ("--target=riscv64-linux-gnu", "-fno-caret-diagnostics", "-ferror-limit=20")
+_GCC = ("-no-pie", "-Wl,--no-relax", "-fno-diagnostics-show-caret", "-fmax-errors=20")
+
+
+@dataclass(frozen=True)
+class Choice:
+    """Options that a page offers by their name; clang and gcc have words of their own for some."""
+
+    name: str
+    clang: Sequence[str]
+    gcc: Sequence[str]
+
+
+_PLAIN_CLANG, _PLAIN_GCC = ("-fno-vectorize", "-fno-slp-vectorize"), ("-fno-tree-vectorize",)
+CHOICES = [
+    Choice("O2", ("-O2",), ("-O2",)),
+    Choice("O0", ("-O0",), ("-O0",)),
+    Choice("O1", ("-O1",), ("-O1",)),
+    Choice("O3", ("-O3",), ("-O3",)),
+    Choice("O2-scalar", ("-O2", *_PLAIN_CLANG), ("-O2", *_PLAIN_GCC)),
+    Choice("O3-scalar", ("-O3", *_PLAIN_CLANG), ("-O3", *_PLAIN_GCC)),
+]
+
+
+@dataclass(frozen=True)
+class Compiler:
+    """A compiler of the system's, by the name of its program, as `clang-19`."""
+
+    name: str
+
+    @property
+    def is_clang(self) -> bool:
+        """Whether it is a clang, else a gcc."""
+        return self.name.startswith("clang")
+
+    @property
+    def has_vectors(self) -> bool:
+        """Whether it has the intrinsics of vectors."""
+        return self.is_clang or _version(self.name) >= LEAST_GCC
+
+    def words(self, choice: int) -> list[str]:
+        """The command that compiles the source in its folder. Raises LabError where there is no such choice."""
+        if not 0 <= choice < len(CHOICES):
+            raise LabError(f"options have numbers from 0 to {len(CHOICES) - 1}")
+        if self.is_clang:
+            linker = f"-fuse-ld=lld{self.name.removeprefix('clang')}"
+            own = [*_CLANG, linker, *CHOICES[choice].clang]
+        else:
+            own = [*_GCC, *CHOICES[choice].gcc]
+        return [self.name, *_ALL, *_TOLD, *own, f"-I{RUNTIME}", "-o", IMAGE, SOURCE, str(RUNTIME / "runtime.c")]
+
+
+def find_compilers() -> list[Compiler]:
+    """The compilers that there are, the newest clang first."""
+    clangs = [Compiler(f"clang-{version}") for version in range(LEAST_CLANG + 12, LEAST_CLANG - 1, -1)]
+    gccs = [Compiler(f"riscv64-linux-gnu-gcc{ending}") for ending in ("-16", "-15", "-14", "")]
+    return [each for each in (*clangs, *gccs) if _is_there(each)]
+
+
+def find_compiler(name: str | None) -> Compiler:
+    """The compiler of this name, or the first one. Raises LabError where it isn't there."""
+    found = find_compilers()
+    if name is None and found:
+        return found[0]
+    for compiler in found:
+        if compiler.name == name:
+            return compiler
+    missing = "there is no compiler for C" if name is None else f"{name} is no compiler that is here"
+    raise LabError(f"{missing}: apt-get install clang-19 lld-19")
+
+
+def _is_there(compiler: Compiler) -> bool:
+    """Whether a compiler and, for a clang, the linker of its version are in the system's folder."""
+    linker = f"ld.lld{compiler.name.removeprefix('clang')}" if compiler.is_clang else compiler.name
+    return all(shutil.which(name, path="/usr/bin") for name in (compiler.name, linker))
+
+
+def _version(name: str) -> int:
+    """The version that a program's name ends in; 0 where it has none."""
+    found = re.search(r"-(\d+)$", name)
+    return int(found[1]) if found else 0

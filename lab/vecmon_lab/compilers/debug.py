@@ -1,0 +1,122 @@
+"""What an image has, as JSON may: its segments, its symbols, and the source's line of each instruction."""
+
+import pathlib
+from collections.abc import Iterator
+from itertools import islice
+from typing import TYPE_CHECKING, NamedTuple, TypedDict
+
+from ..guest.symbols import Symbols, source_rows
+
+if TYPE_CHECKING:
+    from elftools.dwarf.compileunit import CompileUnit
+    from elftools.dwarf.die import DIE
+    from elftools.dwarf.dwarfinfo import DWARFInfo
+    from elftools.elf.elffile import ELFFile
+
+MOST_SEGMENTS, MOST_BYTES, MOST_SYMBOLS, MOST_ROWS, NAME_LETTERS = 64, 1 << 20, 2000, 20_000, 100
+_RIGHTS = {"r": 4, "w": 2, "x": 1}  # by the bits of p_flags
+
+
+class Segment(NamedTuple):
+    """A part of memory: where it begins, what programs may do with it, its size, and its first bytes in hexadecimal."""
+
+    address: int
+    rights: str
+    size: int
+    data: str
+
+
+class Row(NamedTuple):
+    """Where instructions of a line begin: the file and the line, as `source.c:12`, or "" for none; and the function
+    that was inlined there, or ""."""
+
+    address: int
+    line: str
+    inlined: str
+
+
+class Image(TypedDict):
+    """An image, as it is answered."""
+
+    entry: int
+    segments: list[Segment]
+    symbols: dict[str, int]
+    rows: list[Row]
+
+
+def image_of(path: pathlib.Path) -> Image:
+    """What an image has, as far as its debug data can be read. Raises ValueError where it has too much."""
+    from elftools.elf.elffile import ELFFile
+
+    symbols = list(Symbols.read(path).addresses.items())
+    with path.open("rb") as file:
+        elf = ELFFile(file)
+        return {
+            "entry": elf.header["e_entry"],
+            "segments": list(_segments(elf)),
+            "symbols": {name[:NAME_LETTERS]: address for name, address in symbols[:MOST_SYMBOLS]},
+            "rows": _rows(elf),
+        }
+
+
+def _segments(elf: "ELFFile") -> Iterator[Segment]:
+    """The segments that are loaded. Raises ValueError where they are too many or too large."""
+    left = MOST_BYTES
+    if elf.num_segments() > MOST_SEGMENTS:
+        raise ValueError(f"the image has more than {MOST_SEGMENTS} segments")
+    for segment in elf.iter_segments("PT_LOAD"):
+        left -= segment["p_memsz"]
+        if left < 0 or segment["p_filesz"] > segment["p_memsz"]:
+            raise ValueError(f"the image has more than {MOST_BYTES:,} bytes")
+        rights = "".join(letter for letter, bit in _RIGHTS.items() if segment["p_flags"] & bit)
+        if segment["p_memsz"]:
+            yield Segment(segment["p_vaddr"], rights, segment["p_memsz"], segment.data().hex())
+
+
+def _rows(elf: "ELFFile") -> list[Row]:
+    """The rows of the line tables, by addresses; none where those are damaged."""
+    rows = []
+    try:
+        inlined = sorted(_inlined(elf.get_dwarf_info())) if elf.has_dwarf_info() else []
+        for address, line in islice(source_rows(elf), MOST_ROWS):
+            names = [name for _, low, high, name in inlined if low <= address < high]
+            rows.append(Row(address, line[:NAME_LETTERS], names[-1] if names else ""))
+    except Exception:  # pylint: disable=broad-except  # damaged data makes pyelftools raise what its parts do
+        return []
+    return sorted(rows, key=lambda row: (row.address, row.line != ""))
+
+
+def _inlined(debug: "DWARFInfo") -> Iterator[tuple[int, int, int, str]]:
+    """Where functions are inlined: how deep in others, from and to which address, and their names."""
+    for unit in debug.iter_CUs():
+        waiting = [(unit.get_top_DIE(), 0)]
+        while waiting:
+            entry, depth = waiting.pop()
+            waiting += [(child, depth + 1) for child in entry.iter_children()]
+            if entry.tag == "DW_TAG_inlined_subroutine":
+                name = _name(entry)
+                yield from ((depth, low, high, name) for low, high in _ranges(debug, unit, entry))
+
+
+def _name(entry: "DIE") -> str:
+    """The name of a function, by where it was declared."""
+    while "DW_AT_name" not in entry.attributes and "DW_AT_abstract_origin" in entry.attributes:
+        entry = entry.get_DIE_from_attribute("DW_AT_abstract_origin")
+    name = entry.attributes.get("DW_AT_name")
+    return str(name.value, "utf-8", "replace")[:NAME_LETTERS] if name else ""
+
+
+def _ranges(debug: "DWARFInfo", unit: "CompileUnit", entry: "DIE") -> Iterator[tuple[int, int]]:
+    """The addresses of an entry, each from the first to the one behind the last."""
+    attributes = entry.attributes
+    if "DW_AT_ranges" in attributes:
+        first = unit.get_top_DIE().attributes.get("DW_AT_low_pc")
+        base = first.value if first else 0
+        for each in debug.range_lists().get_range_list_at_offset(attributes["DW_AT_ranges"].value):
+            if hasattr(each, "base_address"):
+                base = each.base_address
+            else:
+                yield base + each.begin_offset, base + each.end_offset
+    elif "DW_AT_low_pc" in attributes and "DW_AT_high_pc" in attributes:
+        low, high = attributes["DW_AT_low_pc"].value, attributes["DW_AT_high_pc"]
+        yield low, high.value if high.form == "DW_FORM_addr" else low + high.value

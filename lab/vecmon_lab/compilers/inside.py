@@ -1,0 +1,86 @@
+"""What runs behind the wall: compiles the source on its input, and answers what became of it, as JSON.
+
+`inside COMPILER CHOICE`, in a folder of its own. The answer has `messages`, and `image` where there is one (`debug.py`).
+"""
+
+import json
+import pathlib
+import re
+import resource
+import subprocess
+import sys
+from typing import NamedTuple
+
+from .compiler import IMAGE, SOURCE, Compiler
+from .debug import image_of
+
+COMPLAINT_BYTES, MOST_MESSAGES, MESSAGE_LETTERS = 1 << 16, 100, 400
+LIMITS = {
+    resource.RLIMIT_CPU: 10,
+    resource.RLIMIT_AS: 512 << 20,
+    resource.RLIMIT_FSIZE: 32 << 20,
+    resource.RLIMIT_NOFILE: 64,
+    resource.RLIMIT_CORE: 0,
+}
+
+_MESSAGE = re.compile(r"(?:([^:\s]+):(\d+):(\d+): )?(?:[^:\s]+: )?(fatal error|error|warning): (.*)")
+_FOLDERS = re.compile(r"(?:/[\w.+-]+)+/")
+
+
+class Message(NamedTuple):
+    """What a compiler said of a place in the source; line 0 where it said it of something else."""
+
+    line: int
+    column: int
+    is_error: bool
+    text: str
+
+
+def read_messages(complaint: str) -> list[Message]:
+    """The messages of a compiler and its linker, without folders of this system."""
+    messages = []
+    for line in complaint.split("\n"):
+        if found := _MESSAGE.fullmatch(line.strip()):
+            file, number, column, kind, text = found.groups()
+            if text.startswith("linker command failed"):  # which has said why
+                continue
+            is_own = file == SOURCE
+            text = text if is_own or not file else f"{file}:{number}: {text}"
+            place = (int(number), int(column)) if is_own else (0, 0)
+            messages.append(Message(*place, kind != "warning", _FOLDERS.sub("", text)[:MESSAGE_LETTERS]))
+    return list(dict.fromkeys(messages))[:MOST_MESSAGES]
+
+
+def compile_source(compiler: Compiler, choice: int) -> list[Message]:
+    """Compiles the source of this folder; what the compiler said."""
+    command = compiler.words(choice)
+    with subprocess.Popen(
+        command, stdin=subprocess.DEVNULL, stdout=subprocess.DEVNULL, stderr=subprocess.PIPE
+    ) as child:
+        assert child.stderr
+        complaint = child.stderr.read(COMPLAINT_BYTES)
+        child.stderr.close()  # whoever has more to say ends here
+        is_done = child.wait() == 0
+    messages = read_messages(complaint.decode("utf-8", "replace"))
+    if not is_done and not any(message.is_error for message in messages):
+        messages.append(Message(0, 0, True, "the compiler ended without a word; it may have taken too much"))
+    return messages
+
+
+def main() -> None:
+    """Compiles, and answers."""
+    for limit, most in LIMITS.items():
+        resource.setrlimit(limit, (most, most))
+    compiler, choice = Compiler(sys.argv[1]), int(sys.argv[2])
+    pathlib.Path(SOURCE).write_bytes(sys.stdin.buffer.read())
+    messages, image = compile_source(compiler, choice), None
+    try:
+        if not any(message.is_error for message in messages):
+            image = image_of(pathlib.Path(IMAGE))
+    except (ValueError, OSError) as error:
+        messages.append(Message(0, 0, True, f"the image can't be read: {error}"))
+    sys.stdout.write(json.dumps({"messages": messages, "image": image}))
+
+
+if __name__ == "__main__":
+    main()

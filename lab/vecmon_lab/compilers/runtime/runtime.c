@@ -1,0 +1,47 @@
+/* Where a program begins and ends, and the functions that a compiler calls by itself. */
+#include "vecmon.h"
+
+int main(void);
+
+static long call(long number, long first, long second, long third)
+{
+    register long a7 __asm__("a7") = number;
+    register long a0 __asm__("a0") = first;
+    register long a1 __asm__("a1") = second;
+    register long a2 __asm__("a2") = third;
+    __asm__ volatile("ecall" : "+r"(a0) : "r"(a7), "r"(a1), "r"(a2) : "memory");
+    return a0;
+}
+
+long put(const void *bytes, size_t count)
+{
+    return call(64, 1, (long)bytes, (long)count);
+}
+
+_Noreturn void exit(int status)
+{
+    call(93, status, 0, 0);
+    __builtin_unreachable();
+}
+
+void *memcpy(void *restrict to, const void *restrict from, size_t count)
+{
+    unsigned char *target = to;
+    const unsigned char *source = from;
+    while (count--)
+        *target++ = *source++;
+    return to;
+}
+
+void *memset(void *to, int byte, size_t count)
+{
+    unsigned char *target = to;
+    while (count--)
+        *target++ = (unsigned char)byte;
+    return to;
+}
+
+_Noreturn void _start(void)
+{
+    exit(main());
+}

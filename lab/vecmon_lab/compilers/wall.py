@@ -1,0 +1,61 @@
+"""A wall around a compiler: no network, no file but the system's programs, little memory, and no time without end.
+
+A source can have a compiler read files (`#include`, `.incbin`), take all memory, and put out what its readers fall over.
+"""
+
+import os
+import pathlib
+import shutil
+import subprocess
+import sys
+import tempfile
+from collections.abc import Mapping, Sequence
+
+from .. import LabError
+
+LAB = pathlib.Path(__file__).resolve().parents[2]
+SECONDS, ANSWER_BYTES, FOLDER_BYTES = 20, 4 << 20, 64 << 20  # by the clock; of what is answered; of all files there
+PLACE = "/lab"  # where the lab's own files are within
+MODULE = ("-m", "vecmon_lab.compilers.inside")
+
+_EMPTY = ("--unshare-all", "--die-with-parent", "--new-session", "--clearenv")
+_SYSTEM = ("--ro-bind", "/usr", "/usr", "--symlink", "usr/lib", "/lib", "--symlink", "usr/lib64", "/lib64")
+_FOLDER = ("--dev", "/dev", "--remount-ro", "/dev", "--size", f"{FOLDER_BYTES}", "--tmpfs", "/tmp", "--chdir", "/tmp")
+_VARIABLES = ("--setenv", "PATH", "/usr/bin", "--setenv", "PYTHONPATH", PLACE, "--setenv", "LC_ALL", "C.UTF-8")
+
+
+def check_wall() -> None:
+    """Raises LabError where there can be no wall."""
+    if shutil.which("bwrap") is None:
+        raise LabError("others' C is compiled behind bwrap alone, which isn't here: apt-get install bubblewrap")
+    if os.geteuid() == 0:
+        raise LabError("others' C isn't compiled as root: serve the class as a user of its own")
+
+
+def answer_walled(words: Sequence[str], text: str) -> bytes:
+    """What words of `inside` answer to a text of others. Raises LabError."""
+    own = ("--ro-bind", f"{LAB / 'vecmon_lab'}", f"{PLACE}/vecmon_lab")
+    command = ["bwrap", *_EMPTY, *_SYSTEM, *own, *_FOLDER, *_VARIABLES, "--", "/usr/bin/python3", "-B", *MODULE, *words]
+    return _answer(command, text, pathlib.Path("/"), {"PATH": os.environ.get("PATH", os.defpath)})
+
+
+def answer_of_own(words: Sequence[str], text: str, headers: pathlib.Path) -> bytes:
+    """What words of `inside` answer to a text of one's own, which includes headers of a folder. Raises LabError."""
+    variables = os.environ | {"PYTHONPATH": f"{LAB}", "CPATH": f"{headers.absolute()}", "LC_ALL": "C.UTF-8"}
+    with tempfile.TemporaryDirectory() as folder:
+        return _answer([sys.executable, "-PB", *MODULE, *words], text, pathlib.Path(folder), variables)
+
+
+def _answer(command: Sequence[str], text: str, folder: pathlib.Path, variables: Mapping[str, str]) -> bytes:
+    """What a command answers a text. Raises LabError where it takes too long, fails, or answers too much."""
+    pipe, nothing = subprocess.PIPE, subprocess.DEVNULL
+    with subprocess.Popen(command, stdin=pipe, stdout=pipe, stderr=nothing, cwd=folder, env=variables) as child:
+        try:
+            answer, _ = child.communicate(text.encode("utf-8", "replace"), timeout=SECONDS)
+        except subprocess.TimeoutExpired as error:
+            raise LabError(f"the compiler was stopped, since it took more than {SECONDS} s") from error
+        finally:
+            child.kill()
+    if child.returncode or len(answer) > ANSWER_BYTES:
+        raise LabError("the compiler was stopped, since it, or what it made, took too much")
+    return answer
