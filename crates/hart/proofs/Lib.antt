@@ -1,2 +1,3 @@
 pub mod AccessTicks
+pub mod Endings
 pub mod Uncut

@@ -1,8 +1,9 @@
 -- The model's step, told by the parts of one user.
-use Rattle.std.specs.Prelude.{ℕ, ◌≡◌, ◌||◌, Bool, List, false, true, if◌then◌else◌}
+use Rattle.std.specs.Prelude.{ℕ, zero, suc, ◌≡◌, ◌||◌, Bool, List, false, true, if◌then◌else◌}
 use Rattle.rv_model.specs.declared.vector.policy.Policy.{Policy}
 use Rattle.rv_model.specs.declared.scalar.Scalar.{Scalar}
 use Rattle.rv_model.specs.declared.step.step_end.StepEnd.{StepEnd}
+use Rattle.rv_model.specs.declared.step.step_end.StepEnd.TheVariants.{Ran}
 use Rattle.rv_model.specs.declared.vector.state.Seat.{Seat}
 use Rattle.rv_model.specs.declared.vector.state.VState.{VState}
 use Rattle.rv_model.specs.step.Hart.{HartState, Stepped, hart_state, ends_after}
@@ -10,6 +11,7 @@ use Rattle.rv_model.specs.memory.Memory.{Memory}
 use Rattle.rv_model.specs.vector.Configuration.{IsConfiguration}
 use Rattle.rv_model.specs.instructions.Table.{scan, table}
 use Rattle.rv_model.specs.step.Step.{dirties, executed, touches}
+use Rattle.hart.specs.declared.ending.Ending.{Ending}
 use Rattle.hart.specs.declared.view.StepTerms.{StepTerms}
 use Rattle.hart.specs.declared.view.View.{View}
 
@@ -31,6 +33,20 @@ SameParts old new =
 -- a step or an instruction leads from the one state to the other, with this end and these ticks
 abbrev pub LeadsTo : (HartState → Stepped) → HartState → HartState → StepEnd → ℕ → Type 0
 LeadsTo instruction before after end ticks = instruction before ≡ ends_after ticks end after
+
+-- how an instruction ended that answered so many ticks, and those that it took: it ran, or answered none and noted both
+unfoldable pub end_by : ℕ → Ending → StepEnd
+end_by zero ending = ending.end
+end_by (suc ticks) ending = Ran
+
+unfoldable pub ticks_by : ℕ → Ending → ℕ
+ticks_by zero ending = ending.ticks
+ticks_by (suc ticks) ending = suc ticks
+
+-- a step or an instruction leads from the one state to the other, and answered and noted this
+abbrev pub EndsBy : (HartState → Stepped) → HartState → HartState → ℕ → Ending → Type 0
+EndsBy instruction before after ticks ending =
+    LeadsTo instruction before after (end_by ticks ending) (ticks_by ticks ending)
 
 -- the same in one tick for an instruction of scalar registers, memory and the output buffer, whatever all else is
 abbrev pub LeadsOutput : (HartState → Stepped) → Scalar → Memory → List ℕ → Scalar → Memory → List ℕ → StepEnd → Type 0
@@ -79,12 +95,12 @@ abbrev lent_state : {M V : Type 0} → (M → Memory) → (V → Seat) → StepT
 lent_state memory lent terms scalar bytes vectors =
     hart_state scalar (lent vectors).state (memory bytes) terms.policy
 
--- the instruction that a word is leads from these registers, bytes and lender to those, with this end and these ticks
+-- the instruction that a word is leads from these registers, bytes and lender to those, and answered and noted this
 abbrev pub Executes : {M V : Type 0} → (M → Memory) → (V → Seat) → StepTerms → ℕ
-    → Scalar → M → V → Scalar → M → V → StepEnd → ℕ → Type 0
-Executes memory lent terms word scalar bytes vectors scalar' bytes' vectors' end ticks =
+    → Scalar → M → V → Scalar → M → V → ℕ → Ending → Type 0
+Executes memory lent terms word scalar bytes vectors scalar' bytes' vectors' ticks ending =
     Leads (executed terms.limit (scan table word) word) (lent_state memory lent terms scalar bytes vectors)
-    (lent_state memory lent terms scalar' bytes' vectors') end ticks
+    (lent_state memory lent terms scalar' bytes' vectors') (end_by ticks ending) (ticks_by ticks ending)
 
 -- and this lender returns the seat that it may have been lent
 abbrev pub Seats : {M V : Type 0} → (M → Memory) → (V → Type 0) → (V → Seat) → (V → Seat → V) → StepTerms → ℕ

@@ -3,6 +3,7 @@
 
 mod control_registers;
 mod control_transfer;
+mod ending;
 mod environment_call;
 mod faults;
 mod instruction_cycle;
@@ -16,7 +17,8 @@ mod vectors;
 mod view;
 mod write_call;
 
-pub use instruction_cycle::step;
+pub use ending::Ending;
+pub use instruction_cycle::{cycle, step};
 pub use rv_model::StepEnd;
 pub use vectors::Vectors;
-pub use view::View;
+pub use view::{StepTerms, View};

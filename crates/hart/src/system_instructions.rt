@@ -10,9 +10,10 @@ ghost use Rattle.rv_model.specs.step.Step.{dirties, executed, touches, touches_c
 ghost use Rattle.rv_model.specs.vector.Control.{is_write};
 ghost use Rattle.rv_model.specs.vector.ControlRegisters.{control_register};
 ghost use Rattle.rv_model.specs.vector.Configuration.{IsConfiguration};
-ghost use Rattle.hart.specs.States.{Leads, LeadsTo, Returns};
+ghost use Rattle.hart.specs.States.{EndsBy, Leads, Returns};
 
 use crate::control_registers::{csr_form, is_write, read, write, written_value};
+use crate::ending::Ending;
 use crate::environment_call::system;
 use crate::faults::illegal;
 use crate::retirement::write_rd;
@@ -92,7 +93,8 @@ fn access_control<V: Vectors>(
     write_rd(access.rd, value, scalar)
 }
 
-/// Carries out the instruction that a word of SYSTEM is, in one tick. Writes how it ended.
+/// Carries out the instruction that a word of SYSTEM is, and answers its one tick; none where it doesn't run on, and
+/// then notes how it ended.
 #[tactic(auto, unfolding(rv_model::specs::step::Step::executed, rv_model::specs::step::Step::dirties))]
 #[inline(never)]
 pub(crate) fn execute_system<M: UserBytes, V: Vectors>(
@@ -101,27 +103,26 @@ pub(crate) fn execute_system<M: UserBytes, V: Vectors>(
     memory: &M,
     vectors: &mut V,
     output: &mut ArrayVec<u8, OUTPUT_SIZE>,
-    end: &mut StepEnd,
-)
+    ending: &mut Ending,
+) -> usize
     requires ready { V.ready vectors.old }
     requires opcode { bit_and word 0x7f ≡ 0x73 }
-    ensures model { (limit : ℕ) (policy : Policy) → LeadsTo (executed limit (scan table word) word)
+    ensures model { (limit : ℕ) (policy : Policy) → EndsBy (executed limit (scan table word) word)
         (hart_state scalar.old (V.lent vectors.old).state (M.memory memory.now) policy output.old.items)
-        (hart_state scalar.new (V.lent vectors.new).state (M.memory memory.now) policy output.new.items) end.new 1 }
+        (hart_state scalar.new (V.lent vectors.new).state (M.memory memory.now) policy output.new.items)
+        result ending.new }
     ensures vectors { (limit : ℕ) (policy : Policy) → Returns V.ready V.lent V.back
         (touches (scan table word)) (dirties limit (scan table word))
         (hart_state scalar.old (V.lent vectors.old).state (M.memory memory.now) policy) vectors.old vectors.new }
 {
     if let Some(op) = decode_call(word) {
-        *end = system(op, scalar, memory, output);
-        return;
+        return ending.in_one_tick(system(op, scalar, memory, output));
     }
     let decoded = decode_csr(word);
     let Some(instr) = &decoded else {
-        *end = illegal(word, scalar);
-        return;
+        return ending.in_one_tick(illegal(word, scalar));
     };
-    *end = match *instr {
+    let end = match *instr {
         CsrInstr::Register { op, rd, rs1, csr } => {
             let access = ControlAccess {
                 csr,
@@ -143,4 +144,5 @@ pub(crate) fn execute_system<M: UserBytes, V: Vectors>(
             access_control(access, word, scalar, vectors)
         }
     };
+    ending.in_one_tick(end)
 }

@@ -1,5 +1,5 @@
 //! How many ticks vector instructions take.
-ghost use Rattle.std.specs.Prelude.{◌≡◌, ℕ};
+ghost use Rattle.std.specs.Prelude.{◌≡◌, ◌≤◌, ℕ};
 ghost use Rattle.rv_model.specs.declared.instructions.instruction.Instr.TheVariants as instr;
 ghost use Rattle.rv_model.specs.step.Hart.{HartState};
 ghost use Rattle.rv_model.specs.step.VectorStep.{after_vector, vector_ends, vector_executed, vector_step};
@@ -38,7 +38,8 @@ pub(crate) fn access_ticks(
     state: &VState,
     end: VEnd,
 ) -> usize
-    ensures { (word : ℕ) (before after : HartState)
+    ensures some { 1 ≤ limit → 1 ≤ result }
+    ensures executed { (word : ℕ) (before after : HartState)
         → before.vector.conf.vl ≡ found.vl → before.vector.vstart ≡ found.vstart → after.vector ≡ state.now
         → vector_executed limit (instr.Access access.now) before ≡ vector_ends end after
         → vector_step limit (instr.Access access.now) word before ≡ after_vector result end word after }

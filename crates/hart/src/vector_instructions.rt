@@ -1,21 +1,26 @@
-//! Instructions of the vector extension, on a vector state that is lent to them.
+//! Instructions of the vector extension, on a vector state that is lent to them. Each answers its ticks, and none where
+//! it doesn't run on, and then notes how it ended.
 #![tactic(auto, unfolding(rv_model::specs::step::Step::executed, rv_model::specs::step::Step::dirties))]
 
-ghost use Rattle.std.specs.Prelude.{◌≡◌, ◌||◌, List, bit_and, ℕ};
+ghost use Rattle.std.specs.Prelude.{◌≡◌, ◌||◌, ◌≤◌, ◌⊎◌, List, bit_and, ℕ};
 ghost use Rattle.rv_decode.specs.Groups.{rows_where, is_irregular_instr, is_unit_stride, is_other_access};
 ghost use Rattle.rv_model.specs.declared.vector.policy.Policy.{Policy};
 ghost use Rattle.rv_model.specs.instructions.Table.{scan, table};
 ghost use Rattle.rv_model.specs.memory.Memory.{Memory};
-ghost use Rattle.rv_model.specs.step.Hart.{ends_after, hart_state};
+ghost use Rattle.rv_model.specs.step.Hart.{hart_state};
 ghost use Rattle.rv_model.specs.step.VectorStep.{access_cause, after_vector, is_legal_end};
-ghost use Rattle.hart.specs.States.{Executes, Seats};
+ghost use Rattle.hart.specs.States.{EndsBy, Executes, Seats};
 
+use crate::ending::Ending;
 use crate::faults::{fault, illegal};
 use crate::retirement::retire;
 use crate::ticks::{Found, access_ticks};
 use crate::vectors::Vectors;
 use crate::view::StepTerms;
-use rv_decode::{decode_irregular, decode_other_access, decode_regular, decode_unit_stride};
+use rv_decode::{
+    decode_irregular, decode_other_access, decode_regular, decode_unit_stride,
+    has_irregular_funct6, is_unit_stride,
+};
 use rv_model::{Cause, Scalar, Seat, StepEnd, VEnd};
 use vec_unit::{exec_access, exec_arith, exec_operation, exec_other_access};
 use vector_memory::UserBytes;
@@ -31,169 +36,202 @@ fn access_cause(store: bool) -> Cause
     }
 }
 
-/// Ends the step of a vector instruction that ended so, after so many ticks: the program counter moves on where it is
-/// done, and what isn't illegal marks the seat. Writes how the step ended over `Ran`, and answers its ticks: one of an
-/// illegal instruction.
+/// Ends the step of a vector instruction that ended so, after so many ticks, or one where it is illegal: the program
+/// counter moves on where it is done, and what isn't illegal marks the seat.
+#[tactic(auto, using(crate::proofs::Endings::took_ticks))]
 #[inline(always)]
 fn retire_vector(
-    ending: VEnd,
+    end: VEnd,
     ticks: usize,
     word: u32,
     scalar: &mut Scalar,
     seat: &mut Seat,
-    end: &mut StepEnd,
+    ending: &mut Ending,
 ) -> usize
-    requires end { end.old ≡ StepEnd.Ran }
+    requires some { 1 ≤ ticks }
     ensures model { (memory : Memory) (policy : Policy) (output : List ℕ)
-        → after_vector ticks ending word (hart_state scalar.old seat.old.state memory policy output)
-        ≡ ends_after result end.new (hart_state scalar.new seat.new.state memory policy output) }
+        → EndsBy (after_vector ticks end word)
+        (hart_state scalar.old seat.old.state memory policy output)
+        (hart_state scalar.new seat.new.state memory policy output) result ending.new }
     ensures state { seat.new.state ≡ seat.old.state }
-    ensures dirty { seat.new.dirty ≡ (seat.old.dirty || is_legal_end ending) }
+    ensures dirty { seat.new.dirty ≡ (seat.old.dirty || is_legal_end end) }
 {
-    match ending {
+    match end {
         VEnd::Done => {
             seat.dirty = true;
             let _ = retire(scalar);
             ticks
         }
-        VEnd::Illegal => {
-            *end = illegal(word, scalar);
-            1
-        }
+        VEnd::Illegal => ending.in_one_tick(illegal(word, scalar)),
         VEnd::Fault { store, addr } => {
             seat.dirty = true;
-            *end = fault(access_cause(store), addr, scalar);
-            ticks
+            ending.note(fault(access_cause(store), addr, scalar), ticks)
         }
         VEnd::Cut { .. } => {
             seat.dirty = true;
-            *end = StepEnd::Cut;
-            ticks
+            ending.note(StepEnd::Cut, ticks)
         }
     }
 }
 
-/// Carries out the vector operation that a word is which has no line of its own in the manual's table. Writes how it
-/// ended over `Ran`, and answers its one tick.
+/// Carries out the vector operation that a word is which has no line of its own in the manual's table.
 #[inline(never)]
-pub(crate) fn execute_irregular<M: UserBytes, V: Vectors>(
+fn execute_irregular<M: UserBytes, V: Vectors>(
     word: u32,
     scalar: &mut Scalar,
     memory: &mut M,
     vectors: &mut V,
     terms: StepTerms,
-    end: &mut StepEnd,
+    ending: &mut Ending,
 ) -> usize
     requires ready { V.ready vectors.old }
     requires opcode { bit_and word 0x7f ≡ 0x57 }
     requires row { scan table word ≡ scan (rows_where is_irregular_instr) word }
-    requires end { end.old ≡ StepEnd.Ran }
     ensures model { Executes M.memory V.lent terms word scalar.old memory.old vectors.old
-        scalar.new memory.new vectors.new end.new result }
+        scalar.new memory.new vectors.new result ending.new }
     ensures memory { memory.new ≡ M.with_memory memory.old (M.memory memory.new) }
     ensures vectors { Seats M.memory V.ready V.lent V.back terms word scalar.old memory.old vectors.old vectors.new }
 {
     let decoded = decode_irregular(word);
     let Some(operation) = &decoded else {
-        *end = illegal(word, scalar);
-        return 1;
+        return ending.in_one_tick(illegal(word, scalar));
     };
     let seat = vectors.seat();
     seat.state.conf.length_law();
-    let ending = exec_operation(operation, &mut seat.state, scalar, terms.policy);
-    retire_vector(ending, 1, word, scalar, seat, end)
+    let end = exec_operation(operation, &mut seat.state, scalar, terms.policy);
+    retire_vector(end, 1, word, scalar, seat, ending)
 }
 
-/// Carries out the vector operation that a word of OP-V is: a regular one in line. Writes how it ended over `Ran`, and
-/// answers its one tick.
+/// Carries out the vector operation that a word of OP-V is: a regular one in line.
 #[inline(never)]
-pub(crate) fn execute_operation<M: UserBytes, V: Vectors>(
+fn execute_operation<M: UserBytes, V: Vectors>(
     word: u32,
     scalar: &mut Scalar,
     memory: &mut M,
     vectors: &mut V,
     terms: StepTerms,
-    end: &mut StepEnd,
+    ending: &mut Ending,
 ) -> usize
     requires ready { V.ready vectors.old }
     requires opcode { bit_and word 0x7f ≡ 0x57 }
-    requires end { end.old ≡ StepEnd.Ran }
     ensures model { Executes M.memory V.lent terms word scalar.old memory.old vectors.old
-        scalar.new memory.new vectors.new end.new result }
+        scalar.new memory.new vectors.new result ending.new }
     ensures memory { memory.new ≡ M.with_memory memory.old (M.memory memory.new) }
     ensures vectors { Seats M.memory V.ready V.lent V.back terms word scalar.old memory.old vectors.old vectors.new }
 {
     let Some(operation) = decode_regular(word) else {
-        return execute_irregular(word, scalar, memory, vectors, terms, end);
+        return execute_irregular(word, scalar, memory, vectors, terms, ending);
     };
     let seat = vectors.seat();
     seat.state.conf.length_law();
-    let ending = exec_arith(operation, &mut seat.state, scalar, terms.policy);
-    retire_vector(ending, 1, word, scalar, seat, end)
+    let end = exec_arith(operation, &mut seat.state, scalar, terms.policy);
+    retire_vector(end, 1, word, scalar, seat, ending)
 }
 
-/// Carries out the unit-stride load or store that a word is. Writes how it ended over `Ran`, and answers how many ticks
-/// it took.
+/// Carries out the unit-stride load or store that a word is.
 #[inline(never)]
-pub(crate) fn execute_access<M: UserBytes, V: Vectors>(
+fn execute_access<M: UserBytes, V: Vectors>(
     word: u32,
     scalar: &mut Scalar,
     memory: &mut M,
     vectors: &mut V,
     terms: StepTerms,
-    end: &mut StepEnd,
+    ending: &mut Ending,
 ) -> usize
     requires ready { V.ready vectors.old }
     requires row { scan table word ≡ scan (rows_where is_unit_stride) word }
-    requires end { end.old ≡ StepEnd.Ran }
     ensures model { Executes M.memory V.lent terms word scalar.old memory.old vectors.old
-        scalar.new memory.new vectors.new end.new result }
+        scalar.new memory.new vectors.new result ending.new }
     ensures memory { memory.new ≡ M.with_memory memory.old (M.memory memory.new) }
     ensures vectors { Seats M.memory V.ready V.lent V.back terms word scalar.old memory.old vectors.old vectors.new }
 {
     let decoded = decode_unit_stride(word);
     let Some(access) = &decoded else {
-        *end = illegal(word, scalar);
-        return 1;
+        return ending.in_one_tick(illegal(word, scalar));
     };
     let StepTerms { limit, policy } = terms;
     let seat = vectors.seat();
     seat.state.conf.length_law();
     let found = Found::new(&seat.state);
-    let ending = exec_access(access, &mut seat.state, scalar, memory, limit, policy);
-    let ticks = access_ticks(access, limit, found, &seat.state, ending);
-    retire_vector(ending, ticks, word, scalar, seat, end)
+    let end = exec_access(access, &mut seat.state, scalar, memory, limit, policy);
+    let ticks = access_ticks(access, limit, found, &seat.state, end);
+    retire_vector(end, ticks, word, scalar, seat, ending)
 }
 
-/// Carries out the load or store that a word is which isn't of unit stride. Writes how it ended over `Ran`, and answers
-/// how many ticks it took.
+/// Carries out the load or store that a word is which isn't of unit stride.
 #[inline(never)]
-pub(crate) fn execute_other_access<M: UserBytes, V: Vectors>(
+fn execute_other_access<M: UserBytes, V: Vectors>(
     word: u32,
     scalar: &mut Scalar,
     memory: &mut M,
     vectors: &mut V,
     terms: StepTerms,
-    end: &mut StepEnd,
+    ending: &mut Ending,
 ) -> usize
     requires ready { V.ready vectors.old }
     requires row { scan table word ≡ scan (rows_where is_other_access) word }
-    requires end { end.old ≡ StepEnd.Ran }
     ensures model { Executes M.memory V.lent terms word scalar.old memory.old vectors.old
-        scalar.new memory.new vectors.new end.new result }
+        scalar.new memory.new vectors.new result ending.new }
     ensures memory { memory.new ≡ M.with_memory memory.old (M.memory memory.new) }
     ensures vectors { Seats M.memory V.ready V.lent V.back terms word scalar.old memory.old vectors.old vectors.new }
 {
     let decoded = decode_other_access(word);
     let Some(access) = &decoded else {
-        *end = illegal(word, scalar);
-        return 1;
+        return ending.in_one_tick(illegal(word, scalar));
     };
     let StepTerms { limit, policy } = terms;
     let seat = vectors.seat();
     seat.state.conf.length_law();
     let found = Found::new(&seat.state);
-    let ending = exec_other_access(access, &mut seat.state, scalar, memory, limit, policy);
-    let ticks = access_ticks(access, limit, found, &seat.state, ending);
-    retire_vector(ending, ticks, word, scalar, seat, end)
+    let end = exec_other_access(access, &mut seat.state, scalar, memory, limit, policy);
+    let ticks = access_ticks(access, limit, found, &seat.state, end);
+    retire_vector(end, ticks, word, scalar, seat, ending)
+}
+
+/// Carries out the vector operation that a word of OP-V is.
+#[inline(always)]
+pub(crate) fn operation<M: UserBytes, V: Vectors>(
+    word: u32,
+    scalar: &mut Scalar,
+    memory: &mut M,
+    vectors: &mut V,
+    terms: StepTerms,
+    ending: &mut Ending,
+) -> usize
+    requires ready { V.ready vectors.old }
+    requires opcode { bit_and word 0x7f ≡ 0x57 }
+    ensures model { Executes M.memory V.lent terms word scalar.old memory.old vectors.old
+        scalar.new memory.new vectors.new result ending.new }
+    ensures memory { memory.new ≡ M.with_memory memory.old (M.memory memory.new) }
+    ensures vectors { Seats M.memory V.ready V.lent V.back terms word scalar.old memory.old vectors.old vectors.new }
+{
+    if has_irregular_funct6(word) {
+        execute_irregular(word, scalar, memory, vectors, terms, ending)
+    } else {
+        execute_operation(word, scalar, memory, vectors, terms, ending)
+    }
+}
+
+/// Carries out the load or store that a word of LOAD-FP or STORE-FP is.
+#[inline(always)]
+pub(crate) fn access<M: UserBytes, V: Vectors>(
+    word: u32,
+    scalar: &mut Scalar,
+    memory: &mut M,
+    vectors: &mut V,
+    terms: StepTerms,
+    ending: &mut Ending,
+) -> usize
+    requires ready { V.ready vectors.old }
+    requires opcode { (bit_and word 0x7f ≡ 0x07) ⊎ (bit_and word 0x7f ≡ 0x27) }
+    ensures model { Executes M.memory V.lent terms word scalar.old memory.old vectors.old
+        scalar.new memory.new vectors.new result ending.new }
+    ensures memory { memory.new ≡ M.with_memory memory.old (M.memory memory.new) }
+    ensures vectors { Seats M.memory V.ready V.lent V.back terms word scalar.old memory.old vectors.old vectors.new }
+{
+    if is_unit_stride(word) {
+        execute_access(word, scalar, memory, vectors, terms, ending)
+    } else {
+        execute_other_access(word, scalar, memory, vectors, terms, ending)
+    }
 }

@@ -17,7 +17,7 @@ pub struct View<'s, 'm, 'v, 'o, M, V> {
 
 /// On what terms a step is made: within `limit` ticks, one at least, and what becomes of agnostic elements.
 #[derive(Clone, Copy)]
-pub(crate) struct StepTerms {
+pub struct StepTerms {
     pub limit: usize,
     pub policy: Policy,
     ghost some: { 1 ≤ limit },

@@ -1,6 +1,6 @@
 //! Instructions of one user.
 ghost use Rattle.std.specs.Prelude.{◌≡◌, ◌≤◌, true};
-ghost use Rattle.hart.specs.States.{LeadsTo, Returns};
+ghost use Rattle.hart.specs.States.{EndsBy, Returns};
 ghost use Rattle.lazy_context.specs.LazyUnit.{IsSettled, record_of};
 ghost use Rattle.rv_model.specs.machine.Cuts.{tries};
 ghost use Rattle.rv_model.specs.machine.Runs.{steps as steps_spec, stop_of as stop_spec, ticked};
@@ -15,8 +15,8 @@ use crate::context::Context;
 use crate::lenders::{UserMemory, UserVectors};
 use crate::parts::Parts;
 use crate::trace::Trace;
-use hart::{Vectors, View, step};
-use rv_model::{Policy, StepEnd, Stop};
+use hart::{Ending, StepTerms, Vectors, View, cycle};
+use rv_model::{StepEnd, Stop};
 use std::alloc::Allocator;
 use vector_memory::UserBytes;
 
@@ -42,25 +42,24 @@ fn stop_of(end: StepEnd) -> Option<Stop>
 }
 
 /// One instruction over the registers and the output buffer of a context, the bytes and the vector
-/// state that it works on, within `limit` ticks. Answers how it ended, and the ticks that it took.
+/// state that it works on. Answers its ticks, and none where it doesn't run on, and then notes how it ended.
 #[inline(always)]
 fn step_context<M: UserBytes, V: Vectors>(
     context: &mut Context,
     memory: &mut M,
     vectors: &mut V,
-    policy: Policy,
-    limit: usize,
-) -> (StepEnd, usize)
-    requires policy { policy ≡ context.old.policy }
+    terms: StepTerms,
+    ending: &mut Ending,
+) -> usize
+    requires policy { terms.policy ≡ context.old.policy }
     requires ready { V.ready vectors.old }
-    requires limit { 1 ≤ limit }
-    ensures model { LeadsTo (step_spec limit)
+    ensures model { EndsBy (step_spec terms.limit)
         (context_state context.old (V.lent vectors.old).state (M.memory memory.old))
-        (context_state context.new (V.lent vectors.new).state (M.memory memory.new)) result.0 result.1 }
+        (context_state context.new (V.lent vectors.new).state (M.memory memory.new)) result ending.new }
     ensures context { context.new ≡ record context.old { scalar = context.new.scalar; output = context.new.output } }
     ensures memory { memory.new ≡ M.with_memory memory.old (M.memory memory.new) }
     ensures vectors { Returns V.ready V.lent V.back (touches (fetched (M.memory memory.old) context.old.scalar.pc))
-        (dirties limit (fetched (M.memory memory.old) context.old.scalar.pc))
+        (dirties terms.limit (fetched (M.memory memory.old) context.old.scalar.pc))
         (hart_state context.old.scalar (V.lent vectors.old).state (M.memory memory.old) context.old.policy)
         vectors.old vectors.new }
 {
@@ -69,9 +68,9 @@ fn step_context<M: UserBytes, V: Vectors>(
         memory,
         vectors,
         output: &mut context.output,
-        policy,
+        policy: terms.policy,
     };
-    step(&mut view, limit)
+    cycle(&mut view, terms.limit, ending)
 }
 
 /// The same over the vector state of a user in the vector unit of all users.
@@ -80,25 +79,26 @@ fn step_lent<M: UserBytes>(
     context: &mut Context,
     memory: &mut M,
     vectors: &mut UserVectors<'_>,
-    policy: Policy,
-    limit: usize,
-) -> (StepEnd, usize)
-    requires policy { policy ≡ context.old.policy }
-    requires limit { 1 ≤ limit }
+    terms: StepTerms,
+    ending: &mut Ending,
+) -> usize
+    requires policy { terms.policy ≡ context.old.policy }
     requires settled { IsSettled vectors.old.unit.now }
-    ensures model { LeadsTo (step_spec limit) (context_state context.old (lent_state vectors.old) (M.memory memory.old))
-        (context_state context.new (lent_state vectors.new) (M.memory memory.new)) result.0 result.1 }
+    ensures model { EndsBy (step_spec terms.limit)
+        (context_state context.old (lent_state vectors.old) (M.memory memory.old))
+        (context_state context.new (lent_state vectors.new) (M.memory memory.new)) result ending.new }
     ensures context { context.new ≡ record context.old { scalar = context.new.scalar; output = context.new.output } }
     ensures memory { memory.new ≡ M.with_memory memory.old (M.memory memory.new) }
     ensures vectors { VectorsMove vectors.old vectors.new }
     ensures unit { record_of vectors.new.unit.now ≡ unit_after_try vectors.old.user
-        (try_of limit context.old (lent_state vectors.old) (M.memory memory.old)) (record_of vectors.old.unit.now) }
+        (try_of terms.limit context.old (lent_state vectors.old) (M.memory memory.old))
+        (record_of vectors.old.unit.now) }
 {
     vectors.unit.lending_law(vectors.user);
-    step_context(context, memory, vectors, policy, limit)
+    step_context(context, memory, vectors, terms, ending)
 }
 
-/// Tries one instruction of a user, within `limit` ticks. Answers why the program stops, if it
+/// Tries one instruction of a user. Answers why the program stops, if it
 /// does, and the ticks that it took. An instruction that ran to its end goes into the trace; after
 /// one that was cut, the program goes on as if it had just been told to run.
 #[inline(always)]
@@ -107,13 +107,12 @@ fn try_instruction<A: Allocator, M: UserBytes>(
     trace: &mut Trace<A>,
     vectors: &mut UserVectors<'_>,
     memory: &mut M,
-    policy: Policy,
-    limit: usize,
+    terms: StepTerms,
+    ending: &mut Ending,
 ) -> (Option<Stop>, usize)
-    requires policy { policy ≡ context.old.policy }
-    requires limit { 1 ≤ limit }
+    requires policy { terms.policy ≡ context.old.policy }
     requires settled { IsSettled vectors.old.unit.now }
-    ensures run { TriesTo limit (lent M.memory context.old trace.old vectors.old memory.old)
+    ensures run { TriesTo terms.limit (lent M.memory context.old trace.old vectors.old memory.old)
         (lent M.memory context.new trace.new vectors.new memory.new) result.0 result.1 }
     ensures entered { context.new.entered ≡ context.old.entered }
     ensures policy { context.new.policy ≡ context.old.policy }
@@ -121,16 +120,16 @@ fn try_instruction<A: Allocator, M: UserBytes>(
     ensures vectors { VectorsMove vectors.old vectors.new }
 {
     let addr = context.scalar.pc;
-    let (end, ticks) = step_lent(context, memory, vectors, policy, limit);
+    let ticks = step_lent(context, memory, vectors, terms, ending);
     context.fresh = false;
-    if matches!(end, StepEnd::Ran) {
+    if ending.ran(ticks) {
         trace.record(addr);
         return (None, ticks);
     }
-    if matches!(end, StepEnd::Cut) {
+    if matches!(ending.end, StepEnd::Cut) {
         context.fresh = true;
     }
-    (stop_of(end), ticks)
+    (stop_of(ending.end), ending.ticks)
 }
 
 /// `steps` over what the instructions of the user are lent.
@@ -150,13 +149,16 @@ fn steps_lent<A: Allocator, M: UserBytes>(
     ensures vectors { VectorsMove vectors.old vectors.new }
 {
     let policy = context.policy;
+    let limit = MAX_TICKS;
+    let terms = StepTerms { limit, policy };
+    let mut ending = Ending::new();
     let mut exempt = true;
     for _ in 0..count {
         if context.is_held(exempt) {
             return Some(Stop::Breakpoint);
         }
         exempt = false;
-        let (stop, _) = try_instruction(context, trace, vectors, memory, policy, MAX_TICKS);
+        let (stop, _) = try_instruction(context, trace, vectors, memory, terms, &mut ending);
         if let Some(stop) = stop {
             return Some(stop);
         }
@@ -206,12 +208,15 @@ fn slice_lent<A: Allocator, M: UserBytes>(
     ensures vectors { VectorsMove vectors.old vectors.new }
 {
     let policy = context.policy;
+    let mut ending = Ending::new();
     let mut left = quantum;
     while left > 0 {
         if context.is_held(context.fresh) {
             return Some(Stop::Breakpoint);
         }
-        let (stop, ticks) = try_instruction(context, trace, vectors, memory, policy, left);
+        let limit = left;
+        let terms = StepTerms { limit, policy };
+        let (stop, ticks) = try_instruction(context, trace, vectors, memory, terms, &mut ending);
         if let Some(stop) = stop {
             return Some(stop);
         }
