@@ -24,7 +24,7 @@ pub(crate) struct Context {
 }
 
 impl Context {
-    ghost use Rattle.std.specs.Prelude.{◌≡◌, ◌==◌, ◌&&◌, not, true, false};
+    ghost use Rattle.std.specs.Prelude.{◌≡◌, ◌==◌, ◌&&◌, length, nat_le, not, true, false};
     ghost use Rattle.std.specs.List.{list_any};
     ghost use Rattle.monitor_machine.specs.Parts.{new_context, loaded_context, is_running, context_standing};
 
@@ -64,12 +64,24 @@ impl Context {
         context.scalar.write(Reg::new(STACK_POINTER), STACK_TOP);
         context
     }
-    /// Whether a breakpoint at the program counter stops the program, unless it is exempt.
+
+    /// Whether there is a breakpoint.
+    #[inline(always)]
+    pub(crate) fn is_watched(&self) -> bool
+        ensures { result ≡ false → nat_le (length self.now.breakpoints) 0 ≡ true }
+    {
+        !self.breakpoints.is_empty()
+    }
+
+    /// Whether a breakpoint at the program counter stops the program, unless it is exempt. Where there is none, it
+    /// needn't be `watched`.
     #[tactic(auto, using(crate::proofs::AddressLaws::none_holds))]
-    pub(crate) fn is_held(&self, exempt: bool) -> bool
+    #[inline(always)]
+    pub(crate) fn is_held(&self, watched: bool, exempt: bool) -> bool
+        requires { watched ≡ false → nat_le (length self.now.breakpoints) 0 ≡ true }
         ensures { result ≡ (not exempt && list_any (λ a. a == self.now.scalar.pc) self.now.breakpoints) }
     {
-        if self.breakpoints.is_empty() {
+        if !watched {
             return false;
         }
         !exempt && self.breakpoints.contains(self.scalar.pc)

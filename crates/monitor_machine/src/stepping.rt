@@ -1,5 +1,5 @@
 //! Instructions of one user.
-ghost use Rattle.std.specs.Prelude.{◌≡◌, ◌≤◌, true};
+ghost use Rattle.std.specs.Prelude.{◌≡◌, false, length, nat_le, true};
 ghost use Rattle.hart.specs.States.{EndsBy, Returns};
 ghost use Rattle.lazy_context.specs.LazyUnit.{IsSettled, record_of};
 ghost use Rattle.rv_model.specs.machine.Cuts.{tries};
@@ -116,6 +116,7 @@ fn try_instruction<A: Allocator, M: UserBytes>(
         (lent M.memory context.new trace.new vectors.new memory.new) result.0 result.1 }
     ensures entered { context.new.entered ≡ context.old.entered }
     ensures policy { context.new.policy ≡ context.old.policy }
+    ensures breakpoints { context.new.breakpoints ≡ context.old.breakpoints }
     ensures memory { memory.new ≡ M.with_memory memory.old (M.memory memory.new) }
     ensures vectors { VectorsMove vectors.old vectors.new }
 {
@@ -154,7 +155,7 @@ fn steps_lent<A: Allocator, M: UserBytes>(
     let mut ending = Ending::new();
     let mut exempt = true;
     for _ in 0..count {
-        if context.is_held(exempt) {
+        if context.is_held(context.is_watched(), exempt) {
             return Some(Stop::Breakpoint);
         }
         exempt = false;
@@ -191,7 +192,7 @@ pub(crate) fn steps<A: Allocator>(
     steps_lent(&mut *parts.context, trace, &mut vectors, &mut memory, count)
 }
 
-/// `slice` over what the instructions of the user are lent.
+/// `slice` over what the instructions of the user are lent, who has no breakpoint unless `watched`.
 #[inline(always)]
 fn slice_lent<A: Allocator, M: UserBytes>(
     context: &mut Context,
@@ -199,7 +200,9 @@ fn slice_lent<A: Allocator, M: UserBytes>(
     vectors: &mut UserVectors<'_>,
     memory: &mut M,
     quantum: usize,
+    watched: bool,
 ) -> Option<Stop>
+    requires watched { watched ≡ false → nat_le (length context.old.breakpoints) 0 ≡ true }
     requires settled { IsSettled vectors.old.unit.now }
     ensures run { TicksTo quantum (lent M.memory context.old trace.old vectors.old memory.old)
         (lent M.memory context.new trace.new vectors.new memory.new) result }
@@ -211,7 +214,7 @@ fn slice_lent<A: Allocator, M: UserBytes>(
     let mut ending = Ending::new();
     let mut left = quantum;
     while left > 0 {
-        if context.is_held(context.fresh) {
+        if context.is_held(watched, context.fresh) {
             return Some(Stop::Breakpoint);
         }
         let limit = left;
@@ -247,11 +250,24 @@ pub(crate) fn slice<A: Allocator>(
         unit: &mut *parts.unit,
         user,
     };
-    slice_lent(
-        &mut *parts.context,
-        trace,
-        &mut vectors,
-        &mut memory,
-        quantum,
-    )
+    // Two loops, one of which asks about no breakpoint.
+    if parts.context.is_watched() {
+        slice_lent(
+            &mut *parts.context,
+            trace,
+            &mut vectors,
+            &mut memory,
+            quantum,
+            true,
+        )
+    } else {
+        slice_lent(
+            &mut *parts.context,
+            trace,
+            &mut vectors,
+            &mut memory,
+            quantum,
+            false,
+        )
+    }
 }

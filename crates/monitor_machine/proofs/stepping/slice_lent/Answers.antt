@@ -1,4 +1,4 @@
-use Rattle.std.proofs.Common.{◌≡◌, ◌≤◌, ℕ, Option, Some, None, ap, ◌∙◌, subst, sym, arith}
+use Rattle.std.proofs.Common.{◌≡◌, ◌≤◌, ℕ, nat_le, List, length, Option, Some, None, ap, ◌∙◌, subst, sym, arith}
 use Rattle.rv_model.specs.declared.step.step_end.Stop.{Stop}
 use Rattle.rv_model.specs.declared.step.step_end.Stop.TheVariants as stop
 use Rattle.monitor_machine.specs.Lent.{Lent, TriesTo, lent}
@@ -63,6 +63,7 @@ loop-left-preserved g c =
           c.loop-left.invariant.left end reason
           (slice_goes_on c.loop-left.left ticks a b end reason (omega (arith, c.loop-left-test.true)) (sym c.is_held.ensures ∙ c.if-is_held.false)
           (subst (λ (o : Option Stop). TriesTo c.loop-left.left a b o ticks) c.in_default.is c.try_instruction-stop.ensures.run) c.try_instruction-stop.ensures.vectors.user later);
+      watched = λ none. ap (λ (xs : List ℕ). nat_le (length xs) 0) c.try_instruction-stop.ensures.breakpoints ∙ c.loop-left.invariant.watched none;
       vectors = lent_twice c.args.vectors.now c.loop-left.vectors c.try_instruction-stop.new.vectors c.loop-left.invariant.vectors c.try_instruction-stop.ensures.vectors;
       entered = c.try_instruction-stop.ensures.entered ∙ c.loop-left.invariant.entered;
       policy = c.loop-left.invariant.policy ∙ sym c.try_instruction-stop.ensures.policy;

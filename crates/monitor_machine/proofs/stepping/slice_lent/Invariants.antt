@@ -1,4 +1,4 @@
-use Rattle.std.proofs.Common.{◌≡◌, Option}
+use Rattle.std.proofs.Common.{◌≡◌, false, true, nat_le, length, Option}
 use Rattle.rv_model.specs.declared.step.step_end.Stop.{Stop}
 use Rattle.monitor_machine.specs.Lent.{Lent, TicksTo, VectorsMove, lent}
 use Rattle.monitor_machine.proofs.stepping.slice_lent.Given as goal
@@ -9,6 +9,7 @@ invariant-loop-left g l = record {
   left :
       (end : Lent) (reason : Option Stop) → TicksTo l.left (lent g.M.UserBytes.memory l.context l.trace l.vectors l.memory) end reason
       → TicksTo l.quantum (lent g.M.UserBytes.memory l.fn.context l.fn.trace l.fn.vectors l.fn.memory) end reason;
+  watched : l.watched ≡ false → nat_le (length l.context.breakpoints) 0 ≡ true;
   vectors : VectorsMove l.fn.vectors l.vectors;
   entered : l.context.entered ≡ l.fn.context.entered;
   policy : l.policy ≡ l.context.policy;
