@@ -1,5 +1,5 @@
 //! How an instruction ends that doesn't run on.
-ghost use Rattle.std.specs.Prelude.{◌≡◌, false, true};
+ghost use Rattle.std.specs.Prelude.{◌≡◌};
 ghost use Rattle.hart.specs.States.{end_by, ticks_by};
 
 use rv_model::StepEnd;
@@ -46,23 +46,14 @@ impl Ending {
         }
     }
 
-    /// Whether an instruction ran that answered so many ticks.
-    #[inline(always)]
-    pub fn ran(&self, ticks: usize) -> bool
-        ensures yes { result ≡ true → (end_by ticks self.now ≡ StepEnd.Ran) × (ticks_by ticks self.now ≡ ticks) }
-        ensures no { result ≡ false
-            → (end_by ticks self.now ≡ self.now.end) × (ticks_by ticks self.now ≡ self.now.ticks) }
-    {
-        ticks > 0
-    }
-
     /// How the instruction ended that answered so many ticks, and those that it took.
+    #[tactic(auto, using(crate::proofs::Endings::took_ticks, crate::proofs::Endings::noted_ticks))]
     #[inline(always)]
-    pub(crate) fn told(&self, ticks: usize) -> (StepEnd, usize)
+    pub fn told(&self, ticks: usize) -> (StepEnd, usize)
         ensures end { result.0 ≡ end_by ticks self.now }
         ensures ticks { result.1 ≡ ticks_by ticks self.now }
     {
-        if self.ran(ticks) {
+        if ticks > 0 {
             (StepEnd::Ran, ticks)
         } else {
             (self.end, self.ticks)

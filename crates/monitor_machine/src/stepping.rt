@@ -122,15 +122,16 @@ fn try_instruction<A: Allocator, M: UserBytes>(
 {
     let addr = context.scalar.pc;
     let ticks = step_lent(context, memory, vectors, terms, ending);
+    let (end, ticks) = ending.told(ticks);
     context.fresh = false;
-    if ending.ran(ticks) {
+    if matches!(end, StepEnd::Ran) {
         trace.record(addr);
         return (None, ticks);
     }
-    if matches!(ending.end, StepEnd::Cut) {
+    if matches!(end, StepEnd::Cut) {
         context.fresh = true;
     }
-    (stop_of(ending.end), ending.ticks)
+    (stop_of(end), ticks)
 }
 
 /// `steps` over what the instructions of the user are lent.
@@ -150,8 +151,6 @@ fn steps_lent<A: Allocator, M: UserBytes>(
     ensures vectors { VectorsMove vectors.old vectors.new }
 {
     let policy = context.policy;
-    let limit = MAX_TICKS;
-    let terms = StepTerms { limit, policy };
     let mut ending = Ending::new();
     let mut exempt = true;
     for _ in 0..count {
@@ -159,6 +158,8 @@ fn steps_lent<A: Allocator, M: UserBytes>(
             return Some(Stop::Breakpoint);
         }
         exempt = false;
+        let limit = MAX_TICKS;
+        let terms = StepTerms { limit, policy };
         let (stop, _) = try_instruction(context, trace, vectors, memory, terms, &mut ending);
         if let Some(stop) = stop {
             return Some(stop);
