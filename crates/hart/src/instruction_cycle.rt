@@ -14,7 +14,7 @@ use crate::system_instructions::execute_system;
 use crate::vector_instructions::{access, operation};
 use crate::vectors::Vectors;
 use crate::view::{StepTerms, View};
-use rv_decode::decode_scalar;
+use rv_decode::{Kind, kind_of};
 use rv_model::{Access, Cause, Fault, GROUP_BYTES, StepEnd};
 use vector_memory::UserBytes;
 
@@ -55,14 +55,14 @@ pub fn cycle<M: UserBytes, V: Vectors>(
     let Ok(word) = fetch(&*view.memory, pc) else {
         return ending.in_one_tick(fault(Cause::FetchAccess, pc, &*view.scalar));
     };
-    let decoded = decode_scalar(word);
-    if let Some(instr) = &decoded {
-        return ending.in_one_tick(execute_scalar(instr, &mut *view.scalar, &mut *view.memory));
-    }
     let policy = view.policy;
     let terms = StepTerms { limit, policy };
-    match word & 0x7f {
-        0x07 | 0x27 => access(
+    match kind_of(word) {
+        Kind::Scalar(instr) => {
+            let end = execute_scalar(&instr, &mut *view.scalar, &mut *view.memory);
+            ending.in_one_tick(end)
+        }
+        Kind::Access => access(
             word,
             &mut *view.scalar,
             &mut *view.memory,
@@ -70,7 +70,7 @@ pub fn cycle<M: UserBytes, V: Vectors>(
             terms,
             ending,
         ),
-        0x57 => operation(
+        Kind::Operation => operation(
             word,
             &mut *view.scalar,
             &mut *view.memory,
@@ -78,7 +78,7 @@ pub fn cycle<M: UserBytes, V: Vectors>(
             terms,
             ending,
         ),
-        0x73 => execute_system(
+        Kind::System => execute_system(
             word,
             &mut *view.scalar,
             &*view.memory,
@@ -86,7 +86,7 @@ pub fn cycle<M: UserBytes, V: Vectors>(
             &mut *view.output,
             ending,
         ),
-        _ => ending.in_one_tick(illegal(word, &*view.scalar)),
+        Kind::Unknown => ending.in_one_tick(illegal(word, &*view.scalar)),
     }
 }
 

@@ -106,7 +106,7 @@ pub(crate) fn execute_system<M: UserBytes, V: Vectors>(
     ending: &mut Ending,
 ) -> usize
     requires ready { V.ready vectors.old }
-    requires opcode { bit_and word 0x7f ≡ 0x73 }
+    requires opcode { bit_and word 0x7c ≡ 0x70 }
     ensures model { (limit : ℕ) (policy : Policy) → EndsBy (executed limit (scan table word) word)
         (hart_state scalar.old (V.lent vectors.old).state (M.memory memory.now) policy output.old.items)
         (hart_state scalar.new (V.lent vectors.new).state (M.memory memory.now) policy output.new.items)

@@ -85,7 +85,7 @@ fn execute_irregular<M: UserBytes, V: Vectors>(
     ending: &mut Ending,
 ) -> usize
     requires ready { V.ready vectors.old }
-    requires opcode { bit_and word 0x7f ≡ 0x57 }
+    requires opcode { bit_and word 0x7c ≡ 0x54 }
     requires row { scan table word ≡ scan (rows_where is_irregular_instr) word }
     ensures model { Executes M.memory V.lent terms word scalar.old memory.old vectors.old
         scalar.new memory.new vectors.new result ending.new }
@@ -113,7 +113,7 @@ fn execute_operation<M: UserBytes, V: Vectors>(
     ending: &mut Ending,
 ) -> usize
     requires ready { V.ready vectors.old }
-    requires opcode { bit_and word 0x7f ≡ 0x57 }
+    requires opcode { bit_and word 0x7c ≡ 0x54 }
     ensures model { Executes M.memory V.lent terms word scalar.old memory.old vectors.old
         scalar.new memory.new vectors.new result ending.new }
     ensures memory { memory.new ≡ M.with_memory memory.old (M.memory memory.new) }
@@ -199,7 +199,7 @@ pub(crate) fn operation<M: UserBytes, V: Vectors>(
     ending: &mut Ending,
 ) -> usize
     requires ready { V.ready vectors.old }
-    requires opcode { bit_and word 0x7f ≡ 0x57 }
+    requires opcode { bit_and word 0x7c ≡ 0x54 }
     ensures model { Executes M.memory V.lent terms word scalar.old memory.old vectors.old
         scalar.new memory.new vectors.new result ending.new }
     ensures memory { memory.new ≡ M.with_memory memory.old (M.memory memory.new) }
@@ -223,7 +223,7 @@ pub(crate) fn access<M: UserBytes, V: Vectors>(
     ending: &mut Ending,
 ) -> usize
     requires ready { V.ready vectors.old }
-    requires opcode { (bit_and word 0x7f ≡ 0x07) ⊎ (bit_and word 0x7f ≡ 0x27) }
+    requires opcode { (bit_and word 0x7c ≡ 0x04) ⊎ (bit_and word 0x7c ≡ 0x24) }
     ensures model { Executes M.memory V.lent terms word scalar.old memory.old vectors.old
         scalar.new memory.new vectors.new result ending.new }
     ensures memory { memory.new ≡ M.with_memory memory.old (M.memory memory.new) }

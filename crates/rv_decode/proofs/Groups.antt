@@ -16,7 +16,7 @@ use Rattle.rv_model.specs.lending.Families.{Family, rows, Systems, Csrs, CsrImme
 use Rattle.rv_model.proofs.instruction_lemmas.Scans.{scan_append, scan_narrow, same_narrow, narrowed, no_scan, DiffersFrom}
 use Rattle.rv_model.specs.declared.instructions.arith_operation.ArithOperation.{ArithOperation}
 use Rattle.rv_decode.specs.Groups.{rows_where, is_irregular_instr, is_unit_stride, is_other_access, is_csr}
-use Rattle.rv_decode.proofs.Scan.{at_access, at_73, at_0057, at_2057, at_3057, at_4057, at_6057, at_7057, places}
+use Rattle.rv_decode.proofs.Scan.{at_access, at_70, at_0057, at_2057, at_3057, at_4057, at_6057, at_7057, places}
 
 -- what a decoder finds among the first rows is found among all
 first_found : {A : Type 0} (make : A → Instr) (found : Option A) (all : Option Instr) (xs ys : List Row) (word : ℕ)
@@ -143,21 +143,21 @@ none_7057 word is = at_7057 word is ∙ sym (irregular_7057 word is)
 
 -- ---- funct6 of irregular operations
 
-pub funct6_10 : (word : ℕ) → bit_and word 0x7f ≡ 0x57 → bit_and word 0xfc000000 ≡ 0x40000000 → scan table word ≡ scan (rows_where is_irregular_instr) word
+pub funct6_10 : (word : ℕ) → bit_and word 0x7c ≡ 0x54 → bit_and word 0xfc000000 ≡ 0x40000000 → scan table word ≡ scan (rows_where is_irregular_instr) word
 unfolding rows_where table rows
-funct6_10 word opcode is = narrow_both 0x7f 0x57 0xfc000000 0x40000000 word opcode is table (rows_where is_irregular_instr) refl
+funct6_10 word opcode is = narrow_both 0x7c 0x54 0xfc000000 0x40000000 word opcode is table (rows_where is_irregular_instr) refl
 
-pub funct6_12 : (word : ℕ) → bit_and word 0x7f ≡ 0x57 → bit_and word 0xfc000000 ≡ 0x48000000 → scan table word ≡ scan (rows_where is_irregular_instr) word
+pub funct6_12 : (word : ℕ) → bit_and word 0x7c ≡ 0x54 → bit_and word 0xfc000000 ≡ 0x48000000 → scan table word ≡ scan (rows_where is_irregular_instr) word
 unfolding rows_where table rows
-funct6_12 word opcode is = narrow_both 0x7f 0x57 0xfc000000 0x48000000 word opcode is table (rows_where is_irregular_instr) refl
+funct6_12 word opcode is = narrow_both 0x7c 0x54 0xfc000000 0x48000000 word opcode is table (rows_where is_irregular_instr) refl
 
-pub funct6_14 : (word : ℕ) → bit_and word 0x7f ≡ 0x57 → bit_and word 0xfc000000 ≡ 0x50000000 → scan table word ≡ scan (rows_where is_irregular_instr) word
+pub funct6_14 : (word : ℕ) → bit_and word 0x7c ≡ 0x54 → bit_and word 0xfc000000 ≡ 0x50000000 → scan table word ≡ scan (rows_where is_irregular_instr) word
 unfolding rows_where table rows
-funct6_14 word opcode is = narrow_both 0x7f 0x57 0xfc000000 0x50000000 word opcode is table (rows_where is_irregular_instr) refl
+funct6_14 word opcode is = narrow_both 0x7c 0x54 0xfc000000 0x50000000 word opcode is table (rows_where is_irregular_instr) refl
 
-pub funct6_17 : (word : ℕ) → bit_and word 0x7f ≡ 0x57 → bit_and word 0xfc000000 ≡ 0x5c000000 → scan table word ≡ scan (rows_where is_irregular_instr) word
+pub funct6_17 : (word : ℕ) → bit_and word 0x7c ≡ 0x54 → bit_and word 0xfc000000 ≡ 0x5c000000 → scan table word ≡ scan (rows_where is_irregular_instr) word
 unfolding rows_where table rows
-funct6_17 word opcode is = narrow_both 0x7f 0x57 0xfc000000 0x5c000000 word opcode is table (rows_where is_irregular_instr) refl
+funct6_17 word opcode is = narrow_both 0x7c 0x54 0xfc000000 0x5c000000 word opcode is table (rows_where is_irregular_instr) refl
 
 -- ---- OPMVV
 
@@ -201,7 +201,7 @@ unfolding rows_where table rows
 units word = refl
 
 -- mop and bit 23 are 0 in each of unit stride, and in no other
-pub units_alone : (word : ℕ) → (bit_and word 0x7f ≡ 0x07) ⊎ (bit_and word 0x7f ≡ 0x27) → bit_and word 0x0c800000 ≡ 0
+pub units_alone : (word : ℕ) → (bit_and word 0x7c ≡ 0x04) ⊎ (bit_and word 0x7c ≡ 0x24) → bit_and word 0x0c800000 ≡ 0
     → scan table word ≡ scan (rows_where is_unit_stride) word
 unfolding rows
 units_alone word opcode is =
@@ -209,7 +209,7 @@ units_alone word opcode is =
     ∙ same_narrow 0x0c800000 0 word is (rows Units ++ rows Strideds ++ rows Indexeds ++ rows WholeLoads ++ rows WholeStores ++ rows MaskMemories) (rows Units) refl
     ∙ sym (units word)
 
-pub others_alone : (word : ℕ) → (bit_and word 0x7f ≡ 0x07) ⊎ (bit_and word 0x7f ≡ 0x27) → bit_and word 0x0c800000 ≢ 0
+pub others_alone : (word : ℕ) → (bit_and word 0x7c ≡ 0x04) ⊎ (bit_and word 0x7c ≡ 0x24) → bit_and word 0x0c800000 ≢ 0
     → scan table word ≡ scan (rows_where is_other_access) word
 unfolding rows
 others_alone word opcode other =
@@ -236,19 +236,19 @@ pub csrs : (word : ℕ) → scan (rows_where is_csr) word ≡ scan (rows Csrs ++
 unfolding rows_where table rows
 csrs word = refl
 
-pub call_found : (word : ℕ) (found : Option SystemOp) → bit_and word 0x7f ≡ 0x73
+pub call_found : (word : ℕ) (found : Option SystemOp) → bit_and word 0x7c ≡ 0x70
     → option_map (λ op. instr.Scalar (System op)) found ≡ scan (rows Systems) word
     → IfSome found (λ op. scan table word ≡ Some (instr.Scalar (System op)))
 unfolding rows
 call_found word found is e =
-    first_found (λ op. instr.Scalar (System op)) found (scan table word) (rows Systems) (rows Csrs ++ rows CsrImmediates) word (at_73 word is) e
+    first_found (λ op. instr.Scalar (System op)) found (scan table word) (rows Systems) (rows Csrs ++ rows CsrImmediates) word (at_70 word is) e
 
-pub call_missed : (word : ℕ) (found : Option SystemOp) → bit_and word 0x7f ≡ 0x73
+pub call_missed : (word : ℕ) (found : Option SystemOp) → bit_and word 0x7c ≡ 0x70
     → option_map (λ op. instr.Scalar (System op)) found ≡ scan (rows Systems) word
     → IfNone found (scan table word ≡ scan (rows_where is_csr) word)
 unfolding rows
 call_missed word found is e =
-    first_missed (λ op. instr.Scalar (System op)) found (scan table word) (scan (rows_where is_csr) word) (rows Systems) (rows Csrs ++ rows CsrImmediates) word (at_73 word is) (csrs word) e
+    first_missed (λ op. instr.Scalar (System op)) found (scan table word) (scan (rows_where is_csr) word) (rows Systems) (rows Csrs ++ rows CsrImmediates) word (at_70 word is) (csrs word) e
 
 pub ruleset funct6_steps = (funct6_10, funct6_12, funct6_14, funct6_17)
 

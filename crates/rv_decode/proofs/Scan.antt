@@ -1,6 +1,7 @@
 -- What a scan of each family finds, and which families a word can be of
 use Rattle.std.proofs.Common.{◌≡◌, refl, ap, ap₂, ◌∙◌, sym, ℕ, ◌+◌, ◌*◌, ◌/◌, ◌%◌, ◌^◌, ◌<◌, List, [], ◌∷◌, ◌++◌, map, Option, Some, None, Bool, true, false, nat_eq, cond, ◌&&◌, inl, inr, ◌⊎◌, arith}
 use Rattle.std.specs.Int.Bits.{bit_and}
+use Rattle.std.specs.Option.{option_map}
 use Rattle.std.proofs.lemmas.Nat.{and_mask}
 use Rattle.std.proofs.lemmas.Bool.Decides.{eqb_tells}
 use Rattle.std.proofs.lemmas.Bool.{eq-eqb}
@@ -12,6 +13,7 @@ use Rattle.rv_model.specs.declared.instructions.operations.Form.{Form}
 use Rattle.rv_model.specs.declared.instructions.operations.Form.TheVariants as form
 use Rattle.rv_model.specs.declared.instructions.instruction.Instr.{Instr}
 use Rattle.rv_model.specs.declared.instructions.instruction.Instr.TheVariants as instr
+use Rattle.rv_model.specs.declared.instructions.scalar.ScalarInstr.{ScalarInstr}
 use Rattle.rv_model.specs.declared.instructions.scalar.ScalarInstr.TheVariants.{Upper, Branch, Load, Store, RegisterImmediate, ShiftImmediate, ShiftImmediateWord, RegisterRegister, System}
 use Rattle.rv_model.specs.declared.instructions.csr.CsrInstr.TheVariants.{Register, Immediate}
 use Rattle.rv_model.specs.declared.instructions.vector.VectorInstr.TheVariants.{Arith, Carry, WholeMove, MaskLogic, MaskToScalar, Extend, MaskUnary}
@@ -20,7 +22,7 @@ use Rattle.rv_model.specs.instructions.BitFields.{part, fixed}
 use Rattle.rv_model.specs.instructions.Sources.{source_of}
 use Rattle.rv_model.specs.lending.ListedBits.{whole_move_bits, mask_memory_bits, upper_bits, branch_bits, load_bits, store_bits, immediate_op_bits, shift_immediate_bits, shift_immediate_word_bits, register_op_bits, system_bits, csr_bits, csr_immediate_bits, mask_logic_bits, mask_to_scalar_bits, extend_bits, mask_unary_bits, unit_access_bits, strided_access_bits, indexed_access_bits, whole_load_bits, whole_store_bits}
 use Rattle.rv_model.specs.lending.Families.{upper_ops, branch_ops, load_ops, store_ops, immediate_ops, shift_immediate_ops, shift_immediate_word_ops, register_ops, system_ops, csr_ops, csr_immediate_ops, mask_logic_ops, mask_to_scalar_ops, extend_ops, mask_unary_ops, carry_ops, filled, row_of, rows, Family, unit_accesses, strided_accesses, indexed_accesses, whole_loads, Uppers, Jumps, JumpRegisters, Branches, Loads, Stores, RegisterImmediates, ShiftImmediates, ShiftImmediateWords, RegisterRegisters, Fences, Systems, Csrs, CsrImmediates, SetVlis, SetIvlis, SetVls, Ariths, Carries, Moves, WholeMoves, MaskLogics, Compresses, MasksToScalar, Extends, MaskUnaries, ElementIndices, MovesToScalar, MovesToVector, Units, Strideds, Indexeds, WholeLoads, WholeStores, MaskMemories}
-use Rattle.rv_model.specs.instructions.Table.{directions, counts, table, scan}
+use Rattle.rv_model.specs.instructions.Table.{Row, directions, counts, table, scan}
 use Rattle.rv_model.specs.instructions.Operations.{has_form, line, carry_line, line_bits, major_bits, vector_ops}
 use Rattle.rv_model.specs.lending.Search.{same_major, those, find, find_at}
 use Rattle.rv_model.specs.instructions.Layout.{parts, bits}
@@ -207,68 +209,68 @@ scan_mask_memory word = scan_map mask_memory_bits 0xfff0707f (λ op. instr.Acces
 
 -- ---- the families that a word can be of, by its opcode, and for vector operations by funct3 too
 
-pub at_03 : (word : ℕ) → bit_and word 0x7f ≡ 0x03 → scan table word ≡ scan (rows Loads) word
+pub at_00 : (word : ℕ) → bit_and word 0x7c ≡ 0x00 → scan table word ≡ scan (rows Loads) word
 unfolding table rows
-at_03 word is = same_narrow 0x7f 0x03 word is table _ refl
+at_00 word is = same_narrow 0x7c 0x00 word is table _ refl
 
-pub at_07 : (word : ℕ) → bit_and word 0x7f ≡ 0x07
+pub at_04 : (word : ℕ) → bit_and word 0x7c ≡ 0x04
     → scan table word ≡ scan (rows Units ++ rows Strideds ++ rows Indexeds ++ rows WholeLoads ++ rows WholeStores ++ rows MaskMemories) word
 unfolding table rows
-at_07 word is = same_narrow 0x7f 0x07 word is table _ refl
+at_04 word is = same_narrow 0x7c 0x04 word is table _ refl
 
-pub at_0f : (word : ℕ) → bit_and word 0x7f ≡ 0x0f → scan table word ≡ scan (rows Fences) word
+pub at_0c : (word : ℕ) → bit_and word 0x7c ≡ 0x0c → scan table word ≡ scan (rows Fences) word
 unfolding table rows
-at_0f word is = same_narrow 0x7f 0x0f word is table _ refl
+at_0c word is = same_narrow 0x7c 0x0c word is table _ refl
 
-pub at_13 : (word : ℕ) → bit_and word 0x7f ≡ 0x13 → scan table word ≡ scan (rows RegisterImmediates ++ rows ShiftImmediates) word
+pub at_10 : (word : ℕ) → bit_and word 0x7c ≡ 0x10 → scan table word ≡ scan (rows RegisterImmediates ++ rows ShiftImmediates) word
 unfolding table rows
-at_13 word is = same_narrow 0x7f 0x13 word is table _ refl
+at_10 word is = same_narrow 0x7c 0x10 word is table _ refl
 
-pub at_17 : (word : ℕ) → bit_and word 0x7f ≡ 0x17 → scan table word ≡ scan (rows Uppers) word
+pub at_14 : (word : ℕ) → bit_and word 0x7c ≡ 0x14 → scan table word ≡ scan (rows Uppers) word
 unfolding table rows
-at_17 word is = same_narrow 0x7f 0x17 word is table _ refl
+at_14 word is = same_narrow 0x7c 0x14 word is table _ refl
 
-pub at_1b : (word : ℕ) → bit_and word 0x7f ≡ 0x1b → scan table word ≡ scan (rows RegisterImmediates ++ rows ShiftImmediateWords) word
+pub at_18 : (word : ℕ) → bit_and word 0x7c ≡ 0x18 → scan table word ≡ scan (rows RegisterImmediates ++ rows ShiftImmediateWords) word
 unfolding table rows
-at_1b word is = same_narrow 0x7f 0x1b word is table _ refl
+at_18 word is = same_narrow 0x7c 0x18 word is table _ refl
 
-pub at_23 : (word : ℕ) → bit_and word 0x7f ≡ 0x23 → scan table word ≡ scan (rows Stores) word
+pub at_20 : (word : ℕ) → bit_and word 0x7c ≡ 0x20 → scan table word ≡ scan (rows Stores) word
 unfolding table rows
-at_23 word is = same_narrow 0x7f 0x23 word is table _ refl
+at_20 word is = same_narrow 0x7c 0x20 word is table _ refl
 
-pub at_27 : (word : ℕ) → bit_and word 0x7f ≡ 0x27
+pub at_24 : (word : ℕ) → bit_and word 0x7c ≡ 0x24
     → scan table word ≡ scan (rows Units ++ rows Strideds ++ rows Indexeds ++ rows WholeLoads ++ rows WholeStores ++ rows MaskMemories) word
 unfolding table rows
-at_27 word is = same_narrow 0x7f 0x27 word is table _ refl
+at_24 word is = same_narrow 0x7c 0x24 word is table _ refl
 
-pub at_33 : (word : ℕ) → bit_and word 0x7f ≡ 0x33 → scan table word ≡ scan (rows RegisterRegisters) word
+pub at_30 : (word : ℕ) → bit_and word 0x7c ≡ 0x30 → scan table word ≡ scan (rows RegisterRegisters) word
 unfolding table rows
-at_33 word is = same_narrow 0x7f 0x33 word is table _ refl
+at_30 word is = same_narrow 0x7c 0x30 word is table _ refl
 
-pub at_37 : (word : ℕ) → bit_and word 0x7f ≡ 0x37 → scan table word ≡ scan (rows Uppers) word
+pub at_34 : (word : ℕ) → bit_and word 0x7c ≡ 0x34 → scan table word ≡ scan (rows Uppers) word
 unfolding table rows
-at_37 word is = same_narrow 0x7f 0x37 word is table _ refl
+at_34 word is = same_narrow 0x7c 0x34 word is table _ refl
 
-pub at_3b : (word : ℕ) → bit_and word 0x7f ≡ 0x3b → scan table word ≡ scan (rows RegisterRegisters) word
+pub at_38 : (word : ℕ) → bit_and word 0x7c ≡ 0x38 → scan table word ≡ scan (rows RegisterRegisters) word
 unfolding table rows
-at_3b word is = same_narrow 0x7f 0x3b word is table _ refl
+at_38 word is = same_narrow 0x7c 0x38 word is table _ refl
 
-pub at_63 : (word : ℕ) → bit_and word 0x7f ≡ 0x63 → scan table word ≡ scan (rows Branches) word
+pub at_60 : (word : ℕ) → bit_and word 0x7c ≡ 0x60 → scan table word ≡ scan (rows Branches) word
 unfolding table rows
-at_63 word is = same_narrow 0x7f 0x63 word is table _ refl
+at_60 word is = same_narrow 0x7c 0x60 word is table _ refl
 
-pub at_67 : (word : ℕ) → bit_and word 0x7f ≡ 0x67 → scan table word ≡ scan (rows JumpRegisters) word
+pub at_64 : (word : ℕ) → bit_and word 0x7c ≡ 0x64 → scan table word ≡ scan (rows JumpRegisters) word
 unfolding table rows
-at_67 word is = same_narrow 0x7f 0x67 word is table _ refl
+at_64 word is = same_narrow 0x7c 0x64 word is table _ refl
 
-pub at_6f : (word : ℕ) → bit_and word 0x7f ≡ 0x6f → scan table word ≡ scan (rows Jumps) word
+pub at_6c : (word : ℕ) → bit_and word 0x7c ≡ 0x6c → scan table word ≡ scan (rows Jumps) word
 unfolding table rows
-at_6f word is = same_narrow 0x7f 0x6f word is table _ refl
+at_6c word is = same_narrow 0x7c 0x6c word is table _ refl
 
-pub at_73 : (word : ℕ) → bit_and word 0x7f ≡ 0x73
+pub at_70 : (word : ℕ) → bit_and word 0x7c ≡ 0x70
     → scan table word ≡ scan (rows Systems ++ rows Csrs ++ rows CsrImmediates) word
 unfolding table rows
-at_73 word is = same_narrow 0x7f 0x73 word is table _ refl
+at_70 word is = same_narrow 0x7c 0x70 word is table _ refl
 
 pub at_0057 : (word : ℕ) → bit_and word 0x707f ≡ 0x0057
     → scan table word ≡ scan (rows (Ariths Opi form.V) ++ rows (Carries form.V) ++ rows (Moves form.V)) word
@@ -300,34 +302,33 @@ pub at_7057 : (word : ℕ) → bit_and word 0x707f ≡ 0x7057
 unfolding table rows
 at_7057 word is = same_narrow 0x707f 0x7057 word is table _ refl
 
-pub at_access : (word : ℕ) → (bit_and word 0x7f ≡ 0x07) ⊎ (bit_and word 0x7f ≡ 0x27)
+pub at_access : (word : ℕ) → (bit_and word 0x7c ≡ 0x04) ⊎ (bit_and word 0x7c ≡ 0x24)
     → scan table word ≡ scan (rows Units ++ rows Strideds ++ rows Indexeds ++ rows WholeLoads ++ rows WholeStores ++ rows MaskMemories) word
-at_access word (inl load) = at_07 word load
-at_access word (inr store) = at_27 word store
+at_access word (inl load) = at_04 word load
+at_access word (inr store) = at_24 word store
 
 -- every opcode of the table
 abbrev pub opcodes : List ℕ
 opcodes =
-    0x03 ∷ 0x07 ∷ 0x0f ∷ 0x13 ∷ 0x17 ∷ 0x1b ∷ 0x23 ∷ 0x27 ∷ 0x33 ∷ 0x37 ∷ 0x3b ∷ 0x57 ∷ 0x63 ∷ 0x67 ∷ 0x6f ∷ 0x73 ∷ []
+    0x00 ∷ 0x04 ∷ 0x0c ∷ 0x10 ∷ 0x14 ∷ 0x18 ∷ 0x20 ∷ 0x24 ∷ 0x30 ∷ 0x34 ∷ 0x38 ∷ 0x54 ∷ 0x60 ∷ 0x64 ∷ 0x6c ∷ 0x70 ∷ []
 
-pub no_opcode : (word : ℕ) → DiffersFrom opcodes (bit_and word 0x7f) → scan table word ≡ None
+pub no_opcode : (word : ℕ) → DiffersFrom opcodes (bit_and word 0x7c) → scan table word ≡ None
 unfolding table rows
-no_opcode word h = no_scan 0x7f opcodes word table refl h
+no_opcode word h = no_scan 0x7c opcodes word table refl h
 
 -- funct3 and opcode of each family of vector operations
 abbrev pub places : List ℕ
 places = 0x0057 ∷ 0x4057 ∷ 0x3057 ∷ 0x2057 ∷ 0x6057 ∷ 0x7057 ∷ []
 
-pub no_place : (word : ℕ) → bit_and word 0x7f ≡ 0x57 → DiffersFrom places (bit_and word 0x707f)
+pub no_place : (word : ℕ) → bit_and word 0x7c ≡ 0x54 → DiffersFrom places (bit_and word 0x707f)
     → scan table word ≡ None
 unfolding table rows
 no_place word is h =
-    scan_narrow 0x7f 0x57 word is table ∙ no_scan 0x707f places word (narrowed 0x7f 0x57 table) refl h
+    scan_narrow 0x7c 0x54 word is table ∙ no_scan 0x707f places word (narrowed 0x7c 0x54 table) refl h
 
--- where there is nothing, it doesn't matter what is left out
-pub none_either_way : (kept : Bool) (all : Option Instr) → all ≡ None → None ≡ cond kept all None
-none_either_way true all e = sym e
-none_either_way false all e = refl
+-- what the decoder of a word's families doesn't find is nowhere
+pub missed : (word : ℕ) (found : Option ScalarInstr) (xs : List Row) → scan table word ≡ scan xs word → option_map instr.Scalar found ≡ scan xs word → found ≡ None → scan table word ≡ None
+missed word found xs at row none = at ∙ sym row ∙ ap (option_map instr.Scalar) none
 
 pub ruleset opcode_steps =
-    (at_03, at_0f, at_13, at_17, at_1b, at_23, at_33, at_37, at_3b, at_63, at_67, at_6f)
+    (at_00, at_0c, at_10, at_14, at_18, at_20, at_30, at_34, at_38, at_60, at_64, at_6c)

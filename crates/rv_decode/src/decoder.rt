@@ -1,11 +1,9 @@
 //! Words to instructions.
-ghost use Rattle.std.specs.Prelude.{◌≡◌, ◌++◌, ◌⊎◌, bit_and, option_map, false, true, IfSome, IfNone, None, Some};
-ghost use Rattle.std.specs.Prelude.{if◌then◌else◌};
+ghost use Rattle.std.specs.Prelude.{◌≡◌, ◌++◌, ◌⊎◌, bit_and, option_map, false, true, IfSome, IfNone, Some};
 ghost use Rattle.rv_model.specs.declared.instructions.operations.Form.TheVariants as form;
-ghost use Rattle.rv_model.specs.instructions.Operations.{major_bits};
 ghost use Rattle.rv_model.specs.instructions.Layout.{word_of};
 ghost use Rattle.rv_decode.specs.Groups.{rows_where, is_irregular_instr, is_unit_stride, is_other_access, is_csr};
-ghost use Rattle.rv_decode.specs.Opcodes.{is_scalar, is_scalar_opcode};
+ghost use Rattle.rv_decode.specs.Opcodes.{IsKind, is_scalar};
 ghost use Rattle.rv_model.specs.lending.Irregular.{is_irregular};
 ghost use Rattle.rv_model.specs.instructions.Table.{Row, IsRow, scan, table};
 ghost use Rattle.rv_model.specs.lending.Families.{rows, RegisterImmediates, ShiftImmediates, ShiftImmediateWords};
@@ -57,7 +55,7 @@ fn word_immediates(word: u32) -> Option<ScalarInstr>
 #[tactic(auto, using(crate::proofs::Groups::regular_steps))]
 #[inline(always)]
 pub fn decode_regular(word: u32) -> Option<ArithOperation>
-    requires { bit_and word 0x7f ≡ 0x57 }
+    requires { bit_and word 0x7c ≡ 0x54 }
     ensures some { IfSome result (λ o. scan table word
         ≡ Some (Instr.Vector (VectorInstr.Arith o.arith o.vd o.vs2 o.unmasked))) }
     ensures none { IfNone result (scan table word ≡ scan (rows_where is_irregular_instr) word) }
@@ -161,7 +159,7 @@ fn set_vector_length(word: u32) -> Option<VectorInstr>
 #[tactic(auto, using(crate::proofs::Groups::irregular_steps))]
 #[inline(always)]
 pub fn decode_irregular(word: u32) -> Option<VectorInstr>
-    requires { bit_and word 0x7f ≡ 0x57 }
+    requires { bit_and word 0x7c ≡ 0x54 }
     ensures row { option_map Instr.Vector result ≡ scan (rows_where is_irregular_instr) word }
     ensures group { IfSome result (λ i. is_irregular i ≡ true) }
 {
@@ -181,7 +179,7 @@ pub fn decode_irregular(word: u32) -> Option<VectorInstr>
 #[tactic(auto, using(crate::proofs::Groups::funct6_steps))]
 #[inline(always)]
 pub fn has_irregular_funct6(word: u32) -> bool
-    requires { bit_and word 0x7f ≡ 0x57 }
+    requires { bit_and word 0x7c ≡ 0x54 }
     ensures { result ≡ true → scan table word ≡ scan (rows_where is_irregular_instr) word }
 {
     // The first three bits of these are 010, and those of most operations aren't.
@@ -202,7 +200,7 @@ pub fn has_irregular_funct6(word: u32) -> bool
 #[tactic(auto, using(crate::proofs::Groups::unit_steps))]
 #[inline(always)]
 pub fn is_unit_stride(word: u32) -> bool
-    requires { (bit_and word 0x7f ≡ 0x07) ⊎ (bit_and word 0x7f ≡ 0x27) }
+    requires { (bit_and word 0x7c ≡ 0x04) ⊎ (bit_and word 0x7c ≡ 0x24) }
     ensures units { result ≡ true → scan table word ≡ scan (rows_where is_unit_stride) word }
     ensures others { result ≡ false → scan table word ≡ scan (rows_where is_other_access) word }
 {
@@ -224,7 +222,8 @@ pub fn decode_unit_stride(word: u32) -> Option<AccessInstr>
 fn is_register_access(word: u32) -> bool
     ensures registers { result ≡ true → scan (rows_where is_other_access) word
         ≡ scan (rows WholeLoads ++ rows WholeStores ++ rows MaskMemories) word }
-    ensures elements { result ≡ false → scan (rows_where is_other_access) word ≡ scan (rows Strideds ++ rows Indexeds) word }
+    ensures elements { result ≡ false
+        → scan (rows_where is_other_access) word ≡ scan (rows Strideds ++ rows Indexeds) word }
 {
     word & 0x0c00_0000 == 0
 }
@@ -270,7 +269,7 @@ pub fn decode_other_access(word: u32) -> Option<AccessInstr>
 
 /// The vector operation that a word of OP-V is.
 fn operation(word: u32) -> Option<Instr>
-    requires { bit_and word 0x7f ≡ 0x57 }
+    requires { bit_and word 0x7c ≡ 0x54 }
     ensures { result ≡ scan table word }
 {
     if let Some(operation) = decode_regular(word) {
@@ -286,7 +285,7 @@ fn operation(word: u32) -> Option<Instr>
 
 /// The vector load or store that a word of LOAD-FP or STORE-FP is.
 fn access(word: u32) -> Option<Instr>
-    requires { (bit_and word 0x7f ≡ 0x07) ⊎ (bit_and word 0x7f ≡ 0x27) }
+    requires { (bit_and word 0x7c ≡ 0x04) ⊎ (bit_and word 0x7c ≡ 0x24) }
     ensures { result ≡ scan table word }
 {
     if is_unit_stride(word) {
@@ -299,7 +298,7 @@ fn access(word: u32) -> Option<Instr>
 #[tactic(auto, using(crate::proofs::Groups::call_steps))]
 #[inline(always)]
 pub fn decode_call(word: u32) -> Option<SystemOp>
-    requires { bit_and word 0x7f ≡ 0x73 }
+    requires { bit_and word 0x7c ≡ 0x70 }
     ensures some { IfSome result (λ op. scan table word ≡ Some (Instr.Scalar (ScalarInstr.System op))) }
     ensures none { IfNone result (scan table word ≡ scan (rows_where is_csr) word) }
 {
@@ -321,7 +320,7 @@ pub fn decode_csr(word: u32) -> Option<CsrInstr>
 
 /// The call, breakpoint or access of a control register that a word of SYSTEM is.
 fn call_or_csr(word: u32) -> Option<Instr>
-    requires { bit_and word 0x7f ≡ 0x73 }
+    requires { bit_and word 0x7c ≡ 0x70 }
     ensures { result ≡ scan table word }
 {
     if let Some(op) = decode_call(word) {
@@ -330,31 +329,59 @@ fn call_or_csr(word: u32) -> Option<Instr>
     Some(Instr::Csr(decode_csr(word)?))
 }
 
-/// The instruction of a word that works on scalar registers and memory alone: of any opcode but SYSTEM and those of
-/// vector instructions, which have decoders of their own.
+/// What a word is, by its opcode: a scalar instruction but for calls and breakpoints, a word of LOAD-FP or STORE-FP, of
+/// OP-V or of SYSTEM, each of which has decoders of its own, or no instruction.
+#[derive(Clone, Copy)]
+pub enum Kind {
+    Scalar(ScalarInstr),
+    Access,
+    Operation,
+    System,
+    Unknown,
+}
+
+/// What a word is, by its opcode without the two bits that are ones in each. All values are listed, which leaves no
+/// test of their range.
 #[tactic(auto, using(crate::proofs::Scan::opcode_steps))]
 #[inline(always)]
-pub fn decode_scalar(word: u32) -> Option<ScalarInstr>
-    ensures row { option_map Instr.Scalar result
-        ≡ (if is_scalar_opcode (bit_and word 0x7f) then scan table word else None) }
-    ensures group { IfSome result (λ i. is_scalar i ≡ true) }
+pub fn kind_of(word: u32) -> Kind
+    ensures { IsKind word result }
 {
-    match word & 0x7f {
-        0x03 => load(word),
-        0x07 => None,
-        0x0f => fence(word),
-        0x13 => immediates(word),
-        0x17 | 0x37 => upper(word),
-        0x1b => word_immediates(word),
-        0x23 => store(word),
-        0x27 => None,
-        0x33 | 0x3b => register_register(word),
-        0x57 => None,
-        0x63 => branch(word),
-        0x67 => jump_register(word),
-        0x6f => jump(word),
-        0x73 => None,
+    let scalar = match word & 0x7c {
+        0x04 | 0x24 => return Kind::Access,
+        0x54 => return Kind::Operation,
+        0x70 => return Kind::System,
+        0x00 => load(word),
+        0x0c => fence(word),
+        0x10 => immediates(word),
+        0x14 | 0x34 => upper(word),
+        0x18 => word_immediates(word),
+        0x20 => store(word),
+        0x30 | 0x38 => register_register(word),
+        0x60 => branch(word),
+        0x64 => jump_register(word),
+        0x6c => jump(word),
+        0x08
+        | 0x1c
+        | 0x28
+        | 0x2c
+        | 0x3c
+        | 0x40
+        | 0x44
+        | 0x48
+        | 0x4c
+        | 0x50
+        | 0x58
+        | 0x5c
+        | 0x68
+        | 0x74
+        | 0x78
+        | 0x7c => None,
         _ => None,
+    };
+    match scalar {
+        Some(instr) => Kind::Scalar(instr),
+        None => Kind::Unknown,
     }
 }
 
@@ -363,11 +390,12 @@ pub fn decode_scalar(word: u32) -> Option<ScalarInstr>
 fn by_opcode(word: u32) -> Option<Instr>
     ensures { result ≡ scan table word }
 {
-    match word & 0x7f {
-        0x07 | 0x27 => access(word),
-        0x57 => operation(word),
-        0x73 => call_or_csr(word),
-        _ => Some(Instr::Scalar(decode_scalar(word)?)),
+    match kind_of(word) {
+        Kind::Scalar(instr) => Some(Instr::Scalar(instr)),
+        Kind::Access => access(word),
+        Kind::Operation => operation(word),
+        Kind::System => call_or_csr(word),
+        Kind::Unknown => None,
     }
 }
 
