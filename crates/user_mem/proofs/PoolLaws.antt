@@ -4,7 +4,7 @@ use Rattle.std.specs.Prelude.{nat_lt}
 use Rattle.std.specs.List.{sum_by}
 use Rattle.std.specs.FinMap.{empty}
 use Rattle.std.proofs.lemmas.Bool.{cases_eq}
-use Rattle.std.proofs.lemmas.List.{map-set}
+use Rattle.std.proofs.lemmas.List.{map-set, set-get_or}
 use Rattle.std.proofs.lemmas.List.Sums.{sum_by-cons, sum_by-set, get_or-le-sum_by}
 use Rattle.rv_model.specs.memory.Memory.{Memory}
 use Rattle.rv_model.specs.memory.Sizes.{page_size, page_quota, frame_count}
@@ -189,6 +189,15 @@ memories_of-set frames now (x ∷ xs) zero t m l others e =
 memories_of-set frames now (x ∷ xs) (suc u) t m l others e =
     let here : memory_of now x ≡ memory_of frames x = others 0 (omega arith) (λ q. omega arith) in
     let rest : memories_of now (set xs u t) ≡ set (memories_of frames xs) u m = memories_of-set frames now xs u t m (omega arith) (λ v l n. others (suc v) (omega arith) (λ q. n (omega arith))) e in cc
+
+-- what was written in one user's pages leaves those of the others
+pub memories_of-written : (tables : List (List Entry)) (free frames now : List ℕ) (u : ℕ) (t : List Entry) (m : Memory) → IsPool tables free frames → u < user_count → t ≡ table_at tables u
+    → ((other : List Entry) → AreApart t other → memory_of now other ≡ memory_of frames other) → memory_of now t ≡ m → memories_of now tables ≡ set (memories_of frames tables) u m
+memories_of-written tables free frames now u t m pool low table others written =
+    ap (memories_of now) (sym (set-get_or tables u []))
+    ∙ memories_of-set frames now tables u (table_at tables u) m (omega (arith, pool.users))
+    (λ v within other. others (table_at tables v) (rw table (tables_are_apart tables free frames u v pool low (omega (arith, pool.users)) (λ q. other (sym q)))))
+    (ap (memory_of now) (sym table) ∙ written)
 
 -- a table that was dropped
 pub memories_of-dropped : (tables : List (List Entry)) (frames : List ℕ) (u : ℕ) → memories_of frames (set tables u []) ≡ set (memories_of frames tables) u empty

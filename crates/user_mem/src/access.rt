@@ -1,6 +1,6 @@
 //! Accesses of a user's bytes. One that lies in one page takes one copy, if the page has its place among the user's
 //! translations; all others go from page to page.
-ghost use Rattle.std.specs.Prelude.{◌≡◌, ℕ, List, ◌≤◌, ◌+◌, ◌↔◌, true, IsOk, IfErr, IfSome, OnOk, OnErr, length};
+ghost use Rattle.std.specs.Prelude.{◌≡◌, ℕ, List, ◌≤◌, ◌+◌, ◌↔◌, false, true, IsOk, IfErr, IfSome, OnOk, OnErr, length};
 ghost use Rattle.rv_model.specs.memory.Memory.{can_access, bytes_at, put_bytes};
 ghost use Rattle.user_mem.specs.declared.entry.Entry.{Entry};
 ghost use Rattle.user_mem.specs.Table.{memory_of, IsSorted, AreBelow, FitIn, AreSeparate, AreApart};
@@ -51,8 +51,33 @@ pub(crate) fn is_allowed(
     }
 }
 
-/// Reads bytes page by page.
-fn read_pages(
+/// Reads bytes from an address on, if they may be read and lie in a page that has its place. Answers whether they do.
+#[inline(always)]
+pub(crate) fn read_at_once(
+    entries: &[Entry],
+    translations: &Translations,
+    frames: &[u8],
+    access: Access,
+    addr: u64,
+    buffer: &mut [u8],
+) -> bool
+    requires translated { Translates entries.now translations.now }
+    requires fit { FitIn entries.now (length frames.now) }
+    ensures allowed { result ≡ true
+        → can_access access (memory_of frames.now entries.now) addr (length buffer.old) ≡ true }
+    ensures value { result ≡ true
+        → buffer.new ≡ bytes_at (memory_of frames.now entries.now) addr (length buffer.old) }
+    ensures unchanged { result ≡ false → buffer.new ≡ buffer.old }
+{
+    if let Some(at) = place_of(entries, translations, frames, access, addr, buffer.len()) {
+        buffer.copy_from_slice(&frames[at..at + buffer.len()]);
+        return true;
+    }
+    false
+}
+
+/// Reads bytes from an address on page by page, until the buffer is full.
+pub(crate) fn read_pages(
     entries: &[Entry],
     frames: &[u8],
     access: Access,
@@ -76,36 +101,38 @@ fn read_pages(
     Ok(())
 }
 
-/// Reads bytes from an address on, until the buffer is full.
+/// Writes bytes from an address on, if they may be written and lie in a page that has its place. Answers whether they
+/// do.
 #[inline(always)]
-pub(crate) fn read(
+pub(crate) fn write_at_once(
     entries: &[Entry],
     translations: &Translations,
-    frames: &[u8],
+    frames: &mut [u8],
     access: Access,
     addr: u64,
-    buffer: &mut [u8],
-) -> Result<(), Fault>
-    requires sorted { IsSorted entries.now }
-    requires below { AreBelow entries.now }
+    bytes: &[u8],
+) -> bool
     requires translated { Translates entries.now translations.now }
-    requires fit { FitIn entries.now (length frames.now) }
-    ensures allowed { IsOk result
-        ↔ (can_access access (memory_of frames.now entries.now) addr (length buffer.old) ≡ true) }
-    ensures ok { OnOk result (buffer.new
-        ≡ bytes_at (memory_of frames.now entries.now) addr (length buffer.old)) }
-    ensures err { OnErr result (buffer.new ≡ buffer.old) }
-    ensures fault { IfErr result (λ fault. fault.addr ≡ addr) }
+    requires fit { FitIn entries.now (length frames.old) }
+    requires separate { AreSeparate entries.now }
+    ensures allowed { result ≡ true
+        → can_access access (memory_of frames.old entries.now) addr (length bytes.now) ≡ true }
+    ensures value { result ≡ true
+        → memory_of frames.new entries.now ≡ put_bytes (memory_of frames.old entries.now) addr bytes.now }
+    ensures others { (other : List Entry) → AreApart entries.now other
+        → memory_of frames.new other ≡ memory_of frames.old other }
+    ensures unchanged { result ≡ false → frames.new ≡ frames.old }
+    ensures size { length frames.new ≡ length frames.old }
 {
-    if let Some(at) = place_of(entries, translations, frames, access, addr, buffer.len()) {
-        buffer.copy_from_slice(&frames[at..at + buffer.len()]);
-        return Ok(());
+    if let Some(at) = place_of(entries, translations, frames, access, addr, bytes.len()) {
+        paste(frames, at, bytes);
+        return true;
     }
-    read_pages(entries, frames, access, addr, buffer)
+    false
 }
 
-/// Writes bytes page by page.
-fn write_pages(
+/// Writes bytes from an address on page by page.
+pub(crate) fn write_pages(
     entries: &[Entry],
     frames: &mut [u8],
     access: Access,
@@ -131,36 +158,4 @@ fn write_pages(
     }
     copy_in(entries, frames, addr, bytes);
     Ok(())
-}
-
-/// Writes bytes from an address on.
-#[inline(always)]
-pub(crate) fn write(
-    entries: &[Entry],
-    translations: &Translations,
-    frames: &mut [u8],
-    access: Access,
-    addr: u64,
-    bytes: &[u8],
-) -> Result<(), Fault>
-    requires sorted { IsSorted entries.now }
-    requires below { AreBelow entries.now }
-    requires translated { Translates entries.now translations.now }
-    requires fit { FitIn entries.now (length frames.old) }
-    requires separate { AreSeparate entries.now }
-    ensures allowed { IsOk result
-        ↔ (can_access access (memory_of frames.old entries.now) addr (length bytes.now) ≡ true) }
-    ensures ok { OnOk result (memory_of frames.new entries.now
-        ≡ put_bytes (memory_of frames.old entries.now) addr bytes.now) }
-    ensures others { (other : List Entry) → AreApart entries.now other
-        → memory_of frames.new other ≡ memory_of frames.old other }
-    ensures err { OnErr result (frames.new ≡ frames.old) }
-    ensures fault { IfErr result (λ fault. fault.addr ≡ addr) }
-    ensures size { length frames.new ≡ length frames.old }
-{
-    if let Some(at) = place_of(entries, translations, frames, access, addr, bytes.len()) {
-        paste(frames, at, bytes);
-        return Ok(());
-    }
-    write_pages(entries, frames, access, addr, bytes)
 }

@@ -39,7 +39,21 @@ fn index_of(entries: &[Entry], frames: &[u8], addr: u64) -> usize
     }
 }
 
-/// Copies bytes over a part of others.
+/// Copies `N` bytes over a part of others, in line.
+#[inline(always)]
+fn paste_known<const N: usize>(target: &mut [u8], at: usize, bytes: &[u8])
+    requires within { at + N ≤ length target.old }
+    requires count { length bytes.now ≡ N }
+    ensures size { length target.new ≡ length target.old }
+    ensures pasted { (k : ℕ) → k < length bytes.now
+        → slice_index target.new (at + k) ≡ slice_index bytes.now k }
+    ensures kept { (i : ℕ) → ((i < at) ⊎ (at + length bytes.now ≤ i))
+        → slice_index target.new i ≡ slice_index target.old i }
+{
+    target[at..at + N].copy_from_slice(&bytes[..N]);
+}
+
+/// Copies bytes over a part of others: those of a number in line.
 #[inline(always)]
 pub(crate) fn paste(target: &mut [u8], at: usize, bytes: &[u8])
     requires { at + length bytes.now ≤ length target.old }
@@ -49,7 +63,13 @@ pub(crate) fn paste(target: &mut [u8], at: usize, bytes: &[u8])
     ensures kept { (i : ℕ) → ((i < at) ⊎ (at + length bytes.now ≤ i))
         → slice_index target.new i ≡ slice_index target.old i }
 {
-    target[at..at + bytes.len()].copy_from_slice(bytes);
+    match bytes.len() {
+        1 => paste_known::<1>(target, at, bytes),
+        2 => paste_known::<2>(target, at, bytes),
+        4 => paste_known::<4>(target, at, bytes),
+        8 => paste_known::<8>(target, at, bytes),
+        len => target[at..at + len].copy_from_slice(bytes),
+    }
 }
 
 /// Copies the bytes from an address on.

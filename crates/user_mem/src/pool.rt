@@ -1,6 +1,6 @@
 //! The memories of all users.
-ghost use Rattle.std.specs.Prelude.{◌≡◌, ◌<◌, ◌≤◌, ◌+◌, ◌*◌, ◌↔◌, [], true, None, IsOk, IfOk, IfErr, OnOk, OnErr};
-ghost use Rattle.std.specs.Prelude.{length, replicate};
+ghost use Rattle.std.specs.Prelude.{◌≡◌, ◌<◌, ◌≤◌, ◌+◌, ◌*◌, ◌↔◌, [], false, true, None, IsOk, IfOk, IfErr, OnOk};
+ghost use Rattle.std.specs.Prelude.{OnErr, length, replicate};
 ghost use Rattle.std.specs.FinMap.{empty};
 ghost use Rattle.rv_model.specs.memory.Memory.{can_access, bytes_at, put_bytes, with_pages, page_count};
 ghost use Rattle.rv_model.specs.memory.Memory.{any_page_mapped, map_refusal};
@@ -9,13 +9,14 @@ ghost use Rattle.rv_model.specs.machine.Users.{user_count};
 ghost use Rattle.user_mem.specs.Users.{no_memories, memory_of_user, with_memory};
 ghost use Rattle.user_mem.specs.Pool.{entries_of};
 
-use crate::access::{is_allowed, read};
+use crate::access::{is_allowed, read_at_once, read_pages};
 use crate::frames::FRAME_SIZE;
 use crate::free::{FreeFrames, all_free};
 use crate::table::refusal;
 use crate::translations::Translations;
 use crate::users::{
     AllTranslations, PageRange, Tables, Target, drop_pages, map_user, translate_user, write_user,
+    write_user_at_once,
 };
 use arrayvec::ArrayVec;
 use rv_model::{Access, FRAME_COUNT, Fault, MapRefusal, Permissions, USER_COUNT, User};
@@ -162,6 +163,29 @@ impl<A: Allocator> Pool<A> {
         }
     }
 
+    /// Reads as `read` does, if that takes one look at the user's translations. Answers whether it does.
+    #[inline(always)]
+    pub fn read_at_once(&self, user: User, addr: u64, access: Access, buffer: &mut [u8]) -> bool
+        ensures users { length self.now ≡ user_count }
+        ensures allowed { result ≡ true
+            → can_access access (memory_of_user self.now user) addr (length buffer.old) ≡ true }
+        ensures value { result ≡ true
+            → buffer.new ≡ bytes_at (memory_of_user self.now user) addr (length buffer.old) }
+        ensures unchanged { result ≡ false → buffer.new ≡ buffer.old }
+    {
+        let user = user.index();
+        let entries = self.tables[user].as_slice();
+        let frames = self.frames.as_slice();
+        read_at_once(
+            entries,
+            &self.translations[user],
+            frames,
+            access,
+            addr,
+            buffer,
+        )
+    }
+
     /// Reads a user's bytes from an address on, until the buffer is full. After a fault, as of
     /// `check`, the buffer is as it was.
     #[inline(always)]
@@ -180,16 +204,32 @@ impl<A: Allocator> Pool<A> {
         ensures err { OnErr result (buffer.new ≡ buffer.old) }
         ensures fault { IfErr result (λ fault. fault.addr ≡ addr) }
     {
+        if self.read_at_once(user, addr, access, buffer) {
+            return Ok(());
+        }
         let user = user.index();
         let entries = self.tables[user].as_slice();
         let frames = self.frames.as_slice();
-        read(
-            entries,
-            &self.translations[user],
-            frames,
-            access,
-            addr,
-            buffer,
+        read_pages(entries, frames, access, addr, buffer)
+    }
+
+    /// Writes as `write` does, if that takes one look at the user's translations. Answers whether it does.
+    #[inline(always)]
+    pub fn write_at_once(&mut self, user: User, addr: u64, access: Access, bytes: &[u8]) -> bool
+        ensures users { length self.old ≡ user_count }
+        ensures allowed { result ≡ true
+            → can_access access (memory_of_user self.old user) addr (length bytes.now) ≡ true }
+        ensures value { result ≡ true → self.new ≡ with_memory self.old user
+            (put_bytes (memory_of_user self.old user) addr bytes.now) }
+        ensures unchanged { result ≡ false → self.new ≡ self.old }
+    {
+        write_user_at_once(
+            &self.tables,
+            &self.translations,
+            user.index(),
+            self.frames.as_mut_slice(),
+            Target { access, addr },
+            bytes,
         )
     }
 
@@ -210,14 +250,20 @@ impl<A: Allocator> Pool<A> {
         ensures err { OnErr result (self.new ≡ self.old) }
         ensures fault { IfErr result (λ fault. fault.addr ≡ addr) }
     {
-        write_user(
+        let user = user.index();
+        let target = Target { access, addr };
+        let frames = self.frames.as_mut_slice();
+        if write_user_at_once(
             &self.tables,
             &self.translations,
-            user.index(),
-            self.frames.as_mut_slice(),
-            Target { access, addr },
+            user,
+            frames,
+            target,
             bytes,
-        )
+        ) {
+            return Ok(());
+        }
+        write_user(&self.tables, user, frames, target, bytes)
     }
 }
 

@@ -1,5 +1,5 @@
 //! The tables of all users over the pool's frames.
-ghost use Rattle.std.specs.Prelude.{◌≡◌, ◌≢◌, List, ℕ, ◌<◌, ◌≤◌, ◌+◌, ◌↔◌, [], None, true, length};
+ghost use Rattle.std.specs.Prelude.{◌≡◌, ◌≢◌, List, ℕ, ◌<◌, ◌≤◌, ◌+◌, ◌↔◌, [], None, false, true, length};
 ghost use Rattle.std.specs.Prelude.{IsOk, IfErr, OnOk, OnErr, slice_index_or, slice_set};
 ghost use Rattle.rv_model.specs.memory.Memory.{can_access, put_bytes, with_pages};
 ghost use Rattle.rv_model.specs.memory.Sizes.{page_quota, page_limit};
@@ -89,11 +89,43 @@ pub(crate) struct Target {
     pub addr: u64,
 }
 
-/// Writes bytes of the user at a place.
+/// Writes bytes of the user at a place, if they may be written and their page has its place among the user's
+/// translations. Answers whether it has.
 #[inline(always)]
-pub(crate) fn write_user(
+pub(crate) fn write_user_at_once(
     tables: &Tables,
     all: &AllTranslations,
+    user: usize,
+    frames: &mut [u8],
+    target: Target,
+    bytes: &[u8],
+) -> bool
+    requires user { user < user_count }
+    requires pool { (free : List ℕ) × IsPool (entries_of tables.now) free frames.old }
+    requires translated { AllTranslate (entries_of tables.now) all.now }
+    ensures allowed { result ≡ true → can_access target.access
+        (memory_of frames.old (table_at (entries_of tables.now) user)) target.addr (length bytes.now) ≡ true }
+    ensures pool { (free : List ℕ) → IsPool (entries_of tables.now) free frames.old
+        → IsPool (entries_of tables.now) free frames.new }
+    ensures value { result ≡ true → memories_of frames.new (entries_of tables.now)
+        ≡ slice_set (memories_of frames.old (entries_of tables.now)) user
+        (put_bytes (memory_of frames.old (table_at (entries_of tables.now) user)) target.addr bytes.now) }
+    ensures unchanged { result ≡ false → frames.new ≡ frames.old }
+    ensures size { length frames.new ≡ length frames.old }
+{
+    access::write_at_once(
+        tables[user].as_slice(),
+        &all[user],
+        frames,
+        target.access,
+        target.addr,
+        bytes,
+    )
+}
+
+/// Writes bytes of the user at a place page by page.
+pub(crate) fn write_user(
+    tables: &Tables,
     user: usize,
     frames: &mut [u8],
     target: Target,
@@ -101,7 +133,6 @@ pub(crate) fn write_user(
 ) -> Result<(), Fault>
     requires user { user < user_count }
     requires pool { (free : List ℕ) × IsPool (entries_of tables.now) free frames.old }
-    requires translated { AllTranslate (entries_of tables.now) all.now }
     ensures allowed { IsOk result ↔ (can_access target.access
         (memory_of frames.old (table_at (entries_of tables.now) user)) target.addr (length bytes.now)
         ≡ true) }
@@ -114,9 +145,8 @@ pub(crate) fn write_user(
     ensures fault { IfErr result (λ fault. fault.addr ≡ target.addr) }
     ensures size { length frames.new ≡ length frames.old }
 {
-    access::write(
+    access::write_pages(
         tables[user].as_slice(),
-        &all[user],
         frames,
         target.access,
         target.addr,

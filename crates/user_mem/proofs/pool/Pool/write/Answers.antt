@@ -1,4 +1,4 @@
-use Rattle.std.proofs.Common.{◌∙◌, sym, ap, map, arith, List, ℕ}
+use Rattle.std.proofs.Common.{◌∙◌, sym, ap, map, arith, List, ℕ, refl}
 use Rattle.user_mem.specs.Table.{memory_of}
 use Rattle.user_mem.specs.Pool.{table_at}
 use Rattle.user_mem.proofs.ViewLaws.{memory_of_table}
@@ -6,6 +6,13 @@ use Rattle.user_mem.proofs.pool.Pool.write.Goals as goal
 
 pub returns-clause-allowed : goal.returns-clause-allowed
 returns-clause-allowed g c =
-    let seen = memory_of_table c.self.inside.frames.items (map (λ t. t.items) c.self.inside.tables) c.args.user c.index.result c.args.self.now c.self.view_is c.index.ensures.value (omega (arith, c.self.invariant.0.users)) in
-    let memory = seen ∙ ap (λ (frames : List ℕ). memory_of frames (table_at (map (λ t. t.items) c.self.inside.tables) c.index.result)) (sym c.as_mut_slice.ensures.value) in
-    rw memory c.write_user.ensures.allowed
+    let seen = memory_of_table c.self.inside.frames.items (map (λ t. t.items) c.self.inside.tables) c.args.user c.index-user.result c.args.self.now c.self.view_is c.index-user.ensures.value (omega (arith, c.self.invariant.0.users)) in
+    let memory = seen ∙ ap (λ (frames : List ℕ). memory_of frames (table_at (map (λ t. t.items) c.self.inside.tables) c.index-user.result)) (sym c.as_mut_slice-frames.ensures.value) in
+    let kept = ap (λ (frames : List ℕ). memory_of frames (table_at (map (λ t. t.items) c.self.inside.tables) c.index-user.result)) (sym (c.write_user_at_once.ensures.unchanged c.if-write_user_at_once.false)) in
+    rw (memory ∙ kept) c.write_user.ensures.allowed
+
+pub returns-then-write_user_at_once-clause-allowed : goal.returns-then-write_user_at_once-clause-allowed
+returns-then-write_user_at_once-clause-allowed g c =
+    let seen = memory_of_table c.self.inside.frames.items (map (λ t. t.items) c.self.inside.tables) c.args.user c.index-user.result c.args.self.now c.self.view_is c.index-user.ensures.value (omega (arith, c.self.invariant.0.users)) in
+    let memory = seen ∙ ap (λ (frames : List ℕ). memory_of frames (table_at (map (λ t. t.items) c.self.inside.tables) c.index-user.result)) (sym c.as_mut_slice-frames.ensures.value) in
+    (λ _. rw memory (c.write_user_at_once.ensures.allowed c.if-write_user_at_once.true), λ _. refl)

@@ -1,14 +1,14 @@
-use Rattle.std.proofs.Common.{refl, length}
+use Rattle.std.proofs.Common.{length}
 use Rattle.user_mem.proofs.RunLaws.{run_written, others_unwritten}
 use Rattle.user_mem.proofs.TranslationLaws.{lies_accessed, lies_allowed, lies_from}
-use Rattle.user_mem.proofs.access.write.Goals as goal
+use Rattle.user_mem.proofs.access.write_at_once.Goals as goal
 
 pub returns-in-Some-clause-allowed : goal.returns-in-Some-clause-allowed
 returns-in-Some-clause-allowed c =
-    (λ _. lies_accessed c.args.entries.now c.args.access c.args.addr (length c.args.bytes.now) c.in-Some.at c.in-Some.ensures.lies c.args.frames.now, λ _. refl)
+    λ _. lies_accessed c.args.entries.now c.args.access c.args.addr (length c.args.bytes.now) c.in-Some.at c.in-Some.ensures.lies c.args.frames.now
 
-pub returns-in-Some-clause-ok : goal.returns-in-Some-clause-ok
-returns-in-Some-clause-ok c =
+pub returns-in-Some-clause-value : goal.returns-in-Some-clause-value
+returns-in-Some-clause-value c = λ _.
     let es = c.args.entries.now in
     let frames = c.args.frames.now in
     let a = c.args.addr in
