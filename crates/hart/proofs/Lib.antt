@@ -1,3 +1,4 @@
 pub mod AccessTicks
 pub mod Endings
+pub mod FirstBytes
 pub mod Uncut

@@ -1,5 +1,5 @@
 //! The instruction cycle: fetch, decode, execute.
-ghost use Rattle.std.specs.Prelude.{◌≡◌, ◌≢◌, ◌≤◌, Ok, Err, if◌then◌else◌};
+ghost use Rattle.std.specs.Prelude.{◌≡◌, ◌≢◌, ◌≤◌, None, Some, if◌then◌else◌};
 ghost use Rattle.rv_model.specs.declared.memory.Access.TheVariants.{Fetch};
 ghost use Rattle.rv_model.specs.step.Resumes.{StepGoesOn};
 ghost use Rattle.rv_model.specs.step.Hart.{ends_after};
@@ -15,19 +15,35 @@ use crate::vector_instructions::{access, operation};
 use crate::vectors::Vectors;
 use crate::view::{StepTerms, View};
 use rv_decode::{Kind, kind_of};
-use rv_model::{Access, Cause, Fault, GROUP_BYTES, StepEnd};
+use rv_model::{Access, Cause, GROUP_BYTES, StepEnd};
 use vector_memory::UserBytes;
+
+/// The word at an address, wherever it lies.
+#[inline(never)]
+fn fetch_anywhere<M: UserBytes>(memory: &M, pc: u64) -> Option<u32>
+    ensures { result ≡ (if can_access Fetch (M.memory memory.now) pc 4
+        then Some (word_at (M.memory memory.now) pc)
+        else None) }
+{
+    let mut bytes = [0; 4];
+    match memory.read(pc, Access::Fetch, &mut bytes) {
+        Ok(()) => Some(u32::from_le_bytes(bytes)),
+        Err(_) => None,
+    }
+}
 
 /// The word at an address.
 #[inline(always)]
-fn fetch<M: UserBytes>(memory: &M, pc: u64) -> Result<u32, Fault>
+fn fetch<M: UserBytes>(memory: &M, pc: u64) -> Option<u32>
     ensures { result ≡ (if can_access Fetch (M.memory memory.now) pc 4
-        then Ok (word_at (M.memory memory.now) pc)
-        else Err (record { addr = pc })) }
+        then Some (word_at (M.memory memory.now) pc)
+        else None) }
 {
     let mut bytes = [0; 4];
-    memory.read(pc, Access::Fetch, &mut bytes)?;
-    Ok(u32::from_le_bytes(bytes))
+    if memory.read_at_once(pc, Access::Fetch, &mut bytes) {
+        return Some(u32::from_le_bytes(bytes));
+    }
+    fetch_anywhere(memory, pc)
 }
 
 /// Carries out one instruction of a user within `limit` ticks, and answers its ticks where it ran; any other answers
@@ -52,7 +68,7 @@ pub fn cycle<M: UserBytes, V: Vectors>(
     ensures parts { SameParts view.old view.new }
 {
     let pc = view.scalar.pc;
-    let Ok(word) = fetch(&*view.memory, pc) else {
+    let Some(word) = fetch(&*view.memory, pc) else {
         return ending.in_one_tick(fault(Cause::FetchAccess, pc, &*view.scalar));
     };
     let policy = view.policy;

@@ -1,11 +1,12 @@
-//! Loads and stores (Unprivileged ISA 20191213, sections 2.6 and 5.3). Those narrower than a register stand out of
-//! line, so that the others stay in line wherever a step is made.
-ghost use Rattle.std.specs.Prelude.{◌≡◌, ◌↔◌, IsOk, OnErr, OnOk, Ok, Err, if◌then◌else◌, length, true};
-ghost use Rattle.std.specs.Int.{byte_len, w8, w16, w32, w64};
+//! Loads and stores (Unprivileged ISA 20191213, sections 2.6 and 5.3). Where their bytes are found at once they are
+//! carried out in line, with one look for all widths.
+ghost use Rattle.std.specs.Prelude.{◌≡◌, ℕ, ◌*◌, ◌%◌, ◌^◌, ◌<◌, ◌≤◌, ◌↔◌, IsOk, IfErr, OnErr, OnOk, Ok, Err, true};
+ghost use Rattle.std.specs.Prelude.{if◌then◌else◌, slice_index};
+ghost use Rattle.std.specs.Int.{byte_len, from_le_bytes, to_le_bytes, w64};
 ghost use Rattle.rv_model.specs.declared.memory.Access.TheVariants.{Load, Store};
-ghost use Rattle.rv_model.specs.scalar.LoadsAndStores.{extended, load_width, number_at};
+ghost use Rattle.rv_model.specs.scalar.LoadsAndStores.{extended, load_width, number_at, store_width};
 ghost use Rattle.rv_model.specs.scalar.Arithmetic.{sum};
-ghost use Rattle.rv_model.specs.memory.Memory.{can_access, put_bytes};
+ghost use Rattle.rv_model.specs.memory.Memory.{bytes_at, can_access, put_bytes};
 ghost use Rattle.rv_model.specs.step.ScalarStep.{load_step, store_step};
 ghost use Rattle.hart.specs.States.{LeadsScalar};
 
@@ -24,84 +25,83 @@ pub(crate) fn access_address(base: u64, immediate: u64) -> u64
     base.wrapping_add(immediate)
 }
 
-/// The byte at an address.
-#[inline(never)]
-fn read_8<M: UserBytes>(memory: &M, addr: u64) -> Result<u8, Fault>
-    ensures { result ≡ (if can_access Load (M.memory memory.now) addr 1
-        then Ok (number_at w8 (M.memory memory.now) addr) else Err (record { addr = addr })) }
+/// How many bytes a load reads.
+fn load_len(op: LoadOp) -> usize
+    ensures len { result ≡ byte_len (load_width op) }
+    ensures few { result ≤ 8 }
 {
-    let mut bytes = [0; 1];
-    memory.read(addr, Access::Load, &mut bytes)?;
-    Ok(u8::from_le_bytes(bytes))
+    match op {
+        LoadOp::Lb | LoadOp::Lbu => 1,
+        LoadOp::Lh | LoadOp::Lhu => 2,
+        LoadOp::Lw | LoadOp::Lwu => 4,
+        LoadOp::Ld => 8,
+    }
 }
 
-/// The number of two bytes at an address.
-#[inline(never)]
-fn read_16<M: UserBytes>(memory: &M, addr: u64) -> Result<u16, Fault>
-    ensures { result ≡ (if can_access Load (M.memory memory.now) addr 2
-        then Ok (number_at w16 (M.memory memory.now) addr) else Err (record { addr = addr })) }
-{
-    let mut bytes = [0; 2];
-    memory.read(addr, Access::Load, &mut bytes)?;
-    Ok(u16::from_le_bytes(bytes))
-}
-
-/// The number of four bytes at an address.
-#[inline(never)]
-fn read_32<M: UserBytes>(memory: &M, addr: u64) -> Result<u32, Fault>
-    ensures { result ≡ (if can_access Load (M.memory memory.now) addr 4
-        then Ok (number_at w32 (M.memory memory.now) addr) else Err (record { addr = addr })) }
-{
-    let mut bytes = [0; 4];
-    memory.read(addr, Access::Load, &mut bytes)?;
-    Ok(u32::from_le_bytes(bytes))
-}
-
-/// The number of eight bytes at an address.
+/// What a load makes of the number of eight bytes, the first of which it reads.
 #[inline(always)]
-fn read_64<M: UserBytes>(memory: &M, addr: u64) -> Result<u64, Fault>
-    ensures { result ≡ (if can_access Load (M.memory memory.now) addr 8
-        then Ok (number_at w64 (M.memory memory.now) addr) else Err (record { addr = addr })) }
+fn extend(op: LoadOp, number: u64) -> u64
+    ensures { result ≡ extended op (number % 2 ^ (8 * byte_len (load_width op))) }
 {
-    let mut bytes = [0; 8];
-    memory.read(addr, Access::Load, &mut bytes)?;
-    Ok(u64::from_le_bytes(bytes))
+    match op {
+        LoadOp::Lb => sign_extend(8, number % (1 << 8)),
+        LoadOp::Lh => sign_extend(16, number % (1 << 16)),
+        LoadOp::Lw => sign_extend(32, number % (1 << 32)),
+        LoadOp::Ld => number,
+        LoadOp::Lbu => number % (1 << 8),
+        LoadOp::Lhu => number % (1 << 16),
+        LoadOp::Lwu => number % (1 << 32),
+    }
 }
 
-/// The value that a load gives.
+/// What a load makes of eight bytes, the first of which it reads.
 #[inline(always)]
-fn loaded<M: UserBytes>(op: LoadOp, addr: u64, memory: &M) -> Result<u64, Fault>
+fn loaded(op: LoadOp, bytes: &[u8; 8]) -> u64
+    ensures { result ≡ extended op (from_le_bytes (load_width op) bytes.now) }
+{
+    extend(op, u64::from_le_bytes(*bytes))
+}
+
+/// Reads the first of eight bytes, wherever they lie.
+fn read_first<M: UserBytes>(
+    memory: &M,
+    addr: u64,
+    len: usize,
+    bytes: &mut [u8; 8],
+) -> Result<(), Fault>
+    requires { len ≤ 8 }
+    ensures ok { IsOk result ↔ (can_access Load (M.memory memory.now) addr len ≡ true) }
+    ensures fault { IfErr result (λ fault. fault.addr ≡ addr) }
+    ensures value { OnOk result ((i : ℕ) → i < len
+        → slice_index bytes.new i ≡ slice_index (bytes_at (M.memory memory.now) addr len) i) }
+{
+    memory.read(addr, Access::Load, &mut bytes[..len])
+}
+
+/// The value that a load gives, wherever its bytes lie.
+#[inline(never)]
+fn load_anywhere<M: UserBytes>(op: LoadOp, addr: u64, memory: &M) -> Result<u64, Fault>
     ensures { result ≡ (if can_access Load (M.memory memory.now) addr (byte_len (load_width op))
         then Ok (extended op (number_at (load_width op) (M.memory memory.now) addr))
         else Err (record { addr = addr })) }
 {
-    match op {
-        LoadOp::Lb | LoadOp::Lbu => {
-            let byte = u64::from(read_8(memory, addr)?);
-            Ok(if op == LoadOp::Lb {
-                sign_extend(8, byte)
-            } else {
-                byte
-            })
-        }
-        LoadOp::Lh | LoadOp::Lhu => {
-            let half = u64::from(read_16(memory, addr)?);
-            Ok(if op == LoadOp::Lh {
-                sign_extend(16, half)
-            } else {
-                half
-            })
-        }
-        LoadOp::Lw | LoadOp::Lwu => {
-            let word = u64::from(read_32(memory, addr)?);
-            Ok(if op == LoadOp::Lw {
-                sign_extend(32, word)
-            } else {
-                word
-            })
-        }
-        LoadOp::Ld => read_64(memory, addr),
+    let mut bytes = [0; 8];
+    read_first(memory, addr, load_len(op), &mut bytes)?;
+    Ok(loaded(op, &bytes))
+}
+
+/// The value that a load gives. Whatever its width, it looks for eight bytes first.
+#[inline(always)]
+fn load_value<M: UserBytes>(op: LoadOp, addr: u64, memory: &M) -> Result<u64, Fault>
+    ensures { result ≡ (if can_access Load (M.memory memory.now) addr (byte_len (load_width op))
+        then Ok (extended op (number_at (load_width op) (M.memory memory.now) addr))
+        else Err (record { addr = addr })) }
+{
+    let mut bytes = [0; 8];
+    if memory.read_at_once(addr, Access::Load, &mut bytes) {
+        return Ok(loaded(op, &bytes));
     }
+    load_anywhere(op, addr, memory)
 }
 
 /// A load, which is refused where one of its bytes may not be read.
@@ -116,21 +116,62 @@ pub(crate) fn load<M: UserBytes>(
     ensures model { LeadsScalar (load_step op rd addr)
         scalar.old (M.memory memory.now) scalar.new (M.memory memory.now) result }
 {
-    match loaded(op, addr, memory) {
+    match load_value(op, addr, memory) {
         Ok(value) => write_rd(rd, value, scalar),
         Err(_) => fault(Cause::LoadAccess, addr, scalar),
     }
 }
 
-/// Writes fewer bytes than a register has from an address on, or changes nothing.
+/// The bytes that a store writes, of those of a register.
+#[inline(always)]
+fn stored(op: StoreOp, bytes: &[u8; 8]) -> &[u8]
+    ensures { (value : ℕ) → bytes.now ≡ to_le_bytes w64 value → result.now ≡ to_le_bytes (store_width op) value }
+{
+    match op {
+        StoreOp::Sb => &bytes[..1],
+        StoreOp::Sh => &bytes[..2],
+        StoreOp::Sw => &bytes[..4],
+        StoreOp::Sd => &bytes[..8],
+    }
+}
+
+/// Stores the lowest bytes of a value, wherever they lie, or changes nothing.
 #[inline(never)]
-fn write_narrow<M: UserBytes>(addr: u64, bytes: &[u8], memory: &mut M) -> Result<(), Fault>
-    ensures ok { IsOk result ↔ (can_access Store (M.memory memory.old) addr (length bytes.now) ≡ true) }
-    ensures value { OnOk result (M.memory memory.new ≡ put_bytes (M.memory memory.old) addr bytes.now) }
+fn store_anywhere<M: UserBytes>(
+    op: StoreOp,
+    addr: u64,
+    value: u64,
+    memory: &mut M,
+) -> Result<(), Fault>
+    ensures ok { IsOk result ↔ (can_access Store (M.memory memory.old) addr (byte_len (store_width op)) ≡ true) }
+    ensures value { OnOk result (M.memory memory.new
+        ≡ put_bytes (M.memory memory.old) addr (to_le_bytes (store_width op) value)) }
     ensures others { OnOk result (memory.new ≡ M.with_memory memory.old (M.memory memory.new)) }
     ensures unchanged { OnErr result (memory.new ≡ memory.old) }
 {
-    memory.write(addr, Access::Store, bytes)
+    let bytes = value.to_le_bytes();
+    memory.write(addr, Access::Store, stored(op, &bytes))
+}
+
+/// Stores the lowest bytes of a value, or changes nothing.
+#[inline(always)]
+fn store_value<M: UserBytes>(
+    op: StoreOp,
+    addr: u64,
+    value: u64,
+    memory: &mut M,
+) -> Result<(), Fault>
+    ensures ok { IsOk result ↔ (can_access Store (M.memory memory.old) addr (byte_len (store_width op)) ≡ true) }
+    ensures value { OnOk result (M.memory memory.new
+        ≡ put_bytes (M.memory memory.old) addr (to_le_bytes (store_width op) value)) }
+    ensures others { OnOk result (memory.new ≡ M.with_memory memory.old (M.memory memory.new)) }
+    ensures unchanged { OnErr result (memory.new ≡ memory.old) }
+{
+    let bytes = value.to_le_bytes();
+    if memory.write_at_once(addr, Access::Store, stored(op, &bytes)) {
+        return Ok(());
+    }
+    store_anywhere(op, addr, value, memory)
 }
 
 /// A store of the lowest bytes of a value, which is refused where one of its bytes may not be written.
@@ -146,14 +187,7 @@ pub(crate) fn store<M: UserBytes>(
         scalar.old (M.memory memory.old) scalar.new (M.memory memory.new) result }
     ensures memory { memory.new ≡ M.with_memory memory.old (M.memory memory.new) }
 {
-    let bytes = value.to_le_bytes();
-    let written = match op {
-        StoreOp::Sb => write_narrow(addr, &bytes[..1], memory),
-        StoreOp::Sh => write_narrow(addr, &bytes[..2], memory),
-        StoreOp::Sw => write_narrow(addr, &bytes[..4], memory),
-        StoreOp::Sd => memory.write(addr, Access::Store, &bytes),
-    };
-    match written {
+    match store_value(op, addr, value, memory) {
         Ok(()) => retire(scalar),
         Err(_) => fault(Cause::StoreAccess, addr, scalar),
     }

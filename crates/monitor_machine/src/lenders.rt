@@ -42,6 +42,17 @@ impl<A: Allocator> UserBytes for UserMemory<'_, A> {
         self.pool.read(self.user, addr, access, bytes)
     }
 
+    #[inline(always)]
+    fn read_at_once(&self, addr: u64, access: Access, bytes: &mut [u8]) -> bool {
+        self.pool.read_at_once(self.user, addr, access, bytes)
+    }
+
+    #[tactic(auto, using(crate::specs::Lenders::memory_written))]
+    #[inline(always)]
+    fn write_at_once(&mut self, addr: u64, access: Access, bytes: &[u8]) -> bool {
+        self.pool.write_at_once(self.user, addr, access, bytes)
+    }
+
     #[tactic(auto, using(crate::specs::Lenders::memory_written))]
     #[inline(always)]
     fn write(&mut self, addr: u64, access: Access, bytes: &[u8]) -> Result<(), Fault> {

@@ -1,5 +1,5 @@
 //! The bytes of one user.
-ghost use Rattle.std.specs.Prelude.{◌≡◌, ◌↔◌, true, length, IsOk, IfErr, OnOk, OnErr};
+ghost use Rattle.std.specs.Prelude.{◌≡◌, ◌↔◌, false, true, length, IsOk, IfErr, OnOk, OnErr};
 ghost use Rattle.rv_model.specs.memory.Memory.{Memory, can_access, bytes_at, put_bytes};
 
 use rv_model::{Access, Fault};
@@ -24,6 +24,29 @@ pub trait UserBytes {
         ensures fault { IfErr result (λ fault. fault.addr ≡ addr) }
         ensures value { OnOk result (bytes.new ≡ bytes_at (memory self.now) addr (length bytes.old)) }
         ensures unchanged { OnErr result (bytes.new ≡ bytes.old) };
+
+    /// Fills the buffer with the bytes from an address on, if they are found at once. Answers whether they are; none
+    /// need ever be found so.
+    #[inline(always)]
+    fn read_at_once(&self, _addr: u64, _access: Access, _bytes: &mut [u8]) -> bool
+        ensures allowed { result ≡ true → can_access _access (memory self.now) _addr (length _bytes.old) ≡ true }
+        ensures value { result ≡ true → _bytes.new ≡ bytes_at (memory self.now) _addr (length _bytes.old) }
+        ensures unchanged { result ≡ false → _bytes.new ≡ _bytes.old }
+    {
+        false
+    }
+
+    /// Writes the bytes from an address on, if their place is found at once. Answers whether it is; none need ever be
+    /// found so.
+    #[inline(always)]
+    fn write_at_once(&mut self, _addr: u64, _access: Access, _bytes: &[u8]) -> bool
+        ensures allowed { result ≡ true → can_access _access (memory self.old) _addr (length _bytes.now) ≡ true }
+        ensures value { result ≡ true → memory self.new ≡ put_bytes (memory self.old) _addr _bytes.now }
+        ensures others { result ≡ true → self.new ≡ with_memory self.old (memory self.new) }
+        ensures unchanged { result ≡ false → self.new ≡ self.old }
+    {
+        false
+    }
 
     /// Writes the bytes from an address on.
     fn write(&mut self, addr: u64, access: Access, bytes: &[u8]) -> Result<(), Fault>

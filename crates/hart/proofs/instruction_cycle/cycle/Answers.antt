@@ -30,7 +30,7 @@ returns-in-Scalar-clause-vectors g c = (
 pub returns-in-System-clause-vectors : goal.returns-in-System-clause-vectors
 returns-in-System-clause-vectors g c =
     let view = c.args.view.now in
-    let found : scan table c.in-Ok.word ≡ fetched (g.M.UserBytes.memory view.memory.now) view.scalar.now.pc = grind (arith, common_steps) in
+    let found : scan table c.in-Some.word ≡ fetched (g.M.UserBytes.memory view.memory.now) view.scalar.now.pc = grind (arith, common_steps) in
     subst (λ (o : Option Instr). Returns g.V.Vectors.ready g.V.Vectors.lent g.V.Vectors.back (touches o) (dirties c.args.limit o) (shown g.M.UserBytes.memory g.V.Vectors.lent view) view.vectors.now c.execute_system.new.vectors)
     found (c.execute_system.ensures.vectors c.args.limit view.policy)
 
