@@ -33,6 +33,17 @@ module _ (es : List Entry) (access : Access) (a n at : ℕ) (lies : LiesAt es ac
   pub lies_accessed : (frames : List ℕ) → can_access access (memory_of frames es) a n ≡ true
   lies_accessed frames = can_access_from access (memory_of frames es) a n (λ k less. is_allowed_in_page access frames es a k (omega (arith, lies.one_page)) ∙ lies_allowed frames)
 
+  -- and so do the first of them
+  pub lies_first : (k : ℕ) → k ≤ n → LiesAt es access a k at
+  lies_first k few = record {
+    entry = lies.entry;
+    there = lies.there;
+    permitted = lies.permitted;
+    place = lies.place;
+    one_page = omega (arith, lies.one_page);
+    fits = omega (arith, lies.fits);
+  }
+
   -- and in the frames
   pub lies_within : (size : ℕ) → FitIn es size → at + n ≤ size
   lies_within size fit = omega (arith, fit (a / page_size) lies.entry lies.there, lies.place, lies.one_page)

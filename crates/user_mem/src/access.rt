@@ -101,8 +101,17 @@ pub(crate) fn read_pages(
     Ok(())
 }
 
-/// Writes bytes from an address on, if they may be written and lie in a page that has its place. Answers whether they
-/// do.
+/// How many bytes from its address on a write of so many looks for in one page: eight for a number of any width, so
+/// that this is known before its width is.
+#[inline(always)]
+fn room_of(len: usize) -> usize
+    ensures { len ≤ result }
+{
+    if len < 8 { 8 } else { len }
+}
+
+/// Writes bytes from an address on, if they may be written and have room in a page that has its place. Answers whether
+/// they do.
 #[inline(always)]
 pub(crate) fn write_at_once(
     entries: &[Entry],
@@ -124,7 +133,8 @@ pub(crate) fn write_at_once(
     ensures unchanged { result ≡ false → frames.new ≡ frames.old }
     ensures size { length frames.new ≡ length frames.old }
 {
-    if let Some(at) = place_of(entries, translations, frames, access, addr, bytes.len()) {
+    let room = room_of(bytes.len());
+    if let Some(at) = place_of(entries, translations, frames, access, addr, room) {
         paste(frames, at, bytes);
         return true;
     }

@@ -1,11 +1,16 @@
 use Rattle.std.proofs.Common.{length}
 use Rattle.user_mem.proofs.RunLaws.{run_written, others_unwritten}
-use Rattle.user_mem.proofs.TranslationLaws.{lies_accessed, lies_allowed, lies_from}
+use Rattle.user_mem.proofs.TranslationLaws.{lies_accessed, lies_allowed, lies_first, lies_from}
 use Rattle.user_mem.proofs.access.write_at_once.Goals as goal
 
 pub returns-in-Some-clause-allowed : goal.returns-in-Some-clause-allowed
-returns-in-Some-clause-allowed c =
-    λ _. lies_accessed c.args.entries.now c.args.access c.args.addr (length c.args.bytes.now) c.in-Some.at c.in-Some.ensures.lies c.args.frames.now
+returns-in-Some-clause-allowed c = λ _.
+    let es = c.args.entries.now in
+    let access = c.args.access in
+    let a = c.args.addr in
+    let n = length c.args.bytes.now in
+    let at = c.in-Some.at in
+    lies_accessed es access a n at (lies_first es access a c.room_of-room.result at c.in-Some.ensures.lies n c.room_of-room.ensures) c.args.frames.now
 
 pub returns-in-Some-clause-value : goal.returns-in-Some-clause-value
 returns-in-Some-clause-value c = λ _.
@@ -14,7 +19,7 @@ returns-in-Some-clause-value c = λ _.
     let a = c.args.addr in
     let n = length c.args.bytes.now in
     let at = c.in-Some.at in
-    let lies = c.in-Some.ensures.lies in
+    let lies = lies_first es c.args.access a c.room_of-room.result at c.in-Some.ensures.lies n c.room_of-room.ensures in
     run_written c.args.access frames c.paste.new.target es a at c.args.bytes.now c.requires.separate (lies_allowed es c.args.access a n at lies frames) (lies_from es c.args.access a n at lies)
     lies.one_page c.paste.ensures.pasted c.paste.ensures.kept
 
@@ -25,5 +30,5 @@ returns-in-Some-clause-others c = λ other apart.
     let a = c.args.addr in
     let n = length c.args.bytes.now in
     let at = c.in-Some.at in
-    let lies = c.in-Some.ensures.lies in
+    let lies = lies_first es c.args.access a c.room_of-room.result at c.in-Some.ensures.lies n c.room_of-room.ensures in
     others_unwritten c.args.access frames c.paste.new.target es other a at n apart (lies_allowed es c.args.access a n at lies frames) (lies_from es c.args.access a n at lies) lies.one_page c.paste.ensures.kept
