@@ -219,6 +219,31 @@ async def test_a_program_that_cannot_be_had_for_a_while(tmp_path: pathlib.Path) 
     assert (tmp_path / "class" / "A.script").read_bytes() == room.session.script
 
 
+async def test_what_is_kept_at_the_end_is_of_one_moment(tmp_path: pathlib.Path) -> None:
+    """A server that ends while its clock grants slices keeps no number of lines with a digest of others."""
+    members, notes = Class(Store(tmp_path / "class", find_program()), 5.0), tmp_path / "class" / "A.json"
+    room = members.rooms["A"]
+    await room.lines(room.seats.users["1"], Lines("", [*LOOP, "go"], 0, []), [])
+    members.keep()
+    kept, process = notes.read_text(), room.session.process
+    assert process
+    os.kill(process, signal.SIGSTOP)
+    clock = asyncio.create_task(room.clock.run())
+    while not room.is_busy():
+        await asyncio.sleep(0.01)
+    clock.cancel()
+    await asyncio.sleep(0.1)
+    members.keep()
+    assert room.is_busy() and notes.read_text() == kept
+    os.kill(process, signal.SIGCONT)
+    with pytest.raises(asyncio.CancelledError):
+        await clock
+    members.keep()
+    told = json.loads(notes.read_text())
+    assert (told["lines"], told["answers"]) == (len(LOOP) + 2, room.session.digest)
+    members.end()
+
+
 def fill_the_disk() -> None:
     """Lets no file of this process grow beyond 2,000 bytes, as a disk does that is full."""
     resource.setrlimit(resource.RLIMIT_FSIZE, (2000, resource.RLIM_INFINITY))

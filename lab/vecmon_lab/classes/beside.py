@@ -34,6 +34,7 @@ class Beside:
             finally:
                 with contextlib.suppress(ProcessLookupError):
                     child.kill()
+                await child.wait()
         if child.returncode:
             last = complaint.decode("utf-8", "replace").strip().rpartition("\n")[2]
             raise LabError(last.partition("Error: ")[2] or last)

@@ -293,23 +293,15 @@ class Room:
             self.file, self.scripts = file, scripts
 
         async with self._lock:
-            begun = asyncio.get_running_loop().run_in_executor(self._thread, begin)
-            try:
-                await asyncio.shield(begun)
-            except asyncio.CancelledError:
-                await begun  # so that no notes are made meanwhile
-                raise
+            await self._in_thread(begin)
             for seat in (*self.seats.users.values(), self.seats.operator):
                 seat.used = 0
         self.changed(self.seats.names())
 
     async def _attend(self, seat: Seat) -> None:
         """Shows a program that runs, if somebody looks at it. One that runs in vain is stopped, with a sentence."""
-        now, is_watched, limit = (
-            asyncio.get_running_loop().time(),
-            seat.name in self.watched(),
-            self.clock.settings.limit,
-        )
+        now, limit = asyncio.get_running_loop().time(), self.clock.settings.limit
+        is_watched = seat.name in self.watched()
         seat.seen = now if is_watched or not seat.seen else seat.seen
         why = f"nobody looked at it for {UNSEEN_SECONDS:g} s" if now - seat.seen > UNSEEN_SECONDS else ""
         if seat.slices * self.session.quantum >= limit:
@@ -366,7 +358,7 @@ class Room:
                 self._look(work)
 
         try:
-            await loop.run_in_executor(self._thread, hop)
+            await self._in_thread(hop)
             self.down = ""
         except ReplayDiffers as error:
             self.stopped = f"machine {self.letter} was stopped, so that nothing goes on in doubt: {error}"
@@ -381,6 +373,14 @@ class Room:
                 self.seats.observe(line, answer, asker is not None and line[0] == asker.digit)
             self.seats.take(work.states)
             self.changed([self.letter, *self.seats.names()])
+
+    async def _in_thread(self, call: Callable[[], None]) -> None:
+        """Calls in the machine's thread. A caller who is cancelled waits for it, so that no notes are made meanwhile."""
+        begun = asyncio.get_running_loop().run_in_executor(self._thread, call)
+        try:
+            await asyncio.shield(begun)
+        finally:
+            await asyncio.wait([begun])
 
     def _take_output(self, work: _Work) -> None:
         """Takes what programs have put out that stand still now. One whose buffer was full goes on."""

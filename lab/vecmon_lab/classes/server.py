@@ -214,6 +214,7 @@ async def served(members: Class, doors: Iterable[socket.socket], names: set[str]
         await server.close()
         members.keep()
         members.end()
+        await asyncio.gather(*tasks, return_exceptions=True)
         await runner.cleanup()
         await asyncio.gather(*tasks, return_exceptions=True)  # so that none outlives its class
 
