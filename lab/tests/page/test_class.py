@@ -109,7 +109,8 @@ def test_pastes(sit: Sit, served: Served) -> None:
         *(f"set x5 {n:x}" for n in range(1, 99)),
     ]
     tab.run(paste, "line", "\r\n".join(lines))
-    assert tab.run("id('line').rows") == 8 and tab.run("id('log').childElementCount") == 0
+    rows = "Math.round(id('line').clientHeight / parseFloat(getComputedStyle(id('line')).lineHeight))"
+    assert tab.run(rows) == 8 and tab.run("id('log').childElementCount") == 0
     tab.keys("#line", Keys.ENTER)
     tab.wait("one(\"[data-edit='set x5']\")?.textContent === '62'")
     asked = tab.run("all('#log .asked').map((item) => item.textContent.slice(2))")
@@ -277,12 +278,12 @@ def test_values_are_changed_by_clicks_and_keys(sit: Sit) -> None:
     tab.command("peek 20000 16", "vset v1 " + "00" * 32)
     change("[data-edit='poke 20002']", "0aff")
     assert tab.text("tr[data-address='20000']").startswith("2000000 00 0a ff00")
-    tab.run("id('rows').value = 'all', id('rows').dispatchEvent(new Event('change'))")
+    tab.run("id('rows').value = 'all', id('rows').dispatchEvent(new Event('change', { bubbles: true }))")
     change("[data-edit='vset v1 32 3 hexadecimal']", "89abcdef")
     assert tab.text("[data-edit='vset v1 32 3 hexadecimal']").startswith("89abcdef")
-    tab.run("id('form').value = 'signed', id('form').dispatchEvent(new Event('change'))")
+    tab.run("id('form').value = 'signed', id('form').dispatchEvent(new Event('change', { bubbles: true }))")
     change("[data-edit='vset v1 32 0 signed']", "-2")
-    tab.run("id('form').value = '', id('form').dispatchEvent(new Event('change'))")
+    tab.run("id('form').value = '', id('form').dispatchEvent(new Event('change', { bubbles: true }))")
     assert tab.text("[data-edit='vset v1 32 0 hexadecimal']").startswith("fffffffe")
     assert tab.text("[data-edit='vset v1 32 3 hexadecimal']").startswith("89abcdef")
     tab.click("[data-edit='set x10']")

@@ -52,7 +52,7 @@ def test_who_is_stuck_stands_above(tabs: "Chrome", served: Served) -> None:
     seats = "all('#seats tr').map((row) => row.dataset.seat)"
     assert teacher.run(seats) == [f"{letter}{number}" for letter in "ABCD" for number in range(1, 9)]
     assert teacher.run("all('#seats tr').every((row) => row.offsetHeight < 30)")
-    assert teacher.run("one('.wide').scrollWidth <= one('.wide').clientWidth")
+    assert teacher.run("((box) => box.scrollWidth <= box.clientWidth)(one('.seats .scroll'))")
     tab.begin("vle32.v v1, (x1)")
     other.begin("addi x5, x5, 1")
     tab.click("#one")

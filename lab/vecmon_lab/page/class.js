@@ -1,8 +1,7 @@
 // A tab of the class: its code, what it was told, and whose page it is.
 
-import { ask } from "./ask.js";
 import { Connection } from "./connection.js";
-import { byId, put, say } from "./elements.js";
+import { ask, byId, put, say } from "./elements.js";
 import { patched } from "./patches.js";
 import { Student } from "./student.js";
 import { Teacher } from "./teacher.js";

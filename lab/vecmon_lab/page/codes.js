@@ -11,7 +11,6 @@ export class CodeField {
     this.shows = button("Code", `Code for ${whose}`, turn);
     const renew = button("New code", `New code for ${whose}`, () => ask({ ask: "renew", seat: name }));
     this.parts = [this.link, this.shows, " ", renew];
-    this.show("");
   }
 
   /** Shows a code with the address that it belongs to, or none. */
@@ -23,18 +22,12 @@ export class CodeField {
   }
 }
 
-/** Shows a sheet with a slip for each seat, in place of the page. */
-export function openSheet({ codes, pictures }, address, withName) {
-  const slips = Object.entries(codes).filter(([name]) => name !== "wall");
-  byId("slips").replaceChildren(...slips.map(([name, code]) => slip(withName(name), code, pictures[name], address)));
+/** Shows a sheet with a slip for each seat, in place of the page; without any it is closed, and nothing is left of it. */
+export function showSheet({ codes = {}, pictures } = {}, address = "", withName = undefined) {
+  const seats = Object.keys(codes).filter((name) => name !== "wall");
+  byId("slips").replaceChildren(...seats.map((name) => slip(withName(name), codes[name], pictures[name], address)));
   byId("sheet-says").hidden = address !== "";
-  document.body.classList.add("printing");
-}
-
-/** Closes the sheet; nothing is left of it. */
-export function closeSheet() {
-  document.body.classList.remove("printing");
-  byId("slips").replaceChildren();
+  document.body.classList.toggle("printing", seats.length > 0);
 }
 
 function slip(name, code, picture, address) {

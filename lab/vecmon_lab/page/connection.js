@@ -4,7 +4,14 @@ import { offerFile } from "./elements.js";
 
 const [FIRST_PAUSE, LONGEST_PAUSE] = [500, 15000]; // ms
 const LONGEST_SILENCE = 60000; // until a request without an answer tells that the connection is broken
+const NAMES = { lines: "slices", source: "the source", again: "the source", name: "the name", shoulder: "", wall: "", draft: "" };
 const ENDINGS = { 4403: "This code isn't valid, or not any more.", 4429: "This seat is open in too many tabs." };
+
+/** What a request is called where it is lost; "" where whoever asked asks again. */
+function nameOf({ ask, do: lines = [] }) {
+  const some = lines.length > 4 ? `${lines[0]} and ${lines.length - 1} lines more` : lines.join(", ");
+  return some || (NAMES[ask] ?? ask);
+}
 
 export class Connection {
   /** told: is given each message; gone: a sentence while the server is gone, or what was lost; ended: why it ended. */
@@ -37,14 +44,15 @@ export class Connection {
     done(message);
   }
 
-  /** What the server answers to a request, which `words` name; null where there is no answer, and then that is said. */
-  ask(request, words) {
+  /** What the server answers to a request; null where there is no answer, and then that is said. */
+  ask(request) {
+    const words = nameOf(request);
     if (!this.isReady) {
       this.lose([], [words]);
       this.gone(`The class isn't there now. ${this.lost}`);
       return null;
     }
-    if (this.lost && !["shoulder", "wall", "draft"].includes(request.ask)) this.gone((this.lost = ""));
+    if (this.lost && words) this.gone((this.lost = ""));
     return new Promise((done) => {
       this.waiting.push({ request: { id: ++this.number, ...request }, words, done });
       if (this.waiting.length === 1) this.next();
@@ -74,7 +82,7 @@ export class Connection {
     this.isReady = false;
     const lost = this.waiting.splice(0);
     const [underWay, ...unsent] = lost.map(({ words }) => words);
-    this.lose([underWay].filter(Boolean), unsent.filter(Boolean)); // what has no words is sent again by whoever asks for it
+    this.lose([underWay], unsent);
     lost.forEach(({ done }) => done(null));
     if (ENDINGS[reason]) return this.ended(ENDINGS[reason]);
     setTimeout(() => this.open(), this.pause * (0.75 + Math.random() / 2));
@@ -83,7 +91,8 @@ export class Connection {
   }
 
   /** Takes up what was under way, and what wasn't sent: no request is sent twice. */
-  lose(underWay, unsent) {
+  lose(...lost) {
+    const [underWay, unsent] = lost.map((names) => names.filter(Boolean));
     const told = underWay.map((words) => `${words} was under way: the transcript shows whether it was carried out.`);
     if (unsent.length) told.push(`${unsent.join(", ")} ${unsent.length > 1 ? "weren't" : "wasn't"} sent.`);
     this.lost = [this.lost, ...told].join(" ").trim();

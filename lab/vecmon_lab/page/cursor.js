@@ -5,19 +5,6 @@ import { byId, put } from "./elements.js";
 const STEPS = { ArrowUp: [-1, 0], ArrowDown: [1, 0], ArrowLeft: [0, -1], ArrowRight: [0, 1] };
 const PANELS = ["listing", "elements", "registers", "bytes"];
 
-/** What can be changed in a box: the rows that have some. */
-function rowsOf(box) {
-  const rows = [...box.querySelectorAll("tr")];
-  const own = rows.map((row) => (row.dataset.edit ? [row] : [...row.querySelectorAll("[data-edit]")]));
-  return own.filter((places) => places.length);
-}
-
-/** That of some places which is nearest to another one's column. */
-function nearest(places, other) {
-  const distance = (place) => Math.abs(place.getBoundingClientRect().left - other.getBoundingClientRect().left);
-  return places.reduce((best, each) => (distance(each) < distance(best) ? each : best));
-}
-
 export class Cursor {
   /** change: is given the element that Enter is pressed at. */
   constructor(change) {
@@ -30,7 +17,6 @@ export class Cursor {
 
   /** What keys have come to in a box, if they have. */
   place(box) {
-    if (!this.at[box.id]) return undefined;
     return [...box.querySelectorAll("[data-edit]")].find(({ dataset }) => dataset.edit === this.at[box.id]);
   }
 
@@ -41,23 +27,24 @@ export class Cursor {
       event.preventDefault();
       this.change(place);
     }
-    const rows = rowsOf(box);
-    if (!STEPS[event.key] || !rows.length) return;
+    const places = [...box.querySelectorAll("[data-edit]")];
+    if (!STEPS[event.key] || !places.length) return;
     event.preventDefault();
-    const first = box.querySelector("tr.next[data-edit]") ?? rows[0][0];
-    const next = place ? this.beside(rows, place, STEPS[event.key]) : first;
+    const first = box.querySelector("tr.next[data-edit]") ?? places[0];
+    const next = place ? this.beside(places, place, STEPS[event.key]) : first;
     this.at[box.id] = next.dataset.edit;
     this.mark(box);
     put(byId("at"), next.title || `${next.dataset.edit}: ${next.innerText}`);
     next.scrollIntoView({ block: "nearest", inline: "nearest" });
   }
 
-  /** The place so many rows or places on; where there is none, the same. */
-  beside(rows, place, [down, right]) {
-    const row = rows.findIndex((places) => places.includes(place));
-    if (down) return rows[row + down] ? nearest(rows[row + down], place) : place;
-    const all = rows.flat();
-    return all[all.indexOf(place) + right] ?? place;
+  /** The next place in a direction: of those above or below, the nearest row's in the same column. */
+  beside(places, place, [down, right]) {
+    if (right) return places[places.indexOf(place) + right] ?? place;
+    const boxes = new Map(places.map((each) => [each, each.getBoundingClientRect()]));
+    const [below, beside] = ["top", "left"].map((side) => (each) => boxes.get(each)[side] - boxes.get(place)[side]);
+    const far = (each) => Math.abs(below(each)) * 1000 + Math.abs(beside(each));
+    return places.filter((each) => below(each) * down > 1).sort((one, other) => far(one) - far(other))[0] ?? place;
   }
 
   /** Marks the place in its box again, whose rows are made anew. */

@@ -2,15 +2,14 @@
 
 import { byId, make } from "./elements.js";
 import { Past } from "./past.js";
-import { showStep, showStop } from "./stage.js";
 import { addToLog, toldEntry } from "./transcript.js";
-import { paintState, whenFormsChange } from "./view.js";
+import { paintState, showStep, showStop, usedIn } from "./view.js";
 
 /** A machine's state, painted where it changed: at its seat, and for a teacher who looks over the shoulder. */
 export class Desk {
   constructor() {
-    whenFormsChange(() => this.paint());
-    this.past = new Past(() => this.paintMoment());
+    byId("machine").addEventListener("change", () => this.paint());
+    this.past = new Past(() => (this.paint(), byId("log").scrollTo(0, byId("log").scrollHeight))); // with lines up to it
     this.state = this.before = { run: "absent" };
     this.used = new Set(); // vector registers that weren't zero since the machine began
     this.refusal = ""; // of what was sent last
@@ -25,15 +24,9 @@ export class Desk {
     this.before = isAnew ? state : this.state;
     this.state = state;
     if (isAnew || !state.v) this.used = new Set();
-    for (const [number, bytes] of Object.entries(state.v ?? {})) if (/[^0]/.test(bytes)) this.used.add(Number(number));
+    usedIn(state).forEach((number) => this.used.add(number));
     this.past.add({ state, before: this.before, used: this.used, entry: byId("log").lastElementChild });
     this.paint();
-  }
-
-  /** Paints another moment, with the transcript up to it. */
-  paintMoment() {
-    this.paint();
-    byId("log").scrollTop = byId("log").scrollHeight;
   }
 
   /** Paints it, or the moment of the past that is shown. A machine that runs may never have been looked at. */
@@ -47,8 +40,7 @@ export class Desk {
 
   showStage() {
     const state = this.past.moment?.state ?? this.state;
-    const absent = make("small", "", "there is no machine here yet");
-    showStep(state, ...(state.run === "absent" ? [absent] : []));
+    showStep(state, ...(state.run === "absent" ? [make("small", "", "there is no machine here yet")] : []));
     showStop([this.past.moment ? "" : this.refusal, state.stop].filter(Boolean).join(" "));
   }
 }

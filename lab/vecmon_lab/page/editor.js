@@ -19,14 +19,14 @@ export class Editor {
     field.replaceWith(box);
     box.append(make("div", "text", colours, field, choices));
     this.state = { text: field.value, start: 0, end: 0 };
-    this.offer([]);
+    this.offer();
     const heard = {
       input: (event) => this.typed(event),
       beforeinput: (event) => /^history/.test(event.inputType) && this.turn(event, event.inputType === "historyUndo"),
       keydown: (event) => this.pressed(event),
       scroll: () => this.paint(),
-      blur: () => this.offer([]),
-      pointerdown: () => this.offer([]),
+      blur: () => this.offer(),
+      pointerdown: () => this.offer(),
       focus: () => (this.isLeaving = true), // so Tab passes by, until something is typed or clicked
       pointerup: () => (this.isLeaving = false),
     };
@@ -34,13 +34,9 @@ export class Editor {
     new ResizeObserver(() => this.paint()).observe(field);
   }
 
-  get text() {
-    return this.field.value;
-  }
-
   /** Puts in another text, which can be undone. */
   put(text) {
-    if (text !== this.text) this.edit(0, this.text.length, text, 0);
+    if (text !== this.field.value) this.edit(0, this.field.value.length, text, 0);
   }
 
   /** Replaces a part of the text, and selects some of it. */
@@ -63,14 +59,14 @@ export class Editor {
   took(from, to) {
     if (from !== undefined) this.field.setSelectionRange(from, to);
     if (from !== undefined) this.kind = "";
-    this.state = { text: this.text, start: this.field.selectionStart, end: this.field.selectionEnd };
-    this.offer([]);
+    this.state = { text: this.field.value, start: this.field.selectionStart, end: this.field.selectionEnd };
+    this.offer();
     this.paint();
     this.changed();
   }
 
   typed({ inputType, data, timeStamp }) {
-    if (this.text === this.state.text) return; // an event more of the same paste
+    if (this.field.value === this.state.text) return; // an event more of the same paste
     const isLetter = data?.length === 1;
     if (inputType !== this.kind || timeStamp - this.time > TOGETHER) this.remember();
     Object.assign(this, { kind: isLetter || inputType?.startsWith("delete") ? inputType : "", time: timeStamp });
@@ -108,24 +104,24 @@ export class Editor {
       arrowup: () => this.choose(-1),
     }[key];
     if (does && does() !== false) event.preventDefault();
-    else if (event.key.length > 1) this.offer([]);
+    else if (event.key.length > 1) this.offer();
   }
 
   /** Closes the names to choose; where there are none, Tab leaves the field next. */
   escape() {
     this.isLeaving = !this.names.length;
-    this.offer([]);
+    this.offer();
     return !this.isLeaving;
   }
 
   /** Where the line of a place begins. */
   lineStart(at) {
-    return this.text.lastIndexOf("\n", at - 1) + 1;
+    return this.field.value.lastIndexOf("\n", at - 1) + 1;
   }
 
   breakLine() {
     const { selectionStart: start, selectionEnd: end } = this.field;
-    const line = this.text.slice(this.lineStart(start), start);
+    const line = this.field.value.slice(this.lineStart(start), start);
     const indent = /^\s*/.exec(line)[0] || (/^[\w.$]+:/.test(line) ? " ".repeat(INDENT) : "");
     this.edit(start, end, `\n${indent}`);
   }
@@ -134,12 +130,11 @@ export class Editor {
   indent(isBack) {
     const { selectionStart: start, selectionEnd: end } = this.field;
     const first = this.lineStart(start);
-    const isSelected = this.text.slice(start, end).includes("\n");
-    if (!isBack && !isSelected) {
-      return this.edit(start, end, " ".repeat(INDENT - (columnOf(this.text.slice(first, start)) % INDENT)));
-    }
-    const last = `${this.text}\n`.indexOf("\n", isSelected ? end - 1 : end);
-    const lines = this.text.slice(first, last).split("\n");
+    const isSelected = this.field.value.slice(start, end).includes("\n");
+    const column = columnOf(this.field.value.slice(first, start));
+    if (!isBack && !isSelected) return this.edit(start, end, " ".repeat(INDENT - (column % INDENT)));
+    const last = `${this.field.value}\n`.indexOf("\n", isSelected ? end - 1 : end);
+    const lines = this.field.value.slice(first, last).split("\n");
     const moved = lines.map((line) => (isBack ? line.replace(/^(\t| {1,8})/, "") : line && " ".repeat(INDENT) + line)).join("\n");
     const caret = Math.max(first, start + moved.length - (last - first));
     return this.edit(first, last, moved, ...(isSelected ? [first, first + moved.length] : [caret]));
@@ -147,19 +142,18 @@ export class Editor {
 
   /** Offers names that go on from the word before the caret, if it has so many letters. */
   suggest(least) {
-    const { word, names } = choicesAt(this.text, this.field.selectionEnd, least);
-    this.offer(names, word);
+    this.offer(choicesAt(this.field.value, this.field.selectionEnd, least));
   }
 
   /** Shows names below the word, or above it in the lower half. */
-  offer(names, word = "") {
+  offer({ names = [], word = "" } = {}) {
     const { field, choices } = this;
     Object.assign(this, { names, word, chosen: -1 });
     choices.hidden = !names.length;
     choices.replaceChildren(...names.map(([name, form]) => make("li", "", make("b", "", name), form.slice(name.length))));
     [...choices.children].forEach((item, place) => (item.onpointerdown = (event) => (event.preventDefault(), this.take(place))));
     if (!names.length) return;
-    const before = this.text.slice(0, field.selectionEnd - word.length);
+    const before = this.field.value.slice(0, field.selectionEnd - word.length);
     const column = columnOf(before.slice(this.lineStart(before.length)));
     choices.style.left = `calc(${column}ch + 0.6rem - ${field.scrollLeft}px)`;
     choices.style.top = `calc(${before.split("\n").length * 1.7 + 0.4}rem - ${field.scrollTop}px)`;
@@ -183,7 +177,7 @@ export class Editor {
   paint() {
     const { field, numbers, colours } = this;
     if (!field.clientHeight) return;
-    const lines = this.text.split("\n");
+    const lines = this.field.value.split("\n");
     if (lines.length !== this.count) numbers.textContent = lines.map((_, place) => place + 1).join("\n");
     this.count = lines.length;
     const height = parseFloat(getComputedStyle(field).lineHeight);

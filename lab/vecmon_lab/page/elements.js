@@ -37,6 +37,25 @@ export function put(element, text, contents = [text]) {
   if (element.textContent !== text.replaceAll("`", "")) element.replaceChildren(...contents);
 }
 
+/** Asks in a dialog, where something would be lost, and carries that out where the answer is yes. */
+export function ask(question, yes, carryOut) {
+  put(byId("question"), question);
+  put(byId("yes"), yes);
+  byId("yes").onclick = () => (byId("ask").close(), carryOut());
+  byId("no").onclick = () => byId("ask").close();
+  byId("ask").showModal();
+}
+
+/** Presses the button in sight whose title names a key, as `(Shift F8)`; in the editor, where the key is pressed there. */
+export function pressNamed(event, mayPress = true) {
+  const held = `${event.ctrlKey || event.metaKey ? "Ctrl " : ""}${event.shiftKey ? "Shift " : ""}`;
+  const own = event.key?.length > 1 && document.querySelector(`button[title$="(${held}${event.key})"]`);
+  if (!own || !own.checkVisibility() || event.defaultPrevented || document.querySelector("dialog[open]")) return;
+  if ((event.key === "Escape" && own.disabled) || own.closest("#editor")?.contains(event.target) === false) return;
+  event.preventDefault();
+  if (mayPress) own.click();
+}
+
 /** Shows a sentence in an element, or hides it. */
 export function say(id, words) {
   put(byId(id), words);

@@ -2,9 +2,8 @@
 
 import { byId, make, prose, put } from "./elements.js";
 import { patched } from "./patches.js";
-import { showStep, showStop } from "./stage.js";
 import { STOP_LINE, entryParts, logEntry } from "./transcript.js";
-import { paintState, whenFormsChange } from "./view.js";
+import { paintState, showStep, showStop, usedIn } from "./view.js";
 
 const ADDRESS_DELAY = 300; // ms: a browser takes only so many new addresses in a time
 
@@ -12,29 +11,21 @@ class Lesson {
   constructor({ frames, labels, lines }) {
     Object.assign(this, { frames, labels, lines, states: [], user: "" }); // user: chosen to be shown; else it is the line's
     document.body.classList.toggle("sourced", Object.keys(lines).length > 0);
-    whenFormsChange(() => this.show(this.place));
+    byId("machine").addEventListener("change", () => this.show(this.place));
     let states = {};
     for (const frame of frames) this.states.push((states = patched(states, frame.states)));
     this.entries = frames.flatMap((frame) => frame.log);
     this.users = Object.keys(states);
-    this.used = Object.fromEntries(this.users.map((user) => [user, this.usedRegisters(user)]));
+    const usedBy = (user) => new Set(this.states.flatMap((states) => usedIn(states[user]))); // in some frame
+    this.used = Object.fromEntries(this.users.map((user) => [user, usedBy(user)]));
     byId("sentence").hidden = !frames.some((frame) => frame.note);
     this.listen();
     this.show(Number(location.hash.slice(1) || 1) - 1);
   }
 
-  /** The vector registers of a user that aren't zero in some frame. */
-  usedRegisters(user) {
-    const registers = this.states.flatMap((states) => Object.entries(states[user]?.v ?? {}));
-    return new Set(registers.filter(([, bytes]) => /[^0]/.test(bytes)).map(([number]) => Number(number)));
-  }
-
   listen() {
-    const go = (id, place) => byId(id).addEventListener("click", () => this.show(place()));
-    go("first", () => 0);
-    go("back", () => this.place - 1);
-    go("next", () => this.place + 1);
-    go("last", () => this.frames.length - 1);
+    const places = { first: () => 0, back: () => this.place - 1, next: () => this.place + 1, last: () => Infinity };
+    for (const [id, place] of Object.entries(places)) byId(id).addEventListener("click", () => this.show(place()));
     byId("place").max = this.frames.length - 1;
     byId("place").addEventListener("input", () => this.show(Number(byId("place").value)));
     document.addEventListener("keydown", (event) => this.pressed(event));
@@ -79,8 +70,7 @@ class Lesson {
   showPlace(user, states) {
     const count = `${this.place + 1} of ${this.frames.length}`;
     byId("count").textContent = count;
-    byId("place").value = this.place;
-    byId("place").setAttribute("aria-valuetext", `frame ${count}`);
+    Object.assign(byId("place"), { value: this.place, ariaValueText: `frame ${count}` });
     byId("first").disabled = byId("back").disabled = this.place === 0;
     byId("last").disabled = byId("next").disabled = this.place === this.frames.length - 1;
     for (const button of byId("users").children) {
@@ -95,10 +85,9 @@ class Lesson {
   showStage(frame, state, user, states) {
     const note = this.frames.slice(0, this.place + 1).findLast((each) => each.note)?.note ?? "";
     put(byId("sentence"), note, prose(note));
-    const words = frame.log.map((_, place) => this.entryWords(frame.log, place, states)).filter(Boolean).join(" ");
-    showStop(words);
+    showStop(frame.log.map((_, place) => this.entryWords(frame.log, place, states)).filter(Boolean).join(" "));
     const more = frame.more ? `, and ${frame.more} line${frame.more > 1 ? "s" : ""} more` : "";
-    const parts = frame.line ? [make("span", "line", frame.line, make("small", "", more))] : [];
+    const parts = frame.line ? [make("span", "", frame.line, make("small", "", more))] : [];
     const remark = (text) => parts.push(make("small", "", text));
     if (frame.line && user !== frame.line[0] && this.users.length > 1) remark(`shown: user ${user}`);
     if (state.run === "absent") remark(`user ${user} isn't there`);
@@ -122,8 +111,7 @@ class Lesson {
     const end = this.frames.slice(0, this.place + 1).reduce((sum, frame) => sum + frame.log.length, 0);
     while (log.childElementCount > end) log.lastChild.remove();
     log.append(...this.entries.slice(log.childElementCount, end).map((entry) => logEntry(entry)));
-    log.querySelectorAll(".current").forEach((item) => item.classList.remove("current"));
-    [...log.children].slice(end - current).forEach((item) => item.classList.add("current"));
+    [...log.children].forEach((item, place) => item.classList.toggle("current", place >= end - current));
   }
 }
 

@@ -5,7 +5,6 @@ import { byId } from "./elements.js";
 const MOST_LINES = 4096; // at once
 const MOST_TOGETHER = 64; // in a request
 const MOST_CHARACTERS = 1022; // of a line
-const MOST_ROWS = 8; // of the field
 
 /** Why lines aren't sent, in a sentence; "" where they are. */
 export function unfitLines(lines) {
@@ -15,21 +14,17 @@ export function unfitLines(lines) {
     const which = lines.length > 1 ? `line ${place + 1}` : "the line";
     const odd = /[^ -~]/u.exec(line);
     if (odd) return told(`Character ${odd.index + 1} of ${which}, \`${odd[0]}\`, isn't printable ASCII`);
-    const most = MOST_CHARACTERS;
-    if (line.length > most) return told(`${line.length} characters are in ${which}, and at most ${most} may be`);
+    const much = `${line.length} characters are in ${which}, and at most ${MOST_CHARACTERS} may be`;
+    if (line.length > MOST_CHARACTERS) return told(much);
   }
   return "";
 }
 
-/** Lines in parts, each for a request. */
-export const inParts = (lines) =>
-  Array.from({ length: Math.ceil(lines.length / MOST_TOGETHER) }, (_, place) =>
-    lines.slice(place * MOST_TOGETHER, (place + 1) * MOST_TOGETHER),
-  );
-
-/** What some lines are called. */
-export const nameOf = (lines) =>
-  lines.length > 4 ? `${lines[0]} and ${lines.length - 1} lines more` : lines.join(", ");
+/** The requests that carry lines out, of so many each. */
+export function requestsOf(lines) {
+  const parts = Array.from({ length: Math.ceil(lines.length / MOST_TOGETHER) }, (_, place) => place * MOST_TOGETHER);
+  return parts.map((first) => ({ ask: "lines", do: lines.slice(first, first + MOST_TOGETHER) }));
+}
 
 export class LineField {
   /** carryOut: is given lines that aren't empty, without those that begin with `#`. */
@@ -37,23 +32,12 @@ export class LineField {
     Object.assign(this, { field: byId(id), carryOut, past: [], place: 0 }); // entries of before, and one among them
     this.field.form.addEventListener("submit", () => this.enter());
     this.field.addEventListener("keydown", (event) => this.pressed(event));
-    this.field.addEventListener("input", () => this.fit());
-  }
-
-  fit() {
-    this.field.rows = Math.min(MOST_ROWS, this.field.value.split("\n").length);
-  }
-
-  put(text) {
-    this.field.value = text;
-    this.fit();
   }
 
   enter() {
     const entry = this.field.value.trim();
-    const lines = entry.split("\n").map((line) => line.trim());
-    const own = lines.filter((line) => line && !line.startsWith("#"));
-    this.put("");
+    const own = entry.split("\n").map((line) => line.trim()).filter((line) => line && !line.startsWith("#"));
+    this.field.value = "";
     if (!own.length) return;
     this.past = [...this.past.filter((each) => each !== entry), entry];
     this.place = this.past.length;
@@ -64,12 +48,12 @@ export class LineField {
     const { value, selectionStart: at } = this.field;
     if (event.key === "Enter" && !event.shiftKey && !event.isComposing) {
       event.preventDefault();
-      return this.field.form.requestSubmit();
+      this.field.form.requestSubmit();
     }
     const step = { ArrowUp: -1, ArrowDown: 1 }[event.key];
-    if (!step || (step < 0 ? value.slice(0, at) : value.slice(at)).includes("\n")) return undefined;
+    if (!step || (step < 0 ? value.slice(0, at) : value.slice(at)).includes("\n")) return;
     event.preventDefault();
     this.place = Math.min(this.past.length, Math.max(0, this.place + step));
-    return this.put(this.past[this.place] ?? "");
+    this.field.value = this.past[this.place] ?? "";
   }
 }

@@ -28,9 +28,8 @@ function memoryRow(address, digits, digitsBefore) {
     span.dataset.edit = `poke ${(BigInt("0x" + address) + BigInt(place)).toString(16)}`;
     return span;
   });
-  const groups = [0, 4, 8, 12].map((first) => {
-    return make("td", "", ...spans.slice(first, first + 4).flatMap((span, place) => (place ? [" ", span] : [span])));
-  });
+  const separated = (some) => some.flatMap((span, place) => (place ? [" ", span] : [span]));
+  const groups = [0, 4, 8, 12].map((first) => make("td", "", ...separated(spans.slice(first, first + 4))));
   const text = bytes.map((byte) => (/[2-6].|7[0-9a-e]/.test(byte) ? String.fromCharCode(parseInt(byte, 16)) : "·"));
   const row = make("tr", "", header("row", address), ...groups, make("td", "text", text.join("")));
   row.dataset.address = address;

@@ -17,15 +17,6 @@ export class Past {
     on("forth", "click", () => (this.place ?? this.end) + 1);
     on("now", "click", () => this.end);
     on("moment", "input", () => Number(byId("moment").value));
-    document.addEventListener("keydown", (event) => this.pressed(event));
-  }
-
-  pressed(event) {
-    const key = `${event.shiftKey ? "Shift " : ""}${event.key}`;
-    const id = { F7: "backward", "Shift F7": "forth", Escape: "now" }[key];
-    if (!id || event.defaultPrevented || (id === "now" && !this.moment)) return;
-    event.preventDefault();
-    byId(id).click();
   }
 
   /** The moment that is shown; undefined now. */
@@ -67,8 +58,8 @@ export class Past {
     const [isPast, back] = [this.place !== null, this.end - place];
     byId("backward").disabled = place === 0;
     byId("forth").disabled = byId("now").disabled = !isPast;
-    Object.assign(byId("moment"), { max: this.end, value: place, disabled: this.end === 0 });
-    byId("moment").setAttribute("aria-valuetext", isPast ? `${back} before now` : "now");
+    const ariaValueText = isPast ? `${back} before now` : "now";
+    Object.assign(byId("moment"), { max: this.end, value: place, disabled: this.end === 0, ariaValueText });
     say("says-past", isPast ? `This is the past, ${back === 1 ? "one moment" : `${back} moments`} ago.` : "");
     byId("controls").disabled = isPast;
     document.body.classList.toggle("past", isPast);

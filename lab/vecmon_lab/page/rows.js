@@ -100,9 +100,6 @@ export class RowTable {
 
   /** The room of so many rows that aren't made. */
   space(count) {
-    const row = make("tr", "space");
-    row.style.height = `${count * this.height}px`;
-    row.hidden = count === 0;
-    return row;
+    return Object.assign(make("tr", ""), { hidden: count === 0, style: `height: ${count * this.height}px` });
   }
 }

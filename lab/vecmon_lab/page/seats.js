@@ -1,7 +1,6 @@
 // The table of a class's seats: how each one stands, and for how long; who is stuck stands at its top.
 
-import { ask } from "./ask.js";
-import { button, byId, header, make, put } from "./elements.js";
+import { ask, button, byId, header, make, put } from "./elements.js";
 
 const AGES_EVERY = 5000; // ms
 
@@ -30,8 +29,8 @@ class SeatRow {
     const loss = `Registers, memory and breakpoints of seat ${seat} would be lost. Its source is kept.`;
     const resets = () => ask(loss, "Reset", () => teacher.request({ ask: "reset", seat }));
     const reset = make("td", "", button("Reset", `Reset seat ${seat}`, resets));
-    const row = [header("row", seat), ...controls, make("td", "", this.run), this.stands, this.line, this.used, reset];
-    this.row = make("tr", "", ...row);
+    const told = [make("td", "", this.run), this.stands, this.line, this.used];
+    this.row = make("tr", "", header("row", seat), ...controls, ...told, reset);
     this.row.dataset.seat = seat;
   }
 

@@ -16,26 +16,17 @@ export function operandGroups(operands, type) {
   });
 }
 
-let known = { operands: null, vtype: "", shapes: new Map() }; // of the listing that was shown last
-
 /**
  * How each register that a program names is best shown: as the instruction that is told of takes it, else as all
  * instructions take it, if they agree. A map from a register to { width, group, mask }.
  */
-export function registerShapes({ operands, vtype }, told, type) {
-  if (operands !== known.operands || vtype !== known.vtype) {
-    known = { operands, vtype, shapes: agreedShapes(operandGroups(Object.values(operands).flat(), type), type) };
-  }
-  return new Map([...known.shapes, ...told.map((operand) => [operand.register, operand])]);
-}
-
-function agreedShapes(operands, type) {
+export function registerShapes({ operands }, told, type) {
   const shapes = new Map();
   const plain = { width: type.sew, group: Math.max(1, type.lmul), mask: false };
-  for (const operand of operands) {
+  for (const operand of operandGroups(Object.values(operands).flat(), type)) {
     const other = shapes.get(operand.register) ?? operand;
     const agree = other.width === operand.width && other.mask === operand.mask;
     shapes.set(operand.register, agree ? operand : plain);
   }
-  return shapes;
+  return new Map([...shapes, ...told.map((operand) => [operand.register, operand])]);
 }

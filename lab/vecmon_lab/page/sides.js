@@ -4,20 +4,16 @@ import { byId } from "./elements.js";
 
 const PANELS = { listing: "listing", source: "editor", reference: "reference" };
 
-export class Sides {
-  /** names: of the sides that there are; chosen: is called with the name of one that is shown. */
-  constructor(names, chosen = () => {}) {
-    Object.assign(this, { names, chosen });
-    byId("program-title").after(byId("sides"));
-    byId("listing").before(...names.slice(1).map((name) => byId(PANELS[name])));
-    for (const name of names) byId(`show-${name}`).addEventListener("click", () => this.show(name));
-  }
-
-  show(shown) {
-    for (const name of this.names) {
+/** Lets one choose among those sides that there are; what it answers shows the side of a name. */
+export function chooseSides(names) {
+  const show = (shown) => {
+    for (const name of names) {
       byId(PANELS[name]).hidden = name !== shown;
       byId(`show-${name}`).ariaPressed = `${name === shown}`;
     }
-    this.chosen(shown);
-  }
+  };
+  byId("program-title").after(byId("sides"));
+  byId("listing").before(...names.slice(1).map((name) => byId(PANELS[name])));
+  for (const name of names) byId(`show-${name}`).addEventListener("click", () => show(name));
+  return show;
 }

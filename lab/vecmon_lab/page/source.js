@@ -15,15 +15,14 @@ export class Source {
     Object.assign(this, { editor, connection, told: null, sent: new Set(), isTyped: false }); // sent: texts under way
     document.addEventListener("visibilitychange", () => this.send());
     byId("versions").addEventListener("change", () => this.showVersion(Number(byId("versions").value)));
-    byId("save").addEventListener("click", () => offerFile(`${this.seat}.s`, new Blob([editor.text])));
+    byId("save").addEventListener("click", () => offerFile(`${this.seat}.s`, new Blob([editor.field.value])));
   }
 
   /** Takes up what was typed. */
   typed() {
     this.isTyped = true;
     clearTimeout(this.timer);
-    this.timer = null;
-    this.sendLater();
+    this.timer = setTimeout(() => this.send(), PAUSE);
   }
 
   sendLater() {
@@ -34,10 +33,10 @@ export class Source {
   async send() {
     clearTimeout(this.timer);
     this.timer = null;
-    const { text } = this.editor;
+    const text = this.editor.field.value;
     if (!this.isTyped || text.length > MOST_LETTERS || text === this.told?.text || !this.connection.isReady) return;
     if (this.sent.size) return void this.sendLater();
-    await this.bring(text, () => this.connection.ask({ ask: "draft", text, number: this.told.number }, ""));
+    await this.bring(text, () => this.connection.ask({ ask: "draft", text, number: this.told.number }));
   }
 
   /** Does what brings a text to the server. */
@@ -59,10 +58,10 @@ export class Source {
     }
     const isOwn = (text) => text === told.text || this.sent.has(text);
     if (source.number > told.number && !isOwn(source.text)) {
-      const late = { ask: "draft", text: editor.text, number: told.number };
-      if (this.isTyped && !isOwn(editor.text)) this.connection.ask(late, ""); // which becomes a version
+      const late = { ask: "draft", text: editor.field.value, number: told.number };
+      if (this.isTyped && !isOwn(editor.field.value)) this.connection.ask(late); // which becomes a version
       editor.put(source.text);
-    } else if (this.isTyped && source.text !== editor.text) this.sendLater();
+    } else if (this.isTyped && source.text !== editor.field.value) this.sendLater();
   }
 
   listVersions(versions) {
@@ -74,7 +73,7 @@ export class Source {
   /** Puts an earlier version into the editor, where undo takes it back. */
   async showVersion(number) {
     byId("versions").selectedIndex = 0;
-    const answer = await this.connection.ask({ ask: "version", number }, "a version of the source");
+    const answer = await this.connection.ask({ ask: "version", number });
     if (answer?.text !== undefined) this.editor.put(answer.text);
   }
 }

@@ -1,13 +1,12 @@
 // A student's page: what is done at the desk becomes lines.
 
-import { ask } from "./ask.js";
 import { Cursor } from "./cursor.js";
 import { Desk } from "./desk.js";
 import { Editor } from "./editor.js";
-import { byId, make, put, say } from "./elements.js";
-import { LineField, inParts, nameOf, unfitLines } from "./lines.js";
+import { ask, button, byId, make, pressNamed, put, say } from "./elements.js";
+import { LineField, requestsOf, unfitLines } from "./lines.js";
 import { entryText, showReference, tellName } from "./reference.js";
-import { Sides } from "./sides.js";
+import { chooseSides } from "./sides.js";
 import { MOST_LETTERS, Source } from "./source.js";
 
 const MOST_WAITING = 5; // requests: keys that repeat faster are left out
@@ -39,10 +38,13 @@ export class Student {
     this.desk = new Desk();
     this.side = "listing"; // what is shown since one entered, or left
     byId("log").after(byId("command"), byId("hint"));
-    this.sides = new Sides(["listing", "source", "reference"], (side) => side === "reference" && this.refer(""));
+    this.showSide = chooseSides(["listing", "source", "reference"]);
     this.source = new Source(new Editor(byId("source"), () => this.source.typed()), connection);
     byId("foot").hidden = false;
     this.listen();
+    const name = sessionStorage.getItem("name"); // that was typed with the code
+    sessionStorage.removeItem("name");
+    if (name) this.request({ ask: "name", name });
   }
 
   listen() {
@@ -52,17 +54,19 @@ export class Student {
     new LineField("line", (lines) => this.enter(lines));
     new Cursor((place) => this.edit(place));
     on("change", "submit", () => this.change());
-    on("slice", "click", () => this.request({ ask: "lines", slices: 100 }, "slices"));
+    on("slice", "click", () => this.request({ ask: "lines", slices: 100 }));
     on("again", "click", () => this.assemble({ ask: "again" }));
     on("new", "click", () => this.beginAnew("New machine", NEW_MACHINE));
     on("images", "change", () => this.beginAnew("Load", [`load ${byId("images").value}`]));
     on("assemble", "click", () => this.write());
-    on("name", "change", () => this.request({ ask: "name", name: byId("name").value }, "the name"));
+    on("name", "change", () => this.request({ ask: "name", name: byId("name").value }));
     on("home", "click", () => this.takeHome());
+    on("show-reference", "click", () => this.refer(""));
     on("find", "input", () => showReference(byId("find").value));
     on("edit-close", "click", () => byId("edit").close());
     on("machine", "click", (event) => this.edit(event.target.closest("[data-edit]")));
-    document.addEventListener("keydown", (event) => this.pressed(event));
+    const isFree = () => this.connection.waiting.length < MOST_WAITING;
+    document.addEventListener("keydown", (event) => pressNamed(event, isFree()));
     document.addEventListener("selectionchange", () => this.tellNames());
   }
 
@@ -76,8 +80,7 @@ export class Student {
 
   /** Tells of the name that the caret stands in. */
   tellNames() {
-    const fields = { source: "entry", line: "hint" };
-    const told = fields[document.activeElement.id];
+    const told = { source: "entry", line: "hint" }[document.activeElement.id];
     if (told) tellName(byId(told), document.activeElement);
   }
 
@@ -86,7 +89,7 @@ export class Student {
     this.seat = view.seat;
     document.title = `Seat ${view.seat} – vecmon`;
     put(byId("who"), `Seat ${view.seat}`);
-    this.showName(view.name);
+    if (document.activeElement !== byId("name")) byId("name").value = view.name;
     const stop = run === "stopped" && view.state.stop && view.stop.split(" ")[0];
     put(byId("run"), run === "absent" ? "not entered" : stop || run);
     byId("run").className = `pill ${run}`;
@@ -103,46 +106,34 @@ export class Student {
     Object.assign(byId("images"), { hidden: view.images.length === 0, selectedIndex: 0 });
     this.desk.show(view.seat, view.state, logs[view.seat] ?? [], isAnew);
     const side = run === "absent" ? "source" : "listing";
-    if (side !== this.side) this.sides.show((this.side = side));
+    if (side !== this.side) this.showSide((this.side = side));
     this.showSource(view);
     byId("log").ariaLive = "polite";
   }
 
-  /** Shows the name of whoever sits here; one that was typed with the code is told to the class. */
-  showName(name) {
-    const typed = sessionStorage.getItem("name");
-    sessionStorage.removeItem("name");
-    if (typed) this.request({ ask: "name", name: typed }, "the name");
-    if (document.activeElement !== byId("name")) byId("name").value = name;
-  }
-
-  /** Sends a request; what was refused is told in words. */
-  async request(request, words) {
+  /** Sends requests one behind the other; what was refused is told in words. The answer to the first one. */
+  async request(...requests) {
     this.desk.past.show(Infinity);
-    const answer = await this.connection.ask(request, words);
-    this.refuse(refusals(request, answer));
-    return answer;
+    const answers = await Promise.all(requests.map((request) => this.connection.ask(request)));
+    this.refuse(requests.map((request, place) => refusals(request, answers[place])).filter(Boolean).join(" "));
+    return answers[0];
   }
 
   /** Carries out what was typed: `help` and a name, or lines. */
   enter(lines) {
     const [, name] = /^help\b *(.*)$/.exec(lines[0]) ?? [];
     if (lines.length > 1 || name === undefined) return this.send(lines);
-    this.sides.show("reference");
+    this.showSide("reference");
     this.refer(name);
     return this.refuse(entryText(name) || (name && `There is no command and no instruction \`${name}\`.`));
   }
 
-  /** Sends lines, in requests one behind the other, unless one of them can't be sent. */
-  async send(lines) {
+  /** Sends lines, unless one of them can't be sent. */
+  send(lines) {
     const unfit = unfitLines(lines);
+    if (!unfit) return this.request(...requestsOf(lines));
     this.desk.past.show(Infinity);
-    if (unfit) return this.refuse(unfit);
-    const requests = inParts(lines).map((part) => ({ ask: "lines", do: part }));
-    const asked = requests.map((request) => this.connection.ask(request, nameOf(request.do)));
-    const answers = await Promise.all(asked);
-    const told = requests.map((request, place) => refusals(request, answers[place]));
-    return this.refuse(told.filter(Boolean).join(" "));
+    return this.refuse(unfit);
   }
 
   refuse(words) {
@@ -157,16 +148,6 @@ export class Student {
     byId("images").selectedIndex = 0;
     if (isBlank(this.desk.state)) begin();
     else ask(LOSS, name, begin);
-  }
-
-  pressed(event) {
-    if (byId("edit").open || byId("ask").open) return;
-    const key = `${event.ctrlKey || event.metaKey ? "Ctrl " : ""}${event.shiftKey ? "Shift " : ""}${event.key}`;
-    const id = { F1: "show-reference", F8: "one", "Shift F8": "many", F9: "go", "Shift F9": "halt", "Ctrl F9": "again" }[key];
-    const own = key === "Ctrl Enter" && event.target === byId("source") ? "assemble" : id;
-    if (!own) return;
-    event.preventDefault();
-    if (this.connection.waiting.length < MOST_WAITING) byId(own).click();
   }
 
   /** Sets or removes a breakpoint, or asks for another value. */
@@ -209,36 +190,35 @@ export class Student {
     const isOther = this.source.told && this.source.told.versions !== source.versions;
     const isGiven = isOther && source.versions.at(-1)?.why === "given";
     this.source.show(seat, source);
-    if (!isGiven || source.text !== this.source.editor.text) return;
-    this.sides.show("source");
+    if (!isGiven || source.text !== byId("source").value) return;
+    this.showSide("source");
     byId("source").scrollTop = 0;
   }
 
   async write() {
     const text = byId("source").value;
     const [size, most] = [text.length, MOST_LETTERS].map((each) => each.toLocaleString("en"));
-    if (text.length > MOST_LETTERS) {
-      return this.refuse(`This source has ${size} characters, and ${most} are taken at most: nothing was sent.`);
-    }
+    const much = `This source has ${size} characters, and ${most} are taken at most: nothing was sent.`;
+    if (text.length > MOST_LETTERS) return this.refuse(much);
     return this.source.bring(text, () => this.assemble({ ask: "source", text }));
   }
 
   async assemble(request) {
-    const { mistakes } = (await this.request(request, "the source")) ?? {};
+    const { mistakes } = (await this.request(request)) ?? {};
     byId("mistakes").replaceChildren(...(mistakes ?? []).map((mistake) => this.mistake(mistake)));
-    return mistakes && this.sides.show(mistakes.length ? "source" : "listing");
+    return mistakes && this.showSide(mistakes.length ? "source" : "listing");
   }
 
   /** A mistake of the source, which leads to its place. */
   mistake({ line, column, message }) {
-    const button = make("button", "", `${line}:${column}: ${message}`);
-    button.addEventListener("click", () => {
+    const words = `${line}:${column}: ${message}`;
+    const goThere = () => {
       const lines = byId("source").value.split("\n");
       const start = lines.slice(0, line - 1).reduce((sum, each) => sum + each.length + 1, 0);
       byId("source").focus();
       byId("source").setSelectionRange(start + column - 1, start + lines[line - 1].length);
       byId("source").scrollTop = parseFloat(getComputedStyle(byId("source")).lineHeight) * (line - 3);
-    });
-    return make("li", "", button);
+    };
+    return make("li", "", button(words, words, goThere));
   }
 }

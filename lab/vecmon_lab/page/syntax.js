@@ -8,9 +8,7 @@ const LONGEST = 1000; // characters of a line that are told apart
 const TOKEN = /(#.*|\/\/.*)|("(?:[^"\\]|\\.)*"?)|([A-Za-z_.$][\w.$]*)|(\d\w*)|[^\w.$"#/]+|./g;
 const LABEL = /^\s*([A-Za-z_.$][\w.$]*):|^\s*\.(?:equ|set)\s+([A-Za-z_.$][\w.$]*)/gm;
 const REGISTERS = new Set([...ABI_NAMES, "fp", ...Array.from({ length: 32 }, (_, at) => [`x${at}`, `v${at}`]).flat()]);
-const FORMS = new Map(
-  ["Instructions", "Pseudo-instructions", "Directives"].flatMap((section) => SECTIONS[section]).map(([name, form]) => [name, form]),
-);
+const FORMS = new Map(["Instructions", "Pseudo-instructions", "Directives"].flatMap((section) => SECTIONS[section])); // by name
 
 /** What a word is that stands first in a statement. */
 const firstKind = (name) => (!FORMS.has(name) ? "unknown" : name[0] === "." ? "directive" : "instruction");

@@ -1,12 +1,12 @@
 // The teacher's page: seats, clocks, the operator's lines, and a seat looked at.
 
-import { CodeField, closeSheet, openSheet } from "./codes.js";
+import { CodeField, showSheet } from "./codes.js";
 import { Desk } from "./desk.js";
 import { Editor } from "./editor.js";
-import { byId, make, put, say } from "./elements.js";
-import { LineField, inParts, nameOf, unfitLines } from "./lines.js";
+import { byId, make, pressNamed, put, say } from "./elements.js";
+import { LineField, requestsOf, unfitLines } from "./lines.js";
 import { SeatTable } from "./seats.js";
-import { Sides } from "./sides.js";
+import { chooseSides } from "./sides.js";
 import { Source } from "./source.js";
 import { addToLog, toldEntry } from "./transcript.js";
 
@@ -15,22 +15,23 @@ const NUMBERS = ["slices", "ms", "limit"]; // of a clock
 /** A machine of the class: its script, and what is wrong with it. */
 class ClassMachine {
   constructor(letter, teacher) {
-    this.box = byId("machine-of-class").content.cloneNode(true).firstElementChild;
-    this.box.querySelector("h2").textContent = `Machine ${letter}`;
+    const top = make("div", "top", make("h2", "", `Machine ${letter}`));
     for (const name of ["script", "transcript"]) {
-      const save = () => teacher.download(letter, name, this.scripts);
-      this.box.querySelector(`[name="${name}"]`).addEventListener("click", save);
+      const onclick = () => teacher.download(letter, name, this.scripts);
+      top.append(Object.assign(make("button", "", name[0].toUpperCase() + name.slice(1)), { name, onclick }));
     }
+    [this.trouble, this.figures] = [Object.assign(make("p", "said"), { role: "alert" }), make("p", "figures")];
+    this.box = make("section", "of-class", top, this.trouble, this.figures);
   }
 
   show(machine) {
     this.scripts = machine.scripts;
-    this.box.querySelector(".trouble").hidden = !machine.trouble;
-    put(this.box.querySelector(".trouble"), machine.trouble);
+    this.trouble.hidden = !machine.trouble;
+    put(this.trouble, machine.trouble);
     const [lines, bytes, most] = [machine.lines, machine.script, machine.of].map((each) => each.toLocaleString("en"));
     const replaced = machine.restarts ? `; processes replaced: ${machine.restarts} (${machine.loss})` : "";
     const script = `Script: ${lines} lines, ${bytes} of ${most} bytes${replaced}`;
-    put(this.box.querySelector(".figures"), `${script}; SHA-256 of all answers: ${machine.digest}`);
+    put(this.figures, `${script}; SHA-256 of all answers: ${machine.digest}`);
   }
 }
 
@@ -42,10 +43,8 @@ export class Teacher {
     this.seat = this.wall = ""; // the one looked at, and the one on the wall
     this.codes = {}; // fields by name
     this.table = new SeatTable(this);
-    const part = (name) => document.querySelector(`#clocks [name="${name}"]`);
-    this.clock = { on: part("on"), own: part("own"), numbers: NUMBERS.map(part) };
-    for (const input of [this.clock.on, ...this.clock.numbers]) input.onchange = () => this.setClocks();
-    this.clock.own.onchange = () => this.askAll({ ask: "rights", own_slices: this.clock.own.checked });
+    this.clock = byId("clocks"); // a form
+    this.clock.onchange = ({ target }) => this.setClocks(target);
     byId("wall-code").append(...this.codeField("wall").parts);
     byId("on-wall").onchange = () => this.request({ ask: "wall", seat: byId("on-wall").value });
     byId("show-codes").onclick = () => this.showAllCodes();
@@ -53,17 +52,18 @@ export class Teacher {
     byId("tell").onsubmit = () => this.write();
     byId("save-table").onclick = () => connection.download("seats.csv", "seats.csv");
     byId("print").onclick = () => print();
-    byId("close-sheet").onclick = closeSheet;
+    byId("close-sheet").onclick = () => showSheet();
     document.title = "Teacher – vecmon";
     put(byId("who"), "Teacher");
     byId("teacher").hidden = false;
     new LineField("operator-line", (lines) => this.operate(lines));
-    new Sides(["listing", "source"]);
+    chooseSides(["listing", "source"]);
     byId("source").readOnly = true;
     this.source = new Source(new Editor(byId("source")), connection);
     const given = new Editor(byId("given"));
-    byId("take").onclick = () => given.put(this.source.editor.text);
-    byId("give").onclick = () => this.request({ ask: "give", seat: byId("receiver").value, text: given.text });
+    byId("take").onclick = () => given.put(byId("source").value);
+    document.addEventListener("keydown", (event) => pressNamed(event));
+    byId("give").onclick = () => this.request({ ask: "give", seat: byId("receiver").value, text: byId("given").value });
   }
 
   show(view, logs, isAnew) {
@@ -111,8 +111,8 @@ export class Teacher {
   }
 
   async openSheet() {
-    const answer = await this.connection.ask({ ask: "codes", seat: "", pictures: true }, "the sheet");
-    if (answer?.codes) openSheet(answer, this.address, (seat) => this.withName(seat));
+    const answer = await this.connection.ask({ ask: "codes", seat: "", pictures: true });
+    if (answer?.codes) showSheet(answer, this.address, (seat) => this.withName(seat));
   }
 
   /** Looks at a seat, whose machine comes into sight; "" ends it. */
@@ -126,16 +126,18 @@ export class Teacher {
     Object.keys(this.machines).forEach((machine) => this.request({ machine, ...request }));
   }
 
-  setClocks() {
-    const { on, numbers } = this.clock;
-    if (!numbers.every((part) => part.reportValidity())) return;
-    this.askAll({ ask: "clock", on: on.checked, ...Object.fromEntries(numbers.map(({ name, value }) => [name, Number(value)])) });
+  /** Sets what was changed: rights, or the clock. */
+  setClocks({ name, checked }) {
+    if (name === "own") return this.askAll({ ask: "rights", own_slices: checked });
+    const numbers = NUMBERS.map((each) => [each, Number(this.clock[each].value)]);
+    const settings = { on: this.clock.on.checked, ...Object.fromEntries(numbers) };
+    return this.clock.reportValidity() && this.askAll({ ask: "clock", ...settings });
   }
 
   /** Shows the clock of all machines: the first one's numbers, and whether only some are on. */
   showClocks(machines) {
-    const { on, own, numbers } = this.clock;
-    for (const part of numbers) if (document.activeElement !== part) part.value = machines[0].clock[part.name];
+    const { on, own } = this.clock;
+    for (const name of NUMBERS) if (document.activeElement !== this.clock[name]) this.clock[name].value = machines[0].clock[name];
     const [ons, owns] = [machines.filter(({ clock }) => clock.on).length, machines.filter((each) => each.own_slices).length];
     Object.assign(on, { checked: ons === machines.length, indeterminate: ons > 0 && ons < machines.length });
     Object.assign(own, { checked: owns === machines.length, indeterminate: owns > 0 && owns < machines.length });
@@ -157,11 +159,11 @@ export class Teacher {
   operate(lines) {
     const [unfit, machine] = [unfitLines(lines), byId("operated").value];
     if (unfit) return say("gone", unfit);
-    return inParts(lines).forEach((part) => this.request({ ask: "lines", machine, do: part }));
+    return requestsOf(lines).forEach((request) => this.request({ machine, ...request }));
   }
 
   async request(request) {
-    const answer = await this.connection.ask(request, request.do ? nameOf(request.do) : request.ask);
+    const answer = await this.connection.ask(request);
     const isQuiet = ["shoulder", "wall"].includes(request.ask); // which are asked again of a new server
     if (answer?.error || (answer && !isQuiet)) say("gone", answer.error ?? "");
     Object.entries(answer?.codes ?? {}).forEach(([name, code]) => this.codes[name].show(code, this.address));

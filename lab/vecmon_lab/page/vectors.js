@@ -42,9 +42,8 @@ export function paintElements(state, before, used) {
     }
     register += shape.group;
   }
-  const columns = [make("col", "name"), ...Array.from({ length: 32 }, () => make("col", ""))]; // one for each byte
   const empty = make("p", "empty", "No vector register is in use yet.");
-  const vectors = table("Vector registers", make("colgroup", "", ...columns), ...sections);
+  const vectors = table("Vector registers", make("colgroup", "", make("col", "name")), ...sections);
   if (vectors.querySelector("[colspan='1']")) vectors.className = `bytes ${byId("form").value}`;
   byId("elements").replaceChildren(sections.length ? vectors : empty);
 }

@@ -1,15 +1,30 @@
 // Paints what the machine told of one user: an object goes in, and what it was before, for what changed.
 // What a line can change has the line's beginning as `data-edit`.
 
-import { byId } from "./elements.js";
+import { byId, make, prose, put } from "./elements.js";
 import { paintListing } from "./listing.js";
 import { paintMemory, paintOutput } from "./memory.js";
 import { paintRegisters } from "./scalars.js";
 import { paintElements, paintFacts } from "./vectors.js";
+import { withNames } from "./words.js";
 
-/** `chosen` is called when another form is chosen, to paint again. */
-export function whenFormsChange(chosen) {
-  document.querySelectorAll("#machine select").forEach((select) => select.addEventListener("change", chosen));
+/** The numbers of a state's vector registers that aren't zero. */
+export const usedIn = ({ v = {} } = {}) => Object.keys(v).filter((number) => /[^0]/.test(v[number])).map(Number);
+
+/** What was done, which its page knows, and the instruction that was carried out last, or that faulted. */
+export function showStep(state, ...done) {
+  if (state.run === "running") done.push(make("small", "", "it runs: registers and memory are those from before"));
+  if (state.instruction) {
+    const text = withNames((state.code[state.instruction] ?? "").slice(9), byId("names").value === "abi");
+    done.push(make("span", "instruction", make("small", "", state.faulted ? "stopped at " : "carried out "), text));
+  }
+  byId("step").replaceChildren(...done);
+}
+
+/** Why something stopped or was refused. */
+export function showStop(words) {
+  put(byId("stop"), words, prose(words));
+  byId("stop").classList.toggle("said", words !== "");
 }
 
 /** Paints a state beside the one before it. `used` has the numbers of the vector registers that always have rows. */

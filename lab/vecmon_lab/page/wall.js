@@ -6,7 +6,6 @@ import { byId, put, say } from "./elements.js";
 export class Wall {
   constructor() {
     this.desk = new Desk();
-    document.documentElement.className = "wall";
     document.title = "Wall – vecmon";
   }
 
