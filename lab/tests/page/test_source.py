@@ -168,6 +168,8 @@ def test_a_source_is_given(sit: Sit, tmp_path: pathlib.Path) -> None:
     assert (tmp_path / "A3.s").read_text("utf-8") == tab.run(TEXT)
     teacher.click("tr[data-seat='A3'] td:nth-child(2) button")
     teacher.wait("id('desk').hidden")
+    teacher.front().refresh()
+    teacher.wait("document.title === 'Teacher – vecmon' && id('given').value.includes('# all')")
 
 
 def test_the_listing_has_the_sources_lines(sit: Sit) -> None:

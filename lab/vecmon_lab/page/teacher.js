@@ -7,7 +7,7 @@ import { byId, make, pressNamed, put, say } from "./elements.js";
 import { LineField, requestsOf, unfitLines } from "./lines.js";
 import { SeatTable } from "./seats.js";
 import { chooseSides } from "./sides.js";
-import { Source } from "./source.js";
+import { MOST_LETTERS, Source } from "./source.js";
 import { addToLog, toldEntry } from "./transcript.js";
 
 const NUMBERS = ["slices", "ms", "limit"]; // of a clock
@@ -60,7 +60,9 @@ export class Teacher {
     chooseSides(["listing", "source"]);
     byId("source").readOnly = true;
     this.source = new Source(new Editor(byId("source")), connection);
-    const given = new Editor(byId("given"));
+    byId("given").value = sessionStorage.getItem("given") ?? ""; // as before a reload
+    const keep = () => sessionStorage.setItem("given", byId("given").value.slice(0, MOST_LETTERS));
+    const given = new Editor(byId("given"), keep);
     byId("take").onclick = () => given.put(byId("source").value);
     document.addEventListener("keydown", (event) => pressNamed(event));
     byId("give").onclick = () => this.request({ ask: "give", seat: byId("receiver").value, text: byId("given").value });
