@@ -4,6 +4,7 @@ import { byId, header, make } from "./elements.js";
 import { RowTable, placesOf } from "./rows.js";
 
 const NAMES = ["address", "bytes 0 to 3", "4 to 7", "8 to 11", "12 to 15", "text"];
+let shown = ""; // of the output, in hexadecimal
 const rows = new RowTable(byId("bytes"), "Memory", NAMES, "No memory but the program is in use yet.");
 
 /** A change comes into sight, the first one where there are more. */
@@ -16,6 +17,8 @@ export function paintMemory(state, before) {
 
 export function paintOutput(state) {
   const digits = state.output ?? Object.values(state.outputs ?? {}).join("");
+  if (digits === shown) return; // as after most steps, where it may be long
+  shown = digits;
   byId("output-box").hidden = !digits;
   byId("output").textContent = outputText(digits);
 }
