@@ -1,9 +1,13 @@
 """Graded answers: right and wrong ones of each kind, whatever may be in a file, and bad exercises."""
 
 import csv
+import json
+import os
 import pathlib
+import shutil
 import subprocess
 import sys
+import xml.etree.ElementTree as ElementTree
 from collections.abc import Callable
 
 import pytest
@@ -78,11 +82,10 @@ def answer(name: str) -> pathlib.Path:
     return shown if shown.is_file() else DATA / "answers" / name
 
 
-def run_grade(*words: object) -> "subprocess.CompletedProcess[str]":
-    """The command, with its outputs."""
-    return subprocess.run(
-        [sys.executable, "-m", "vecmon_lab", "grade", *map(str, words)], capture_output=True, text=True
-    )
+def run_grade(*words: object, folder: pathlib.Path | None = None) -> "subprocess.CompletedProcess[str]":
+    """The command, with its outputs, in a folder."""
+    command = [sys.executable, "-m", "vecmon_lab", "grade", *map(str, words)]
+    return subprocess.run(command, capture_output=True, text=True, cwd=folder)
 
 
 @pytest.mark.parametrize(
@@ -231,8 +234,8 @@ def test_whatever_an_answer_has_is_a_row(echo: Echo, content: str | bytes, name:
 def test_what_cannot_be_read_is_a_row(tmp_path: pathlib.Path) -> None:
     done = run_grade("strlen", "--csv", tmp_path / "none", tmp_path, SUM, answer("typo.s"))
     header, *rows = csv.reader(done.stdout.splitlines())
-    assert header == ["answer", "passed", "of", "short", "end of the page", "long", "empty", "reason"]
-    assert {tuple(row[1:7]) for row in rows[:2] + rows[3:]} == {("0", "4", *["fails"] * 4)}
+    assert header[:4] == ["answer", "passed", "of", "short"] and header[-2:] == ["empty", "reason"]
+    assert {tuple(row[1:8]) for row in rows[:2] + rows[3:]} == {("0", "5", *["fails"] * 5)}
     assert [row[-1] for row in rows[:2]] == [
         "it can't be read: No such file or directory",
         "it can't be read: Is a directory",
@@ -263,6 +266,74 @@ def test_twenty_four_answers_have_the_rows_that_each_has_alone() -> None:
     assert [each.returncode for each in alone] == [0, 1, 0, 1]
 
 
+LONG = """
+limits = { instructions = 20, size = 80 }
+[[cases]]
+registers = { a1 = 6 }
+expected.registers = { a0 = 36 }
+"""
+BY_ROUNDS = "li a0, 0\nli t0, 6\nnext: add a0, a0, a1\naddi t0, t0, -1\nbnez t0, next\nret"  # 21 instructions
+
+
+@pytest.mark.parametrize(
+    "source, reason",
+    [
+        ("mul a0, a1, a1\nret", ""),
+        (BY_ROUNDS.replace("ret", "ebreak"), ""),  # which has 20, since the one that stops isn't carried out
+        (BY_ROUNDS, "the results are right, but it takes more than 20 instructions: with vectors fewer will do"),
+        (BY_ROUNDS.replace("6", "7"), "x10: expected 36, found 42"),
+        ("j .", "it hasn't ended after 100,000 ticks"),
+        ("# " + "as long as it may be " * 4 + "\nret", "it has more than 80 bytes"),
+    ],
+)
+def test_answers_have_limits(program: pathlib.Path, tmp_path: pathlib.Path, source: str, reason: str) -> None:
+    (tmp_path / "exercise.toml").write_text(LONG)
+    (tmp_path / "answer.s").write_text(source)
+    assert grade(program, settled(program, read_exercise(tmp_path)), tmp_path / "answer.s") == [reason]
+
+
+def test_what_is_no_file_is_not_read(tmp_path: pathlib.Path) -> None:
+    """A pipe would never end, and a link would show the first line of another file."""
+    os.mkfifo(tmp_path / "pipe.s")
+    (tmp_path / "link.s").symlink_to("/etc/passwd")
+    done = run_grade("strlen", tmp_path / "pipe.s", tmp_path / "link.s", "/dev/zero")
+    told = [line.rpartition(": ")[2] for line in done.stdout.splitlines()[-3:]]
+    no_file = "it is no regular file, and others aren't read"
+    assert told == [no_file, "it is a link, and links aren't read", no_file]
+    assert "root:" not in done.stdout and done.returncode == 1
+
+
+def test_reports_for_other_programs(tmp_path: pathlib.Path) -> None:
+    """JUnit's XML has all answers, and Gradescope's JSON one; of hidden cases both tell no more than that they fail."""
+    odd = tmp_path / "=HYPERLINK(1)<&.s"
+    odd.write_bytes(b"\0")
+    shutil.copy(answer("wraps.s"), tmp_path / "wraps.s")
+    words = ("saturating_sum", "--junit", "report.xml")
+    done = run_grade(*words, "--rows", "wraps.s", odd.name, folder=tmp_path)
+    assert done.stdout.splitlines()[1].startswith("'=HYPERLINK(1)<&.s,0,5,fails,")  # a text, and no formula
+    suites = ElementTree.parse(tmp_path / "report.xml").getroot()
+    assert [(suite.get("name"), suite.get("tests"), suite.get("failures")) for suite in suites] == [
+        ("wraps.s", "5", "3"), (odd.name, "5", "5")
+    ]  # fmt: skip
+    cases = [(case.get("name"), [failure.get("message") for failure in case]) for case in suites[0]]
+    wrong = "element 0, i16 at 0x20200: expected 32767, found -32768"
+    assert cases[:2] == [("small numbers", []), ("no room", [wrong])] and cases[3:] == [
+        ("many", ["fails"]),
+        ("none", []),
+    ]
+    run_grade("saturating_sum", "--gradescope", "results.json", "wraps.s", folder=tmp_path)
+    tests = json.loads((tmp_path / "results.json").read_text())["tests"]
+    assert [(test["score"], test["max_score"], test["status"]) for test in (tests[0], tests[3])] == [
+        (1, 1, "passed"), (0, 1, "failed")
+    ]  # fmt: skip
+    assert [test["visibility"] for test in tests] == ["visible"] * 3 + ["hidden"] * 2
+    assert [test["output"] for test in tests if test["name"] != "forty"] == ["", wrong, "fails", ""]
+    several = run_grade("saturating_sum", "--gradescope", "results.json", "wraps.s", odd.name, folder=tmp_path)
+    assert several.stderr == "vecmon-lab: --gradescope tells of one answer, and here are several\n"
+    over = run_grade("saturating_sum", "--junit", "wraps.s", "wraps.s", folder=tmp_path)
+    assert over.returncode == 2 and "would be overwritten" in over.stderr
+
+
 CASE = "[[cases]]\nexpected.registers = { a0 = 1 }\n"
 PLACE = "a text, or a list of numbers, by their type, i8 to u64"
 
@@ -279,8 +350,10 @@ def in_memory(place: str) -> str:
         ("tilte = '5'\n" + CASE, "there is nothing that is called tilte"),
         ("title = ", "Invalid value (at end of document)"),
         ("", "exercise.toml: there is no case: [[cases]] begins one"),
-        ("limits.ticks = 0\n" + CASE, "exercise.toml: limits: ticks and output are from 1 up"),
+        ("limits.ticks = 0\n" + CASE, "exercise.toml: limits: each is from 1 up"),
         ("limits = 5\n" + CASE, "limits isn't a table"),
+        ("hints = ['go on', 5]\n" + CASE, "exercise.toml: hints is a list of texts"),
+        ("start = 'none.s'\n" + CASE, "exercise.toml: start: there is no file "),
         ("set_up = [5]\n" + CASE, "exercise.toml: set_up is a list of texts, which are lines of the monitor"),
         ("cases = [5]", "case 1 isn't a table"),
         (CASE + CASE.replace("]]\n", "]]\nname = 'case 1'\n"), "exercise.toml: two cases are called case 1"),

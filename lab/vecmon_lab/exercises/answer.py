@@ -1,18 +1,21 @@
 """Answers to exercises: an image, a source or a script, brought in and run for one case, and what it leaves."""
 
+import contextlib
+import os
 import pathlib
 import re
-from collections.abc import Iterator, Sequence
+import stat
+from collections.abc import Callable, Iterator, Sequence
 from dataclasses import dataclass, replace
 
 from .. import LabError, mistakes_in
 from ..guest.guest import IMAGE_BYTES, QUANTUM, STACK_END, STACK_POINTER, Guest, pokes
 from ..lessons.script import Script, read_source, send
-from ..machine.answers import ScalarRegisters
+from ..machine.answers import ScalarRegisters, Stop
 from ..machine.lines import check_line, words_of
 from ..machine.program import check_flags
 from ..machine.session import Session
-from .exercise import Case, Exercise, Results
+from .exercise import UNLIMITED, Case, Exercise, Limits, Results
 
 RETURN = STACK_END
 """Where an answer returns to, as x1 has it: to an ebreak in a page of its own."""
@@ -20,28 +23,48 @@ RETURN = STACK_END
 TURNED = 0xA5
 """The bits of a byte that are turned round where something is expected. All would make -32768 of 32767, as sums do."""
 
+MOST_STEPS = 256  # of one line
+
 _RETURN_PAGE = (f"map {RETURN:x} 1 rx", f"poke {RETURN:x} 73001000", f"set x1 {RETURN:x}")
 _STACK = (f"map {STACK_END - 0x4000:x} 4 rw", f"set x2 {STACK_POINTER:x}")
 
 
 @dataclass(frozen=True)
 class Answer:
-    """An answer's file; and, if it is no image, the commands that bring it in; and the source that they are of, if any."""
+    """An answer's file; and, if it is no image, the commands that bring it in, and the source that they are of, if any."""
 
     path: pathlib.Path
     commands: Sequence[str] | None = None
     source: Script | None = None
 
 
-def read_answer(path: pathlib.Path) -> Answer:
-    """The answer in a file: an ELF image, a source (.s, .S), or a script. Raises LabError with the reason."""
+@dataclass(frozen=True)
+class Attempt:
+    """What stands in the places of a case before an answer runs, and what it leaves there.
+
+    is_long: whether it took more instructions than the exercise allows
+    """
+
+    before: Results
+    found: Results
+    is_long: bool
+
+
+def read_answer(path: pathlib.Path, most: int = IMAGE_BYTES) -> Answer:
+    """The answer in a file of so many bytes at most: an ELF image, a source (.s, .S), or a script.
+
+    Raises LabError with the reason. A link isn't followed, and what is no file, as a pipe or a device, isn't read.
+    """
     try:
-        with path.open("rb") as file:
-            data = file.read(IMAGE_BYTES + 1)
+        with open(path, "rb", opener=_open) as file:
+            if not stat.S_ISREG(os.fstat(file.fileno()).st_mode):
+                raise LabError("it is no regular file, and others aren't read")
+            data = file.read(most + 1)
     except OSError as error:
-        raise LabError(f"it can't be read: {error.strerror}") from error
-    if len(data) > IMAGE_BYTES:
-        raise LabError(f"it has more than {IMAGE_BYTES:,} bytes")
+        why = "it is a link, and links aren't read" if path.is_symlink() else f"it can't be read: {error.strerror}"
+        raise LabError(why) from error
+    if len(data) > most:
+        raise LabError(f"it has more than {most:,} bytes")
     if data.startswith(b"\x7fELF"):
         check_flags(path)
         return Answer(path)
@@ -49,10 +72,18 @@ def read_answer(path: pathlib.Path) -> Answer:
         text = data.decode("utf-8")
     except UnicodeDecodeError as error:
         raise LabError(f"it is no image and no text: byte {error.start + 1} is {data[error.start]:#04x}") from error
-    if path.suffix not in (".s", ".S"):
-        return Answer(path, _script_commands(text))
+    return source_answer(text, path) if path.suffix in (".s", ".S") else Answer(path, _script_commands(text))
+
+
+def source_answer(text: str, path: pathlib.Path) -> Answer:
+    """The answer that a source is, which has this text, and is called so. Raises LabError where it doesn't assemble."""
     source = read_source(text, path.name)
     return Answer(path, [line[2:] for line in source.steps[0].lines[1:]] + list(_STACK), source)
+
+
+def _open(name: str, flags: int) -> int:
+    """Opens a file, and no link; of a pipe without waiting for whoever writes there."""
+    return os.open(name, flags | os.O_NOFOLLOW | os.O_NONBLOCK)
 
 
 def _script_commands(text: str) -> list[str]:
@@ -71,44 +102,68 @@ def _script_commands(text: str) -> list[str]:
     return [line[2:] for _, line in lines]
 
 
-def attempt(program: pathlib.Path, answer: Answer, exercise: Exercise, case: Case) -> tuple[Results, Results]:
-    """What stands in the places of a case before an answer runs, and what it leaves there.
+@contextlib.contextmanager
+def ready(
+    program: pathlib.Path,
+    answer: Answer,
+    exercise: Exercise,
+    case: Case,
+    write: Callable[[bytes], object] | None = None,
+) -> Iterator[Guest]:
+    """A machine of its own on which an answer was brought in and given a case. Raises LabError where it can't be.
 
-    Raises LabError with the reason where it fails before.
+    `write` is given what the answer writes from then on.
     """
-    output = bytearray()
-
-    def write(data: bytes) -> None:
-        output.extend(data)
-        if len(output) > exercise.output_bytes:
-            raise LabError(f"it writes more than {exercise.output_bytes:,} bytes")
-
     images = {"image": answer.path} if answer.commands is None else {}
-    with Session(program, images, quantum=min(QUANTUM, exercise.ticks)) as session:
-        guest = Guest(session, write=write)
+    with Session(program, images, quantum=min(QUANTUM, exercise.limits.ticks)) as session:
+        guest = Guest(session)
         if answer.commands is None:
             guest.start("image")
         else:
             send(guest, ["enter", *answer.commands], answer.source)
         guest.ask("stop")  # where a script's last line is `go`
-        guest.empty_buffer()
-        output.clear()
-        send(guest, list(_inputs(exercise, case)))
-        before, stop = _results(guest, case.expected, b""), guest.go(exercise.ticks)
+        guest.output()
+        send(guest, inputs(exercise, case))
+        yield Guest(session, write=write)
+
+
+def attempt(program: pathlib.Path, answer: Answer, exercise: Exercise, case: Case) -> Attempt:
+    """Runs an answer for a case. Raises LabError with the reason where it comes to no end of its own."""
+    output = bytearray()
+
+    def write(data: bytes) -> None:
+        output.extend(data)
+        if len(output) > exercise.limits.output:
+            raise LabError(f"it writes more than {exercise.limits.output:,} bytes")
+
+    with ready(program, answer, exercise, case, write) as guest:
+        before, (stop, is_long) = _results(guest, case.expected, b""), _run(guest, exercise.limits)
         if stop is None or stop.kind not in ("ebreak", "exit"):
-            raise LabError(guest.explain(stop) if stop else f"it hasn't ended after {exercise.ticks:,} ticks")
-        return before, _results(guest, case.expected, bytes(output))
+            raise LabError(guest.explain(stop) if stop else f"it hasn't ended after {exercise.limits.ticks:,} ticks")
+        return Attempt(before, _results(guest, case.expected, bytes(output)), is_long)
 
 
-def _inputs(exercise: Exercise, case: Case) -> Iterator[str]:
-    """The lines between an answer and its run. What is expected somewhere doesn't stand there before."""
-    yield from (*exercise.set_up, *_RETURN_PAGE, f"policy {case.policy}")
+def _run(guest: Guest, limits: Limits) -> tuple[Stop | None, bool]:
+    """Runs an answer to a stop; None where its ticks ran out; and whether it took more instructions than it may."""
+    left = limits.instructions + 1 if limits.instructions < UNLIMITED else 0  # the last one may be that which stops it
+    while left > 0:
+        (told,) = guest.ask(f"step {min(left, MOST_STEPS)}")
+        guest.empty_buffer()
+        if isinstance(told, Stop) and told.kind != "outfull":
+            return told, False
+        left -= MOST_STEPS
+    return guest.go(limits.ticks), limits.instructions < UNLIMITED
+
+
+def inputs(exercise: Exercise, case: Case) -> list[str]:
+    """The commands between an answer and its run. What is expected somewhere doesn't stand there before."""
     others = [(place.address, bytes(byte ^ TURNED for byte in place.data)) for place in case.expected.memory]
-    for address, data in (*others, *((place.address, place.data) for place in case.memory)):
-        yield from pokes(address, data)
+    places = [*others, *((place.address, place.data) for place in case.memory)]
     turned = int.from_bytes(bytes([TURNED]) * 8, "little")
     registers = {name: value ^ turned for name, value in case.expected.registers.items()} | dict(case.registers)
-    yield from (f"set {name} {value:x}" for name, value in registers.items())
+    written = [command for address, data in places for command in pokes(address, data)]
+    values = [f"set {name} {value:x}" for name, value in registers.items()]
+    return [*exercise.set_up, *_RETURN_PAGE, f"policy {case.policy}", *written, *values]
 
 
 def _results(guest: Guest, expected: Results, output: bytes) -> Results:
@@ -124,8 +179,8 @@ def settled(program: pathlib.Path, exercise: Exercise) -> Exercise:
     reference, cases = Answer(pathlib.Path(), [f"setpc {RETURN:x}"]), []  # it returns at once
     for case in exercise.cases:
         with mistakes_in(f"{exercise.title}, {case.name}"):
-            if exercise.reference:
-                reference = read_answer(exercise.reference)
-            _, results = attempt(program, reference, exercise, case)
-        cases.append(replace(case, expected=results) if exercise.reference else case)
+            if "reference" in exercise.files:
+                reference = read_answer(exercise.files["reference"])
+            results = attempt(program, reference, exercise, case).found
+        cases.append(replace(case, expected=results) if "reference" in exercise.files else case)
     return replace(exercise, cases=cases)

@@ -1,4 +1,4 @@
-"""Exercises: what an answer is given, what is expected of it, and its limits. The file exercise.toml of a folder has them."""
+"""Exercises: what a pupil reads, what an answer is given, what is expected of it, and its limits (exercise.toml)."""
 
 import pathlib
 import struct
@@ -9,10 +9,13 @@ from dataclasses import dataclass, replace
 from types import SimpleNamespace
 
 from .. import LabError, mistakes_in
+from ..guest.guest import IMAGE_BYTES
 from ..tables.table import read_table
 
 OURS = pathlib.Path(__file__).with_name("given")
-TICKS, OUTPUT_BYTES = 100_000, 4096  # the limits where an exercise has none
+UNLIMITED = 1 << 63
+LIMITS = {"ticks": 100_000, "output": 4096, "instructions": UNLIMITED, "size": IMAGE_BYTES}  # where it has none
+FILES = ("reference", "good", "start", "lesson")  # keys of an exercise that name a file in its folder
 PLACE_BYTES = 1 << 20  # all that a user's pages have
 
 _NAMES = {bool: "true or false", int: "a number", str: "a text", list: "a list", dict: "a table"}
@@ -60,44 +63,60 @@ class Case:
 
 
 @dataclass(frozen=True)
-class Exercise:
-    """A title; lines of the monitor before each case, without the user's digit; limits of each case; the cases.
+class Limits:
+    """Of each case: ticks, bytes of output, and instructions; and how many bytes the file of an answer has."""
 
-    reference: the answer whose results are expected, in the places that the cases name; else the cases have them
+    ticks: int
+    output: int
+    instructions: int
+    size: int
+
+
+@dataclass(frozen=True)
+class Exercise:
+    """An exercise, as its folder has it.
+
+    text: in paragraphs, lists and code, as a pupil reads it; hints: one more after each try that fails
+    set_up: lines of the monitor before each case, without the user's digit
+    files: by the keys of FILES that there are: `reference`, an answer whose results are expected in the places that the
+        cases name, which else have them; `good`, another one, with vectors; `start`, the source that a pupil begins
+        with; `lesson`, the source of a lesson before it
     """
 
+    folder: pathlib.Path
     title: str
+    text: str
+    hints: Sequence[str]
     set_up: Sequence[str]
-    ticks: int
-    output_bytes: int
+    limits: Limits
     cases: Sequence[Case]
-    reference: pathlib.Path | None
+    files: Mapping[str, pathlib.Path]
 
 
 def read_exercise(folder: pathlib.Path) -> Exercise:
     """The exercise in a folder, or the one of this name that comes with the lab. Raises LabError and OSError."""
-    path = (folder if folder.exists() else OURS / folder.name) / "exercise.toml"
+    path = (folder if folder.exists() else OURS / folder.name).absolute() / "exercise.toml"
     if not path.is_file():
         raise LabError(f"{folder} is no exercise: there is no file {folder / 'exercise.toml'}")
     with mistakes_in(path, tomllib.TOMLDecodeError, UnicodeDecodeError):
         entries = tomllib.loads(path.read_text("utf-8"))
-    defaults = {"title": folder.name, "set_up": [], "limits": {}, "reference": "", "cases": []}
-    table = _taken(str(path), entries, defaults)
-    limits = _taken(f"{path}: limits", table.limits, {"ticks": TICKS, "output": OUTPUT_BYTES})
-    reference = path.parent / table.reference if table.reference else None
-    cases = [_case(f"{path}: case {number}", each, reference) for number, each in enumerate(table.cases, 1)]
+    texts = dict.fromkeys(["text", *FILES], "") | {"title": path.parent.name}
+    table = _taken(str(path), entries, {**texts, "limits": {}, "hints": [], "set_up": [], "cases": []})
+    limits = Limits(**vars(_taken(f"{path}: limits", table.limits, LIMITS)))
+    files = {key: path.parent / getattr(table, key) for key in FILES if getattr(table, key)}
+    cases = [_case(f"{path}: case {number}", each, "reference" in files) for number, each in enumerate(table.cases, 1)]
     twice = [name for name, count in Counter(case.name for case in cases).items() if count > 1]
     mistakes = {
         "there is no case: [[cases]] begins one": not cases,
         f"two cases are called {' and '.join(twice)}": twice,
-        "limits: ticks and output are from 1 up": min(limits.ticks, limits.output) < 1,
+        "limits: each is from 1 up": min(vars(limits).values()) < 1,
         "set_up is a list of texts, which are lines of the monitor": {*map(type, table.set_up)} - {str},
-        f"reference: there is no file {reference}": reference and not reference.is_file(),
-    }
+        "hints is a list of texts": {*map(type, table.hints)} - {str},
+    } | {f"{key}: there is no file {file}": not file.is_file() for key, file in files.items()}
     for mistake, is_made in mistakes.items():
         if is_made:
             raise LabError(f"{path}: {mistake}")
-    return Exercise(table.title, table.set_up, limits.ticks, limits.output, cases, reference)
+    return Exercise(path.parent, table.title, table.text, table.hints, table.set_up, limits, cases, files)
 
 
 def _taken(where: str, entries: object, defaults: Mapping[str, object]) -> SimpleNamespace:
@@ -112,17 +131,17 @@ def _taken(where: str, entries: object, defaults: Mapping[str, object]) -> Simpl
     return SimpleNamespace(**defaults | entries)
 
 
-def _case(where: str, entries: object, reference: pathlib.Path | None) -> Case:
+def _case(where: str, entries: object, by_reference: bool) -> Case:
     """A case. What a reference is to give is named alone: registers in a list, how many numbers, and output = true."""
     inputs = {"hidden": False, "policy": "keep", "registers": {}, "memory": []}
     table = _taken(where, entries, {"name": where.split(": ")[-1], "expected": {}, **inputs})
-    results = {"registers": [], "output": False} if reference else {"registers": {}, "output": ""}
-    of = "expected by the reference" if reference else "expected"
+    results = {"registers": [], "output": False} if by_reference else {"registers": {}, "output": ""}
+    of = "expected by the reference" if by_reference else "expected"
     expected, output = _taken(f"{where}: {of}", table.expected, {"memory": [], **results}), None
     if "output" in table.expected:
-        output = b"" if reference else expected.output.encode()
-    asked = dict.fromkeys(map(str, expected.registers), 0) if reference else expected.registers
-    places = [_place(where, each, bool(reference)) for each in expected.memory]
+        output = b"" if by_reference else expected.output.encode()
+    asked = dict.fromkeys(map(str, expected.registers), 0) if by_reference else expected.registers
+    places = [_place(where, each, by_reference) for each in expected.memory]
     if table.policy not in ("keep", "ones"):
         raise LabError(f"{where}: policy is keep or ones, and not {table.policy}")
     if not (asked or places or output is not None):

@@ -10,13 +10,12 @@ from concurrent.futures import ThreadPoolExecutor
 from functools import partial
 
 from .. import LabError
+from ..arguments import check_output
 from ..machine.program import find_program
-from ..tables.table import table_lines
-from .answer import attempt, read_answer, settled
-from .exercise import OURS, Exercise, Results, read_exercise
-
-Grades = list[tuple[pathlib.Path, list[str]]]
-"""Answers, each with why it fails, or nothing, for each case."""
+from ..tables.table import spreadsheet_row, table_lines
+from .answer import Answer, Attempt, attempt, read_answer, settled
+from .exercise import OURS, Case, Exercise, Results, read_exercise
+from .reports import Grades, gradescope, junit
 
 EXERCISE = "a folder with a file exercise.toml, or the name of an exercise that comes with the lab"
 
@@ -28,6 +27,8 @@ def add_arguments(parser: argparse.ArgumentParser) -> None:
     form = parser.add_mutually_exclusive_group()
     form.add_argument("--csv", action="store_true", help="a row of CSV for each answer, below a header, and no table")
     form.add_argument("--rows", action="store_true", help="the same without the header")
+    for option, report in (("--junit", "a report in JUnit's XML"), ("--gradescope", "Gradescope's results.json")):
+        parser.add_argument(option, metavar="FILE", type=pathlib.Path, help=f"write {report} as well")
 
 
 def names() -> list[str]:
@@ -36,11 +37,19 @@ def names() -> list[str]:
 
 
 def run(arguments: argparse.Namespace) -> int:
-    """Grades the answers side by side; 1 if one of them fails. Raises LabError and OSError for a bad exercise."""
+    """Grades the answers side by side; 1 if one of them fails. Raises LabError and OSError for bad input."""
+    if arguments.gradescope and len(arguments.answers) > 1:
+        raise LabError("--gradescope tells of one answer, and here are several")
+    for report in (arguments.junit, arguments.gradescope):
+        check_output(report, *arguments.answers)
     program = find_program()
     exercise = settled(program, read_exercise(arguments.exercise))
     with ThreadPoolExecutor(os.cpu_count()) as pool:
         grades = list(zip(arguments.answers, pool.map(partial(grade, program, exercise), arguments.answers)))
+    if arguments.junit:
+        arguments.junit.write_text(junit(exercise, grades), "utf-8")
+    if arguments.gradescope:
+        arguments.gradescope.write_text(gradescope(exercise, grades[0][1]), "utf-8")
     if arguments.csv or arguments.rows:
         _print_rows(exercise, grades, arguments.csv)
     else:
@@ -50,22 +59,33 @@ def run(arguments: argparse.Namespace) -> int:
 
 def grade(program: pathlib.Path, exercise: Exercise, path: pathlib.Path) -> list[str]:
     """Why an answer fails, or nothing, for each case, whatever the file is."""
-    outcomes = []
-    for case in exercise.cases:
-        try:
-            outcomes.append(difference(case.expected, *attempt(program, read_answer(path), exercise, case)))
-        except LabError as error:
-            outcomes.append(str(error))
-    return outcomes
+    try:
+        answer = read_answer(path, exercise.limits.size)
+    except LabError as error:
+        return [str(error)] * len(exercise.cases)
+    return [outcome(program, answer, exercise, case)[0] for case in exercise.cases]
 
 
-def difference(expected: Results, before: Results, found: Results) -> str:
+def outcome(program: pathlib.Path, answer: Answer, exercise: Exercise, case: Case) -> tuple[str, Attempt | None]:
+    """Why an answer fails in a case, or nothing; and what it left, if it came to an end."""
+    try:
+        done = attempt(program, answer, exercise, case)
+    except LabError as error:
+        return str(error), None
+    reason = difference(case.expected, done)
+    if done.is_long and not reason:
+        most = exercise.limits.instructions
+        reason = f"the results are right, but it takes more than {most:,} instructions: with vectors fewer will do"
+    return reason, done
+
+
+def difference(expected: Results, done: Attempt) -> str:
     """The first place where something else is found than is expected, in words; or nothing."""
-    for where, value, old, left in _numbers(expected, before, found):
+    for where, value, old, left in _numbers(expected, done.before, done.found):
         if left != value:
             return f"{where}: expected {value}, {'and it was left as it was' if left == old else f'found {left}'}"
-    if found.output != expected.output:
-        return "output: expected {}, found {}".format(*map(_shown, (expected.output, found.output)))
+    if done.found.output != expected.output:
+        return "output: expected {}, found {}".format(*map(_shown, (expected.output, done.found.output)))
     return ""
 
 
@@ -101,10 +121,11 @@ def _print_rows(exercise: Exercise, grades: Grades, with_header: bool) -> None:
     """Prints a row of CSV for each answer."""
     writer = csv.writer(sys.stdout, lineterminator="\n")
     if with_header:
-        writer.writerow(["answer", "passed", "of", *(case.name for case in exercise.cases), "reason"])
+        writer.writerow(spreadsheet_row(["answer", "passed", "of", *(case.name for case in exercise.cases), "reason"]))
     for path, outcomes in grades:
         marks = ["fails" if outcome else "passes" for outcome in outcomes]
-        writer.writerow([path, outcomes.count(""), len(marks), *marks, *(_reasons(exercise, outcomes) or [""])[:1]])
+        reason = next(iter(_reasons(exercise, outcomes)), "")
+        writer.writerow(spreadsheet_row([path, outcomes.count(""), len(marks), *marks, reason]))
 
 
 def _print_table(exercise: Exercise, grades: Grades) -> None:

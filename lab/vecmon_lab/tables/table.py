@@ -5,7 +5,9 @@ Those of this folder have a row to a line, its cells apart by two spaces or more
 
 import pathlib
 import re
-from collections.abc import Iterator, Sequence
+from collections.abc import Iterable, Iterator, Sequence
+
+_FORMULAS = ("=", "+", "-", "@", "\t", "\r")  # how cells begin that a spreadsheet works out
 
 
 def read_table(name: str) -> list[list[str]]:
@@ -20,3 +22,8 @@ def table_lines(rows: Sequence[Sequence[object]], texts: int) -> Iterator[str]:
     for row in rows:
         cells = [f"{cell!s:{'<' if at < texts else '>'}{width}}" for at, (cell, width) in enumerate(zip(row, widths))]
         yield "  ".join(cells).rstrip()
+
+
+def spreadsheet_row(cells: Iterable[object]) -> list[object]:
+    """Cells of a row of CSV, of which none is a formula: whoever opens it in a spreadsheet sees a text with ' before."""
+    return [f"'{cell}" if not isinstance(cell, int) and str(cell).startswith(_FORMULAS) else cell for cell in cells]

@@ -1,0 +1,158 @@
+"""Inputs for the exercises of the course, made by chance, each with what a plain reading of the exercise's text gives."""
+
+from collections.abc import Callable, Sequence
+from dataclasses import dataclass
+from random import Random
+
+from vecmon_lab.exercises.exercise import Place, Results
+
+OUT, IN, MORE = 0x20000, 0x30000, 0x30800  # in pages that the exercises have
+
+
+@dataclass(frozen=True)
+class Drawn:
+    """What an answer is given, and what is expected of it."""
+
+    registers: dict[str, int]
+    memory: list[Place]
+    expected: Results
+
+
+def numbers(random: Random, kind: str, count: int) -> list[int]:
+    """So many numbers of a type, of which some are at its ends."""
+    bits = int(kind[1:])
+    least = -(1 << bits - 1) if kind[0] == "i" else 0
+    most = least + (1 << bits) - 1
+    ends = [least, most, 0, 1, most - 1]
+    return [random.choice(ends) if random.random() < 0.2 else random.randint(least, most) for _ in range(count)]
+
+
+def wrapped(value: int) -> int:
+    """A number as 32 bits with a sign hold it."""
+    return (value + (1 << 31)) % (1 << 32) - (1 << 31)
+
+
+def length(random: Random, most: int) -> int:
+    """How many numbers there are; often one of a group's ends."""
+    return min(most, random.choice([0, 1, 8, 31, 32, 33, 64, 128, random.randint(0, most), random.randint(0, 20)]))
+
+
+def _given(*values: int) -> dict[str, int]:
+    """The values of a0 and those behind it."""
+    return {f"x{number}": value % (1 << 64) for number, value in enumerate(values, 10)}
+
+
+def _written(
+    random: Random, registers: dict[str, int], memory: list[Place], kind: str, results: Sequence[int]
+) -> Drawn:
+    """An input after which these results stand at OUT, and behind them what stood there before."""
+    before, behind = numbers(random, kind, len(results)), numbers(random, kind, 3)
+    place = Place(OUT, kind, [*results, *behind])
+    return Drawn(registers, [*memory, Place(OUT, kind, before + behind)], Results({}, [place], None))
+
+
+def _answered(registers: dict[str, int], memory: list[Place], value: int) -> Drawn:
+    """An input to which a0 is the answer."""
+    return Drawn(registers, memory, Results({"x10": value % (1 << 64)}, [], None))
+
+
+def doubles(random: Random) -> Drawn:
+    n, x = random.randint(0, 8), numbers(random, "i32", 10)
+    given = _given(OUT, OUT + 0x800, n)
+    return _written(random, given, [Place(OUT + 0x800, "i32", x)], "i32", [wrapped(2 * each) for each in x[:n]])
+
+
+def strip_mined_copy(random: Random) -> Drawn:
+    n = length(random, 300)
+    x = numbers(random, "u8", n + 3)
+    return _written(random, _given(OUT, IN, n), [Place(IN, "u8", x)], "u8", x[:n])
+
+
+def saturating_sum(random: Random) -> Drawn:
+    n = length(random, 200)
+    x, y = numbers(random, "i16", n + 1), numbers(random, "i16", n + 1)
+    sums = [max(-32768, min(32767, one + other)) for one, other in zip(x[:n], y)]
+    memory = [Place(OUT + 0x400, "i16", x), Place(OUT + 0x800, "i16", y)]
+    return _written(random, _given(OUT, OUT + 0x400, OUT + 0x800, n), memory, "i16", sums)
+
+
+def byte_sum(random: Random) -> Drawn:
+    n = length(random, 1000)
+    x = numbers(random, "u8", n + 3)
+    return _answered(_given(OUT, n), [Place(OUT, "u8", x)], sum(x[:n]))
+
+
+def dot_product(random: Random) -> Drawn:
+    n = length(random, 400)
+    x, y = numbers(random, "i8", n + 3), numbers(random, "i8", n + 3)
+    memory = [Place(OUT, "i8", x), Place(IN, "i8", y)]
+    return _answered(_given(OUT, IN, n), memory, sum(one * other for one, other in zip(x[:n], y)))
+
+
+def mask_count(random: Random) -> Drawn:
+    n = length(random, 300)
+    x, (least, most) = numbers(random, "i16", n + 3), numbers(random, "i16", 2)
+    return _answered(_given(OUT, n, least, most), [Place(OUT, "i16", x)], sum(least <= each <= most for each in x[:n]))
+
+
+def clamped_magnitude(random: Random) -> Drawn:
+    n, most = length(random, 150), random.choice([0, 1, 1000, (1 << 31) - 1, random.randint(0, (1 << 31) - 1)])
+    x, flags = numbers(random, "i32", n + 2), numbers(random, "u8", n + 2)
+    results = [min(abs(each), most) if flag else each for each, flag in zip(x[:n], flags)] + x[n:]
+    memory = [Place(OUT, "i32", x), Place(IN, "u8", flags)]
+    return Drawn(_given(OUT, IN, n, most), memory, Results({}, [Place(OUT, "i32", results)], None))
+
+
+def strlen(random: Random) -> Drawn:
+    n = length(random, 400)
+    at = random.choice([0x20100, 0x20FFF - n])
+    text = [1 + each % 255 for each in numbers(random, "u8", n)]
+    return _answered(_given(at), [Place(at, "u8", [*text, 0])], n)
+
+
+def rgb_to_grey(random: Random) -> Drawn:
+    n = length(random, 150)
+    x = numbers(random, "u8", 3 * n + 3)
+    greys = [round((77 * x[3 * at] + 150 * x[3 * at + 1] + 29 * x[3 * at + 2]) / 256) for at in range(n)]
+    return _written(random, _given(OUT, IN, n), [Place(IN, "u8", x)], "u8", greys)  # round goes to the even one, too
+
+
+def table_look_up(random: Random) -> Drawn:
+    n, table = length(random, 300), numbers(random, "u8", 16)
+    x = [each % 16 for each in numbers(random, "u8", n + 3)]
+    memory = [Place(IN, "u8", x), Place(MORE, "u8", table)]
+    return _written(random, _given(OUT, IN, n, MORE), memory, "u8", [table[each] for each in reversed(x[:n])])
+
+
+def filter(random: Random) -> Drawn:
+    n, (bound,) = length(random, 200), numbers(random, "i32", 1)
+    x = numbers(random, "i32", n + 1)
+    kept = [each for each in x[:n] if each > bound]
+    drawn = _written(random, _given(OUT, IN, n, bound), [Place(IN, "i32", x)], "i32", kept)
+    return Drawn(drawn.registers, drawn.memory, Results({"x10": len(kept)}, drawn.expected.memory, None))
+
+
+def prefix_sums(random: Random) -> Drawn:
+    n = length(random, 150)
+    x = numbers(random, "i32", n + 1)
+    sums = [wrapped(sum(x[: place + 1])) for place in range(n)]
+    return _written(random, _given(OUT, IN, n), [Place(IN, "i32", x)], "i32", sums)
+
+
+DRAWS: dict[str, Callable[[Random], Drawn]] = {
+    each.__name__: each
+    for each in (
+        doubles,
+        strip_mined_copy,
+        saturating_sum,
+        byte_sum,
+        dot_product,
+        mask_count,
+        clamped_magnitude,
+        strlen,
+        rgb_to_grey,
+        table_look_up,
+        filter,
+        prefix_sums,
+    )
+}

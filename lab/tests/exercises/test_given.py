@@ -1,0 +1,99 @@
+"""The exercises of the course: their answers, right and wrong, and their lessons."""
+
+import pathlib
+from random import Random
+
+import pytest
+
+from support.commands import Lab
+from support.drawn_inputs import DRAWS, Drawn
+from vecmon_lab.exercises.answer import Attempt, read_answer, ready, settled
+from vecmon_lab.exercises.exercise import OURS, Results, read_exercise
+from vecmon_lab.exercises.grade import difference, grade
+from vecmon_lab.guest.guest import Guest, pokes
+from vecmon_lab.machine.answers import ScalarRegisters
+from vecmon_lab.tables.table import read_table
+
+COURSE = [name for name, _ in read_table("course")]
+DRAWN, BEGIN = 1000, 0x10000  # inputs of each exercise; where a source begins
+
+
+def test_the_course_has_all_exercises_of_the_lab() -> None:
+    assert sorted(COURSE) == sorted(path.parent.name for path in OURS.glob("*/exercise.toml"))
+    assert COURSE == list(DRAWS)
+
+
+@pytest.mark.parametrize("name", COURSE)
+def test_an_exercise_is_whole(program: pathlib.Path, name: str) -> None:
+    """It has a text, hints, a lesson, cases of which some are hidden; a start and three wrong answers fail."""
+    exercise = settled(program, read_exercise(pathlib.Path(name)))
+    assert (
+        exercise.text and len(exercise.hints) >= 3 and set(exercise.files) == {"reference", "good", "start", "lesson"}
+    )
+    hidden = [case.is_hidden for case in exercise.cases]
+    assert len(hidden) >= 4 and 1 < sum(hidden) < len(hidden) - 1
+    assert not any(grade(program, exercise, exercise.files["good"]))
+    too_long = list(zip(hidden, grade(program, exercise, exercise.files["reference"])))
+    assert all("it takes more than" in reason for _, reason in too_long if reason)
+    assert any(reason for is_hidden, reason in too_long if not is_hidden)  # so that who writes no vectors is told
+    wrong = sorted((exercise.folder / "wrong").glob("*.s"))
+    assert len(wrong) == 3
+    for path in [exercise.files["start"], *wrong]:
+        outcomes = grade(program, exercise, path)
+        assert any(outcomes), path
+        assert not any(reason.startswith(path.name) for reason in outcomes), outcomes  # it assembles
+
+
+def leave(guest: Guest, drawn: Drawn) -> Results:
+    """What the answer that was brought in leaves of an input."""
+    written = [command for place in drawn.memory for command in pokes(place.address, place.data)]
+    registers = [f"set {name} {value:x}" for name, value in drawn.registers.items()]
+    guest.ask(*written, *registers, f"setpc {BEGIN:x}")
+    stop = guest.go(100_000)
+    assert stop and stop.kind == "ebreak", drawn
+    x = guest.told("regs", ScalarRegisters).x
+    found = {name: x[int(name[1:])] for name in drawn.expected.registers}
+    places = [place.holding(guest.peek(place.address, len(place.data))) for place in drawn.expected.memory]
+    return Results(found, places, None)
+
+
+@pytest.mark.parametrize("answer", ["reference", "good"])
+@pytest.mark.parametrize("name", COURSE)
+def test_answers_do_what_the_text_says(program: pathlib.Path, name: str, answer: str) -> None:
+    """For inputs made by chance, with and without vectors: as Python says."""
+    exercise, random = read_exercise(pathlib.Path(name)), Random(name)
+    with ready(program, read_answer(exercise.files[answer]), exercise, exercise.cases[0]) as guest:
+        for _ in range(DRAWN):
+            drawn = DRAWS[name](random)
+            found = leave(guest, drawn)
+            assert not difference(drawn.expected, Attempt(drawn.expected, found, False)), drawn
+
+
+def test_a_course_is_written(lab: Lab, tmp_path: pathlib.Path) -> None:
+    status, told, _ = lab("course", tmp_path / "course")
+    names = [*COURSE, "index"]
+    assert status == 0 and [line.split(":")[0] for line in told.decode().splitlines()] == [
+        f"{tmp_path}/course/{name}.html" for name in names
+    ]
+    for name in COURSE:
+        page = (tmp_path / "course" / f"{name}.html").read_text("utf-8")
+        frames = page.count('"line":"1 step')
+        assert 5 < frames < 100 and '"stop":"An ebreak stands at' in page, name
+        assert not ('"faulted"' in page and name != "strlen")
+
+
+@pytest.mark.by_command("exercise")
+def test_a_new_exercise_passes_its_try(lab: Lab, tmp_path: pathlib.Path) -> None:
+    folder = tmp_path / "own"
+    assert lab("exercise", "new", folder)[0] == 0
+    status, told, _ = lab("exercise", "try", folder)
+    lines = told.decode().splitlines()
+    assert (status, lines[0]) == (0, "Doubles")
+    assert "good.s: passes 5 cases" in lines and lines[-3].startswith("wrong/always_eight.s: passes 2 of 5 cases; ")
+    (folder / "wrong" / "good.s").write_text((folder / "good.s").read_text())
+    (folder / "good.s").write_text("ret\n")
+    status, told, _ = lab("exercise", "try", folder)
+    assert status == 1 and b"good.s: passes 1 of 5 cases; " in told
+    assert b"wrong/good.s: passes 5 cases, and it shall fail\n" in told
+    status, _, complaint = lab("exercise", "new", folder)
+    assert status == 2 and complaint == f"vecmon-lab: {folder}: File exists\n"

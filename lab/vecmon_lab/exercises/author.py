@@ -1,0 +1,60 @@
+"""What authors of exercises need: a folder to begin with, and a try of the exercise, as pupils would find it."""
+
+import argparse
+import pathlib
+import shutil
+from collections.abc import Iterator
+
+from ..machine.program import find_program
+from .answer import settled
+from .exercise import OURS, Exercise, read_exercise
+from .grade import grade
+from .reports import told
+
+SKELETON = OURS / "doubles"
+
+
+def add_arguments(parser: argparse.ArgumentParser) -> None:
+    """The words of `vecmon-lab exercise`."""
+    help = "new: make a folder with an exercise to change; try: run its right and its wrong answers"
+    parser.add_argument("what", metavar="new|try", choices=["new", "try"], help=help)
+    parser.add_argument("folder", metavar="DIR", type=pathlib.Path, help="the folder of the exercise")
+
+
+def run(arguments: argparse.Namespace) -> int:
+    """Makes an exercise, or tries one; 1 if an answer fails or passes that shouldn't. Raises LabError and OSError."""
+    folder = arguments.folder
+    if arguments.what == "new":
+        shutil.copytree(SKELETON, folder)
+        print(f"{folder} has the exercise `doubles`: change its files, and then: vecmon-lab exercise try {folder}")
+        return 0
+    program = find_program()
+    exercise = settled(program, read_exercise(folder))
+    print("\n".join([exercise.title, "", exercise.text.strip(), ""]))
+    for number, hint in enumerate(exercise.hints, 1):
+        print(f"after {number} {'try' if number == 1 else 'tries'}: {hint}")
+    is_fit = True
+    for path, shall_pass in _answers(exercise):
+        outcomes = grade(program, exercise, path)
+        is_fit &= any(outcomes) != shall_pass
+        print(f"{path.relative_to(exercise.folder)}: {_verdict(exercise, outcomes)}", end="")
+        print("" if any(outcomes) != shall_pass else f", and it shall {'pass' if shall_pass else 'fail'}")
+    return int(not is_fit)
+
+
+def _answers(exercise: Exercise) -> Iterator[tuple[pathlib.Path, bool]]:
+    """The answers that an exercise has, and whether each shall pass; the reference's results are expected anyway."""
+    for key, shall_pass in (("good", True), ("start", False)):
+        if key in exercise.files:
+            yield exercise.files[key], shall_pass
+    for path in sorted((exercise.folder / "wrong").glob("*")):
+        yield path, False
+
+
+def _verdict(exercise: Exercise, outcomes: list[str]) -> str:
+    """What a pupil reads of an answer first: the first case that fails and isn't hidden, or else which ones fail."""
+    failing = [(case, reason) for case, reason in zip(exercise.cases, outcomes) if reason]
+    if not failing:
+        return f"passes {len(outcomes)} cases"
+    first, reason = next((each for each in failing if not each[0].is_hidden), failing[0])
+    return f"passes {outcomes.count('')} of {len(outcomes)} cases; {first.name}: {told(first, reason)}"

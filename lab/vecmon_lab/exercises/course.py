@@ -1,0 +1,34 @@
+"""Writes the course: a page with the texts of its exercises and the class's command, and the lessons before them."""
+
+import argparse
+import pathlib
+
+from ..lessons.frames import make_frames
+from ..lessons.page import lesson_page
+from ..lessons.script import read_source
+from ..machine.program import find_program
+from ..page.pages import lone_page
+from ..tables.table import read_table
+from .exercise import OURS, read_exercise
+
+
+def add_arguments(parser: argparse.ArgumentParser) -> None:
+    """The words of `vecmon-lab course`."""
+    parser.add_argument("folder", metavar="DIR", type=pathlib.Path, help="where the pages go; made if it isn't there")
+
+
+def run(arguments: argparse.Namespace) -> int:
+    """Writes the pages, and prints their paths in the course's order. Raises LabError and OSError."""
+    program, folder, exercises = find_program(), arguments.folder, []
+    folder.mkdir(parents=True, exist_ok=True)
+    for name, minutes in read_table("course"):
+        exercise, path = read_exercise(OURS / name), folder / f"{name}.html"
+        source = exercise.files["lesson"]
+        script = read_source(source.read_text("utf-8"), source.name)
+        path.write_text(lesson_page(script.title, make_frames(script, program), script.labels), "utf-8")
+        texts = {"title": exercise.title, "text": exercise.text, "lesson": script.title}
+        exercises.append({"name": name, "minutes": minutes} | texts)
+        print(f"{path}: {script.title}")
+    (folder / "index.html").write_text(lone_page("course", "A course", exercises), "utf-8")
+    print(f"{folder / 'index.html'}: A course")
+    return 0

@@ -1,0 +1,15 @@
+# The sum has the width of a byte.
+        li t0, 0
+        beqz a1, done
+        vsetivli zero, 1, e8, m1, ta, ma
+        vmv.s.x v4, zero
+next:   vsetvli t1, a1, e8, m8, ta, ma
+        vle8.v v8, (a0)
+        vredsum.vs v4, v8, v4
+        add a0, a0, t1
+        sub a1, a1, t1
+        bnez a1, next
+        vmv.x.s t0, v4
+        zext.b t0, t0
+done:   mv a0, t0
+        ret

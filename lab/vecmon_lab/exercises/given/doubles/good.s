@@ -1,0 +1,5 @@
+        vsetvli t0, a2, e32, m1, ta, ma
+        vle32.v v8, (a1)
+        vadd.vv v8, v8, v8
+        vse32.v v8, (a0)
+        ret

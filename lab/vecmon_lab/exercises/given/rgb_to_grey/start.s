@@ -1,0 +1,2 @@
+# a0: where the greys go, a1: where the dots are, a2: how many there are
+        ret

@@ -1,0 +1,54 @@
+"""Reports of grades for other programs: JUnit's XML, and the JSON that Gradescope's autograder takes."""
+
+import json
+import pathlib
+import re
+import xml.etree.ElementTree as ElementTree
+
+from .exercise import Case, Exercise
+
+Grades = list[tuple[pathlib.Path, list[str]]]
+"""Answers, each with why it fails, or nothing, for each case."""
+
+_NO_XML = re.compile("[^\t\n\r -\ud7ff\ue000-\ufffd\U00010000-\U0010ffff]")  # characters that XML can't have
+
+
+def told(case: Case, reason: str) -> str:
+    """Why an answer fails in a case, as whoever wrote it may know: of a hidden case no more than that."""
+    return "fails" if case.is_hidden and reason else reason
+
+
+def junit(exercise: Exercise, grades: Grades) -> str:
+    """A suite for each answer, with a test for each case."""
+    top = ElementTree.Element("testsuites", name=_fit(exercise.title))
+    for path, outcomes in grades:
+        numbers = {"tests": f"{len(outcomes)}", "failures": f"{len(outcomes) - outcomes.count('')}", "errors": "0"}
+        suite = ElementTree.SubElement(top, "testsuite", numbers, name=_fit(f"{path}"))
+        for case, reason in zip(exercise.cases, outcomes):
+            test = ElementTree.SubElement(suite, "testcase", classname=_fit(f"{path}"), name=_fit(case.name))
+            if reason:
+                ElementTree.SubElement(test, "failure", message=_fit(told(case, reason)))
+    ElementTree.indent(top)
+    text: str = ElementTree.tostring(top, "unicode")
+    return f"<?xml version='1.0' encoding='utf-8'?>\n{text}\n"
+
+
+def gradescope(exercise: Exercise, outcomes: list[str]) -> str:
+    """What Gradescope's autograder reads of one answer: a point for each case, and hidden ones aren't shown."""
+    tests = [
+        {
+            "name": case.name,
+            "score": int(not reason),
+            "max_score": 1,
+            "status": "failed" if reason else "passed",
+            "output": told(case, reason),
+            "visibility": "hidden" if case.is_hidden else "visible",
+        }
+        for case, reason in zip(exercise.cases, outcomes)
+    ]
+    return json.dumps({"output": exercise.title, "tests": tests}, indent=1) + "\n"
+
+
+def _fit(text: str) -> str:
+    """A text without characters that XML can't have."""
+    return _NO_XML.sub("?", text)
