@@ -8,7 +8,7 @@ import re
 import signal
 import subprocess
 import sys
-from collections.abc import AsyncIterator, Callable, Mapping
+from collections.abc import AsyncIterator, Callable, Iterable, Mapping
 from contextlib import asynccontextmanager
 from typing import Any
 
@@ -148,9 +148,11 @@ async def served(
     name: str = "class",
     quantum: int | None = None,
     clock: bool = False,
+    exercises: Iterable[pathlib.Path] = (),
 ) -> AsyncIterator[Served]:
     """A class that is served in this process."""
-    members = Class(Store(folder, find_program(), images, quantum, machines), 5.0, clock=clock)
+    store = Store(folder, find_program(), images, quantum, machines)
+    members = Class(store, 5.0, clock=clock, exercises=exercises)
     async with class_server.served(
         members, class_server.listening("127.0.0.1", 0), {name}
     ) as port, _session() as session:

@@ -1,8 +1,8 @@
 """The pictures of the pages: `python lab/tools/pictures.py docs/pictures`, with VECMON as for the lab.
 
-Writes lesson.png, student.png, teacher.png and wall.png to the folder: Chromium's pictures of a lesson and of a class, in
-light colours, 1280 pixels wide. In the class six students have each come to another place, and the teacher looks over the
-shoulder of the third, whose seat is on the wall as well.
+Writes lesson.png, student.png, teacher.png, wall.png and exercise.png to the folder: Chromium's pictures of a lesson and of
+classes, in light colours, 1280 pixels wide. In one class six students have each come to another place, and the teacher looks
+over the shoulder of the third, whose seat is on the wall as well. In the other one a student's answer fails in a case.
 """
 
 import base64
@@ -15,6 +15,7 @@ from typing import TYPE_CHECKING
 from support.browser import start_browser
 from support.class_pages import Served, Tab
 from support.places import EXAMPLES, TOP
+from vecmon_lab.exercises.exercise import OURS
 from vecmon_lab.machine.program import find_program
 
 if TYPE_CHECKING:
@@ -24,6 +25,7 @@ WIDTH, HEIGHT, WALL_HEIGHT = 1280, 800, 720
 EXAMPLE = EXAMPLES / "strip_mined.s"
 MASKED = 22  # of the example's instructions, the masked one in the loop's second round
 COUNT_UP = ["addi x5, x5, 1", "jal x0, -4"]
+EXERCISE, WRONG = "clamped_magnitude", OURS / "clamped_magnitude" / "wrong" / "without_the_mask.s"
 ODD_GROUP = ["vsetivli x0, 8, e32, m2, ta, ma", "vadd.vv v3, v2, v4"]
 
 
@@ -90,6 +92,20 @@ def picture_class(browser: "Chrome", served: Served, folder: pathlib.Path) -> No
     save(browser, folder / "wall.png", WALL_HEIGHT)
 
 
+def picture_exercise(browser: "Chrome", served: Served, folder: pathlib.Path) -> None:
+    """The page of a student whose answer was checked and fails."""
+    tab = Tab(browser, served, "A1")
+    give_room(browser, HEIGHT)
+    tab.click("#show-source")
+    tab.run("(id('source').value = arguments[0], id('assemble').click())", WRONG.read_text("utf-8"))
+    tab.wait("id('listing').textContent.includes('vminu') && !id('listing').hidden")
+    tab.click("#show-source")
+    tab.click("#exercise .main")
+    tab.wait("one('#exercise .wrong')")
+    tab.run("one('#exercise .verdict').scrollIntoView()")
+    save(browser, folder / "exercise.png", HEIGHT)
+
+
 def main(folder: pathlib.Path) -> None:
     browser = start_browser("hide-scrollbars", "force-prefers-reduced-motion")
     give_room(browser, HEIGHT)
@@ -97,11 +113,14 @@ def main(folder: pathlib.Path) -> None:
         open_lesson(browser, pathlib.Path(room))
         save(browser, folder / "lesson.png", HEIGHT)
         served = Served(pathlib.Path(room) / "class", find_program())
+        course = Served(pathlib.Path(room) / "course", find_program(), "--exercise", EXERCISE)
         try:
+            picture_exercise(browser, course, folder)
             picture_class(browser, served, folder)
         finally:
             browser.quit()
             served.end()
+            course.end()
 
 
 if __name__ == "__main__":

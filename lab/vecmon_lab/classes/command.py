@@ -30,6 +30,14 @@ def add_arguments(parser: argparse.ArgumentParser) -> None:
     parser.add_argument("--name", action="append", default=[], help="a host name that the page is opened under as well")
     machines = between(1, len(LETTERS))
     parser.add_argument("--machines", metavar="N", type=machines, help="eight seats each, 1 to 12; else 1")
+    parser.add_argument(
+        "--exercise",
+        metavar="NAME|DIR",
+        type=pathlib.Path,
+        action="append",
+        default=[],
+        help="an exercise of the lab's, or the folder of one's own, for all seats; several are several options",
+    )
     parser.add_argument("--quantum", metavar="N", type=int, help="the ticks of a slice, 1 to 1000; else 100")
     parser.add_argument(
         "--no-clock", action="store_true", help="a new machine's clock is off until the teacher turns it on"
@@ -57,7 +65,7 @@ def run(arguments: argparse.Namespace) -> int:
     except LabError:
         store.close()
         raise
-    members = Class(store, arguments.patience, _tell, not arguments.no_clock, arguments.spare)
+    members = Class(store, arguments.patience, _tell, not arguments.no_clock, arguments.spare, arguments.exercise)
     members.address = arguments.address or ""
     hosts = {*arguments.name, urlsplit(members.address).hostname or host}
     asyncio.run(serve(members, host, doors, hosts))

@@ -5,6 +5,7 @@ import io
 import unicodedata
 from collections.abc import Iterable
 
+from ..tables.table import spreadsheet_row
 from .requests import BadRequest
 
 NAMES = "names.json"  # by seat
@@ -25,7 +26,7 @@ def checked_name(text: str) -> str:
 
 
 def as_csv(rows: Iterable[Iterable[object]]) -> bytes:
-    """Rows as CSV that spreadsheets open."""
+    """Rows as CSV that spreadsheets open, with no formula in them."""
     text = io.StringIO()
-    csv.writer(text).writerows(rows)
+    csv.writer(text).writerows(map(spreadsheet_row, rows))
     return text.getvalue().encode("utf-8-sig")

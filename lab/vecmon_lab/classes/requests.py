@@ -114,6 +114,23 @@ class Give:
 
 
 @dataclass(frozen=True)
+class Check:
+    """A source that is checked as an answer to an exercise."""
+
+    exercise: str
+    text: str
+
+
+@dataclass(frozen=True)
+class ReadAnswer:
+    """The answer of a seat to an exercise, the first of which has the number 1."""
+
+    seat: str
+    exercise: str
+    number: int
+
+
+@dataclass(frozen=True)
 class SetName:
     """The name of whoever sits at a seat, which is the student's own unless a teacher says it; "" for none."""
 
@@ -136,8 +153,9 @@ class Reset:
     seat: str
 
 
-StudentRequest = Lines | Source | Draft | ReadVersion | SetName
-Request = StudentRequest | Give | Write | Reset | SetClock | SetRights | Renew | LookOver | PutOnWall | ShowCodes
+StudentRequest = Lines | Source | Draft | ReadVersion | SetName | Check
+TeacherRequest = Give | Write | Reset | SetClock | SetRights | Renew | LookOver | PutOnWall | ShowCodes | ReadAnswer
+Request = StudentRequest | TeacherRequest
 
 
 _LIMITS = {"on": (0, 1), "slices": (1, 1000), "ms": (10, 10_000), "limit": (100_000, 10**12)}  # of a clock's settings
@@ -156,6 +174,10 @@ def read_request(message: Mapping[str, object], is_teacher: bool) -> Request:
             return Draft(_text(message), _number(message))
         case "name", _:
             return SetName(_name(message, "seat"), _name(message, "name"))
+        case "check", False:
+            return Check(_name(message, "exercise"), _text(message))
+        case "answer", True:
+            return ReadAnswer(_name(message, "seat"), _name(message, "exercise"), _number(message))
         case "version", _:
             return ReadVersion(_number(message))
         case "give", True:
@@ -227,7 +249,7 @@ def _number(message: Mapping[str, object]) -> int:
     """The number that a message has."""
     number = message.get("number")
     if not isinstance(number, int):
-        raise BadRequest("a source and its versions have whole numbers")
+        raise BadRequest("sources, versions and answers have whole numbers")
     return number
 
 

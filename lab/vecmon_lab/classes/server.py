@@ -48,7 +48,7 @@ class Server:
     def __init__(self, members: Class, names: set[str]) -> None:
         """names: hosts that the page may be opened under, besides all numeric addresses."""
         self.members, self.names = members, {"localhost", *names}
-        self._page = Page("class")
+        self._page, self._lesson = Page("class"), Page("lesson")
         self._spoke: set[web.RequestHandler] = set()  # connections that have made a whole request
         self._is_ending = False
         self._nameless = asyncio.Semaphore(UNKNOWN)  # had by sockets without a code
@@ -62,7 +62,8 @@ class Server:
         application.router.add_get("/socket", self._socket)
         application.router.add_get("/{machine:[A-L]}/{what:script|transcript}", self._get_file)
         application.router.add_get("/{seat:[A-L][1-8]}/home", self._get_home)
-        application.router.add_get("/seats.csv", self._get_table)
+        application.router.add_get("/{table:seats|exercises}.csv", self._get_table)
+        application.router.add_get("/lesson/{ticket:[a-z2-9]+}", self._get_lesson)
         application.router.add_get("/{machine:[A-L]}.{number:[1-9][0-9]*}/{what:script|transcript}", self._get_file)
         return application
 
@@ -110,7 +111,7 @@ class Server:
 
     async def _add_headers(self, request: web.Request, response: web.StreamResponse) -> None:
         host = request.headers.get("Host", "")
-        own = f"{self._page.policy}; frame-ancestors 'none'; connect-src 'self'"
+        own = f"{request.get('policy', self._page.policy)}; frame-ancestors 'none'; connect-src 'self'"
         sockets = f" ws://{host} wss://{host}" if response.status == 200 else ""
         response.headers.update({"Content-Security-Policy": own + sockets} | HEADERS)
 
@@ -128,7 +129,18 @@ class Server:
 
     async def _get_table(self, request: web.Request) -> web.Response:
         await self._room(request, TEACHER)
-        return web.Response(body=self.members.table(), content_type="text/csv", charset="utf-8")
+        table = self.members.table if request.match_info["table"] == "seats" else self.members.exercise_table
+        return web.Response(body=table(), content_type="text/csv", charset="utf-8")
+
+    async def _get_lesson(self, request: web.Request) -> web.Response:
+        """A lesson of an answer, which has a policy of its own; who knows its ticket was told it at a seat."""
+        try:
+            page = await self.members.checks.lesson(request.match_info["ticket"])
+        except LabError as error:
+            await asyncio.sleep(WRONG_CODE_SECONDS)
+            raise web.HTTPNotFound(text=str(error)) from error
+        request["policy"] = self._lesson.policy
+        return web.Response(body=page, content_type="text/html", charset="utf-8")
 
     async def _get_file(self, request: web.Request) -> web.Response:
         room = await self._room(request, TEACHER)

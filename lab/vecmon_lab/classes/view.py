@@ -3,6 +3,7 @@
 import asyncio
 import contextlib
 import json
+import pathlib
 import time
 from collections.abc import Callable, Iterable, Mapping
 from dataclasses import asdict
@@ -16,15 +17,18 @@ from ..machine.session import SCRIPT_BYTES
 from ..page.pages import merge_patch
 from ..page.state import State
 from .beside import Beside
+from .checks import Checks, ExerciseTable, ExerciseView
 from .codes import TEACHER, WALL
 from .names import NAMES, as_csv, checked_name
 from .requests import (
     BadRequest,
+    Check,
     Draft,
     Give,
     Lines,
     LookOver,
     PutOnWall,
+    ReadAnswer,
     ReadVersion,
     Renew,
     Request,
@@ -84,6 +88,7 @@ class StudentView(TypedDict):
     own_slices: bool
     share: Share
     source: SourceView
+    exercises: dict[str, ExerciseView]
     again: bool
     ready: bool
     trouble: str
@@ -135,6 +140,7 @@ class TeacherView(TypedDict):
     wall: str
     address: str
     source: SourceView
+    exercises: dict[str, ExerciseTable]
 
 
 class Tab:
@@ -159,11 +165,12 @@ class Class:
         progress: Callable[[str], object] = lambda sentence: None,
         clock: bool = True,
         has_spares: bool = False,
+        exercises: Iterable[pathlib.Path] = (),
     ) -> None:
         """Starts the machines, and brings each to where it was. Raises LabError where that can't be.
 
         progress: is told how far that is, in sentences; clock: whether that of a new machine is on; has_spares: whether
-        a second process follows each machine
+        a second process follows each machine; exercises: their folders, or those that the class had if there is none
         """
         self.has_spares = has_spares
         self.store, self.codes = store, store.codes
@@ -176,6 +183,7 @@ class Class:
         self._kept: dict[str, Notes] = {}
         makers, self._packers, self._packing = Beside(1), Beside(2), set[str]()
         try:
+            self.checks = Checks(store, exercises, self._tell)
             for letter in store.machines:
                 notes = store.read(f"{letter}.json", Notes)
                 file = ScriptFile(store.folder, letter, len(notes.scripts))
@@ -215,6 +223,7 @@ class Class:
             notes = room.notes()
             if room.file.is_saved and self._kept.get(room.letter) != notes:
                 self._keep(room.letter, notes)
+        self.checks.keep()
         for name, kept in (("codes.json", self.codes.codes), (NAMES, self.names)):
             if self.store.waits(name):
                 self.store.write(name, kept)
@@ -336,6 +345,7 @@ class Class:
             "own_slices": room.own_slices,
             "share": {"used": seat.used, "of": SEAT_BYTES},
             "source": self._source_view(seat),
+            "exercises": self.checks.of(seat.name),
             "again": bool(seat.written),
             "ready": not room.rebuilding,
             "trouble": room.trouble,
@@ -360,6 +370,7 @@ class Class:
             "wall": self.wall.name if self.wall else "",
             "address": self.address,
             "source": self._source_view(tab.shoulder) if tab.shoulder else {},
+            "exercises": self.checks.table(),
         }
 
     def _source_view(self, seat: Seat) -> SourceView:
@@ -408,6 +419,10 @@ class Class:
             case ReadVersion(number):
                 name = tab.who if tab.who != TEACHER else tab.shoulder.name if tab.shoulder else ""
                 return {"text": self.sources[self.seat(name).name].version(number)}
+            case Check(name, text):
+                self.checks.begin(self.seat(tab.who).name, name, text)
+            case ReadAnswer(seat_name, name, number):
+                return {"text": self.checks.text(self.seat(seat_name).name, name, number)}
             case Give(name, text):
                 for each in self._receivers(name):
                     self.sources[each].give(text)
@@ -485,6 +500,10 @@ class Class:
             for seat, when in zip(seats, since)
         )
         return as_csv([head, *rows])
+
+    def exercise_table(self) -> bytes:
+        """What seats have done of exercises, as CSV."""
+        return as_csv(self.checks.rows(self.names))
 
     def _renew(self, name: str) -> None:
         """Gives a seat a new code, and ends its tabs."""

@@ -14,12 +14,12 @@ FILES = pathlib.Path(__file__).parent
 
 
 class Page:
-    """A page of this folder by its name. Its style and its script stand in line, and its policy allows these alone."""
+    """A page of this folder by its name, with which its styles begin. Its style and its script stand in line, and its policy allows these alone."""
 
     def __init__(self, name: str) -> None:
         frame, body, machine = map(page_file, ("page.html", f"{name}.html", "machine.html"))
         self._template = string.Template(frame.replace("$body", body).replace("$machine", machine))
-        self._style = "".join(page_file(style) for style in ("page.css", f"{name}.css") if (FILES / style).exists())
+        self._style = "".join(map(page_file, ("page.css", *sorted(path.name for path in FILES.glob(f"{name}*.css")))))
         self._script = join_modules(name, page_file)
         own = f"style-src {_digest(self._style)}; script-src {_digest(self._script)}"
         self.policy = f"default-src 'none'; img-src data:; {own}; base-uri 'none'; form-action 'none'"

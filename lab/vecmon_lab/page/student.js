@@ -4,6 +4,7 @@ import { Cursor } from "./cursor.js";
 import { Desk } from "./desk.js";
 import { Editor } from "./editor.js";
 import { ask, button, byId, make, pressNamed, put, say } from "./elements.js";
+import { Exercises } from "./exercises.js";
 import { LineField, requestsOf, unfitLines } from "./lines.js";
 import { entryText, showReference, tellName } from "./reference.js";
 import { chooseSides } from "./sides.js";
@@ -40,6 +41,7 @@ export class Student {
     byId("log").after(byId("command"), byId("hint"));
     this.showSide = chooseSides(["listing", "source", "reference"]);
     this.source = new Source(new Editor(byId("source"), () => this.source.typed()), connection);
+    this.exercises = new Exercises(this, this.source.editor);
     byId("foot").hidden = false;
     this.listen();
     const name = sessionStorage.getItem("name"); // that was typed with the code
@@ -108,6 +110,7 @@ export class Student {
     const side = run === "absent" ? "source" : "listing";
     if (side !== this.side) this.showSide((this.side = side));
     this.showSource(view);
+    this.exercises.show(view.exercises);
     byId("log").ariaLive = "polite";
   }
 

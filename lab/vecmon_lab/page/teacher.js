@@ -5,6 +5,7 @@ import { Desk } from "./desk.js";
 import { Editor } from "./editor.js";
 import { byId, make, pressNamed, put, say } from "./elements.js";
 import { LineField, requestsOf, unfitLines } from "./lines.js";
+import { Scores } from "./scores.js";
 import { SeatTable } from "./seats.js";
 import { chooseSides } from "./sides.js";
 import { MOST_LETTERS, Source } from "./source.js";
@@ -43,6 +44,7 @@ export class Teacher {
     this.seat = this.wall = ""; // the one looked at, and the one on the wall
     this.codes = {}; // fields by name
     this.table = new SeatTable(this);
+    this.scores = new Scores(this);
     this.clock = byId("clocks"); // a form
     this.clock.onchange = ({ target }) => this.setClocks(target);
     byId("wall-code").append(...this.codeField("wall").parts);
@@ -82,6 +84,7 @@ export class Teacher {
     byId("operator-machine").hidden = letters.length === 1;
     for (const letter of letters) this.machines[letter].show(view.machines[letter]);
     this.table.show(view);
+    this.scores.show(view);
     this.showClocks(Object.values(view.machines));
     say("trouble", view.trouble);
     if (isAnew) byId("operator-log").replaceChildren();

@@ -1,0 +1,201 @@
+"""Answers checked in a class: what a seat is told, and isn't; what the teacher is; and what bad ones cost the others."""
+
+import asyncio
+import csv
+import json
+import pathlib
+import time
+from collections.abc import AsyncIterator
+from typing import Any
+
+import pytest
+import pytest_asyncio
+
+from support.class_tabs import Served, Tab, process, served
+from vecmon_lab import LabError
+from vecmon_lab.classes.store import Store
+from vecmon_lab.classes.view import Class
+from vecmon_lab.exercises.exercise import OURS
+from vecmon_lab.machine.program import find_program
+
+pytestmark = pytest.mark.asyncio
+
+SQUARE = """
+title = "=HYPERLINK(1) <b>"
+text = "Square `a1` into `a0`."
+start = "start.s"
+reference = "reference.s"
+hints = ["multiply", "mul a0, a1, a1"]
+[[cases]]
+name = "six"
+registers = { a1 = 6 }
+expected.registers = ["a0"]
+[[cases]]
+name = "another one"
+hidden = true
+registers = { a1 = 0x5ec4e7 }
+memory = [{ at = 0x10800, u8 = [77] }]
+expected.registers = ["a0"]
+"""
+RIGHT, WRONG = "mul a0, a1, a1\nret", "addi a0, a1, 30\nret"  # which is right for six
+SECRETS = ("5ec4e7", "6210791", str(0x5EC4E7**2), "private remark", "exercise.toml", "reference.s", "0x10800")
+
+
+@pytest.fixture
+def square(tmp_path: pathlib.Path) -> pathlib.Path:
+    """An exercise of one's own."""
+    folder = tmp_path / "square"
+    folder.mkdir()
+    (folder / "exercise.toml").write_text(SQUARE)
+    (folder / "start.s").write_text("ret\n")
+    (folder / "reference.s").write_text(f"# private remark\n{RIGHT}\n")
+    return folder
+
+
+@pytest_asyncio.fixture  # type: ignore[misc]
+async def room(tmp_path: pathlib.Path, square: pathlib.Path) -> AsyncIterator[Served]:
+    """A class with that exercise, and one of the lab's."""
+    async with served(tmp_path / "class", exercises=[square, pathlib.Path("doubles")]) as room:
+        yield room
+
+
+async def check(tab: Tab, name: str, text: str) -> Any:
+    """What is told of an answer."""
+    tries = tab.view["exercises"][name]["tries"]
+    told = await tab.ask("check", exercise=name, text=text)
+    assert "error" not in told, told
+    await tab.until(lambda view: view["exercises"][name]["tries"] > tries)
+    return tab.view["exercises"][name]["told"]
+
+
+async def test_a_seat_tries_until_it_passes(room: Served) -> None:
+    """Hints come one by one; nothing of it is in the script."""
+    tab, other = await room.sit("A1"), await room.sit("A2")
+    own = tab.view["exercises"]["square"]
+    assert (own["text"], own["start"], own["cases"]) == ("Square `a1` into `a0`.", "ret\n", ["six", "another one"])
+    assert (own["hints"], own["tries"], own["told"], own["lesson"]) == ([], 0, {}, "")
+    assert await check(tab, "square", "li a0") == {
+        "cases": [False, False], "reason": "answer.s:1:1: li takes 2 operands, not 1"
+    }  # fmt: skip
+    told = await check(tab, "square", "addi a0, a1, 1\nret")
+    assert (told["cases"], told["number"], told["reason"]) == ([False, False], 0, "x10: expected 36, found 7")
+    assert told["given"] == [{"where": "a1 (x11)", "first": 0, "numbers": ["6"], "wrong": []}]
+    assert told["expected"] == [{"where": "a0 (x10)", "first": 0, "numbers": ["36"], "wrong": []}]
+    assert told["found"] == [{"where": "a0 (x10)", "first": 0, "numbers": ["7"], "wrong": [0]}]
+    assert tab.view["exercises"]["square"]["hints"] == ["multiply", "mul a0, a1, a1"]
+    assert await check(tab, "square", RIGHT) == {"cases": [True, True]}
+    assert tab.view["exercises"]["square"]["passed"] and not tab.view["exercises"]["square"]["checking"]
+    await other.do("enter")
+    assert (await room.check_replay())[0] == b"2 enter\n" and other.view["exercises"]["square"]["tries"] == 0
+
+
+async def test_of_a_hidden_case_nothing_is_told(room: Served) -> None:
+    """Whatever comes to the tab has no number of it, and nothing of the exercise's files; not even a hint before its time."""
+    tab = await room.sit("A1")
+    messages: list[Any] = [tab.view]
+    for text in (WRONG, "ebreak", "j .", "", ".zero 5", RIGHT):
+        messages.append(await check(tab, "square", text))
+        messages.append(json.loads(json.dumps(tab.view)))
+    assert messages[1] == {"cases": [True, False]}
+    assert not [secret for secret in SECRETS if secret in json.dumps(messages)]
+    assert "mul a0, a1, a1" not in json.dumps(messages[:3])
+    for path in ("exercise.toml", "square/exercise.toml", "answers/A1.square.1.json", "exercises.csv", "lesson/abc"):
+        assert (await room.get(path, "A1"))[0] == 404
+
+
+async def test_what_a_good_answer_takes_is_told(room: Served) -> None:
+    tab = await room.sit("A1")
+    told = await check(tab, "doubles", (OURS / "doubles" / "good.s").read_text())
+    assert told["taken"] == told["good"] == {"instructions": 10, "work": 69}  # 8 and 3 of 8 elements
+    long = await check(tab, "doubles", (OURS / "doubles" / "reference.s").read_text())
+    assert long["cases"] == [False, True, True, False, True] or "takes more than 30 instructions" in long["reason"]
+
+
+async def test_a_lesson_of_the_case_that_fails(room: Served) -> None:
+    tab = await room.sit("A1")
+    await check(tab, "square", "addi a0, a1, 1\nret")
+    place = tab.view["exercises"]["square"]["lesson"]
+    async with room.session.get(room.url + place) as answer:
+        page, policy = await answer.text(), answer.headers["Content-Security-Policy"]
+    assert '"line":"1 step 256: instruction 2"' in page and "The case is given. X10: expected 36, found 7" in page
+    async with room.session.get(room.url) as answer:
+        assert (
+            answer.headers["Content-Security-Policy"].split("script-src")[1][:60] != policy.split("script-src")[1][:60]
+        )
+    await check(tab, "square", RIGHT)
+    assert (await room.get(place))[0] == 404
+
+
+async def test_one_check_at_a_time(room: Served) -> None:
+    tab = await room.sit("A1")
+    assert "error" not in await tab.ask("check", exercise="square", text=RIGHT)
+    assert (await tab.ask("check", exercise="doubles", text=RIGHT))["error"] == "a check of this seat is under way"
+    assert "error" in await tab.ask("check", exercise="nosuch", text=RIGHT)
+    assert "error" in await tab.ask("check", exercise="square", text=5)
+    assert "error" in await tab.ask("answer", seat="A1", exercise="square", number=1)  # which is the teacher's to ask
+    await tab.until(lambda view: view["exercises"]["square"]["tries"] == 1)
+
+
+async def test_the_teacher_has_a_table_and_all_answers(room: Served) -> None:
+    tab, teacher = await room.sit("A3"), await room.sit("teacher")
+    await tab.ask("name", name="Ada")
+    for text in (WRONG, RIGHT, WRONG):
+        await check(tab, "square", text)
+    await teacher.until(lambda view: view["exercises"]["square"]["seats"].get("A3", {}).get("tries") == 3)
+    told = teacher.view["exercises"]["square"]
+    assert (told["title"], told["of"], set(told["seats"])) == ("=HYPERLINK(1) <b>", 2, {"A3"})
+    result = told["seats"]["A3"]
+    assert (result["tries"], result["passed"], result["best"]) == (3, 2, 2) and abs(result["time"] - time.time()) < 60
+    for number, text in enumerate((WRONG, RIGHT, WRONG), 1):
+        assert (await teacher.ask("answer", seat="A3", exercise="square", number=number))["text"] == text
+    for seat, name, which in (("A9", "square", 1), ("A3", "nosuch", 1), ("A3", "square", 4), ("A3", "square", "1")):
+        assert "error" in await teacher.ask("answer", seat=seat, exercise=name, number=which)
+    status, table = await room.get("exercises.csv")
+    rows = list(csv.reader(table.decode("utf-8-sig").splitlines()))
+    assert status == 200 and [row[:7] for row in rows[1:]] == [["A3", "Ada", "square", "3", "2", "2", "2"]]
+
+
+HOSTILE = ["j .", "next: li a0, 1\nli a7, 64\nmv a1, sp\nli a2, 4096\necall\nj next", ".zero 1048576", "nop\n" * 16384]
+
+
+async def test_bad_answers_cost_the_others_nothing(room: Served) -> None:
+    """While seven seats check endless, huge and hostile answers again and again, the eighth one's steps go on."""
+    tab, others = await room.sit("A8"), [await room.sit(f"A{number}") for number in range(1, 8)]
+    await tab.do("enter", "map 10000 1 rwx", "asm 10000 jal x0, 0", "setpc 10000")
+    checks = [asyncio.create_task(check(other, "square", HOSTILE[at % 4])) for at, other in enumerate(others)]
+    waits = []
+    while not all(each.done() for each in checks):
+        begin = time.monotonic()
+        assert (await tab.do("step 1"))[0][0].startswith("stepped 1")
+        waits.append(time.monotonic() - begin)
+        await asyncio.sleep(0.02)
+    assert max(waits) < 2 and len(waits) > 5
+    assert not any([passes for told in await asyncio.gather(*checks) for passes in told["cases"]])
+
+
+async def test_a_class_goes_on_with_its_exercises(tmp_path: pathlib.Path, square: pathlib.Path) -> None:
+    folder = tmp_path / "own"
+    async with process(folder, "--exercise", str(square), "--exercise", "strlen") as room:
+        await check(await room.sit("A1"), "square", WRONG)
+        await room.end()
+    async with process(folder) as room:
+        tab = await room.sit("A1")
+        assert list(tab.view["exercises"]) == ["square", "strlen"]
+        assert tab.view["exercises"]["square"]["told"] == {"cases": [True, False]}
+        assert await check(tab, "square", RIGHT) == {"cases": [True, True]}
+        teacher = await room.sit("teacher")
+        assert (await teacher.ask("answer", seat="A1", exercise="square", number=1))["text"] == WRONG
+
+
+async def test_bad_exercises_are_told(tmp_path: pathlib.Path, square: pathlib.Path) -> None:
+    def begin(*folders: pathlib.Path) -> str:
+        with pytest.raises(LabError) as raised:
+            Class(Store(tmp_path / "class", find_program()), 5.0, exercises=folders)
+        return str(raised.value)
+
+    assert "nosuch is no exercise" in begin(pathlib.Path("nosuch"))
+    assert "an exercise has a name of its own" in begin(square, square)
+    assert "an exercise has a name of its own" in begin(square.rename(tmp_path / "a b"))
+    (tmp_path / "a b").rename(square)
+    (square / "reference.s").write_text("j .\n")
+    assert begin(square).endswith("six: it hasn't ended after 100,000 ticks")

@@ -1,0 +1,103 @@
+"""Exercises in the pages of a class, in Chromium: a seat's panel, and the teacher's table."""
+
+import pathlib
+import re
+from collections.abc import Iterator
+from typing import TYPE_CHECKING
+
+import pytest
+
+from support.browser import CONTRAST
+from support.class_pages import Served, Tab
+from vecmon_lab.exercises.exercise import OURS
+from vecmon_lab.tables.table import read_table
+
+if TYPE_CHECKING:
+    from selenium.webdriver import Chrome
+
+COURSE = [name for name, _ in read_table("course")]
+VERDICT = "one('#exercise .verdict h3')?.textContent"
+
+
+@pytest.fixture(scope="module")
+def course(program: pathlib.Path, tmp_path_factory: pytest.TempPathFactory) -> Iterator[Served]:
+    """A class with all exercises of the course."""
+    words = [word for name in COURSE for word in ("--exercise", name)]
+    served = Served(tmp_path_factory.mktemp("course") / "class", program, *words)
+    yield served
+    served.end()
+
+
+def check(tab: Tab, source: str, verdict: str) -> None:
+    """Checks a source, and waits for what is told."""
+    tab.run("(id('source').value = arguments[0], id('source').dispatchEvent(new Event('input')))", source)
+    tries = tab.run("one('#exercise [role=status]').textContent")
+    tab.click("#exercise .main")
+    tab.wait("!one('#exercise .main').disabled && one('#exercise [role=status]').textContent !== arguments[0]", tries)
+    assert tab.run(VERDICT) == verdict, tab.text("#exercise")
+
+
+def test_an_exercise_is_solved(tabs: "Chrome", course: Served) -> None:
+    """As one would who sees its text alone: with its source to begin with, a mistake, hints, a lesson and an answer."""
+    tab = Tab(tabs, course, "A1")
+    tab.wait("one('#exercise h2')")
+    assert "Double some numbers. There are a2 of them" in tab.text("#exercise .text")
+    assert tab.run("all('#exercise .text li').length") == 3 and not tab.run("one('#exercise .hints h3')")
+    tab.click("#exercise button:not(.main)")
+    assert "a0: where the doubles go" in tab.run("id('source').value") and not tab.run("id('editor').hidden")
+    check(tab, "vsetvli t0, a2, e32", "It passes 0 of 5 cases.")
+    assert tab.text("#exercise .said").startswith("answer.s:1:")
+    wrong = (OURS / "doubles" / "wrong" / "always_eight.s").read_text()
+    check(tab, wrong, "It passes 2 of 5 cases.")
+    assert tab.run("all('#exercise .hints li').length") == 2
+    assert tab.run("all('#exercise .cases li').map((item) => item.className)") == [
+        "passes", "fails", "fails", "passes", "fails"
+    ]  # fmt: skip
+    assert "element 3, i32 at 0x2010c: expected -1, found 80" in tab.text("#exercise .said")
+    assert tab.run("all('#exercise .wrong').map((box) => box.firstChild.data)") == ["80", "100", "0"]
+    assert tab.front().execute_script(CONTRAST) == []
+    tab.click("#exercise a")
+    tab.browser.switch_to.window(tab.browser.window_handles[-1])
+    lesson = tab.browser
+    assert "always eight" not in lesson.title and "expected -1, found 80" in lesson.find_element("id", "sentence").text
+    for _ in range(4):
+        lesson.find_element("id", "next").click()
+    assert "vse32.v v8, (x10)" in lesson.find_element("id", "step").text
+    lesson.close()
+    lesson.switch_to.window(tab.handle)
+    check(tab, (OURS / "doubles" / "good.s").read_text(), "It passes all cases.")
+    assert "A good answer takes 10 instructions" in tab.text("#exercise .verdict")
+    assert "✓ Doubles" in tab.text("#exercise select")
+    teacher = Tab(tabs, course, "teacher")
+    teacher.wait("one('#scores td button')?.textContent.startsWith('✓ try 3')")
+    teacher.click("#scores td button")
+    teacher.wait("id('scores').querySelector('pre').textContent.includes('vadd.vv')")
+    teacher.choose("#scores select", "try 2")
+    teacher.wait("id('scores').querySelector('pre').textContent.includes('vsetivli zero, 8')")
+    assert teacher.front().execute_script(CONTRAST) == []
+
+
+def test_all_exercises_are_solved(tabs: "Chrome", course: Served) -> None:
+    tab = Tab(tabs, course, "A2")
+    tab.wait("one('#exercise h2')")
+    for name in COURSE:
+        tab.run("((choice) => (choice.value = arguments[0], choice.onchange()))(one('#exercise select'))", name)
+        check(tab, (OURS / name / "good.s").read_text(), "It passes all cases.")
+    assert tab.text("#exercise select").count("✓") == 12
+
+
+def test_the_panel_can_be_put_away(tabs: "Chrome", course: Served) -> None:
+    """It has a place beside the machine, and all of the width is the machine's without it."""
+    tab = Tab(tabs, course, "A3")
+    width = "id('machine').getBoundingClientRect().width"
+    tab.wait("one('#exercise h2')")
+    narrow = tab.run(width)
+    tab.click("header button[aria-pressed='true']")
+    assert tab.run("id('exercise').hidden") and tab.run(width) > narrow + 200
+
+
+def test_a_class_without_exercises_shows_none(tabs: "Chrome", served: Served) -> None:
+    tab = Tab(tabs, served, "A1")
+    assert tab.run("id('exercise').hidden") and not re.search("Exercise", tab.run("id('head').innerText"))
+    teacher = Tab(tabs, served, "teacher")
+    assert teacher.run("id('scores').hidden")

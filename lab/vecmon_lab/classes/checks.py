@@ -1,0 +1,235 @@
+"""The exercises of a class: seats' answers are checked beside its machines, in processes of their own, and kept.
+
+exercises.json: the folder of each exercise by its name
+answers/A3.doubles.2.json: the second answer of seat A3 to `doubles`: its time, its text, and what was told of it
+"""
+
+import asyncio
+import json
+import pathlib
+import re
+import sys
+import time
+from collections.abc import Callable, Iterable, Iterator, Mapping, Sequence
+from dataclasses import dataclass, field
+from typing import TypedDict
+
+from .. import LabError
+from ..exercises.answer import settled
+from ..exercises.check import Told
+from ..exercises.exercise import Exercise, read_exercise
+from .beside import Beside
+from .codes import new_code
+from .requests import BadRequest
+from .store import BadFolder, Store
+
+EXERCISES, ANSWERS = "exercises.json", "answers"
+PLACES, SECONDS = 16, 12.0  # checks at once, and how long one may take
+MOST_TRIES = 200  # of a seat at an exercise
+
+Try = TypedDict("Try", {"time": int, "text": str, "told": Told})
+"""An answer: when, in seconds since 1970; the source; and what was told of it."""
+
+
+class ExerciseView(TypedDict):
+    """What a student is told of an exercise: of a hidden case its name, and whether it passes; hints that are due.
+
+    lesson: what opens a lesson of the case that failed first; "" for none
+    """
+
+    title: str
+    text: str
+    start: str
+    cases: list[str]
+    hints: Sequence[str]
+    tries: int
+    passed: bool
+    checking: bool
+    told: Told
+    lesson: str
+
+
+SeatResult = TypedDict("SeatResult", {"tries": int, "passed": int, "best": int, "time": int})
+"""Of a seat at an exercise: tries; which passed first, or 0; the most cases that passed; when it passed, or the last."""
+ExerciseTable = TypedDict("ExerciseTable", {"title": str, "of": int, "seats": dict[str, SeatResult]})
+
+
+@dataclass
+class Work:
+    """What a seat has done of an exercise: of each try its time, and how many cases passed; and of the last one all.
+
+    first: which try passed, or 0; ticket: what opens a lesson of the last one
+    """
+
+    tries: list[tuple[int, int]] = field(default_factory=list)
+    text: str = ""
+    told: Told = field(default_factory=lambda: Told())
+    first: int = 0
+    ticket: str = ""
+
+    def add(self, done: Try) -> None:
+        """Takes up a try."""
+        self.text, self.told = done["text"], done["told"]
+        cases = self.told.get("cases", [])
+        self.tries.append((done["time"], sum(cases)))
+        self.ticket = new_code() if "number" in self.told else ""
+        if cases and all(cases) and not self.first:
+            self.first = len(self.tries)
+
+    def result(self) -> SeatResult:
+        """What a teacher's table has."""
+        which = self.first or len(self.tries)
+        best = max(passed for _, passed in self.tries)
+        return {"tries": len(self.tries), "passed": self.first, "best": best, "time": self.tries[which - 1][0]}
+
+
+class Checks:
+    """The exercises of a class by name, and what each seat has done of them."""
+
+    def __init__(self, store: Store, folders: Iterable[pathlib.Path], tell: Callable[[Iterable[str]], object]) -> None:
+        """folders: of exercises, or names of those that come with the lab; none for those that the class had before.
+
+        `tell` is called with the names of seats that have news. Raises LabError and OSError for a bad exercise.
+        """
+        self._store, self._tell, self._beside = store, tell, Beside(PLACES)
+        kept = [pathlib.Path(path) for path in store.read(EXERCISES, dict[str, str]).values()]
+        self.exercises: dict[str, Exercise] = {}
+        for folder in list(folders) or kept:
+            exercise = read_exercise(folder)
+            settled(store.program, exercise)  # so that a mistake is told now
+            name = exercise.folder.name
+            if not re.fullmatch(r"[\w-]{1,40}", name, re.ASCII) or name in self.exercises:
+                raise BadFolder(f"{folder}: an exercise has a name of its own: 1 to 40 letters, digits, _ and -")
+            self.exercises[name] = exercise
+        self._starts = {name: _start(exercise) for name, exercise in self.exercises.items()}
+        if self.exercises:
+            store.write(EXERCISES, {name: str(each.folder) for name, each in self.exercises.items()})
+        self._work: dict[tuple[str, str], Work] = {}
+        self._busy: dict[str, str] = {}  # exercises that are checked, or made a lesson of, by seat
+        self._tasks: set[asyncio.Task[None]] = set()
+        self._unsaved: dict[str, Try] = {}
+        for seat, name, _, done in sorted(self._found()):
+            self._of(seat, name).add(done)
+
+    def begin(self, seat: str, name: str, text: str) -> None:
+        """Begins to check an answer. Raises BadRequest where there is no such exercise, or a check is under way."""
+        self._exercise(name)
+        if seat in self._busy:
+            raise BadRequest("a check of this seat is under way")
+        if len(self._of(seat, name).tries) >= MOST_TRIES:
+            raise BadRequest(f"this seat has tried it {MOST_TRIES} times")
+        self._busy[seat] = name
+        task = asyncio.get_running_loop().create_task(self._check(seat, name, text))
+        self._tasks.add(task)
+        task.add_done_callback(self._tasks.discard)
+        self._tell([seat])
+
+    async def lesson(self, ticket: str) -> bytes:
+        """The lesson that a ticket opens, as a page in HTML. Raises LabError."""
+        for (seat, name), work in self._work.items():
+            if work.ticket and work.ticket == ticket:
+                if seat in self._busy:
+                    raise LabError("a check of this seat is under way")
+                self._busy[seat] = ""
+                try:
+                    return await self._run(name, work.text, str(work.told["number"]))
+                finally:
+                    del self._busy[seat]
+        raise LabError("there is no such lesson, or not any more: check once more")
+
+    def text(self, seat: str, name: str, number: int) -> str:
+        """The source of a seat's try, the first of which is 1. Raises BadRequest."""
+        if not 1 <= number <= len(self._of(seat, name).tries):
+            raise BadRequest("there is no such answer")
+        file = _file(seat, name, number)
+        return str((self._unsaved.get(file) or self._store.read(file, dict[str, object])).get("text", ""))
+
+    def keep(self) -> None:
+        """Brings the folder up to date, as far as the disk takes it."""
+        for file in [file for file, done in self._unsaved.items() if self._store.write(file, done)]:
+            del self._unsaved[file]
+
+    def of(self, seat: str) -> dict[str, ExerciseView]:
+        """What a student is told."""
+        return {name: self._view(seat, name, exercise) for name, exercise in self.exercises.items()}
+
+    def table(self) -> dict[str, ExerciseTable]:
+        """What the teacher is told: of each exercise the seats that have tried it."""
+        tables = {}
+        for name, exercise in self.exercises.items():
+            results = {seat: work.result() for (seat, of), work in self._work.items() if of == name and work.tries}
+            tables[name] = ExerciseTable(title=exercise.title, of=len(exercise.cases), seats=results)
+        return tables
+
+    def rows(self, names: Mapping[str, str]) -> Iterator[Sequence[object]]:
+        """The rows of a table to take away, by the names of those who sit at seats."""
+        yield "seat", "name", "exercise", "tries", "passed at try", "cases passed", "of", "time"
+        for name, exercise in self.table().items():
+            for seat, it in sorted(exercise["seats"].items()):
+                when = time.strftime("%Y-%m-%d %H:%M:%S", time.localtime(it["time"]))
+                passed = it["passed"] or ""
+                yield seat, names.get(seat, ""), name, it["tries"], passed, it["best"], exercise["of"], when
+
+    def _view(self, seat: str, name: str, exercise: Exercise) -> ExerciseView:
+        work = self._of(seat, name)
+        return {
+            "title": exercise.title,
+            "text": exercise.text,
+            "start": self._starts[name],
+            "cases": [case.name for case in exercise.cases],
+            "hints": exercise.hints[: len(work.tries) - (work.first > 0)],
+            "tries": len(work.tries),
+            "passed": work.first > 0,
+            "checking": self._busy.get(seat) == name,
+            "told": work.told,
+            "lesson": f"lesson/{work.ticket}" if work.ticket else "",
+        }
+
+    async def _check(self, seat: str, name: str, text: str) -> None:
+        """Checks an answer, keeps it, and tells."""
+        try:
+            told: Told = json.loads(await self._run(name, text))
+        except LabError as error:  # of which only the teacher is told more
+            print(f"vecmon-lab: a check of {name}: {error}", file=sys.stderr)
+            cases = [False] * len(self.exercises[name].cases)
+            told = {"cases": cases, "reason": "it can't be checked, or takes too long"}
+        finally:
+            del self._busy[seat]
+        work, done = self._of(seat, name), Try(time=int(time.time()), text=text, told=told)
+        work.add(done)
+        self._unsaved[_file(seat, name, len(work.tries))] = done
+        self.keep()
+        self._tell([seat])
+
+    async def _run(self, name: str, *words: str) -> bytes:
+        """What the process puts out that checks a text, or makes a lesson of it. Raises LabError."""
+        text, *number = words
+        folder, program = str(self.exercises[name].folder), str(self._store.program)
+        made = self._beside.run("exercises.check", folder, program, *number, script=text.encode("utf-8", "replace"))
+        try:
+            return await asyncio.wait_for(made, SECONDS)
+        except asyncio.TimeoutError as error:
+            raise LabError(f"it takes more than {SECONDS:g} s") from error
+
+    def _of(self, seat: str, name: str) -> Work:
+        return self._work.setdefault((seat, name), Work())
+
+    def _exercise(self, name: str) -> Exercise:
+        if name not in self.exercises:
+            raise BadRequest("there is no such exercise")
+        return self.exercises[name]
+
+    def _found(self) -> Iterator[tuple[str, str, int, Try]]:
+        """The tries that the folder has."""
+        for path in (self._store.folder / ANSWERS).glob("*.json"):
+            if parts := re.fullmatch(r"([A-L][1-8])\.([\w-]+)\.(\d+)\.json", path.name):
+                yield parts[1], parts[2], int(parts[3]), self._store.read(f"{ANSWERS}/{path.name}", Try)
+
+
+def _file(seat: str, name: str, number: int) -> str:
+    return f"{ANSWERS}/{seat}.{name}.{number}.json"
+
+
+def _start(exercise: Exercise) -> str:
+    """The source that a pupil begins with."""
+    return exercise.files["start"].read_text("utf-8") if "start" in exercise.files else ""

@@ -1,0 +1,145 @@
+"""What a pupil is told of an answer in a class, and a lesson of it in a case: each is made in a process of its own.
+
+The words are the exercise's folder and the program; a third one, the number of a case, asks for a lesson. The answer's
+source comes on standard input.
+"""
+
+import json
+import os
+import pathlib
+import resource
+import sys
+from collections.abc import Sequence
+from dataclasses import replace
+from typing import TypedDict
+
+from .. import LabError
+from ..assembler.source import assemble
+from ..lessons.frames import make_frames
+from ..lessons.page import lesson_page
+from ..lessons.script import Step
+from ..runs.counts import count
+from ..tables.table import read_table
+from .answer import Answer, inputs, ready, read_answer, settled, source_answer
+from .exercise import Case, Exercise, Results, read_exercise
+from .grade import outcome
+
+NAME = pathlib.Path("answer.s")
+MOST_SHOWN, BEFORE = 48, 4  # numbers of a row; and of them before the first wrong one
+MEASURED_TICKS = 2000  # of a case: what an answer takes is told only where it ends in so many
+CPU_SECONDS = 10
+ADDRESSES = 0x10000  # registers with so much in them are shown in hexadecimal digits
+ABI = {register: name for name, register in reversed(read_table("registers"))}
+Row = TypedDict("Row", {"where": str, "first": int, "numbers": list[str], "wrong": list[int]})
+"""Numbers that stand one behind another: where, the number of the first one that is shown, and places of wrong ones."""
+Taken = TypedDict("Taken", {"instructions": int, "work": int})
+"""What an answer takes for all cases that aren't hidden: instructions, and of 100 elements those that did work."""
+
+
+class Told(TypedDict, total=False):
+    """Which cases pass; of the first that fails and isn't hidden its number and why; what an answer that passes takes.
+
+    Rows have what is given there, expected and found. Without a number the answer can't be brought in.
+    """
+
+    cases: list[bool]
+    number: int
+    reason: str
+    given: list[Row]
+    expected: list[Row]
+    found: list[Row]
+    taken: Taken
+    good: Taken
+
+
+def check(program: pathlib.Path, exercise: Exercise, text: str) -> Told:
+    """What is told of a source."""
+    try:
+        if len(text.encode()) > exercise.limits.size:
+            raise LabError(f"it has more than {exercise.limits.size:,} bytes")
+        answer = source_answer(text, NAME)
+    except LabError as error:
+        return {"cases": [False] * len(exercise.cases), "reason": str(error)}
+    outcomes = [outcome(program, answer, exercise, case) for case in exercise.cases]
+    told: Told = {"cases": [not reason for reason, _ in outcomes]}
+    if outcomes[0][0].startswith(f"{NAME}:"):  # the machine refuses an instruction
+        return {"cases": told["cases"], "reason": outcomes[0][0]}
+    for number, (case, (reason, done)) in enumerate(zip(exercise.cases, outcomes)):
+        if reason and not case.is_hidden:
+            inputs_given = Results(case.registers, case.memory, None)
+            given = [_row(where, texts) for where, texts in _strips(inputs_given, True)]
+            expected, found = _compared(case.expected, done.found if done else case.expected)
+            told.update({"number": number, "reason": reason, "given": given, "expected": expected})
+            told.update({"found": found} if done else {})
+            return told
+    if all(told["cases"]) and "good" in exercise.files:
+        mine, good = (_taken(program, each, exercise) for each in (answer, read_answer(exercise.files["good"])))
+        if mine and good:
+            told.update({"taken": mine, "good": good})
+    return told
+
+
+def lesson(program: pathlib.Path, exercise: Exercise, number: int, text: str) -> str:
+    """A lesson, in HTML, of a source in a case, which begins when the case is given, and has 256 instructions at most."""
+    answer, case = source_answer(text, NAME), exercise.cases[number]
+    assert answer.commands is not None and answer.source is not None
+    title, reason = f"{exercise.title}: {case.name}", outcome(program, answer, exercise, case)[0]
+    brought = [f"1 {command}" for command in ["enter", *answer.commands, *inputs(exercise, case)]]
+    steps = [Step(brought, f"The case is given. {reason[:1].upper()}{reason[1:]}"), Step(["1 step 256"])]
+    frames = make_frames(replace(answer.source, steps=steps), program)
+    return lesson_page(title, frames, answer.source.labels, assemble(text).source_lines(text))
+
+
+def _taken(program: pathlib.Path, answer: Answer, exercise: Exercise) -> Taken | None:
+    """What an answer takes; None where it takes too long to be counted."""
+    instructions, elements = 0, [0, 0, 0]
+    for case in exercise.cases:
+        if not case.is_hidden:
+            with ready(program, answer, exercise, case) as guest:
+                counts, stop = count(guest, MEASURED_TICKS)
+            if stop is None:
+                return None
+            instructions += sum(place.times for place in counts.places.values())
+            elements = list(map(sum, zip(elements, *(place.elements for place in counts.places.values()))))
+    return {"instructions": instructions, "work": round(100 * elements[0] / max(1, sum(elements)))}
+
+
+def _compared(expected: Results, found: Results) -> tuple[list[Row], list[Row]]:
+    """The rows of what is expected and of what is found, from the same number on, with the wrong ones marked."""
+    pairs = []
+    for (where, texts), (_, others) in zip(_strips(expected), _strips(found)):
+        wrong = [place for place, pair in enumerate(zip(texts, others)) if pair[0] != pair[1]]
+        first = max(0, wrong[0] - BEFORE) if wrong and wrong[0] >= MOST_SHOWN - BEFORE else 0
+        marks = [place - first for place in wrong if place < first + MOST_SHOWN]
+        pairs.append((_row(where, texts, first, []), _row(where, others, first, marks)))
+    return [own for own, _ in pairs], [other for _, other in pairs]
+
+
+def _row(where: str, texts: Sequence[str], first: int = 0, wrong: Sequence[int] = ()) -> Row:
+    return {"where": where, "first": first, "numbers": list(texts[first : first + MOST_SHOWN]), "wrong": list(wrong)}
+
+
+def _strips(results: Results, with_addresses: bool = False) -> list[tuple[str, list[str]]]:
+    """Where numbers stand, and the numbers as texts; of registers addresses may be among them."""
+    strips = []
+    for name, value in results.registers.items():
+        is_address = with_addresses and ADDRESSES <= value < 1 << 48
+        strips.append((f"{ABI[name]} ({name})", [f"{value:#x}" if is_address else f"{value - (value >> 63 << 64)}"]))
+    strips += [(f"{place.type} at {place.address:#x}", [*map(str, place.numbers)]) for place in results.memory]
+    if results.output is not None:
+        strips.append(("output", [repr(results.output.decode("utf-8", "replace"))[:200]]))
+    return strips
+
+
+def main(folder: str, program: str, number: str = "") -> None:
+    """Writes what is told, in JSON, or a lesson, to standard output."""
+    os.nice(10)
+    resource.setrlimit(resource.RLIMIT_CPU, (CPU_SECONDS, CPU_SECONDS))
+    text, vecmon = sys.stdin.buffer.read().decode("utf-8", "replace"), pathlib.Path(program)
+    exercise = settled(vecmon, read_exercise(pathlib.Path(folder)))
+    told = lesson(vecmon, exercise, int(number), text) if number else json.dumps(check(vecmon, exercise, text))
+    sys.stdout.buffer.write(told.encode("utf-8", "replace"))
+
+
+if __name__ == "__main__":
+    main(*sys.argv[1:])

@@ -1,0 +1,84 @@
+// The exercises of a class, at a seat: the text, hints that are due, and what was told of the answer that was checked last.
+
+import { blocks } from "./blocks.js";
+import { byId, make, prose, put } from "./elements.js";
+import { verdict } from "./verdict.js";
+
+export class Exercises {
+  /** student: whose requests are made; editor: has the source that is checked. */
+  constructor(student, editor) {
+    Object.assign(this, { student, editor, all: {}, name: sessionStorage.getItem("exercise"), shown: {} });
+    this.choice = Object.assign(make("select", ""), { ariaLabel: "Exercise", onchange: () => this.choose(this.choice.value) });
+    this.toggle = Object.assign(make("button", "student", "Exercise"), { hidden: true, onclick: () => this.open(!this.isOpen) });
+    this.check = Object.assign(make("button", "main", "Check"), { title: "Checks the source (Ctrl Shift Enter)" });
+    this.check.onclick = () => this.checkSource();
+    this.begin = Object.assign(make("button", "", "Begin"), { title: "Puts the source to begin with into Source; undo takes it back" });
+    this.begin.onclick = () => this.takeStart();
+    this.state = Object.assign(make("span", ""), { role: "status" });
+    [this.text, this.hints, this.verdict] = ["text", "hints", "verdict"].map((kind) => make("div", kind));
+    const controls = make("p", "", this.check, " ", this.begin, " ", this.state);
+    const reading = Object.assign(make("div", "reading", this.text, controls, this.verdict, this.hints), { tabIndex: 0, role: "region" });
+    reading.ariaLabel = "Text of the exercise";
+    const head = make("div", "top", Object.assign(make("h2", "", "Exercise"), { id: "exercise-title" }), this.choice);
+    this.panel = Object.assign(make("section", "student", head, reading), { id: "exercise" });
+    this.panel.setAttribute("aria-labelledby", "exercise-title");
+    byId("home").before(this.toggle);
+    byId("desk").prepend(this.panel);
+    document.addEventListener("keydown", ({ key, ctrlKey, shiftKey }) => ctrlKey && shiftKey && key === "Enter" && this.check.click());
+  }
+
+  /** Shows or hides the panel. */
+  open(isOpen) {
+    this.isOpen = isOpen;
+    document.body.classList.toggle("exercising", isOpen);
+    this.toggle.ariaPressed = `${isOpen}`;
+    this.panel.hidden = !isOpen;
+  }
+
+  /** Shows what the server tells of all exercises. */
+  show(all) {
+    const names = Object.keys(all);
+    if (all === this.all) return;
+    this.all = all;
+    this.toggle.hidden = !names.length;
+    if (!names.includes(this.name)) [this.name] = names;
+    const option = (name) => Object.assign(make("option", "", `${all[name].passed ? "✓ " : ""}${all[name].title}`), { value: name });
+    this.choice.replaceChildren(...names.map(option));
+    this.choice.value = this.name;
+    this.open(names.length > 0 && this.isOpen !== false);
+    if (names.length) this.paint();
+  }
+
+  choose(name) {
+    this.name = name;
+    sessionStorage.setItem("exercise", name);
+    this.paint();
+  }
+
+  /** Paints what is another than before of the exercise that is chosen. */
+  paint() {
+    const [it, before] = [this.all[this.name], this.shown];
+    if (it === before) return;
+    this.shown = it;
+    if (it.text !== before.text) this.text.replaceChildren(...blocks(it.text));
+    this.begin.hidden = !it.start;
+    this.check.disabled = it.checking;
+    const tries = it.tries ? `${it.tries} ${it.tries > 1 ? "tries" : "try"}${it.passed ? ", passed" : ""}` : "";
+    put(this.state, it.checking ? "It is being checked …" : tries);
+    if (it.told !== before.told || it.lesson !== before.lesson) this.verdict.replaceChildren(...verdict(it.told, it.cases, it.lesson));
+    const hints = it.hints.map((hint) => make("li", "", ...prose(hint)));
+    this.hints.replaceChildren(...(hints.length ? [make("h3", "", "Hints"), make("ol", "", ...hints)] : []));
+  }
+
+  /** Sends the source that stands in the editor. */
+  checkSource() {
+    if (this.check.disabled) return;
+    this.student.request({ ask: "check", exercise: this.name, text: this.editor.text }, "the check");
+  }
+
+  /** Puts the source to begin with into the editor, and opens it. */
+  takeStart() {
+    this.editor.put(this.all[this.name].start);
+    this.student.showSide("source");
+  }
+}

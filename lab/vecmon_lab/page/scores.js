@@ -1,0 +1,62 @@
+// The teacher's table of exercises: what each seat has tried, and the answers.
+
+import { byId, button, header, make, put, table } from "./elements.js";
+
+const clock = (time) => new Date(time * 1000).toLocaleTimeString("en-GB", { hour: "2-digit", minute: "2-digit" });
+
+/** A seat's work at an exercise, as `✓ try 2, 14:05`, or `3 of 5, 4 tries, 14:05`. */
+const words = ({ tries, passed, best, time }, most) =>
+  `${passed ? `✓ try ${passed}` : `${best} of ${most}, ${tries} ${tries > 1 ? "tries" : "try"}`}, ${clock(time)}`;
+
+export class Scores {
+  constructor(teacher) {
+    Object.assign(this, { teacher, told: {} });
+    const save = () => teacher.connection.download("exercises.csv", "exercises.csv");
+    const head = Object.assign(make("h2", "", "Exercises"), { id: "scores-title" });
+    this.table = make("div", "wide");
+    this.which = Object.assign(make("select", ""), { ariaLabel: "Try", onchange: () => this.read(Number(this.which.value)) });
+    this.what = make("span", "");
+    this.source = Object.assign(make("pre", ""), { tabIndex: 0 });
+    this.answer = make("div", "", make("p", "", this.what, " ", this.which), this.source);
+    this.answer.hidden = true;
+    this.section = make("section", "seats", make("div", "top", head, button("Table", "Exercises, as CSV", save)), this.table, this.answer);
+    this.section.id = "scores";
+    this.section.setAttribute("aria-labelledby", "scores-title");
+    byId("machines").before(this.section);
+  }
+
+  show({ exercises }) {
+    if (exercises === this.told) return;
+    this.told = exercises;
+    const names = Object.keys(exercises);
+    this.section.hidden = !names.length;
+    const seats = [...new Set(names.flatMap((name) => Object.keys(exercises[name].seats)))].sort();
+    const cell = (seat, name) => {
+      const [{ title, of, seats: results }, parts] = [exercises[name], []];
+      if (results[seat]) parts.push(button(words(results[seat], of), `Answers of seat ${seat} to ${title}`, () => this.open(seat, name)));
+      return make("td", "", ...parts);
+    };
+    const rows = seats.map((seat) => make("tr", "", header("row", this.teacher.withName(seat)), ...names.map((name) => cell(seat, name))));
+    const heads = make("tr", "", header("col", "seat"), ...names.map((name) => header("col", exercises[name].title)));
+    const none = make("p", "empty", "Nobody has checked an answer yet.");
+    this.table.replaceChildren(rows.length ? table("Exercises", make("thead", "", heads), make("tbody", "", ...rows)) : none);
+  }
+
+  /** Shows a seat's answers to an exercise, the last one first. */
+  open(seat, name) {
+    const { title, seats } = this.told[name];
+    Object.assign(this, { seat, name });
+    const { tries } = seats[seat];
+    const option = (_, place) => Object.assign(make("option", "", `try ${place + 1}`), { value: place + 1 });
+    this.which.replaceChildren(...Array.from({ length: tries }, option));
+    this.which.value = `${tries}`;
+    put(this.what, `${this.teacher.withName(seat)}: ${title}`);
+    return this.read(tries);
+  }
+
+  async read(number) {
+    const answer = await this.teacher.request({ ask: "answer", seat: this.seat, exercise: this.name, number });
+    put(this.source, answer?.text ?? "");
+    this.answer.hidden = false;
+  }
+}
