@@ -69,6 +69,7 @@ def test_answers_do_what_the_text_says(program: pathlib.Path, name: str, answer:
             assert not difference(drawn.expected, Attempt(drawn.expected, found, False)), drawn
 
 
+@pytest.mark.by_command("course")
 def test_a_course_is_written(lab: Lab, tmp_path: pathlib.Path) -> None:
     status, told, _ = lab("course", tmp_path / "course")
     names = [*COURSE, "index"]

@@ -86,6 +86,20 @@ def test_all_exercises_are_solved(tabs: "Chrome", course: Served) -> None:
     assert tab.text("#exercise select").count("✓") == 12
 
 
+def test_an_endless_answer_holds_nobody_up(tabs: "Chrome", course: Served) -> None:
+    """Neither the others nor its own seat, whose machine steps while it is checked; it is told what went wrong."""
+    tab, other = Tab(tabs, course, "A4"), Tab(tabs, course, "A5")
+    for each in (tab, other):
+        each.begin("addi x5, x5, 1", "jal x0, -4")
+    tab.run("id('source').value = 'next: j next'")
+    tab.click("#exercise .main")
+    for each in (tab, other):
+        each.click("#one")
+        each.wait("id('step').textContent.includes('addi x5, x5, 1')")
+    tab.wait(f"{VERDICT} === 'It passes 0 of 5 cases.'")
+    assert tab.text("#exercise .said") == "eight: it hasn't ended after 2,000 ticks"
+
+
 def test_the_panel_can_be_put_away(tabs: "Chrome", course: Served) -> None:
     """It has a place beside the machine, and all of the width is the machine's without it."""
     tab = Tab(tabs, course, "A3")
