@@ -11,7 +11,7 @@ import pytest
 from support.class_tabs import LOOP, served
 from vecmon_lab.__main__ import arguments_of
 from vecmon_lab.classes.command import run
-from vecmon_lab.classes.names import checked_name
+from vecmon_lab.classes.names import as_csv, checked_name
 from vecmon_lab.classes.requests import BadRequest
 from vecmon_lab.classes.store import BadFolder, forget
 
@@ -34,6 +34,11 @@ NAME = "Zoë O'Brien-Šarić Jr. 2"
 )
 def test_names(typed: str, name: str) -> None:
     assert checked_name(typed) == name
+
+
+def test_no_cell_is_a_formula() -> None:
+    rows = [["=HYPERLINK(1)", "+1", "-1", "@x", -1], ["A1", "", "Ada", "1=1", 0]]
+    assert as_csv(rows).decode("utf-8-sig") == "'=HYPERLINK(1),'+1,'-1,'@x,-1\r\nA1,,Ada,1=1,0\r\n"
 
 
 @pytest.mark.parametrize(
