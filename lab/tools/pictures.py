@@ -102,7 +102,7 @@ def picture_exercise(browser: "Chrome", served: Served, folder: pathlib.Path) ->
     tab.click("#show-source")
     tab.click("#exercise .main")
     tab.wait("one('#exercise .wrong')")
-    tab.run("one('#exercise .verdict').scrollIntoView()")
+    tab.run("(one('.reading').scrollTop = one('.verdict').offsetTop)")
     save(browser, folder / "exercise.png", HEIGHT)
 
 
