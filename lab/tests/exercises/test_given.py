@@ -1,12 +1,14 @@
 """The exercises of the course: their answers, right and wrong, and their lessons."""
 
 import pathlib
+import re
 from random import Random
 
 import pytest
 
 from support.commands import Lab
 from support.drawn_inputs import DRAWS, Drawn
+from support.places import DOCS
 from vecmon_lab.exercises.answer import Attempt, read_answer, ready, settled
 from vecmon_lab.exercises.exercise import OURS, Results, read_exercise
 from vecmon_lab.exercises.grade import difference, grade
@@ -21,6 +23,13 @@ DRAWN, BEGIN = 1000, 0x10000  # inputs of each exercise; where a source begins
 def test_the_course_has_all_exercises_of_the_lab() -> None:
     assert sorted(COURSE) == sorted(path.parent.name for path in OURS.glob("*/exercise.toml"))
     assert COURSE == list(DRAWS)
+
+
+def test_the_manual_lists_the_course() -> None:
+    rows = re.findall(r"^\| `(\w+)` \| .* \| (.*) \| (\d+) \|$", (DOCS / "COURSE.md").read_text("utf-8"), re.MULTILINE)
+    assert [[name, minutes] for name, _, minutes in rows] == read_table("course")
+    titles = [(OURS / name / "lesson.s").read_text("utf-8").split("\n")[0].lower() for name in COURSE]
+    assert [f"## {title}" for _, title, _ in rows] == titles
 
 
 @pytest.mark.parametrize("name", COURSE)
