@@ -6,6 +6,7 @@ from typing import NoReturn
 import pytest
 
 NO_BROWSER = "there is no Chromium"
+NO_BINUTILS = "there is no riscv64-linux-gnu-ld"
 NO_GDB = "there is no gdb-multiarch"
 NO_QEMU = "there is no qemu-riscv64 of version 7.2"
 NO_CLANG = "there is no clang with intrinsics of vectors"

@@ -13,7 +13,7 @@ from _pytest.terminal import TerminalReporter
 
 from support.browser import start_browser
 from support.commands import Lab
-from support.left_out import NO_BROWSER, NO_CLANG, NO_GDB, NO_QEMU, NO_WALL, leave_out
+from support.left_out import NO_BINUTILS, NO_BROWSER, NO_CLANG, NO_GDB, NO_QEMU, NO_WALL, leave_out
 from vecmon_lab.compilers.compiler import Compiler, find_compilers
 from vecmon_lab.machine.program import find_program
 from vecmon_lab.machine.session import Session
@@ -27,6 +27,7 @@ LEFT_OUT = {
     "on QEMU": NO_QEMU,
     "of sources in C": NO_CLANG,
     "behind a wall": NO_WALL,
+    "with an assembler": NO_BINUTILS,
 }
 
 signal.signal(signal.SIGINT, signal.default_int_handler)  # which a job in the background ignores, with what it starts

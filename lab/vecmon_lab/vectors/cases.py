@@ -6,7 +6,7 @@ A case depends on its instruction, its number and the seed alone.
 import functools
 import random
 from collections.abc import Sequence
-from dataclasses import dataclass, field
+from dataclasses import dataclass, field, replace
 from fractions import Fraction
 
 from ..instructions.reasons import illegal_reasons
@@ -138,6 +138,13 @@ def draw_case(row: Row, number: int, seed: int) -> Case:
     return case
 
 
+def moved(case: Case, row: Row, base: int) -> Case:
+    """A case whose memory lies so many bytes further on."""
+    address = 11 if row.name == "ecall" else case.register("rs1")
+    x = case.x | ({address: (case.x[address] + base) % (1 << 64)} if touches_memory(row) else {})
+    return replace(case, x=x, memory={base + first: data for first, data in case.memory.items()})
+
+
 def _is_vector(row: Row) -> bool:
     """Whether it is a vector instruction, and no vset."""
     return row.opcode in VECTOR_ACCESSES or row.opcode == OP_V and not row.name.startswith("vset")
@@ -173,13 +180,13 @@ def _draw_word(row: Row, kind: Kind, draws: _Draws, steps: Sequence[int]) -> tup
         word = row.word(word)
         is_illegal = bool(illegal_reasons(word, view))
         stride_is_base = _is_strided(row) and not (word >> 15 ^ word >> 20) & 31
-        is_odd = stride_is_base or _reads_two_widths(_operands(row, word, view))
+        is_odd = stride_is_base or reads_two_widths(_operands(row, word, view))
         if is_illegal == kind.is_illegal and (is_illegal or not is_odd):
             break
     return word, view
 
 
-def _reads_two_widths(operands: list[Operand]) -> bool:
+def reads_two_widths(operands: list[Operand]) -> bool:
     """Whether a register is read with two element widths: the standard reserves that, and the machine does it."""
     sources = [operand for operand in operands if operand.noun != "destination"]
     widths = [(number, operand.eew) for operand in sources for number in operand.registers]

@@ -1,4 +1,7 @@
-"""Golden results of single instructions: what the machine makes of each, a JSON line a case (docs/GOLDEN_VECTORS.md)."""
+"""Golden results of single instructions: what the machine makes of each, a JSON line a case (docs/GOLDEN_VECTORS.md).
+
+Or, as `self_checking` writes them, programs that try them and compare.
+"""
 
 import argparse
 import json
@@ -9,10 +12,12 @@ from collections.abc import Iterator
 from .. import LabError
 from ..guest.changes import Registers, Stepper, runs
 from ..guest.guest import Guest, pokes
+from ..harness.environments import ENVIRONMENTS
 from ..instructions.table import Row, instruction_table
 from ..machine.program import find_program
 from ..machine.session import Session
-from .cases import CODE, DATA, DATA_END, PC, READ_ONLY, Case, draw_case, plan, touches_memory
+from .cases import CODE, DATA, DATA_END, PC, READ_ONLY, Case, draw_case, moved, plan, touches_memory
+from .self_checking import Writer
 
 _CASES_OF_A_SESSION = 500
 _PROLOGUE = "5770b5807390a6007310970073108600"  # vsetvl x0, x10, x11; csrrw x0, and vxrm, x13; vxsat, x14; vstart, x12
@@ -24,6 +29,9 @@ def add_arguments(parser: argparse.ArgumentParser) -> None:
     parser.add_argument("--cases", metavar="N", type=int, help="of each; else one of each legal type, masked and not")
     parser.add_argument("--seed", metavar="S", type=int, default=0, help="another one gives other cases (default: 0)")
     parser.add_argument("--policy", choices=("keep", "ones"), default="keep", help="for agnostic elements; else keep")
+    parser.add_argument("--elf", metavar="DIR", type=pathlib.Path, help="programs that check themselves go there")
+    parser.add_argument("--asm", metavar="DIR", type=pathlib.Path, help="their sources go there, for stock assemblers")
+    parser.add_argument("--environment", choices=ENVIRONMENTS, default="linux", help="where they run; else %(default)s")
 
 
 def names() -> list[str]:
@@ -41,34 +49,47 @@ def run(arguments: argparse.Namespace) -> int:
         raise LabError(f"there is no instruction {odd[0]}: docs/INSTRUCTIONS.md lists them, and all means each one")
     if arguments.cases is not None and arguments.cases < 1:
         raise LabError("--cases takes a number from 1 up")
+    writer = Writer(arguments.elf, arguments.asm, arguments.environment) if arguments.elf or arguments.asm else None
+    base = ENVIRONMENTS[arguments.environment].base if writer else 0
     for name in names:
-        for golden in golden_results(program, table[name], arguments.cases, arguments.seed, arguments.policy):
-            sys.stdout.write(json.dumps(golden, separators=(",", ":")) + "\n")
+        results = golden_results(program, table[name], arguments.cases, arguments.seed, arguments.policy, base)
+        if writer:
+            writer.write(name, list(results))
+        else:
+            sys.stdout.writelines(f"{json.dumps(golden, separators=(',', ':'))}\n" for golden in results)
+    if writer:
+        print("\n".join(writer.told()))
     return 0
 
 
 def golden_results(
-    program: pathlib.Path, row: Row, cases: int | None = None, seed: int = 0, policy: str = "keep"
+    program: pathlib.Path, row: Row, cases: int | None = None, seed: int = 0, policy: str = "keep", base: int = 0
 ) -> Iterator[dict[str, object]]:
-    """So many cases of an instruction, or its whole plan, with what the machine made of each. Raises as `Session` does."""
+    """So many cases of an instruction, or its whole plan, with what the machine made of each. Raises as `Session` does.
+
+    base: how much further on than the page on the format says all addresses lie
+    """
     count = len(plan(row, seed)) if cases is None else cases
     for first in range(0, count, _CASES_OF_A_SESSION):
         with Session(program) as session:
             for number in range(first, min(count, first + _CASES_OF_A_SESSION)):
-                yield carry_out(session, row, draw_case(row, number, seed), policy)
+                yield carry_out(session, row, moved(draw_case(row, number, seed), row, base), policy, base)
 
 
-def carry_out(session: Session, row: Row, case: Case, policy: str = "keep") -> dict[str, object]:
-    """A case with what the machine made of it, as the page on the format has it. User 1 enters, and leaves again."""
-    pages = {CODE: "rx"} | ({DATA: "rw", READ_ONLY: "r"} if touches_memory(row) else {})
-    guest = Guest(session)
+def carry_out(session: Session, row: Row, case: Case, policy: str = "keep", base: int = 0) -> dict[str, object]:
+    """A case with what the machine made of it, as the page on the format has it. User 1 enters, and leaves again.
+
+    base: how much further on than that page says the instruction and the memory of the case lie
+    """
+    pages = {base + CODE: "rx"} | ({base + DATA: "rw", base + READ_ONLY: "r"} if touches_memory(row) else {})
+    guest, pc, data = Guest(session), base + PC, base + DATA
     guest.ask(*_set_up(case, pages, policy))
     stepper = Stepper(guest)
-    length = DATA_END - DATA if DATA in pages else 0
-    text, (before, held), old = stepper.fetch(PC)[1], _named(PC, stepper.registers), guest.peek(DATA, length)
+    length = DATA_END - DATA if data in pages else 0
+    text, (before, held), old = stepper.fetch(pc)[1], _named(pc, stepper.registers), guest.peek(data, length)
     stop = guest.step()
     stepper.look()
-    (after, left), new, output = _named(guest.pc, stepper.registers), guest.peek(DATA, length), guest.output()
+    (after, left), new, output = _named(guest.pc, stepper.registers), guest.peek(data, length), guest.output()
     guest.ask("leave")
     golden: dict[str, object] = {"name": row.name, "word": f"{case.word:08x}", "text": text, "policy": policy, **before}
     golden |= {kind: {number: it for number, it in values.items() if it.strip("0")} for kind, values in held.items()}
@@ -80,23 +101,24 @@ def carry_out(session: Session, row: Row, case: Case, policy: str = "keep") -> d
         golden |= {"cause": stop.cause, "value": f"{stop.value:x}"} if is_fault else {"status": stop.number}
     changes: dict[str, object] = {name: value for name, value in after.items() if value != before[name]}
     changes |= {kind: {n: it for n, it in values.items() if it != held[kind][n]} for kind, values in left.items()}
-    stored = {f"{DATA + first:x}": new[first:last].hex() for first, last in runs(old, new)}
+    stored = {f"{data + first:x}": new[first:last].hex() for first, last in runs(old, new)}
     changes |= {"memory": stored, "output": output.hex()}
     return golden | {"after": {key: value for key, value in changes.items() if value not in ({}, "")}}
 
 
 def _set_up(case: Case, pages: dict[int, str], policy: str) -> Iterator[str]:
     """The lines that make the state before a case."""
-    control = dict(enumerate(vars(case.control).values(), 10))
+    code, control = min(pages), dict(enumerate(vars(case.control).values(), 10))
+    pc = code + PC - CODE
     yield "enter"
     yield f"policy {policy}"
     yield from (f"map {address:x} 1 {permissions}" for address, permissions in pages.items())
-    yield f"poke {CODE:x} {_PROLOGUE}"
-    yield f"poke {PC:x} {case.word.to_bytes(4, 'little').hex()}"
+    yield f"poke {code:x} {_PROLOGUE}"
+    yield f"poke {pc:x} {case.word.to_bytes(4, 'little').hex()}"
     for address, data in case.memory.items():
         yield from pokes(address, data)
     yield from (f"set x{number} {value:x}" for number, value in control.items())
-    yield from (f"setpc {CODE:x}", "step 4", f"setpc {PC:x}")
+    yield from (f"setpc {code:x}", "step 4", f"setpc {pc:x}")
     yield from (f"set x{number} {value:x}" for number, value in (dict.fromkeys(control, 0) | case.x).items())
     yield from (f"vset v{number} {data.hex()}" for number, data in case.v.items())
 

@@ -50,7 +50,7 @@ def state(*named: Case) -> State:
         values |= {name: int(str(part[name])) for name in ("vl", "vxrm", "vxsat", "vstart") if name in part}
         values |= {f"x{number}": int(digits, 16) for number, digits in held(part, "x").items()}
         pieces = [(v, 32 * int(number), digits) for number, digits in held(part, "v").items()]
-        pieces += [(memory, int(address, 16) - DATA, digits) for address, digits in held(part, "memory").items()]
+        pieces += [(memory, int(address, 16) % 0x10000, digits) for address, digits in held(part, "memory").items()]
         for room, place, digits in pieces:
             room[place : place + len(digits) // 2] = bytes.fromhex(digits)
     return {**values, "v": bytes(v), "memory": bytes(memory)}

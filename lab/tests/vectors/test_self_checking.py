@@ -1,0 +1,126 @@
+"""Golden vectors as programs: on vecmon, on QEMU, through a stock assembler; and a planted fault."""
+
+import copy
+import json
+import pathlib
+import shutil
+import subprocess
+from typing import Any
+
+import pytest
+
+from support.commands import Lab
+from support.left_out import NO_BINUTILS, leave_out
+from vecmon_lab.instructions.table import instruction_table
+from vecmon_lab.vectors import on_qemu
+from vecmon_lab.vectors.command import golden_results
+from vecmon_lab.vectors.self_checking import Writer
+
+SIGNATURE_LINES = 400  # two for each of 200 cases
+NAMES = [
+    "vadd.vv",
+    "vmsbf.m",
+    "vredsum.vs",
+    "vsetvl",
+    "csrrs",
+    "beq",
+    "jal",
+    "lw",
+    "vse16.v",
+    "vle8ff.v",
+    "vsoxseg2ei8.v",
+]
+
+
+def golden(program: pathlib.Path, name: str, cases: int, base: int = 0) -> list[dict[str, Any]]:
+    """Cases of an instruction."""
+    row = instruction_table()[name]
+    return [json.loads(json.dumps(each)) for each in golden_results(program, row, cases, 3, base=base)]
+
+
+def cases_of(folder: pathlib.Path, name: str) -> list[dict[str, Any]]:
+    """The cases that stand beside a program."""
+    return [json.loads(line) for line in (folder / f"{name}.jsonl").read_text("ascii").splitlines()]
+
+
+def output_of(words: list[str | pathlib.Path]) -> tuple[int, list[str]]:
+    """The status of a program, and the lines that it puts out."""
+    done = subprocess.run(words, stdout=subprocess.PIPE, text=True)
+    return done.returncode, done.stdout.splitlines()
+
+
+def differing(lines: list[str], reference: pathlib.Path) -> list[int]:
+    """The numbers of the cases whose digests aren't those of a reference."""
+    words = reference.read_text("ascii").splitlines()
+    assert len(lines) == SIGNATURE_LINES + 1 and len(words) == SIGNATURE_LINES
+    return [at // 2 + 1 for at in range(0, SIGNATURE_LINES, 2) if lines[at : at + 2] != words[at : at + 2]]
+
+
+@pytest.mark.by_command("vectors")
+def test_on_vecmon_no_case_differs(lab: Lab, tmp_path: pathlib.Path) -> None:
+    status, output, _ = lab("vectors", *NAMES, "--cases", "12", "--elf", tmp_path, "--environment", "vecmon")
+    assert status == 0 and output.decode().splitlines()[0].endswith("cases in 10 programs")
+    for name in NAMES:
+        if name == "jal":  # all go to other pages
+            continue
+        status, output, told = lab("run", tmp_path / f"{name}.elf")
+        assert (status, told) == (0, ""), name
+        assert output.decode() == (tmp_path / f"{name}.reference").read_text("ascii") + "00000000\n"
+
+
+@pytest.mark.usefixtures("qemu")
+def test_on_qemu_those_cases_differ_that_differ_there(lab: Lab, tmp_path: pathlib.Path) -> None:
+    assert lab("vectors", *NAMES, "--cases", "12", "--seed", "3", "--elf", tmp_path)[0] == 0
+    for name in NAMES:
+        cases = cases_of(tmp_path, name)
+        odd = [number for number, found in enumerate(on_qemu.differences(cases), 1) if found]
+        status, lines = output_of([*on_qemu.QEMU, tmp_path / f"{name}.elf"])
+        assert differing(lines, tmp_path / f"{name}.reference") == odd, name
+        assert (status, int(lines[-1], 16)) == (odd[0] if odd else 0,) * 2
+
+
+def test_a_planted_fault_is_found_at_its_case(lab: Lab, program: pathlib.Path, tmp_path: pathlib.Path) -> None:
+    right = golden(program, "vsub.vv", 24)
+    right = [case for case in right if case["end"] == "ran" and "v" in case["after"]]
+    for number in (1, 7, len(right)):
+        wrong = copy.deepcopy(right)
+        register, digits = next(iter(wrong[number - 1]["after"]["v"].items()))
+        wrong[number - 1]["after"]["v"][register] = f"{digits[:-1]}{int(digits[-1], 16) ^ 1:x}"
+        Writer(tmp_path, None, "vecmon").write("wrong", wrong)
+        status, output, _ = lab("run", tmp_path / "wrong.elf")
+        assert status == number == int(output.split()[-1], 16)
+
+
+def test_what_an_environment_has_not_is_left_out(lab: Lab, tmp_path: pathlib.Path) -> None:
+    told = {}
+    for environment in ("linux", "vecmon", "bare"):
+        status, output, _ = lab("vectors", "vle8.v", "ecall", "ebreak", "--elf", tmp_path, "--environment", environment)
+        told[environment] = output.decode().splitlines()
+    assert told["linux"] == [
+        "84 cases in 2 programs",
+        "left out: 32 of call",
+    ]  # 22 types, masked or not, and 8; 24 and 8
+    assert told["vecmon"][0].endswith("cases in 1 programs")
+    assert {line.rpartition(" of ")[2] for line in told["vecmon"][1:]} == {"call", "ebreak", "fault 2", "fault 5"}
+    assert {line.rpartition(" of ")[2] for line in told["bare"][1:]} == {"call", "fault 5"}
+
+
+@pytest.mark.parametrize("environment", ["linux", "bare"])
+def test_a_stock_assembler_makes_the_same(lab: Lab, tmp_path: pathlib.Path, environment: str) -> None:
+    """Of each kind of instruction; and the programs leave the same signature."""
+    if not shutil.which("riscv64-linux-gnu-ld"):
+        leave_out(NO_BINUTILS)
+    words = ["--cases", "12", "--environment", environment, "--asm", tmp_path, "--elf", tmp_path]
+    assert lab("vectors", *NAMES, *words)[0] == 0
+    for source in tmp_path.glob("*.s"):
+        made, linked = source.with_suffix(".o"), source.with_suffix(".linked")
+        options = next(line for line in source.read_text("ascii").splitlines() if "-Wl" in line).partition("-Wl,")[2]
+        march = "-march=rv64im_zicsr_zve64x_zvl256b"
+        subprocess.run(["riscv64-linux-gnu-as", march, "-o", made, source], check=True)
+        link = ["riscv64-linux-gnu-ld", *options.split(","), "-o", f"{linked}", f"{made}"]
+        subprocess.run(
+            link, check=True, stderr=subprocess.DEVNULL
+        )  # it warns of a page that is written and carried out
+        if environment == "linux" and shutil.which("qemu-riscv64"):
+            assert output_of([*on_qemu.QEMU, linked]) == output_of([*on_qemu.QEMU, source.with_suffix(".elf")])
+    assert len(list(tmp_path.glob("*.linked"))) == (11 if environment == "linux" else 10)

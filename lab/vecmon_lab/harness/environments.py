@@ -1,0 +1,155 @@
+"""The environments of golden programs, and the code around what they try: assembled once, by the machine.
+
+A program has a page for an instruction, two pages of memory, the code and its data, and a list behind them: of cases, or
+what it carries out. Addresses stand in `Environment`; all of these move with its base.
+"""
+
+import functools
+import pathlib
+import re
+import struct
+from collections.abc import Iterator, Mapping, Sequence
+from dataclasses import dataclass, field
+
+from .. import LabError
+from ..assembler.source import assemble
+from ..guest.guest import Guest
+from ..instructions.accesses import PAGE_BYTES
+from ..machine.answers import Refused
+from ..machine.program import find_program
+from ..machine.session import Session
+from .elf import EXECUTE, READ, WRITE, Segment, elf
+
+CODE, PC, MEMORY = 0x10000, 0x10800, 0x20000
+"""The page of the instruction, and where it stands in it; and the memory."""
+
+MEMORY_BYTES = 2 * PAGE_BYTES
+BLOCK_BYTES = 1344
+"""Of the registers: how it ended, vl, vtype, vxrm, vxsat, vstart, a value, 0; v0 to v31; pc, x1 to x31."""
+
+SPARE = (31, 29, 27, 25)
+"""The registers xS, by which a case comes back; xT is the one below it."""
+
+LIST = 0x40000
+"""How far behind the code the list of cases, or what is carried out, begins."""
+
+
+@dataclass(frozen=True)
+class Environment:
+    """Where golden programs run.
+
+    files: its sources, and code: where the program begins
+    ends: the numbers by which it tells how a case ended; what ends otherwise can't be tried there
+    base: what is added to the addresses of the instruction and of memory
+    """
+
+    files: tuple[str, ...]
+    code: int
+    ends: Mapping[str, int] = field(hash=False)
+    base: int = 0
+
+
+_SIGNALS = {"fault 2": 4, "refused control register": 4, "ebreak": 5, "fault 5": 11, "fault 7": 11}
+ENVIRONMENTS = {
+    "linux": Environment(
+        ("linux", "calls"), 0x60000000, {"ran": 0, "shortened load": 0, "jump to another page": 11} | _SIGNALS
+    ),
+    "vecmon": Environment(("vecmon", "calls"), 0x60000000, {"ran": 0, "shortened load": 0}),
+    "bare": Environment(("bare",), 0x80000000, {"ran": 0, "fault 2": 3, "ebreak": 4}, 0x80000000),
+}
+"""Linux's user mode; vecmon; and a core in machine mode, whose memory begins at 80000000."""
+
+
+@dataclass(frozen=True)
+class Harness:
+    """The code around cases or a program, assembled: its source, its labels and its segments."""
+
+    environment: Environment
+    source: str
+    labels: Mapping[str, int] = field(default_factory=dict)
+    segments: Sequence[Segment] = ()
+
+    def image(self, data: bytes, memory: bytes = b"") -> bytes:
+        """The ELF file with a list, and with the pages of the instruction and of memory."""
+        base, names = self.environment.base, ("_start", "begin_signature", "end_signature", "tohost", "fromhost")
+        size = -(-len(data) // PAGE_BYTES) * PAGE_BYTES
+        pages = [Segment(base + CODE, b"", PAGE_BYTES, READ | WRITE | EXECUTE)]
+        pages += [Segment(base + MEMORY, memory, MEMORY_BYTES, READ | WRITE)]
+        pages += [Segment(self.environment.code + LIST, data, size, READ | EXECUTE)]
+        symbols = {name: self.labels[name] for name in names if name in self.labels}
+        return elf(self.labels["_start"], [*self.segments, *pages], symbols)
+
+
+@functools.cache
+def harness(environment: Environment, name: str, signature_words: int) -> Harness:
+    """The code around cases or around a program in an environment, with so many words of 64 bits for its signature."""
+    base, code = environment.base, environment.code
+    numbers = {"CODE": base + CODE, "PC": base + PC, "MEMORY": base + MEMORY, "READ_ONLY": base + MEMORY + PAGE_BYTES}
+    numbers |= {"BLOCK_BYTES": BLOCK_BYTES, "MEMORY_BYTES": MEMORY_BYTES, "MEMORY_WORDS": MEMORY_BYTES // 8}
+    numbers["STATE_WORDS"] = (BLOCK_BYTES + MEMORY_BYTES) // 8
+    numbers |= {"SIGNATURE_BYTES": 8 * signature_words, "TEXT_BYTES": 18 * signature_words + 18, "LIST": code + LIST}
+    equates = [f"{'':24}.equ {name}, {number:#x}" for name, number in numbers.items()]
+    sources = [_source(each) for each in (name, *environment.files, "common")]
+    source = "\n".join([f"{'':24}.globl _start", *equates, *_expanded("".join(sources)), ""])
+    program = assemble(source, code)
+    with Session(find_program()) as session:
+        guest = Guest(session)
+        if refused := [answer for answer in guest.ask("enter", *program.lines) if isinstance(answer, Refused)]:
+            raise LabError(f"the machine refuses the code around golden programs: {refused[0]}")
+        segments = [_segment(guest, *line.split()[1:]) for line in program.lines if line.startswith("map ")]
+    return Harness(environment, source, program.labels, segments)
+
+
+def _segment(guest: Guest, digits: str, pages: str, permissions: str) -> Segment:
+    """The pages that a line of the monitor mapped, as they are now."""
+    address, size = int(digits, 16), int(pages) * PAGE_BYTES
+    flags = READ | (EXECUTE if "x" in permissions else WRITE)
+    return Segment(address, guest.peek(address, size).rstrip(b"\0"), size, flags)
+
+
+def _source(name: str) -> str:
+    """A source of this folder; of cases with an entry for each pair of registers that may be spare."""
+    text = pathlib.Path(__file__).with_name(f"{name}.s").read_text("ascii")
+    if name != "cases":
+        return text
+    entry = _source("enter")
+    return text + "".join(
+        entry.replace("_S", f"_{number}").replace("xS", f"x{number}").replace("xT", f"x{number - 1}")
+        for number in SPARE
+    )
+
+
+def _expanded(text: str) -> Iterator[str]:
+    """The lines of a source, without the two forms that these sources have beside those of all assemblers.
+
+    `for NAME.. in VALUE.., ..: TEXT; ..` stands for the texts with each of the values; `save xT, xS` and `load xT, xS` for
+    all scalar registers but these two, at their places in the block at xT.
+    """
+    for line in text.splitlines():
+        label, body = line[:24], "" if line.startswith("#") else line[24:]
+        loop = re.fullmatch(r"for (.*?) in (.*?): (.*)", body)
+        saved = re.fullmatch(r"(save|load) x(\d+), x(\d+)", body)
+        if not loop and not saved:
+            yield line
+        elif label.strip():
+            yield label.rstrip()
+        if loop:
+            for values in loop[2].split(", "):
+                fields = dict(zip(loop[1].split(), values.split()))
+                yield from (f"{'':24}{each.format(**fields)}" for each in loop[3].split("; "))
+        if saved:
+            name, base, others = {"save": "sd", "load": "ld"}[saved[1]], saved[2], (saved[2], saved[3])
+            numbers = [number for number in range(1, 32) if str(number) not in others]
+            yield from (f"{'':24}{name} x{number}, {BLOCK_BYTES - 256 + 8 * number}(x{base})" for number in numbers)
+
+
+def digest(data: bytes, before: int = 0) -> int:
+    """The digest of words of 64 bits, as the code makes it: each is added to 31 times what was before."""
+    for (word,) in struct.iter_unpack("<Q", data):
+        before = (before * 31 + word) % (1 << 64)
+    return before
+
+
+def signature_text(words: Sequence[int]) -> str:
+    """A signature as programs and simulators put it out: 32 bits a line, those of lower addresses first."""
+    return "".join(f"{word % (1 << 32):08x}\n{word >> 32:08x}\n" for word in words)

@@ -1,0 +1,130 @@
+"""Golden vectors as programs that check themselves: ELF files and assembler sources (docs/GOLDEN_VECTORS.md)."""
+
+import json
+import pathlib
+import struct
+from collections import Counter
+from collections.abc import Iterator, Sequence
+
+from ..guest.changes import runs
+from ..harness.environments import BLOCK_BYTES, CODE, ENVIRONMENTS, LIST, MEMORY, SPARE, Environment, Harness, digest
+from ..harness.environments import harness, signature_text
+from ..instructions.accesses import PAGE_BYTES
+from ..machine.program import MARCH
+from .on_qemu import LAYOUT, Case, expected, held, state
+
+CASES_OF_A_PROGRAM = 200
+_HAS_MEMORY = 16
+_RELATIVE = (0x63, 0x6F)  # opcodes of jumps whose targets stock assemblers read in two ways
+_SECTIONS = """\
+                        .section .instruction, "awx", @nobits
+                        .zero 4096
+                        .section .memory, "aw", @nobits
+                        .zero 8192
+                        .section .cases, "a"
+"""
+
+
+class Writer:
+    """Writes programs into folders, and counts what is in them.
+
+    elf, asm: the folders of ELF files and of sources
+    """
+
+    def __init__(self, elf: pathlib.Path | None, asm: pathlib.Path | None, environment: str) -> None:
+        """An environment has a name. Makes the folders."""
+        self._folders, self._environment = {".elf": elf, ".s": asm}, ENVIRONMENTS[environment]
+        self._programs, self._cases, self._left_out = 0, 0, Counter[str]()
+        for folder in filter(None, self._folders.values()):
+            folder.mkdir(parents=True, exist_ok=True)
+
+    def write(self, name: str, goldens: Sequence[Case]) -> None:
+        """Writes the programs of an instruction's cases, and beside each its cases and its signature."""
+        kinds = [kind_of(golden, self._environment.base) for golden in goldens]
+        shown = [golden for golden, kind in zip(goldens, kinds) if kind in self._environment.ends]
+        self._left_out.update(kind for kind in kinds if kind not in self._environment.ends)
+        self._cases += len(shown)
+        for first in range(0, len(shown), CASES_OF_A_PROGRAM):
+            part = shown[first : first + CASES_OF_A_PROGRAM]
+            self._write_part(f"{name}_{first // CASES_OF_A_PROGRAM + 1}" if first else name, part)
+
+    def told(self) -> Iterator[str]:
+        """What was written, and what can't be tried in the environment, each in a line."""
+        yield f"{self._cases:,} cases in {self._programs:,} programs"
+        yield from (f"left out: {count:,} of {kind}" for kind, count in sorted(self._left_out.items()))
+
+    def _write_part(self, name: str, part: Sequence[Case]) -> None:
+        self._programs += 1
+        code = harness(self._environment, "cases", CASES_OF_A_PROGRAM)
+        cases = [case_words(golden, self._environment) for golden in part]
+        words = [word for listed, _ in cases for word in listed] + [0]
+        source = source_lines(name, part, [listed for listed, _ in cases], code)
+        texts = {".elf": code.image(struct.pack(f"<{len(words)}Q", *words)), ".s": "".join(source).encode()}
+        signature = [value for _, value in cases] + [0] * (CASES_OF_A_PROGRAM - len(part))
+        lines = "".join(f"{json.dumps(golden, separators=(',', ':'))}\n" for golden in part)
+        for suffix, folder in self._folders.items():
+            if folder:
+                path = folder / f"{name}{suffix}"
+                path.write_bytes(texts[suffix])
+                path.chmod(0o755 if suffix == ".elf" else 0o644)
+                (folder / f"{name}.reference").write_text(signature_text(signature), "ascii")
+                (folder / f"{name}.jsonl").write_text(lines, "ascii")
+
+
+def kind_of(golden: Case, base: int) -> str:
+    """How a case ends, as environments name it."""
+    after = held(golden, "after")
+    pc = int(str(after.get("pc", golden["pc"])), 16)
+    if golden["name"] == "ecall":
+        return "call"
+    if golden["end"] == "fault":
+        is_refused = golden["cause"] == 2 and str(golden["name"]).startswith("csr")
+        return "refused control register" if is_refused else f"fault {golden['cause']}"
+    if golden["end"] == "ran" and pc == int(str(golden["pc"]), 16):
+        return "jump to itself"
+    if golden["end"] == "ran" and not 0 <= pc - base - CODE < PAGE_BYTES:
+        return "jump to another page"
+    if str(golden["name"]).endswith("ff.v") and "vl" in after:
+        return "shortened load"
+    return str(golden["end"])
+
+
+def case_words(golden: Case, environment: Environment) -> tuple[list[int], int]:
+    """The words of 64 bits by which the code carries out a case, and the digest of the state after it."""
+    word, has_memory = int(str(golden["word"]), 16), f"{environment.base + MEMORY:x}" in held(golden, "pages")
+    named = {word >> 7 & 31, word >> 15 & 31, word >> 20 & 31}
+    spare = next(number for number in SPARE if not {number, number - 1} & named)
+    end = environment.ends[kind_of(golden, environment.base)]
+    before, after = state(golden), expected(golden) | {"end": end}
+    old, new = (LAYOUT.pack(*values.values()) for values in (before, after))
+    back = 0x67 | spare << 7 | spare << 15 | _HAS_MEMORY * has_memory  # jalr xS, 0(xS)
+    words = [word | back << 32, *_runs(bytes(LAYOUT.size), old), *_runs(old, new)]
+    return words, digest(new if has_memory else new[:BLOCK_BYTES])
+
+
+def _runs(old: bytes, new: bytes) -> Iterator[int]:
+    """Where new words of 64 bits stand, in runs: how many, and above it where; then these; 0 ends the runs."""
+    one, other = (struct.unpack(f"<{len(data) // 8}Q", data) for data in (old, new))
+    for first, last in runs(one, other):
+        yield last - first | 8 * first << 32
+        yield from other[first:last]
+    yield 0
+
+
+def source_lines(name: str, part: Sequence[Case], cases: Sequence[Sequence[int]], around: Harness) -> Iterator[str]:
+    """The source of a program for stock assemblers, with how it is linked."""
+    base, code = around.environment.base, around.environment.code
+    places = {".cases": code + LIST, ".instruction": base + CODE, ".memory": base + MEMORY}
+    yield f"# {len(part)} cases of {name}, made by vecmon-lab. gcc or clang makes a program of them with\n"
+    yield f"# {MARCH} -mabi=lp64 -nostdlib -static -no-pie -Wl,--no-relax,--build-id=none,-Ttext={code:#x}"
+    yield "".join(f",--section-start={section}={address:#x}" for section, address in places.items()) + "\n"
+    yield f"{'':24}.option norvc\n{'':24}.option norelax\n"
+    yield around.source + _SECTIONS
+    for number, (golden, words) in enumerate(zip(part, cases), 1):
+        text, word = str(golden["text"]), int(str(golden["word"]), 16)
+        yield f"# {number}: {text}: {golden['end']}\n"
+        has_name = golden["end"] == "ran" and word & 0x7F not in _RELATIVE and not text.startswith(".word")
+        yield f"{'':24}{text if has_name else f'.word {word:#010x}'}\n{'':24}.word {words[0] >> 32}\n"
+        for at in range(1, len(words), 4):
+            yield f"{'':24}.dword {', '.join(f'{each:#x}' for each in words[at : at + 4])}\n"
+    yield f"{'':24}.dword 0\n"
