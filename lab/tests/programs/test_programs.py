@@ -1,0 +1,94 @@
+"""Random programs: on QEMU and on vecmon, the same by their seed, and what is met in them."""
+
+import json
+import pathlib
+import subprocess
+from collections import Counter
+
+import pytest
+
+from support.commands import Lab
+from vecmon_lab.instructions.table import instruction_table
+from vecmon_lab.programs.draw import draw_program
+from vecmon_lab.vectors.on_qemu import QEMU
+
+
+@pytest.mark.by_command("programs")
+def test_programs_run_on_vecmon(lab: Lab, tmp_path: pathlib.Path) -> None:
+    assert lab("programs", tmp_path, "--count", "2", "--length", "300")[0] == 0
+    for number in range(2):
+        reference = (tmp_path / f"program_{number}.reference").read_text("ascii")
+        assert lab("run", tmp_path / f"program_{number}.elf") == (0, f"{reference}00000000\n".encode(), "")
+        state = json.loads((tmp_path / f"program_{number}.state").read_text("ascii"))
+        assert len(state["v"]) == 32 and len(state["memory"]["20000"]) == 2 * 8192
+
+
+@pytest.mark.usefixtures("qemu")
+def test_twenty_seeds_on_qemu(lab: Lab, tmp_path: pathlib.Path) -> None:
+    """Those that keep to what the standard fixes leave the same bytes there, also where agnostic elements become ones."""
+    ones = [*QEMU[:-1], f"{QEMU[-1]},rvv_ta_all_1s=true,rvv_ma_all_1s=true"]
+    assert lab("programs", tmp_path, "--count", "20", "--length", "300", "--seed", "100")[0] == 0
+    for path in sorted(tmp_path.glob("*.elf")):
+        for emulator in (QEMU, ones):
+            done = subprocess.run([*emulator, path], stdout=subprocess.PIPE, text=True)
+            assert done.returncode == 0, path
+            assert done.stdout == path.with_suffix(".reference").read_text("ascii") + "00000000\n", path
+    assert len(list(tmp_path.glob("*.elf"))) == 20
+
+
+@pytest.mark.usefixtures("qemu")
+def test_faults_on_qemu(lab: Lab, tmp_path: pathlib.Path) -> None:
+    assert lab("programs", tmp_path, "--count", "8", "--length", "50", "--faults")[0] == 0
+    for path in tmp_path.glob("*.elf"):
+        assert lab("run", path)[0] == 139
+        told = subprocess.run([*QEMU, path], stdout=subprocess.PIPE, text=True).stdout
+        assert told == path.with_suffix(".reference").read_text("ascii") + "00000000\n", path
+    odd = "vecmon-lab: programs that fault want a handler of signals: --environment linux has one\n"
+    assert lab("programs", tmp_path, "--faults", "--environment", "bare") == (2, b"", odd)
+
+
+def test_a_seed_gives_the_same_bytes(lab: Lab, tmp_path: pathlib.Path) -> None:
+    folders = [tmp_path / name for name in ("one", "same", "choices")]
+    words = ["--count", "2", "--length", "100", "--seed", "7"]
+    for folder in folders:
+        assert lab("programs", folder, *words, *(["--choices"] if folder.name == "choices" else []))[0] == 0
+    one, same, choices = ([path.read_bytes() for path in sorted(folder.iterdir())] for folder in folders)
+    assert one == same and len(one) == 6 and one[0] != one[3] and one[0] != choices[0]
+
+
+def test_programs_in_machine_mode_have_the_references_of_their_addresses(lab: Lab, tmp_path: pathlib.Path) -> None:
+    assert lab("programs", tmp_path, "--length", "100", "--environment", "bare")[0] == 0
+    state = json.loads((tmp_path / "program_0.state").read_text("ascii"))
+    assert list(state["memory"]) == ["80020000"] and state["x"]["29"] == "80021000"
+
+
+def test_programs_meet_nearly_all(lab: Lab, tmp_path: pathlib.Path) -> None:
+    drawn = [draw_program(f"{seed}", 1000, False) for seed in range(12)]
+    coverage = sum((each.coverage for each in drawn), Counter[tuple[str, int, bool, str]]())
+    names = {name for name, *_ in coverage}
+    assert len(set(instruction_table()) - names) < 150 and not names & {"ecall", "ebreak"}
+    assert len({vtype for _, vtype, _, _ in coverage}) == 22
+    assert {tail for *_, tail in coverage} == {"full", "ta", "tu"}
+    head = lab("programs", tmp_path, "--length", "10", "--coverage")[1].splitlines()[1]
+    assert head.decode().split() == ["instruction", "type", "mask", "tail", "times"]
+
+
+def test_each_result_is_read() -> None:
+    """No scalar register is written twice between two digests without being read, by a second reading of the words."""
+    table = {
+        row: (int(row.bits.replace("-", "0"), 2), int(row.bits.replace("0", "1").replace("-", "0"), 2))
+        for row in instruction_table().values()
+    }
+    written = set[int]()
+    words = iter(draw_program("3", 1000, False).words)
+    for word in words:
+        if word < 0:
+            written.clear()
+            next(words, None)
+            continue
+        row = next(row for row, (bits, mask) in table.items() if word & mask == bits)
+        places = {"rs1": 15, "rs2": 20}
+        written -= {word >> places[place] & 31 for place in row.fields() if place in places}
+        if "rd" in row.fields() and word >> 7 & 31:
+            assert word >> 7 & 31 not in written
+            written.add(word >> 7 & 31)

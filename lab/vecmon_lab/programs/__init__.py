@@ -1,0 +1,1 @@
+"""Random programs whose outcome the machine tells, and logs of other devices beside it."""

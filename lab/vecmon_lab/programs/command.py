@@ -1,0 +1,140 @@
+"""Random programs with what the machine makes of each (docs/GOLDEN_VECTORS.md)."""
+
+import argparse
+import concurrent.futures
+import functools
+import json
+import os
+import pathlib
+import random
+import struct
+from collections import Counter
+from collections.abc import Iterator
+from dataclasses import replace
+from signal import SIGSEGV
+
+from .. import LabError
+from ..arguments import between
+from ..guest.changes import Stepper, vtype_text
+from ..guest.guest import Guest, started
+from ..harness.environments import BLOCK_BYTES, ENVIRONMENTS, LIST, MEMORY, MEMORY_BYTES, Environment, Harness, digest
+from ..harness.environments import harness, signature_text
+from ..instructions.accesses import PAGE_BYTES
+from ..instructions.table import instruction_table
+from ..machine.answers import Stop
+from ..tables.table import table_lines
+from ..vectors.on_qemu import LAYOUT, NAMES
+from .draw import CHECKPOINT, DONE, FIRST, Drawn, draw_program, jump_bits
+
+_SIGNATURES = 256  # words of 64 bits: signatures have a multiple of them
+Coverage = Counter[tuple[str, int, bool, str]]
+"""How often an instruction stands in programs, by its name, the vector type, whether it is masked, and its tail."""
+
+
+def add_arguments(parser: argparse.ArgumentParser) -> None:
+    """The words of `vecmon-lab programs`."""
+    parser.add_argument("folder", metavar="DIR", type=pathlib.Path, help="where they go")
+    parser.add_argument(
+        "--seed", metavar="S", type=int, default=0, help="another one gives other programs (default: 0)"
+    )
+    parser.add_argument("--length", metavar="N", type=between(10, 20_000), default=1000, help="instructions; else 1000")
+    parser.add_argument("--count", metavar="K", type=between(1, 100_000), default=1, help="how many; else 1")
+    parser.add_argument("--choices", action="store_true", help="also what the standard leaves open")
+    parser.add_argument("--faults", action="store_true", help="each ends with a fault")
+    parser.add_argument("--environment", choices=ENVIRONMENTS, default="linux", help="where they run; else %(default)s")
+    parser.add_argument("--coverage", action="store_true", help="print what stands in them")
+
+
+def run(arguments: argparse.Namespace) -> int:
+    """Writes the programs, on all cores. Raises LabError and OSError for bad input."""
+    if arguments.faults and arguments.environment != "linux":
+        raise LabError("programs that fault want a handler of signals: --environment linux has one")
+    arguments.folder.mkdir(parents=True, exist_ok=True)
+    numbers = range(arguments.seed, arguments.seed + arguments.count)
+    with concurrent.futures.ProcessPoolExecutor(os.cpu_count()) as pool:
+        drawn = list(pool.map(functools.partial(_write, arguments), numbers, chunksize=4))
+    print(f"{len(drawn):,} programs, {sum(executed for executed, _ in drawn):,} instructions")
+    if arguments.coverage:
+        print("\n".join(_table(sum((coverage for _, coverage in drawn), Coverage()))))
+    return 0
+
+
+def _write(arguments: argparse.Namespace, seed: int) -> tuple[int, Coverage]:
+    """Writes a program, its signature and the state at its end; how many instructions it has, and what is met in it."""
+    environment = runner = ENVIRONMENTS[arguments.environment]
+    if "calls" not in environment.files:
+        runner = replace(environment, files=ENVIRONMENTS["vecmon"].files)  # at the same addresses
+    drawn = draw_program(f"{seed}", arguments.length, arguments.choices, arguments.faults)
+    path, state = arguments.folder / f"program_{seed}.elf", _first_state(random.Random(seed), environment.base)
+    code = _write_image(path, runner, drawn, state)
+    with started(path) as guest:
+        stop = guest.go()
+        if stop is None or stop.kind != ("fault" if arguments.faults else "exit") or stop.number:
+            raise LabError(f"{path} doesn't end as it should: {guest.tell(stop)}")
+        left, size = _state(guest, code, stop), code.labels["end_signature"] - code.labels["begin_signature"]
+        digests = [word for (word,) in struct.iter_unpack("<Q", guest.peek(code.labels["begin_signature"], size))]
+    if arguments.faults:  # what the handler of signals has of the state
+        digests[drawn.digests - 1] = digest(left[:56] + left[1096:1328] + left[64:1088])
+        digests[drawn.digests] = digest(left[BLOCK_BYTES:])
+    if runner is not environment:
+        _write_image(path, environment, drawn, state)
+    path.with_suffix(".reference").write_text(signature_text(digests), "ascii")
+    path.with_suffix(".state").write_text(f"{json.dumps(_told(left, environment.base), indent=1)}\n", "ascii")
+    return drawn.executed, drawn.coverage
+
+
+def _state(guest: Guest, code: Harness, stop: Stop) -> bytes:
+    """The state at the end of a program: what its last call left, or, of a fault, the machine's, by the signal's number."""
+    base = code.environment.base
+    memory, block = guest.peek(base + MEMORY, MEMORY_BYTES), guest.peek(code.labels["found"], BLOCK_BYTES)
+    if stop.kind != "fault":
+        return block + memory
+    registers = Stepper(guest).registers
+    values: dict[str, object] = {**dict.fromkeys(NAMES, 0), **vars(registers.control), "v": bytes(registers.v)}
+    values |= {"end": SIGSEGV, "value": stop.value, "pc": stop.pc, "memory": memory}
+    values |= {f"x{number}": registers.x[number] for number in range(1, 30)}
+    return LAYOUT.pack(*values.values())
+
+
+def _first_state(draws: random.Random, base: int) -> bytes:
+    """The state before a program: x29 is the middle of memory, and all else is drawn."""
+    values: dict[str, object] = {**dict.fromkeys(NAMES, 0), **vars(FIRST), "x29": base + MEMORY + MEMORY_BYTES // 2}
+    values |= {f"x{number}": draws.getrandbits(64) for number in range(1, 29)}
+    values |= {"v": draws.randbytes(1024), "memory": draws.randbytes(MEMORY_BYTES)}
+    return LAYOUT.pack(*values.values())
+
+
+def _write_image(path: pathlib.Path, environment: Environment, drawn: Drawn, state: bytes) -> Harness:
+    """Writes the ELF file of a program; the code around it. Its signature has a digest more, of memory at the end."""
+    code = harness(environment, "walk", -(-(drawn.digests + 1) // _SIGNATURES) * _SIGNATURES)
+    body = bytearray()
+    for word in drawn.words:
+        here = environment.code + LIST + PAGE_BYTES + len(body)
+        if word == CHECKPOINT:
+            word = 0x6F | 31 << 7 | jump_bits(code.labels["checkpoint"] - here)
+        elif word == DONE:
+            word = 0x6F | jump_bits(code.labels["done"] - here)
+        body += word.to_bytes(4, "little")
+    path.write_bytes(code.image(state[:BLOCK_BYTES].ljust(PAGE_BYTES, b"\0") + body, state[BLOCK_BYTES:]))
+    path.chmod(0o755)
+    return code
+
+
+def _told(block: bytes, base: int) -> dict[str, object]:
+    """A state by the keys of golden vectors."""
+    values = dict(zip(NAMES, LAYOUT.unpack(block)))
+    told: dict[str, object] = {name: values[name] for name in ("vl", "vstart", "vxrm", "vxsat")}
+    v, memory = values["v"], values["memory"].hex()
+    told |= {"vtype": f"{values['vtype']:x}", "x": {number: f"{values[f'x{number}']:x}" for number in range(1, 30)}}
+    return told | {"v": {n: v[32 * n : 32 * n + 32].hex() for n in range(32)}, "memory": {f"{base + MEMORY:x}": memory}}
+
+
+def _table(coverage: Coverage) -> Iterator[str]:
+    """What stands in programs, a line for each instruction, vector type, mask and tail; and the instructions that don't."""
+    rows = [
+        (name, vtype_text(vtype).partition(",t")[0], "masked" if is_masked else "-", tail, count)
+        for (name, vtype, is_masked, tail), count in sorted(coverage.items())
+    ]
+    yield from table_lines([("instruction", "type", "mask", "tail", "times"), *rows], 4)
+    met = {name for name, *_ in coverage}
+    yield f"not met: {' '.join(name for name in instruction_table() if name not in met) or 'none'}"

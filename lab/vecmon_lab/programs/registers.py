@@ -1,0 +1,111 @@
+"""What is known of registers while a random program is drawn: what the standard fixes of them, and what nothing has read yet."""
+
+import functools
+import random
+from collections.abc import Iterable, Iterator, Sequence
+
+from ..instructions.reasons import illegal_reasons
+from ..instructions.table import instruction_table
+from ..instructions.words import Operand, decode
+from ..machine.answers import ControlRegisters
+
+REGISTER_BITS = 256
+SCALARS = range(1, 29)
+"""The scalar registers of programs: x29 has the middle of memory, and x30 and x31 are those of the code around them."""
+
+_TEMPLATE = {8: "vd", 16: "vs2", 24: "vs1"}  # where operands stand while a row is read
+_ACCUMULATES = ("vmacc", "vnmsac", "vmadd", "vnmsub", "vwmacc", "vslideup", "vcompress")  # which read their destination
+_FIRST_ELEMENT = ("vred", "vwred", "vmv.s.x")  # which write element 0 alone
+_GATHERS = ("vrgather", "vslide")  # which read their source up to VLMAX
+
+
+@functools.cache
+def operands_of(name: str, vtype: int) -> dict[str, Operand] | None:
+    """The vector operands of an instruction by their places, under a vector type; None where that makes it illegal."""
+    row, view = instruction_table()[name], ControlRegisters(vtype=vtype)
+    word = row.word(8 << 7 | 16 << 20 | 24 << 15 | 1 << 25)
+    instruction = None if illegal_reasons(word, view) else decode(word, view.sew, view.lmul)
+    return {_TEMPLATE[each.registers.start]: each for each in instruction.operands} if instruction else None
+
+
+def bits_of(operand: Operand, vl: int) -> Iterator[int]:
+    """How many of the lowest bits of each of its registers the elements of an operand take, up to vl."""
+    for at in range(len(operand.registers)):
+        yield min(REGISTER_BITS, max(0, vl * operand.eew - REGISTER_BITS * (at % operand.group)))
+
+
+class Registers:
+    """Scalar and vector registers.
+
+    fixed: how many of the lowest bits of each vector register the standard fixes
+    x, v: those that were written and not read since
+    kept: the scalar registers that nothing may write now
+    """
+
+    def __init__(self, draws: random.Random, has_choices: bool) -> None:
+        self.fixed = [REGISTER_BITS] * 32
+        self.x, self.v, self.kept = set[int](), set[int](), set[int]()
+        self._draws, self._has_choices = draws, has_choices
+
+    def x_source(self) -> int:
+        """A scalar register to be read, mostly one that nothing has read yet."""
+        number: int = self._draws.choice([*self.x, *self.x, *SCALARS[::4], self._draws.choice(SCALARS)])
+        self.x.discard(number)
+        return number
+
+    def x_target(self) -> int:
+        """A scalar register to be written."""
+        free = [number for number in SCALARS if number not in self.x and number not in self.kept]
+        return int(self._draws.choice(free))
+
+    def source(self, name: str, place: str, operand: Operand, vl: int) -> int | None:
+        """The first register of an operand that an instruction reads, mostly one that nothing has read; None if there is none."""
+        wanted = list(needed(name, place, operand, vl))
+        fits = [first for first in self._firsts(operand) if self.is_fixed(first, wanted)]
+        unread = [first for first in fits if not self.v.isdisjoint(range(first, first + len(wanted)))]
+        return self._draws.choice(unread if unread and self._draws.random() < 0.7 else fits) if fits else None
+
+    def target(self, name: str, operand: Operand, vl: int, read: Iterable[int]) -> int | None:
+        """The first register of a destination: nothing is lost there, where the instruction reads some registers as well."""
+        lost, size = self.v - set(read), len(operand.registers)
+        accumulates = name.startswith(_ACCUMULATES)
+        wanted = list(bits_of(operand, vl)) if accumulates else []
+        fits = [
+            first
+            for first in self._firsts(operand)
+            if accumulates or lost.isdisjoint(range(first, first + size))
+            if self.is_fixed(first, wanted)
+        ]
+        return self._draws.choice(fits) if fits else None
+
+    def is_fixed(self, first: int, wanted: Sequence[int]) -> bool:
+        """Whether the standard fixes so many bits of registers from one on."""
+        return self._has_choices or all(self.fixed[first + at] >= bits for at, bits in enumerate(wanted))
+
+    def write(self, name: str, operand: Operand, control: ControlRegisters, is_masked: bool) -> bool:
+        """An instruction writes its destination, which has its registers; whether the standard fixes all of these then."""
+        is_first = name.startswith(_FIRST_ELEMENT)
+        keeps_tail, keeps_masked = not control.vtype >> 6 & 1 and operand.eew > 1, not control.vtype >> 7 & 1
+        is_masked = is_masked and not is_first
+        if name.startswith("vcompress"):
+            is_masked, keeps_masked = True, keeps_tail
+        is_whole = operand.is_whole and operand.eew > 1 and not is_first
+        if not is_whole and not control.vl:
+            return True
+        written = [REGISTER_BITS] * 8 if is_whole else bits_of(operand, 1 if is_first else control.vl)
+        for number, bits in zip(operand.registers, written):
+            old = self.fixed[number]
+            body = bits if is_whole or not is_masked or keeps_masked and old >= bits else 0
+            self.fixed[number] = max(body, old) if keeps_tail and body == bits else body
+        self.v.update(operand.registers)
+        return all(self.fixed[number] == REGISTER_BITS for number in operand.registers)
+
+    def _firsts(self, operand: Operand) -> range:
+        return range(0, 33 - len(operand.registers), operand.group)
+
+
+def needed(name: str, place: str, operand: Operand, vl: int) -> Iterator[int]:
+    """How many of the lowest bits of each register of a source an instruction reads."""
+    if operand.eew > 1 and (operand.is_whole or place == "vs2" and name.startswith(_GATHERS)):
+        return iter([REGISTER_BITS] * len(operand.registers))
+    return bits_of(operand, -(-vl // 8) * 8 if name == "vsm.v" else vl)
