@@ -1,0 +1,109 @@
+"""Logs of other devices beside the machine: one of Spike's form, worked by hand, and QEMU's own; with planted differences."""
+
+import pathlib
+import shutil
+import subprocess
+
+import pytest
+
+from support.commands import Lab
+from support.images import make_image
+from support.places import SUM
+from vecmon_lab.vectors.on_qemu import QEMU
+
+SOURCE = """\
+        li a0, 5
+        vsetivli t0, 3, e32, m1, ta, ma
+        vid.v v8
+        vadd.vx v9, v8, a0
+        vmul.vv v10, v9, v9
+        add a1, a0, t0
+        ebreak
+"""
+WRITTEN = [
+    "x10 5",
+    "x5 3",
+    "v8 2:1:0",
+    "v9 7:6:5",
+    "v10 31:24:19",
+    "x11 8",
+]  # by hand; elements of 32 bits, element 0 last
+ONES = ":".join(["ffffffff"] * 5)
+
+
+def spike_log(image: pathlib.Path, written: list[str]) -> list[str]:
+    """A log in the form of Spike's --log-commits, behind an instruction of Spike's own start."""
+    data = image.read_bytes()
+    first = data.index(bytes.fromhex("13055000"))  # addi x10, x0, 5
+    lines = ["core   0: 3 0x0000000000001000 (0x00000297) x5  0x0000000000001000", "core   0: >>>>  _start"]
+    for number, change in enumerate(written):
+        name, value = change.split()
+        digits = "".join(f"{int(each, 16):08x}" for each in value.split(":"))
+        word = int.from_bytes(data[first + 4 * number : first + 4 * number + 4], "little")
+        place = f"core   0: 3 0x{0x10000 + 4 * number:016x} (0x{word:08x})"
+        shown = f" e32 m1 l3 {name:<3} 0x{digits:0>64}" if name[0] == "v" else f" {name:<3} 0x{int(value, 16):016x}"
+        lines.append(place + shown)
+    return lines
+
+
+@pytest.fixture
+def image(program: pathlib.Path, tmp_path: pathlib.Path) -> pathlib.Path:
+    """The image of SOURCE."""
+    path = tmp_path / "image"
+    make_image(program, path, SOURCE)
+    return path
+
+
+def told(lab: Lab, image: pathlib.Path, lines: list[str]) -> tuple[int, list[str]]:
+    """The status, and the lines that are printed."""
+    log = image.with_name("log")
+    log.write_text("\n".join(lines) + "\n", "ascii")
+    status, output, problem = lab("lockstep", image, log)
+    return status, output.decode().splitlines() + problem.splitlines()
+
+
+@pytest.mark.by_command("lockstep")
+def test_a_log_of_spikes_form_agrees(lab: Lab, image: pathlib.Path) -> None:
+    assert told(lab, image, spike_log(image, WRITTEN)) == (0, ["6 instructions agree, and the log ends"])
+
+
+def test_planted_differences(lab: Lab, image: pathlib.Path) -> None:
+    wrong = told(lab, image, spike_log(image, [*WRITTEN[:3], "v9 7:6:4", *WRITTEN[4:]]))
+    before = "before: vl=3 vtype=e32,m1,ta,ma vstart=0 vxrm=0 v9=" + "00" * 32
+    assert wrong[0] == 1 and wrong[1][0] == "instruction 4: 1000c: vadd.vx v9, v8, x10"
+    assert wrong[1][1].startswith(before) and wrong[1][1].endswith(" x10=5")
+    assert wrong[1][2:] == [
+        "v9.e32[0]: 5 here, 4 in the log",
+        "not allowed: the standard leaves nothing open here",
+    ]
+    open_ = told(lab, image, spike_log(image, [*WRITTEN[:2], f"v8 {ONES}:2:1:0"]))
+    assert open_[0] == 1 and open_[1][0] == "instruction 3: 10008: vid.v v8"
+    assert open_[1][2:-1] == [f"v8.e32[{number}]: 0 here, ffffffff in the log" for number in range(3, 8)]
+    assert open_[1][-1] == "allowed: these elements are tail, and agnostic: each stays or becomes ones"
+    assert told(lab, image, spike_log(image, [*WRITTEN[:5], "x11 9"]))[1][2:] == [
+        "xb: 8 here, 9 in the log".replace("xb", "x11"),
+        "not allowed: the standard leaves nothing open here",
+    ]
+
+
+def test_where_a_log_goes_elsewhere(lab: Lab, image: pathlib.Path) -> None:
+    lines = spike_log(image, WRITTEN)
+    odd = "after 2 instructions: the log goes on at 1000c, the machine at 10008"
+    assert told(lab, image, [*lines[:4], *lines[5:]]) == (1, [odd])
+    path = image.with_name("log")
+    assert told(lab, image, lines[:1]) == (2, [f"vecmon-lab: {path} has no instruction where {image} begins"])
+
+
+@pytest.mark.usefixtures("qemu")
+def test_a_log_of_qemus(lab: Lab, tmp_path: pathlib.Path) -> None:
+    image, log = tmp_path / "sum", tmp_path / "log"
+    shutil.copyfile(SUM, image)
+    image.chmod(0o755)
+    subprocess.run([*QEMU, "-singlestep", "-d", "nochain,cpu", "-D", log, image], check=True, stdout=subprocess.DEVNULL)
+    agreed = b"249 instructions agree, and the log ends\n"
+    assert lab("lockstep", image, log) == (0, agreed, "")
+    before, name, after = log.read_text("ascii").partition(" x11/a1   000000000000001a")
+    log.write_text(f"{before} x11/a1   000000000000001b{after}", "ascii")
+    told = b"instruction 4: 1119c _start+0xc: addi x11, x0, 26\n"
+    status, output, _ = lab("lockstep", image, log)
+    assert name and status == 1 and output.startswith(told) and b"\nx11: 1a here, 1b in the log\n" in output
