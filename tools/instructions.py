@@ -1,0 +1,197 @@
+#!/usr/bin/env python3
+"""Sees what docs/INSTRUCTIONS.md says of definitions: `tools/instructions.py [write]`, at the top of the repository.
+
+The page is the list that `test_assembler` prints, with which its stored output begins, and three columns more: the
+formula and the section of the manual, which docs/instructions.csv has by names, and the legality, which is read from
+the definitions. That a formula is one that the instruction's own line of a step rests on is seen too. It prints what
+isn't so, and then the status is 1. With `write` it writes the page.
+"""
+
+import csv
+import re
+import sys
+from collections.abc import Iterator
+from dataclasses import dataclass
+from functools import cache
+from pathlib import Path
+
+import definitions as counted
+
+PAGE, RULES, PRINTED = Path("docs/INSTRUCTIONS.md"), Path("docs/instructions.csv"), Path("crates/test_assembler/stdout")
+ROW = re.compile(r"^(\| `(\S+)[^`]*` \| `[01 -]+`) \|$", re.MULTILINE)
+COLUMNS = """
+`Formula` is the definition in `crates/rv_model/specs` that says what the instruction computes or moves; where it has a line for each
+operation, that is the one. `Legality` is the shape of the operands (`OperandShapes`), or the definition of their list (`Legality`), and
+what else is asked for; scalar instructions have none. `Section` is one of the manual, of the V extension for vector instructions.
+"""
+
+# What a step does with an instruction: functions with a line for each layout, or for each kind of vector operation
+STEPS = (
+    ("step.ScalarStep", "scalar_step"),
+    ("step.ScalarStep", "csr_executed"),
+    ("step.VectorStep", "operation_step"),
+    ("step.VectorStep", "typed_step"),
+    ("step.VectorStep", "arith_step"),  # behind `typed_step`, which has one line for all of these
+    ("accesses.VectorAccess", "access_of"),
+)
+# The names that these definitions of `InstructionTexts` may give
+WORDS = {
+    "source_letter": "[vxi]",
+    "width_digits": r"\d+",
+    "direction_letters": "v[ls]",
+    "order_letters": "[uo]x",
+    "segment_text": r"(?:seg\d)?",
+    "hex_digit": r"\d",
+    "unit_name": r"v[ls](?:seg\d)?e\d+(?:ff)?\.v",
+}
+PIECE = re.compile(rf'then \[\] else codes "(\S+)"|codes "(\S+)"|\b({"|".join(WORDS)})\b')
+
+
+@dataclass(frozen=True)
+class Clause:
+    """A line of a definition by cases: the variants that its head names, and what it says of them."""
+
+    variants: frozenset[str]
+    says: counted.Text
+
+
+@cache
+def clauses(module: str, name: str) -> list[Clause]:
+    """The lines of a definition of `rv_model`."""
+    text = counted.module_of("rv_model", module)[0][name]
+    found = list[Clause]()
+    for piece in counted.pieces_of(text.text):
+        head, _, body = piece.partition(" =")
+        if " : " not in head:
+            variants = frozenset(re.findall(r"\b(?:\w+\.)?([A-Z]\w*)", head))
+            found.append(Clause(variants, counted.Text(text.path, body, text.scope)))
+    return found
+
+
+def first(module: str, name: str, variants: frozenset[str]) -> Clause | None:
+    """The line that counts for these variants."""
+    return next((it for it in clauses(module, name) if it.variants <= variants), None)
+
+
+def names_of(text: str) -> str:
+    """The names that a text of `InstructionTexts` gives, as a regular expression."""
+    return "".join(
+        f"(?:{re.escape(maybe)})?" if maybe else re.escape(code) or WORDS[word]
+        for maybe, code, word in PIECE.findall(text)
+    )
+
+
+def entries(name: str) -> Iterator[tuple[str, frozenset[str]]]:
+    """The names of operations beside their bits, each with the operation."""
+    module = "instructions.Operations" if name in ("vector_entry", "carry_entry") else "instructions.FixedBits"
+    for it in clauses(module, name):
+        yield re.findall(r'codes "(\S+)"', it.says.text)[0], it.variants
+
+
+@cache
+def patterns() -> list[tuple[re.Pattern[str], frozenset[str]]]:
+    """The names of instructions, as regular expressions, each with the variants that make the instruction."""
+    found = list[tuple[re.Pattern[str], frozenset[str]]]()
+    for it in clauses("assembler.InstructionTexts", "spelt"):
+        entry = re.search(r"\((\w+_entry) ", it.says.text)
+        for name, operation in entries(entry[1]) if entry else [("", frozenset[str]())]:
+            behind = it.says
+            if "Arith" in it.variants and (suffix := first("assembler.InstructionTexts", "vector_suffix", operation)):
+                behind = suffix.says
+            found.append((re.compile(re.escape(name) + names_of(behind.text)), it.variants | operation))
+    return found
+
+
+def variants_of(name: str) -> frozenset[str]:
+    found = [variants for pattern, variants in patterns() if pattern.fullmatch(name)]
+    return found[0] if len(found) == 1 else sys.exit(f"{len(found)} layouts have the name {name}")
+
+
+@cache
+def rests_on(variants: frozenset[str]) -> dict[str, str]:
+    """All definitions that the last line of a step rests on which is for these variants alone, each with its module."""
+    lines = [it for module, name in STEPS if (it := first(module, name, variants)) and it.variants]
+    return {it.name: it.module for it in counted.closure(counted.met(lines[-1].says)) if it.crate == "rv_model"}
+
+
+def formula_of(name: str, variants: frozenset[str]) -> str:
+    """A definition that the step rests on, with the operation where that has a line of its own."""
+    line = first(rests_on(variants)[name], name, variants)
+    return " ".join([name, *sorted(line.variants if line else [])])
+
+
+def legality(variants: frozenset[str]) -> list[str]:
+    """The shape of the operands or the definition of their list, and what else is asked for."""
+    line = first("legality.Legality", "operands", variants)
+    if line is None or not line.variants:
+        return []
+    shapes = {it.says.text.strip() for it in clauses("legality.OperandShapes", "shape_of")}
+    if "Arith" in variants and (shape := first("legality.OperandShapes", "shape_of", variants)):
+        found = [shape.says.text.strip()]
+    else:
+        words = re.findall(r"\w+", line.says.text)
+        found = [it for it in words if it in shapes] or [it for it in words if it.endswith("_operands")] or ["operands"]
+    asked = [name for name in counted.module_of("rv_model", "legality.Legality")[0] if asks(name, variants)]
+    return [found[0], *asked]
+
+
+def asks(name: str, variants: frozenset[str]) -> bool:
+    """Whether a definition says `true` of these variants in a line of their own."""
+    line = first("legality.Legality", name, variants)
+    return line is not None and bool(line.variants) and line.says.text.strip() == "true"
+
+
+@cache
+def rules() -> list[tuple[re.Pattern[str], str, str]]:
+    """The names, the formula and the section of each line of docs/instructions.csv."""
+    with RULES.open(encoding="ascii", newline="") as file:
+        return [(re.compile(it["names"]), it["formula"], it["section"]) for it in csv.DictReader(file)]
+
+
+def cells_of(name: str) -> list[str]:
+    """What the three columns say of an instruction."""
+    if name.startswith("."):
+        return ["", "", ""]
+    variants = variants_of(name)
+    found = [(formula, section) for names, formula, section in rules() if names.fullmatch(name)]
+    if len(found) != 1 or found[0][0] not in rests_on(variants):
+        sys.exit(f"{name} has these lines of {RULES}, and its step rests on none of the formulas: {found}")
+    formula, section = found[0]
+    return [f"`{formula_of(formula, variants)}`", ", ".join(f"`{it}`" for it in legality(variants)), section]
+
+
+def with_rules(printed: str) -> str:
+    """The page, of the list that `test_assembler` prints."""
+    head, _, rest = printed.partition("\n## ")
+    page = f"{head}{COLUMNS}\n## {rest}"
+    page = re.sub(
+        r"^\| Text .*\n\|---.*$",
+        "| Text | Encoding | Formula | Legality | Section |\n|---|---|---|---|---|",
+        page,
+        flags=re.M,
+    )
+    return ROW.sub(lambda row: f"{row[1]} |{''.join(f' {it} |' if it else ' |' for it in cells_of(row[2]))}", page)
+
+
+def list_in(output: str) -> str:
+    """The list of instructions that an output of `test_assembler` begins with, before its words and texts."""
+    return re.split("^[0-9a-f]{8} ", output, maxsplit=1, flags=re.MULTILINE)[0]
+
+
+def main() -> int:
+    printed = list_in(PRINTED.read_text(encoding="latin-1"))
+    is_so = with_rules(printed)
+    if sys.argv[1:] == ["write"]:
+        PAGE.write_text(is_so, encoding="ascii")
+    page = PAGE.read_text(encoding="ascii")
+    names = [name for _, name in ROW.findall(printed)]
+    unused = [it.pattern for it, _, _ in rules() if not any(map(it.fullmatch, names))]
+    for it in unused:
+        print(f"{RULES}: no instruction has the name {it}")
+    for line in sorted({*page.splitlines()} ^ {*is_so.splitlines()}):
+        print(f"{PAGE} {'lacks' if line in is_so else 'has wrongly'}: {line}")
+    return 1 if unused or page != is_so else 0
+
+
+if __name__ == "__main__":
+    sys.exit(main())
