@@ -1,21 +1,33 @@
 """How long a class's pages take: `python lab/tools/page_times.py [CLICKS]`, with VECMON as for the lab.
 
-Prints medians, and the ninth of ten, in ms: a click on Step until it is painted, alone, while seven others step, and with
-3,900 rows in the listing; a stop until it stands on the teacher's page.
+Prints medians, and the ninth of ten, in ms: a click on Step until it is painted, alone, while seven others step, while they
+run with the clock as it begins, with 3,900 rows in the listing, and while 29 students of four machines step; a stop until
+it stands on the teacher's page.
 """
 
+import asyncio
 import pathlib
+import random
 import statistics
 import sys
 import tempfile
+import threading
 from collections.abc import Sequence
+from typing import TYPE_CHECKING
 
+import aiohttp
+
+from support import class_tabs
 from support.browser import start_browser
-from support.class_pages import Served, Tab
+from support.class_pages import Served, Tab, close_all
 from vecmon_lab.machine.program import find_program
+
+if TYPE_CHECKING:
+    from selenium.webdriver import Chrome
 
 PROGRAM = ["vsetivli x0, 8, e32, m1, ta, ma", "vid.v v1", "vadd.vx v2, v2, x10", "addi x10, x10, 1", "jal x0, -8"]
 LONG = "vid.v v1\n" + "addi a0, a0, 1\n" * 3899
+CROWD = [f"{letter}{digit}" for letter in "ABCD" for digit in "12345678"][:30]
 CLICKS = """const [count, done] = arguments, log = document.getElementById("log"), taken = [];
 const click = () => {
   const begun = performance.now();
@@ -49,42 +61,103 @@ def told(name: str, taken: Sequence[float]) -> None:
     )
 
 
+def clicks(tab: Tab, count: int) -> list[float]:
+    """What so many clicks on Step take, one after the other."""
+    taken: list[float] = tab.front().execute_async_script(CLICKS, count)
+    return taken
+
+
+def press_all(tabs: Sequence[Tab], button: str) -> None:
+    """Presses a button in each tab, as soon as it can be pressed."""
+    for tab in tabs:
+        tab.wait("!one(arguments[0]).disabled", button)
+        tab.click(button)
+
+
+def eight_seats(browser: "Chrome", served: Served, count: int) -> None:
+    """A machine with eight students, and their teacher."""
+    students = [Tab(browser, served, f"A{number}") for number in range(1, 9)]
+    for tab in students:
+        tab.begin(*PROGRAM)
+    first, *others = students
+    clicks(first, 10)
+    told("a click until it is painted, alone", clicks(first, count))
+    for tab in others:
+        tab.front().execute_script(BUSY)
+    told("the same, seven others step 3 times a second", clicks(first, count))
+    for tab in others:
+        tab.run("clearInterval(window.busy)")
+    teacher = Tab(browser, served, "teacher")
+    teacher.click("[name=on]")
+    press_all(others, "#go")
+    told("the same, seven others run", clicks(first, count))
+    press_all(others, "#halt")
+    teacher.click("[name=on]")
+    first.run("(id('source').value = arguments[0], id('assemble').click())", LONG)
+    first.wait("id('listing').textContent.includes('vid.v') && !id('one').disabled")
+    told("the first one with 3,900 rows", clicks(first, count))
+    told("a stop until it stands on the teacher's page", stops(others[0], teacher, count // 3))
+
+
+def stops(tab: Tab, teacher: Tab, count: int) -> list[float]:
+    """From a click on Stop at seat A2 to the teacher's page."""
+    taken = []
+    teacher.front().execute_script(SEEN)
+    for _ in range(count):
+        press_all([tab], "#go")
+        teacher.wait("one(\"tr[data-seat='A2'] .pill\").textContent === 'running'")
+        before = teacher.run("window.seen.length")
+        tab.wait("!id('halt').disabled")
+        begun = tab.run("(id('halt').click(), performance.timeOrigin + performance.now())")
+        taken.append(teacher.wait("window.seen[arguments[0]]", before) - begun)
+    return taken
+
+
+def thirty_seats(browser: "Chrome", served: Served, count: int) -> None:
+    """Four machines with thirty students, 29 of them without a browser, and their teacher."""
+    Tab(browser, served, "teacher")
+    first, ended = Tab(browser, served, CROWD[0]), threading.Event()
+    first.begin(*PROGRAM)
+    others = threading.Thread(target=lambda: asyncio.run(crowd(served, ended)))
+    others.start()
+    try:
+        clicks(first, 40)  # meanwhile all sit down
+        told("a click, 29 others of four machines step 3 times a second", clicks(first, count))
+    finally:
+        ended.set()
+        others.join()
+
+
+async def crowd(served: Served, ended: threading.Event) -> None:
+    """All but the first of thirty students sit down and step, until it has ended."""
+
+    async def step(tab: class_tabs.Tab) -> None:
+        await tab.do(*class_tabs.LOOP)
+        while not ended.is_set():
+            await tab.do("step 1")
+            await asyncio.sleep(random.uniform(0.3, 0.36))
+
+    async with aiohttp.ClientSession() as session:
+        room = class_tabs.Served(served.folder, served.port, session)
+        await asyncio.gather(*[step(await room.sit(seat)) for seat in CROWD[1:]])
+
+
 def main(count: int) -> None:
     browser = start_browser("disable-background-timer-throttling", "disable-renderer-backgrounding")
     browser.set_script_timeout(300)
+    blank = browser.current_window_handle
     with tempfile.TemporaryDirectory() as folder:
-        served = Served(pathlib.Path(folder) / "class", find_program())
         try:
-            students = [Tab(browser, served, f"A{number}") for number in range(1, 9)]
-            for tab in students:
-                tab.begin(*PROGRAM)
-            first = students[0].front()
-            first.execute_async_script(CLICKS, 10)
-            told("a click until it is painted, alone", first.execute_async_script(CLICKS, count))
-            for tab in students[1:]:
-                tab.front().execute_script(BUSY)
-            told(
-                "the same, seven others step 3 times a second", students[0].front().execute_async_script(CLICKS, count)
-            )
-            for tab in students[1:]:
-                tab.run("clearInterval(window.busy)")
-            students[0].run("(id('source').value = arguments[0], id('assemble').click())", LONG)
-            students[0].wait("id('listing').textContent.includes('vid.v')")
-            told("the first one with 3,900 rows", students[0].front().execute_async_script(CLICKS, count))
-            teacher, taken = Tab(browser, served, "teacher"), []
-            teacher.front().execute_script(SEEN)
-            for _ in range(count // 3):
-                students[1].wait("!id('go').disabled")
-                students[1].click("#go")
-                teacher.wait("one(\"tr[data-seat='A2'] .pill\").textContent === 'running'")
-                before = teacher.run("window.seen.length")
-                students[1].wait("!id('halt').disabled")
-                begun = students[1].run("(id('halt').click(), performance.timeOrigin + performance.now())")
-                taken.append(teacher.wait("window.seen[arguments[0]]", before) - begun)
-            told("a stop until it stands on the teacher's page", taken)
+            for measure, machines in ((eight_seats, 1), (thirty_seats, 4)):
+                place = pathlib.Path(folder) / measure.__name__
+                served = Served(place, find_program(), "--machines", f"{machines}")
+                try:
+                    measure(browser, served, count)
+                finally:
+                    close_all(browser, [blank])
+                    served.end()
         finally:
             browser.quit()
-            served.end()
 
 
 if __name__ == "__main__":

@@ -228,7 +228,6 @@ async def served(members: Class, doors: Iterable[socket.socket], names: set[str]
         members.end()
         await asyncio.gather(*tasks, return_exceptions=True)
         await runner.cleanup()
-        await asyncio.gather(*tasks, return_exceptions=True)  # so that none outlives its class
 
 
 async def serve(members: Class, host: str, doors: Iterable[socket.socket], names: set[str]) -> None:
