@@ -162,7 +162,6 @@ def test_a_compiler_that_is_none(name: str) -> None:
         find_compiler(name)
 
 
-@pytest.mark.by_command("lesson")
 def test_a_lesson_of_a_source_in_c(clang: Compiler, tmp_path: pathlib.Path) -> None:
     page = tmp_path / "page.html"
     words = ["lesson", str(KERNELS / "grey.c"), "-o", str(page), "--cc", clang.name, "--options", "O3"]

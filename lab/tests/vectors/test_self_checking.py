@@ -56,7 +56,6 @@ def differing(lines: list[str], reference: pathlib.Path) -> list[int]:
     return [at // 2 + 1 for at in range(0, SIGNATURE_LINES, 2) if lines[at : at + 2] != words[at : at + 2]]
 
 
-@pytest.mark.by_command("vectors")
 def test_on_vecmon_no_case_differs(lab: Lab, tmp_path: pathlib.Path) -> None:
     status, output, _ = lab("vectors", *NAMES, "--cases", "12", "--elf", tmp_path, "--environment", "vecmon")
     assert status == 0 and output.decode().splitlines()[0].endswith("cases in 10 programs")

@@ -73,7 +73,7 @@ export class Exercises {
   /** Sends the source that stands in the editor. */
   checkSource() {
     if (this.check.disabled) return;
-    this.student.request({ ask: "check", exercise: this.name, text: this.editor.text }, "the check");
+    this.student.request({ ask: "check", exercise: this.name, text: this.editor.field.value });
   }
 
   /** Puts the source to begin with into the editor, and opens it. */
