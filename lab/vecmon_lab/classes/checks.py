@@ -231,5 +231,5 @@ def _file(seat: str, name: str, number: int) -> str:
 
 
 def _start(exercise: Exercise) -> str:
-    """The source that a pupil begins with."""
+    """The source that a student begins with."""
     return exercise.files["start"].read_text("utf-8") if "start" in exercise.files else ""

@@ -1,4 +1,4 @@
-"""What authors of exercises need: a folder to begin with, and a try of the exercise, as pupils would find it."""
+"""What authors of exercises need: a folder to begin with, and a try of the exercise, as students would find it."""
 
 import argparse
 import pathlib
@@ -52,7 +52,7 @@ def _answers(exercise: Exercise) -> Iterator[tuple[pathlib.Path, bool]]:
 
 
 def _verdict(exercise: Exercise, outcomes: list[str]) -> str:
-    """What a pupil reads of an answer first: the first case that fails and isn't hidden, or else which ones fail."""
+    """What a student reads of an answer first: the first case that fails and isn't hidden, or else which ones fail."""
     failing = [(case, reason) for case, reason in zip(exercise.cases, outcomes) if reason]
     if not failing:
         return f"passes {len(outcomes)} cases"

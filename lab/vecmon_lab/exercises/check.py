@@ -1,4 +1,4 @@
-"""What a pupil is told of an answer in a class, and a lesson of it in a case: each is made in a process of its own.
+"""What a student is told of an answer in a class, and a lesson of it in a case: each is made in a process of its own.
 
 The words are the exercise's folder and the program; a third one, the number of a case, asks for a lesson. The answer's
 source comes on standard input.

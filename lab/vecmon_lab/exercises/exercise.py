@@ -1,4 +1,4 @@
-"""Exercises: what a pupil reads, what an answer is given, what is expected of it, and its limits (exercise.toml)."""
+"""Exercises: what a student reads, what an answer is given, what is expected of it, and its limits (exercise.toml)."""
 
 import pathlib
 import struct
@@ -76,10 +76,10 @@ class Limits:
 class Exercise:
     """An exercise, as its folder has it.
 
-    text: in paragraphs, lists and code, as a pupil reads it; hints: one more after each try that fails
+    text: in paragraphs, lists and code, as a student reads it; hints: one more after each try that fails
     set_up: lines of the monitor before each case, without the user's digit
     files: by the keys of FILES that there are: `reference`, an answer whose results are expected in the places that the
-        cases name, which else have them; `good`, another one, with vectors; `start`, the source that a pupil begins
+        cases name, which else have them; `good`, another one, with vectors; `start`, the source that a student begins
         with; `lesson`, the source of a lesson before it
     """
 
