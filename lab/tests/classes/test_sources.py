@@ -76,7 +76,7 @@ async def test_a_draft_that_comes_late_is_a_version(room: Served) -> None:
 
 
 async def test_a_source_that_is_given(room: Served) -> None:
-    """The teacher gives a source to one seat or to all; what the pupil had is a version of the seat."""
+    """The teacher gives a source to one seat or to all; what the student had is a version of the seat."""
     tab, other, teacher = await room.sit("A1"), await room.sit("A2"), await room.sit("teacher")
     await tab.ask("draft", text="mine", number=0)
     await teacher.ask("give", seat="A1", text="theirs")
