@@ -24,7 +24,6 @@ export class Exercises {
     this.panel.setAttribute("aria-labelledby", "exercise-title");
     byId("home").before(this.toggle);
     byId("desk").prepend(this.panel);
-    document.addEventListener("keydown", ({ key, ctrlKey, shiftKey }) => ctrlKey && shiftKey && key === "Enter" && this.check.click());
   }
 
   /** Shows or hides the panel. */
@@ -71,9 +70,10 @@ export class Exercises {
   }
 
   /** Sends the source that stands in the editor. */
-  checkSource() {
-    if (this.check.disabled) return;
-    this.student.request({ ask: "check", exercise: this.name, text: this.editor.field.value });
+  async checkSource() {
+    this.check.disabled = true; // so that a click more checks nothing
+    await this.student.request({ ask: "check", exercise: this.name, text: this.editor.field.value });
+    this.check.disabled = this.all[this.name].checking;
   }
 
   /** Puts the source to begin with into the editor, and opens it. */
