@@ -11,7 +11,7 @@ use Rattle.elf_load.specs.Pages.{EndsInMemory}
 use Rattle.elf_load.specs.Laws.{HoldsItsCells, TouchesWhatItCovers}
 use Rattle.elf_load.proofs.HeaderLaws.{none_of_all}
 use Rattle.elf_load.proofs.PageLaws.{touches_at, touches_none, touches_after, stack_ends, header_ends, or_neither}
-use Rattle.elf_load.proofs.ImageLaws.{get-memory_below, get-memory_below_outside, all_pages_is_page_limit}
+use Rattle.rv_model.proofs.image_lemmas.Cells.{all_pages_is_page_limit, get-memory_below, get-memory_below_outside}
 use Rattle.elf_load.proofs.SegmentLaws.{covers_within}
 
 -- ---- pages past the end of memory

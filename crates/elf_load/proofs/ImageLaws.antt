@@ -1,48 +1,15 @@
--- The memory that an image describes, address by address, and how many pages it has
-use Rattle.std.proofs.Common.{◌≡◌, ◌≢◌, ℕ, zero, suc, ◌+◌, ◌*◌, ◌/◌, ◌<◌, ◌≤◌, Bool, true, false, cond, List, Option, Some, None, refl, sym, ◌∙◌, ap, subst, inl, inr, arith}
+-- How many pages the memory has that an image describes
+use Rattle.std.proofs.Common.{◌≡◌, ℕ, zero, suc, ◌+◌, ◌*◌, ◌/◌, ◌≤◌, Bool, true, false, cond, List, Option, Some, None, refl, sym, ◌∙◌, ap, arith}
 use Rattle.std.specs.Prelude.{is_some, if◌then◌else◌}
 use Rattle.std.specs.Cmp.{nat_cmp_total}
 use Rattle.std.specs.Ordering.{nat_cmp}
-use Rattle.std.specs.FinMap.{get, len, get-empty, len-empty, len-insert}
-use Rattle.std.proofs.lemmas.Bool.{cases_eq, cases_lt}
+use Rattle.std.specs.FinMap.{get, len, len-empty, len-insert}
 use Rattle.rv_model.specs.memory.Memory.{Cell, Memory, page_count}
 use Rattle.rv_model.specs.images.Image.{placed_headers, is_touched, cell_of, with_cell, memory_below, all_pages, memory_of_image}
-use Rattle.rv_model.proofs.memory_lemmas.Memory.{same_memory, get-insert_same, get-insert_other}
+use Rattle.rv_model.proofs.image_lemmas.Cells.{all_pages_is_page_limit, get-memory_below_outside}
 use Rattle.rv_model.specs.memory.Sizes.{page_size, page_limit}
 use Rattle.elf_load.specs.Pages.{pages_below}
 use Rattle.elf_load.proofs.PageLaws.{pages_below_skipped, pages_below_le}
-
--- ---- a memory that is given address by address
-
-get-with_cell_other : (m : Memory) (a x : ℕ) (o : Option Cell) → x ≢ a → get (with_cell m a o) x ≡ get m x
-get-with_cell_other m a x None h = refl
-get-with_cell_other m a x (Some c) h = get-insert_other m a c x h
-
-get-with_cell_same : (m : Memory) (a : ℕ) (o : Option Cell) → get m a ≡ None → get (with_cell m a o) a ≡ o
-get-with_cell_same m a None e = e
-get-with_cell_same m a (Some c) e = get-insert_same m a c
-
-pub get-memory_below_outside : (cells : ℕ → Option Cell) (n x : ℕ) → n ≤ x → get (memory_below cells n) x ≡ None
-unfolding memory_below
-get-memory_below_outside cells zero x l = get-empty nat_cmp x
-get-memory_below_outside cells (suc n) x l =
-    get-with_cell_other (memory_below cells n) n x (cells n) (λ e. omega arith) ∙ get-memory_below_outside cells n x (omega arith)
-
-pub get-memory_below : (cells : ℕ → Option Cell) (n x : ℕ) → x < n → get (memory_below cells n) x ≡ cells x
-unfolding memory_below
-get-memory_below cells zero x l = absurd (omega arith)
-get-memory_below cells (suc n) x l = elim (cases_eq x n) [
-  | inl same ↦ subst (λ (y : ℕ). get (with_cell (memory_below cells n) n (cells n)) y ≡ cells y) (sym same)
-      (get-with_cell_same (memory_below cells n) n (cells n) (get-memory_below_outside cells n n (omega arith)))
-  | inr other ↦ get-with_cell_other (memory_below cells n) n x (cells n) other ∙ get-memory_below cells n x (omega arith)
-]
-
--- a memory that holds these cells is that one
-pub is_memory_below : (m : Memory) (cells : ℕ → Option Cell) (n : ℕ) → ((x : ℕ) → x < n → get m x ≡ cells x) → ((x : ℕ) → n ≤ x → get m x ≡ None) → m ≡ memory_below cells n
-is_memory_below m cells n within outside = same_memory m (memory_below cells n) (λ x. elim (cases_lt x n) [
-  | inl l ↦ within x l ∙ sym (get-memory_below cells n x l)
-  | inr g ↦ outside x g ∙ sym (get-memory_below_outside cells n x g)
-])
 
 -- ---- how many addresses it has
 
@@ -101,10 +68,6 @@ page_count-image image =
     omega (arith, size)
 
 -- ---- counted page by page
-
-pub all_pages_is_page_limit : all_pages ≡ page_limit
-unfolding all_pages
-all_pages_is_page_limit = refl
 
 pub pages_below_none : (t : ℕ → Bool) → pages_below t 0 ≡ 0
 unfolding pages_below

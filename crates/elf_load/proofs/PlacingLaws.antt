@@ -19,7 +19,8 @@ use Rattle.elf_load.specs.Pages.{IsFirst, pages_below, first_placed}
 use Rattle.elf_load.specs.Placing.{cells_with, memory_with, blank_memory, memory_after}
 use Rattle.elf_load.proofs.HeaderLaws.{first_headers_more}
 use Rattle.elf_load.proofs.PageLaws.{first_placed_all, pages_below_next, pages_below_le, pages_below_skipped}
-use Rattle.elf_load.proofs.ImageLaws.{get-memory_below, get-memory_below_outside, is_memory_below, len-memory_below_pages, is_some-when, page_count-image}
+use Rattle.rv_model.proofs.image_lemmas.Cells.{get-memory_below, get-memory_below_outside, is_memory_below}
+use Rattle.elf_load.proofs.ImageLaws.{len-memory_below_pages, is_some-when, page_count-image}
 
 -- ---- cells and memories with them
 

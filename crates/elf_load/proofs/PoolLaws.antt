@@ -13,7 +13,7 @@ use Rattle.user_mem.specs.Users.{memory_of_user, with_memory}
 use Rattle.elf_load.specs.Pages.{IsFirst, EndsInMemory, first_placed}
 use Rattle.elf_load.specs.Placing.{blank_memory, memory_after}
 use Rattle.elf_load.proofs.PageLaws.{header_ends}
-use Rattle.elf_load.proofs.ImageLaws.{all_pages_is_page_limit}
+use Rattle.rv_model.proofs.image_lemmas.Cells.{all_pages_is_page_limit}
 use Rattle.elf_load.proofs.PlacingLaws.{blank_none, blank_all, blank_more, blank_accepted, memory_after_none, memory_after_all}
 use Rattle.elf_load.proofs.SegmentLaws.{file_size_fits, file_part_there, may_write, may_write_part, memory_after_other, segment_written}
 use Rattle.user_mem.proofs.UserLaws.{later_memory, same_memory}

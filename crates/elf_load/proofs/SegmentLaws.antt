@@ -19,7 +19,7 @@ use Rattle.elf_load.specs.Placing.{memory_with, memory_after}
 use Rattle.elf_load.proofs.HeaderLaws.{any_at, none_at}
 use Rattle.elf_load.proofs.FaultLaws.{no_bad_header}
 use Rattle.elf_load.proofs.PageLaws.{touches_at, header_ends}
-use Rattle.elf_load.proofs.ImageLaws.{all_pages_is_page_limit}
+use Rattle.rv_model.proofs.image_lemmas.Cells.{all_pages_is_page_limit}
 use Rattle.elf_load.proofs.PlacingLaws.{byte_after, put_with, same_bytes, monitor_is_allowed}
 
 -- ---- what a sound image says of a segment

@@ -3,6 +3,7 @@ pub mod access_lemmas
 pub mod assembler_lemmas
 pub mod command_lemmas
 pub mod element_lemmas
+pub mod image_lemmas
 pub mod instruction_lemmas
 pub mod legality_lemmas
 pub mod machine_lemmas

@@ -1,6 +1,10 @@
 //! What an ELF-64 image says of its segments, and what may be wrong with it.
+mod laws;
+
 ghost use Rattle.std.specs.Prelude.{◌≡◌, ◌≤◌, length};
 ghost use Rattle.rv_model.specs.images.Faults.{fault_name};
+
+pub use laws::images_hold_cells;
 
 /// An entry of the program header table (ELF-64 Object File Format, "Program header table").
 #[derive(Clone, Copy, Debug, PartialEq, Eq)]

@@ -17,7 +17,7 @@ pub use commands::{
     BreakpointCommand, ByteString, Cmd, Count, EnteringCommand, LinePart, MemoryCommand,
     OperatorCommand, PageRange, ProgramCommand, Refusal, RegisterCommand, RunningCommand,
 };
-pub use images::{ElfFault, ProgramHeader};
+pub use images::{ElfFault, ProgramHeader, images_hold_cells};
 pub use instructions::{
     AccessInstr, Arith, ArithOperation, Carry, CsrInstr, Field, Instr, Reg, ScalarInstr, Source,
     VReg, VectorInstr,
@@ -34,8 +34,8 @@ pub use memory::{
 };
 pub use scalar::Scalar;
 pub use step::{
-    Cause, MemEnd, OUTPUT_SIZE, StepEnd, Stop, VEnd, WRITE_SIZE, instructions_resume,
-    loads_and_stores_resume, steps_take_ticks, ticks_and_cuts,
+    Cause, MemEnd, OUTPUT_SIZE, StepEnd, Stop, VEnd, WRITE_SIZE, bytes_of_transfers,
+    instructions_resume, loads_and_stores_resume, steps_take_ticks, ticks_and_cuts,
 };
 pub use vector::{
     ControlRegister, FILE_BYTES, GROUP_BYTES, Lmul, Policy, RegisterBytes, RequestedLength,

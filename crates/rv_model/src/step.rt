@@ -1,10 +1,12 @@
-//! How instructions end.
+//! How instructions end, and laws of them.
+mod byte_laws;
 mod laws;
 mod memory_end;
 mod output;
 mod step_end;
 mod vector_end;
 
+pub use byte_laws::bytes_of_transfers;
 pub use laws::{instructions_resume, loads_and_stores_resume, steps_take_ticks, ticks_and_cuts};
 pub use memory_end::MemEnd;
 pub use output::{OUTPUT_SIZE, WRITE_SIZE};

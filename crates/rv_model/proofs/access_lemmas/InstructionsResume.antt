@@ -126,10 +126,10 @@ typed_resumes make limit later fill v m more each =
 
 -- ---- each instruction
 
-legal_under : (i : Instr) (v : VState) (t : VType) → v.conf.vtype ≡ Some t → IsLegal i v.conf.vtype v.vstart → IsLegal i (Some t) v.vstart
+pub legal_under : (i : Instr) (v : VState) (t : VType) → v.conf.vtype ≡ Some t → IsLegal i v.conf.vtype v.vstart → IsLegal i (Some t) v.vstart
 legal_under i v t e legal = subst (λ (o : Option VType). IsLegal i o v.vstart) e legal
 
-length_under : (v : VState) (t : VType) → v.conf.vtype ≡ Some t → IsConfiguration v.conf → v.conf.vl ≤ vlmax t
+pub length_under : (v : VState) (t : VType) → v.conf.vtype ≡ Some t → IsConfiguration v.conf → v.conf.vl ≤ vlmax t
 length_under v t e is = (subst (λ (o : Option VType). IsLength o v.conf.vl) e is).1
 
 module _ (limit later : ℕ) (fill : Bool) (v : VState) (x : Scalar) (m more : Memory) where

@@ -27,11 +27,11 @@ Beside b at size = (b < at) ⊎ (at + size ≤ b)
 abbrev Misses : (Transfer → ℕ) → ℕ → Transfer → Type 0
 Misses place b t = Beside b (place t) t.size
 
-put_beside : (file : List ℕ) (at : ℕ) (bytes : List ℕ) (b : ℕ) → Beside b at (length bytes) → get_or (put_chunk at file bytes) b 0 ≡ get_or file b 0
+pub put_beside : (file : List ℕ) (at : ℕ) (bytes : List ℕ) (b : ℕ) → Beside b at (length bytes) → get_or (put_chunk at file bytes) b 0 ≡ get_or file b 0
 put_beside file at bytes b (inl l) = get_or-put_chunk_below at file bytes b 0 l
 put_beside file at bytes b (inr g) = get_or-put_chunk_above at file bytes b 0 g
 
-length-bytes_loaded : (m : Memory) (size : ℕ) (kind : TransferKind) → length (bytes_loaded m size kind) ≡ size
+pub length-bytes_loaded : (m : Memory) (size : ℕ) (kind : TransferKind) → length (bytes_loaded m size kind) ≡ size
 length-bytes_loaded m size (Moved address) = length-bytes_at m address size
 length-bytes_loaded m size Ones = length-replicate {A = ℕ} size 255
 
@@ -57,7 +57,7 @@ all_append : (P : Transfer → Type 0) (xs ys : List Transfer) → AllByRecursio
 all_append P [] ys h g = g
 all_append P (x ∷ xs) ys h g = (h.0, all_append P xs ys h.1 g)
 
-all_transfers : (P : Transfer → Type 0) (each : Plan) (i n : ℕ) → ((k : ℕ) → i ≤ k → k < i + n → AllByRecursion P (each k)) → AllByRecursion P (transfers each i n)
+pub all_transfers : (P : Transfer → Type 0) (each : Plan) (i n : ℕ) → ((k : ℕ) → i ≤ k → k < i + n → AllByRecursion P (each k)) → AllByRecursion P (transfers each i n)
 unfolding transfers
 all_transfers P each i zero h = tt
 all_transfers P each i (suc n) h =

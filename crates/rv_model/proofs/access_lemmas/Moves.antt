@@ -50,7 +50,7 @@ stored_one m place file t = refl
 
 -- ---- no store changes what may be done
 
-element_allows : (access : Access) (m : Memory) (bytes : List ℕ) (kind : TransferKind) (x : ℕ) → memory.can_access_byte access (with_element m bytes kind) x ≡ memory.can_access_byte access m x
+pub element_allows : (access : Access) (m : Memory) (bytes : List ℕ) (kind : TransferKind) (x : ℕ) → memory.can_access_byte access (with_element m bytes kind) x ≡ memory.can_access_byte access m x
 element_allows access m bytes (Moved address) x = is_allowed-put_bytes access m address bytes x
 element_allows access m bytes Ones x = refl
 

@@ -275,15 +275,15 @@ unfolding byte_by allowed_by
 byte_by-with_byte b None = refl
 byte_by-with_byte b (Some c) = refl
 
-is_within_true : (a n x : ℕ) → a ≤ x → x < a + n → is_within a n x ≡ true
+pub is_within_true : (a n x : ℕ) → a ≤ x → x < a + n → is_within a n x ≡ true
 is_within_true a n x l h = grind (arith, nat_tests)
 
-is_within_false : (a n x : ℕ) → ((x < a) ⊎ (a + n ≤ x)) → is_within a n x ≡ false
+pub is_within_false : (a n x : ℕ) → ((x < a) ⊎ (a + n ≤ x)) → is_within a n x ≡ false
 is_within_false a n x (inl l) = grind (arith, nat_tests)
 is_within_false a n x (inr g) = grind (arith, nat_tests)
 
 -- an address is one of n from a on, the k-th, or lies beside them
-places : (a n x : ℕ) → ((a ≤ x) × (x < a + n)) ⊎ ((x < a) ⊎ (a + n ≤ x))
+pub places : (a n x : ℕ) → ((a ≤ x) × (x < a + n)) ⊎ ((x < a) ⊎ (a + n ≤ x))
 places a n x = elim (cases_lt x a) [
   | inl below ↦ inr (inl below)
   | inr above ↦ elim (cases_lt x (a + n)) [ inl less ↦ inl (above, less) | inr past ↦ inr (inr past) ]

@@ -1,0 +1,2 @@
+-- Laws of images: the memory that one describes.
+pub mod Cells
