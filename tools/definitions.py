@@ -232,12 +232,12 @@ CASES = (
     "Kind.Of Event.Command Cmd.Running RunningCommand.Step Instr.Vector VectorInstr.Arith VectorOp.Binary BinaryOp.Vadd "
     "Source.V Form.V VEnd.Done"
 )
-# How commands are spelt and refused, the operator's lines, how the vector unit is counted, which instructions are legal, how many ticks
-# one takes, and how the crates hold all this
+# How commands are spelt and refused, the operator's lines, how the vector unit is used and counted, which instructions are legal, how
+# many ticks one takes, and how the crates hold all this
 LEFT_OUT = (
     "type commands.Operator commands.Commands.parse commands.Commands.of_absent commands.Running.stop_line "
-    "machine.UserMachine.refuses machine.Script.common machine.Grants machine.World.unit_after machine.VectorUnit "
-    "legality.Legality step.VectorStep.vector_ticks"
+    "machine.UserMachine.refuses machine.UserMachine.Use machine.Script.common machine.Grants machine.World.unit_after "
+    "machine.VectorUnit legality.Legality step.VectorStep.vector_ticks"
 )
 ADDITION = Part(frozenset(CASES.split()), frozenset(LEFT_OUT.split()))
 

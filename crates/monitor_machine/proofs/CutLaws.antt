@@ -36,9 +36,9 @@ slice_goes_on before now u printed is moved prints later keeps =
     let quantum : ℕ = before.setup.quantum in
     let first : Outcome = sliced quantum (user_machine u before.world) in
     let rest : Outcome = sliced later first.next in
-    let whole = sym (cuts_are_invisible quantum later (user_machine u before.world) is keeps) in (
-      ap (λ (o : Outcome). o.next) whole ∙ ap (λ (p : Private). (sliced later p).next) (sym moved),
-      ap (λ (o : Outcome). text (48 + u) o.lines) whole
+    let whole = cuts_are_invisible quantum later (user_machine u before.world) is keeps in (
+      sym whole.0 ∙ ap (λ (p : Private). (sliced later p).next) (sym moved),
+      ap (λ (lines : List (List ℕ)). text (48 + u) lines) (sym whole.1)
           ∙ text-append (48 + u) first.lines rest.lines
           ∙ ap (λ (bytes : List ℕ). bytes ++ text (48 + u) rest.lines) (sym prints)
           ∙ ap (λ (p : Private). printed ++ text (48 + u) (sliced later p).lines) (sym moved),

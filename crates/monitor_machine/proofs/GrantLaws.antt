@@ -4,13 +4,11 @@ use Rattle.std.specs.Prelude.{◌&&◌, map, if◌then◌else◌}
 use Rattle.std.proofs.lemmas.List.{ext_get_or, get_or-map, length-map}
 use Rattle.std.specs.Option.{option_map_or}
 use Rattle.rv_model.specs.declared.machine.standing.Standing.TheVariants.{Absent, Stopped, Running}
-use Rattle.rv_model.specs.machine.Cuts.{Try, tried_in, tries}
 use Rattle.rv_model.specs.machine.Grants.{granted, next_running, runs, slice_of, standing}
 use Rattle.rv_model.specs.machine.PrivateMachine.{Private, Outcome, event, slice_ends, sliced}
 use Rattle.rv_model.specs.machine.Runs.{Halted, ticked}
-use Rattle.rv_model.specs.machine.Script.{World, Happening, with_unit, after_one, after_events, told_by, user_machine, with_user_machine}
+use Rattle.rv_model.specs.machine.Script.{World, Happening, with_unit, after_one, after_events, told_by, user_machine}
 use Rattle.rv_model.specs.machine.Setup.{Setup}
-use Rattle.rv_model.specs.machine.UnitEvents.{unit_after_event, unit_after_tries}
 use Rattle.rv_model.specs.machine.Users.{user_count}
 use Rattle.rv_model.specs.declared.vector.state.VState.{VState}
 use Rattle.rv_model.specs.memory.Memory.{Memory}
@@ -18,7 +16,7 @@ use Rattle.lazy_context.specs.declared.unit.Unit.{Unit}
 use Rattle.rv_model.specs.text.Lines.{text}
 use Rattle.rv_model.proofs.machine_lemmas.Headline.{length-after_events}
 use Rattle.monitor_machine.specs.declared.context.Context.{Context}
-use Rattle.monitor_machine.specs.MachineState.{after_slice}
+use Rattle.monitor_machine.specs.MachineState.{after_outcome, after_slice}
 use Rattle.monitor_machine.specs.Parts.{Addresses, IsWhole, context_standing, is_running, parts_of, present, private_of, states_of}
 use Rattle.monitor_machine.specs.StopRoom.{stop_room, stops_room}
 use Rattle.monitor_machine.proofs.PartLaws.{eight_states, part_put_back}
@@ -102,25 +100,17 @@ standings_of_parts cs ts unit ms whole = of_whole standing context_standing stan
 -- ---- slices
 
 -- a program that doesn't run has no slice
-pub not_sliced : (quantum : ℕ) (p : Private) → runs p ≡ false → sliced quantum p ≡ record { next = p; lines = [] }
+pub not_sliced : (quantum : ℕ) (p : Private) → runs p ≡ false → sliced quantum p ≡ record { next = p; lines = []; uses = [] }
 unfolding sliced
 not_sliced quantum None stopped = refl
 not_sliced quantum (Some p) stopped =
     let run : Halted = ticked quantum p in
-    ap (λ (b : Bool). if b then slice_ends run run.stop else record { next = Some p; lines = [] }) stopped
-
-none_tried : (quantum : ℕ) (p : Private) → runs p ≡ false → tried_in quantum p ≡ []
-unfolding tried_in
-none_tried quantum None stopped = refl
-none_tried quantum (Some p) stopped = ap (λ (b : Bool). if b then tries quantum quantum p else []) stopped
+    ap (λ (b : Bool). if b then slice_ends run run.stop else record { next = Some p; lines = []; uses = [] }) stopped
 
 -- so the world stays
 pub nothing_sliced : (quantum u : ℕ) (w : World) → runs (user_machine u w) ≡ false → after_slice quantum u w ≡ w
-unfolding unit_after_tries
 nothing_sliced quantum u w stopped =
-    ap (λ (ts : List Try). with_unit (unit_after_tries u ts w.unit) (with_user_machine u (sliced quantum (user_machine u w)).next w)) (none_tried quantum (user_machine u w) stopped)
-    ∙ ap (λ (o : Outcome). with_unit w.unit (with_user_machine u o.next w)) (not_sliced quantum (user_machine u w) stopped)
-    ∙ ap (with_unit w.unit) (part_put_back u w)
+    ap (λ (o : Outcome). after_outcome u o w) (not_sliced quantum (user_machine u w) stopped) ∙ ap (with_unit w.unit) (part_put_back u w)
 
 -- one slice in turn, and then those that are left
 pub granted_on : (s : Setup) (n u : ℕ) (w : World) → next_running w ≡ Some u → granted s (suc n) w ≡ slice_of u true ∷ granted s n (after_one s w (slice_of u true))
@@ -135,7 +125,7 @@ granted_to_nobody s (suc n) w turn = ap (λ (o : Option ℕ). option_map_or (λ 
 
 -- a world after one slice in turn
 pub after_one_grant : (s : Setup) (u : ℕ) (w turned next : World) → turned ≡ record w { cursor = u } → next ≡ after_slice s.quantum u turned → after_one s w (slice_of u true) ≡ next
-unfolding event unit_after_event
+unfolding event
 after_one_grant s u w turned next turn moved = sym (moved ∙ ap (λ (v : World). after_slice s.quantum u v) turn)
 
 -- what one slice in turn tells, and then what the others tell
@@ -182,7 +172,7 @@ ran_lines ran u = if ran then slice_of u false ∷ [] else []
 
 -- what becomes of the world where a slice is granted if the user's program runs
 pub one_run_world : (s : Setup) (u : ℕ) (w next : World) → next ≡ after_slice s.quantum u w → after_events s w (if runs (user_machine u w) then slice_of u false ∷ [] else []) ≡ next
-unfolding event unit_after_event
+unfolding event
 one_run_world s u w next moved = by_case (runs (user_machine u w)) refl
   where
     by_case : (b : Bool) → runs (user_machine u w) ≡ b → after_events s w (ran_lines b u) ≡ next

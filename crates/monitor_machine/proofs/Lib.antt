@@ -9,3 +9,4 @@ pub mod StepLaws
 pub mod Steps
 pub mod TraceLaws
 pub mod UnitSteps
+pub mod UnusedUnit

@@ -1,6 +1,6 @@
 -- What commands on programs come to, by what is tested.
 use Rattle.std.proofs.Common.{◌≡◌, ◌↔◌, ℕ, ◌+◌, ◌*◌, ◌<◌, ◌≤◌, List, [], ◌∷◌, ◌++◌, sym, ap, ◌∙◌, inl, inr, Bool, true, false, Option, Some, None, Result, Ok, Err, lt-ltb, le-ltb}
-use Rattle.std.specs.Prelude.{if◌then◌else◌, not}
+use Rattle.std.specs.Prelude.{if◌then◌else◌}
 use Rattle.std.proofs.lemmas.Bool.{cases_lt}
 use Rattle.std.specs.Int.{to_le_bytes, w32}
 use Rattle.rv_model.specs.declared.commands.refusal.Refusal.TheVariants as refusal
@@ -15,9 +15,8 @@ use Rattle.rv_model.specs.images.Fields.{entry_of}
 use Rattle.rv_model.specs.images.Image.{memory_of_image}
 use Rattle.rv_model.specs.machine.Setup.{Image}
 use Rattle.rv_model.specs.declared.vector.state.VState.{VState}
-use Rattle.rv_model.specs.machine.UnitEvents.{can_be_loaded}
-use Rattle.rv_model.specs.machine.VectorUnit.{VectorUnit, unit_discarded}
-use Rattle.rv_model.specs.machine.UserMachine.{Outcome, refuses, replies}
+use Rattle.rv_model.specs.machine.VectorUnit.{VectorUnit, unit_after_uses, unit_discarded}
+use Rattle.rv_model.specs.machine.UserMachine.{Outcome, Drops, refuses, replies}
 use Rattle.rv_model.specs.memory.Memory.{Memory, bytes_at, can_access, put_bytes, page_count}
 use Rattle.rv_model.specs.memory.Sizes.{page_quota}
 use Rattle.rv_model.specs.text.Lines.{text}
@@ -51,10 +50,11 @@ assembles_accepted c t v m addr text word h k = assembles_mapped c t v m addr te
 
 -- the instructions of mapped pages
 abbrev shown : Context → Addresses → VState → Memory → ℕ → ℕ → Outcome
-shown c t v m addr count = record { next = Some (present c t v m); lines = dis_lines addr count (bytes_at m addr (4 * count)) }
+shown c t v m addr count = record { next = Some (present c t v m); lines = dis_lines addr count (bytes_at m addr (4 * count)); uses = [] }
 
 pub shows_accepted : (c : Context) (t : Addresses) (v : VState) (m : Memory) (addr count : ℕ) → can_access Monitor m addr (4 * count) ≡ true
-    → shows_instructions addr count (present c t v m) ≡ record { next = Some (present c t v m); lines = dis_lines addr count (bytes_at m addr (4 * count)) }
+    → shows_instructions addr count (present c t v m)
+    ≡ record { next = Some (present c t v m); lines = dis_lines addr count (bytes_at m addr (4 * count)); uses = [] }
 shows_accepted c t v m addr count h =
     allowed (shown c t v m addr count) (refuses (Some (present c t v m)) refusal.NotMapped) (can_access Monitor m addr (4 * count)) h
 
@@ -87,14 +87,15 @@ loads_sound images c t v m name image h k = loads_named images c t v m name imag
 abbrev loads_by : Context → Addresses → VState → Memory → List ℕ → Bool → Outcome
 loads_by c t v m image many =
     if many then refuses (Some (present c t v m)) refusal.Quota
-    else replies (with_image image) (loaded_line (entry_of image) (page_count (memory_of_image image)))
+    else record (replies (with_image image) (loaded_line (entry_of image) (page_count (memory_of_image image)))) { uses = Drops ∷ [] }
 
 pub loading_too_large : (c : Context) (t : Addresses) (v : VState) (m : Memory) (image : List ℕ) → page_quota < page_count (memory_of_image image)
     → loading image None (present c t v m) ≡ refuses (Some (present c t v m)) refusal.Quota
 loading_too_large c t v m image many = ap (loads_by c t v m image) (lt-ltb page_quota (page_count (memory_of_image image)) many)
 
 pub loading_accepted : (c : Context) (t : Addresses) (v : VState) (m : Memory) (image : List ℕ) → page_count (memory_of_image image) ≤ page_quota
-    → loading image None (present c t v m) ≡ replies (present (loaded_context (entry_of image)) [] initial_vector (memory_of_image image)) (loaded_line (entry_of image) (page_count (memory_of_image image)))
+    → loading image None (present c t v m)
+    ≡ record (replies (present (loaded_context (entry_of image)) [] initial_vector (memory_of_image image)) (loaded_line (entry_of image) (page_count (memory_of_image image)))) { uses = Drops ∷ [] }
 loading_accepted c t v m image few = ap (loads_by c t v m image) (le-ltb page_quota (page_count (memory_of_image image)) few)
 
 -- an image that was placed has at most 256 pages
@@ -137,15 +138,14 @@ too_large_reply c t v m image user after many printed =
     printed ∙ sym (ap (λ (o : Outcome). text (48 + user) o.lines) (loading_too_large c t v m image many))
 
 -- the vector unit after a sound image was placed, and after one that is too large
-unit_by : ℕ → Bool → VectorUnit → VectorUnit
-unit_by user many unit = if not many then unit_discarded user unit else unit
+pub loaded_unit : (c : Context) (t : Addresses) (v : VState) (m : Memory) (user : ℕ) (image : List ℕ) (unit : VectorUnit)
+    → page_count (memory_of_image image) ≤ page_quota
+    → unit_after_uses user (loading image None (present c t v m)).uses unit ≡ unit_discarded user unit
+loaded_unit c t v m user image unit few =
+    ap (λ (o : Outcome). unit_after_uses user o.uses unit) (loading_accepted c t v m image few)
 
-pub loaded_unit : (user : ℕ) (image : List ℕ) (unit : VectorUnit) → page_count (memory_of_image image) ≤ page_quota
-    → (if can_be_loaded image None then unit_discarded user unit else unit) ≡ unit_discarded user unit
-unfolding unit_by
-loaded_unit user image unit few = ap (λ (b : Bool). unit_by user b unit) (le-ltb page_quota (page_count (memory_of_image image)) few)
-
-pub too_large_unit : (user : ℕ) (image : List ℕ) (unit : VectorUnit) → page_quota < page_count (memory_of_image image)
-    → (if can_be_loaded image None then unit_discarded user unit else unit) ≡ unit
-unfolding unit_by
-too_large_unit user image unit many = ap (λ (b : Bool). unit_by user b unit) (lt-ltb page_quota (page_count (memory_of_image image)) many)
+pub too_large_unit : (c : Context) (t : Addresses) (v : VState) (m : Memory) (user : ℕ) (image : List ℕ) (unit : VectorUnit)
+    → page_quota < page_count (memory_of_image image)
+    → unit_after_uses user (loading image None (present c t v m)).uses unit ≡ unit
+too_large_unit c t v m user image unit many =
+    ap (λ (o : Outcome). unit_after_uses user o.uses unit) (loading_too_large c t v m image many)

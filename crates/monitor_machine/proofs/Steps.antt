@@ -5,12 +5,20 @@ use Rattle.monitor_machine.proofs.GrantLaws.{one_run_count, one_run_told, one_ru
 use Rattle.monitor_machine.proofs.MemoryOutcomes.{maps_accepted, maps_refused, pokes_accepted, pokes_refused}
 use Rattle.monitor_machine.proofs.PartLaws.{absent_as, entered_as, unit_stays}
 use Rattle.monitor_machine.proofs.ProgramOutcomes.{assembles_accepted, assembles_misspelled, assembles_unmapped, loads_faulty, loads_sound, loads_unknown}
+use Rattle.monitor_machine.proofs.UnusedUnit.{assembles_unused, breakpoints_unused, halts_unused, memory_unused, shows_unused}
 
 -- nothing of the vector unit and of the memories changes
 pub ruleset stays = (unit_stays, same_memory)
 
 -- the user has entered, is absent, or either
 pub ruleset present = (entered_as, same_memory, unit_stays)
+
+-- also where a group's commands don't use the vector unit
+pub ruleset groups = (entered_as, same_memory, memory_unused, breakpoints_unused)
+
+pub ruleset programs = (entered_as, same_memory, assembles_unused, shows_unused)
+
+pub ruleset telling = (entered_as, same_memory, unit_stays, halts_unused)
 
 pub ruleset absent = (absent_as, same_memory, unit_stays)
 

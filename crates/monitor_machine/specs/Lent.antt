@@ -1,12 +1,10 @@
 -- What one user's instructions are lent: what it shows, and what becomes of it by one instruction and by a run of them.
-use Rattle.std.specs.Prelude.{ℕ, ◌≡◌, Bool, List, Option}
+use Rattle.std.specs.Prelude.{ℕ, ◌≡◌, Bool, Option}
 use Rattle.rv_model.specs.declared.step.step_end.Stop.{Stop}
 use Rattle.rv_model.specs.declared.vector.state.VState.{VState}
-use Rattle.rv_model.specs.machine.Cuts.{Try, tries}
-use Rattle.rv_model.specs.machine.Runs.{Halted, after, halted, steps, stop_of, ticked}
-use Rattle.rv_model.specs.machine.UnitEvents.{tried_steps, unit_after_tries, unit_after_try}
-use Rattle.rv_model.specs.machine.UserMachine.{Present}
-use Rattle.rv_model.specs.machine.VectorUnit.{VectorUnit}
+use Rattle.rv_model.specs.machine.Runs.{Halted, after, steps, stop_of, ticked}
+use Rattle.rv_model.specs.machine.UserMachine.{Present, Tries}
+use Rattle.rv_model.specs.machine.VectorUnit.{VectorUnit, unit_after_use, unit_after_uses}
 use Rattle.rv_model.specs.memory.Memory.{Memory}
 use Rattle.rv_model.specs.step.Step.{step}
 use Rattle.lazy_context.specs.LazyUnit.{IsSettled, OthersKeep, record_of, state_of}
@@ -44,15 +42,16 @@ TriesTo limit old new stop ticks =
     (after (step limit old.machine.hart).end (step limit old.machine.hart).state old.machine ≡ new.machine)
     × (stop_of (step limit old.machine.hart).end ≡ stop)
     × ((step limit old.machine.hart).ticks ≡ ticks)
-    × (new.unit ≡ unit_after_try old.user (record { left = limit; hart = old.machine.hart }) old.unit)
+    × (new.unit ≡ unit_after_use old.user (Tries limit old.machine.hart) old.unit)
 
--- a run that tries these instructions leaves this, and stops the program so, if it does
-abbrev pub RunsTo : Halted → List Try → Lent → Lent → Option Stop → Type 0
-RunsTo run tried old new stop = (run ≡ halted new.machine stop) × (new.unit ≡ unit_after_tries old.user tried old.unit)
+-- a run leaves this, and stops the program so, if it does
+abbrev pub RunsTo : Halted → Lent → Lent → Option Stop → Type 0
+RunsTo run old new stop =
+    (run.state ≡ new.machine) × (run.stop ≡ stop) × (new.unit ≡ unit_after_uses old.user run.uses old.unit)
 
 -- so do at most so many instructions, and those of so many ticks
 abbrev pub StepsTo : ℕ → Bool → Lent → Lent → Option Stop → Type 0
-StepsTo count exempt old = RunsTo (steps count exempt old.machine) (tried_steps count exempt old.machine) old
+StepsTo count exempt old = RunsTo (steps count exempt old.machine) old
 
 abbrev pub TicksTo : ℕ → Lent → Lent → Option Stop → Type 0
-TicksTo left old = RunsTo (ticked left old.machine) (tries left left old.machine) old
+TicksTo left old = RunsTo (ticked left old.machine) old

@@ -2,11 +2,12 @@
 -- a slice comes to with the next one.
 use Rattle.std.specs.Prelude.{ℕ, ◌≡◌, ◌+◌, ◌++◌, List, All}
 use Rattle.rv_model.specs.commands.Commands.{Parsed, commanded, parse}
-use Rattle.rv_model.specs.machine.Cuts.{KeepsWordIfCut, tried_in}
+use Rattle.rv_model.specs.machine.Cuts.{KeepsWordIfCut}
 use Rattle.rv_model.specs.machine.PrivateMachine.{sliced}
 use Rattle.rv_model.specs.machine.Setup.{Image, Setup}
 use Rattle.rv_model.specs.machine.Script.{World, told, with_unit, world_after, user_machine, with_user_machine}
-use Rattle.rv_model.specs.machine.UnitEvents.{unit_after_line, unit_after_tries}
+use Rattle.rv_model.specs.machine.UserMachine.{Outcome}
+use Rattle.rv_model.specs.machine.VectorUnit.{unit_after_uses}
 use Rattle.rv_model.specs.text.Lines.{text}
 
 -- the fixed parameters, and what moves
@@ -22,24 +23,26 @@ after_line m line = record m { world = world_after m.setup m.world line }
 abbrev pub line_output : MachineState → List ℕ → List ℕ
 line_output m line = told m.setup m.world line
 
+-- the world after this has happened to a user's machine
+abbrev pub after_outcome : ℕ → Outcome → World → World
+after_outcome u o w = with_unit (unit_after_uses u o.uses w.unit) (with_user_machine u o.next w)
+
 -- the world after a command of a user, which a line spells, and after a slice of so many ticks of a user
 abbrev pub after_parsed : List Image → ℕ → Parsed → World → World
-after_parsed images u parsed w =
-    with_unit (unit_after_line images u (user_machine u w) parsed w.unit) (with_user_machine u (commanded images (user_machine u w) parsed).next w)
+after_parsed images u parsed w = after_outcome u (commanded images (user_machine u w) parsed) w
 
 abbrev pub after_command : List Image → ℕ → List ℕ → World → World
 after_command images u line w = after_parsed images u (parse line) w
 
 abbrev pub after_slice : ℕ → ℕ → World → World
-after_slice quantum u w =
-    with_unit (unit_after_tries u (tried_in quantum (user_machine u w)) w.unit) (with_user_machine u (sliced quantum (user_machine u w)).next w)
+after_slice quantum u w = after_outcome u (sliced quantum (user_machine u w)) w
 
 -- A user's slice left this machine and printed this. It and one of so many ticks more leave the user's private machine, and print,
 -- what one slice of all these ticks does, unless the first cuts an instruction that has stored over its own
 -- word before.
 abbrev pub SliceGoesOn : MachineState → ℕ → MachineState → List ℕ → Type 0
 SliceGoesOn before u now printed = (later : ℕ)
-    → All KeepsWordIfCut (tried_in before.setup.quantum (user_machine u before.world))
+    → All KeepsWordIfCut (sliced before.setup.quantum (user_machine u before.world)).uses
     → ((sliced (before.setup.quantum + later) (user_machine u before.world)).next ≡ (sliced later (user_machine u now.world)).next)
     × (text (48 + u) (sliced (before.setup.quantum + later) (user_machine u before.world)).lines
     ≡ printed ++ text (48 + u) (sliced later (user_machine u now.world)).lines)

@@ -4,8 +4,8 @@ use Rattle.rv_model.specs.declared.vector.policy.Policy.TheVariants.{Keep}
 use Rattle.rv_model.specs.declared.vector.state.VState.{VState}
 use Rattle.rv_model.specs.memory.Memory.{Memory}
 use Rattle.rv_model.specs.step.Step.{HartState}
-use Rattle.rv_model.specs.machine.Cuts.{Try}
 use Rattle.rv_model.specs.machine.PrivateMachine.{Private, Present}
+use Rattle.rv_model.specs.machine.UserMachine.{Use, Tries}
 use Rattle.rv_model.specs.scalar.Registers.{initial_scalar, with_register}
 use Rattle.rv_model.specs.declared.machine.standing.Standing.{Standing}
 use Rattle.rv_model.specs.declared.machine.standing.Standing.TheVariants.{Absent, Stopped, Running}
@@ -38,8 +38,8 @@ context_state c vector memory =
     record { scalar = c.scalar; vector = vector; memory = memory; output = c.output.items; policy = c.policy }
 
 -- an instruction that is tried with so many ticks left
-abbrev pub try_of : ℕ → Context → VState → Memory → Try
-try_of left c vector memory = record { left = left; hart = context_state c vector memory }
+abbrev pub try_of : ℕ → Context → VState → Memory → Use
+try_of left c vector memory = Tries left (context_state c vector memory)
 
 -- the addresses of a trace, the oldest first
 abbrev pub Addresses : Type 0

@@ -2,7 +2,7 @@
 ghost use Rattle.std.specs.Prelude.{◌≡◌, ◌+◌, true, false};
 ghost use Rattle.lazy_context.specs.LazyUnit.{record_of};
 ghost use Rattle.rv_model.specs.commands.Commands.{carried_out, needs_stopped, of_absent, of_present};
-ghost use Rattle.rv_model.specs.machine.UnitEvents.{unit_after_command, unit_of_absent, unit_of_present};
+ghost use Rattle.rv_model.specs.machine.VectorUnit.{unit_after_uses};
 ghost use Rattle.rv_model.specs.text.Lines.{text};
 ghost use Rattle.monitor_machine.specs.Images.{named_images};
 ghost use Rattle.monitor_machine.specs.PartMoves.{PartsMove, machine_of, present_of};
@@ -27,9 +27,9 @@ pub(crate) fn carry_out<A: Allocator>(
 )
     ensures next { machine_of parts.new trace.new
         ≡ (carried_out (named_images images.now) cmd.now (machine_of parts.old trace.old)).next }
-    ensures parts { PartsMove parts.old parts.new
-        (unit_after_command (named_images images.now) parts.old.user cmd.now
-        (machine_of parts.old trace.old) (record_of parts.old.unit.now)) }
+    ensures parts { PartsMove parts.old parts.new (unit_after_uses parts.old.user
+        (carried_out (named_images images.now) cmd.now (machine_of parts.old trace.old)).uses
+        (record_of parts.old.unit.now)) }
     ensures reply { reply.new ≡ text (48 + parts.old.user)
         (carried_out (named_images images.now) cmd.now (machine_of parts.old trace.old)).lines }
 {
@@ -64,7 +64,7 @@ fn carry_out_absent<A: Allocator>(
     requires absent { parts.old.context.now.entered ≡ false }
     ensures next { machine_of parts.new trace.new ≡ (of_absent cmd.now).next }
     ensures parts { PartsMove parts.old parts.new
-        (unit_of_absent parts.old.user cmd.now (record_of parts.old.unit.now)) }
+        (unit_after_uses parts.old.user (of_absent cmd.now).uses (record_of parts.old.unit.now)) }
     ensures reply { reply.new ≡ text (48 + parts.old.user) (of_absent cmd.now).lines }
 {
     if let Cmd::Entering(command) = cmd {
@@ -75,7 +75,7 @@ fn carry_out_absent<A: Allocator>(
 }
 
 /// The same for a user who has entered.
-#[tactic(auto, unfolding(rv_model::specs::commands::Commands::of_present), using(crate::proofs::Steps::present))]
+#[tactic(auto, unfolding(rv_model::specs::commands::Commands::of_present), using(crate::proofs::Steps::groups))]
 fn carry_out_present<A: Allocator>(
     images: &[Image<'_>],
     parts: &mut Parts<'_, '_, '_, A>,
@@ -86,8 +86,8 @@ fn carry_out_present<A: Allocator>(
     requires present { parts.old.context.now.entered ≡ true }
     ensures next { machine_of parts.new trace.new
         ≡ (of_present (named_images images.now) cmd.now (present_of parts.old trace.old)).next }
-    ensures parts { PartsMove parts.old parts.new
-        (unit_of_present (named_images images.now) parts.old.user cmd.now (present_of parts.old trace.old)
+    ensures parts { PartsMove parts.old parts.new (unit_after_uses parts.old.user
+        (of_present (named_images images.now) cmd.now (present_of parts.old trace.old)).uses
         (record_of parts.old.unit.now)) }
     ensures reply { reply.new ≡ text (48 + parts.old.user)
         (of_present (named_images images.now) cmd.now (present_of parts.old trace.old)).lines }

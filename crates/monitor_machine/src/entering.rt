@@ -1,9 +1,8 @@
 //! Commands that begin and end a user's machine, carried out.
 ghost use Rattle.std.specs.Prelude.{◌≡◌, ◌+◌, true, false};
 ghost use Rattle.lazy_context.specs.LazyUnit.{record_of};
-ghost use Rattle.rv_model.specs.declared.commands.command.Cmd.TheVariants.{Entering};
 ghost use Rattle.rv_model.specs.commands.Entering.{entering_absent, entering};
-ghost use Rattle.rv_model.specs.machine.UnitEvents.{unit_after_entering, unit_of_absent};
+ghost use Rattle.rv_model.specs.machine.VectorUnit.{unit_after_uses};
 ghost use Rattle.rv_model.specs.text.Lines.{text};
 ghost use Rattle.monitor_machine.specs.PartMoves.{PartsMove, machine_of, present_of};
 
@@ -27,7 +26,7 @@ pub(crate) fn carry_out_absent<A: Allocator>(
     requires absent { parts.old.context.now.entered ≡ false }
     ensures next { machine_of parts.new trace.new ≡ (entering_absent command).next }
     ensures parts { PartsMove parts.old parts.new
-        (unit_of_absent parts.old.user (Entering command) (record_of parts.old.unit.now)) }
+        (unit_after_uses parts.old.user (entering_absent command).uses (record_of parts.old.unit.now)) }
     ensures reply { reply.new ≡ text (48 + parts.old.user) (entering_absent command).lines }
 {
     let user = parts.user;
@@ -55,8 +54,8 @@ pub(crate) fn carry_out<A: Allocator>(
 )
     requires present { parts.old.context.now.entered ≡ true }
     ensures next { machine_of parts.new trace.now ≡ (entering command (present_of parts.old trace.now)).next }
-    ensures parts { PartsMove parts.old parts.new
-        (unit_after_entering parts.old.user command (record_of parts.old.unit.now)) }
+    ensures parts { PartsMove parts.old parts.new (unit_after_uses parts.old.user
+        (entering command (present_of parts.old trace.now)).uses (record_of parts.old.unit.now)) }
     ensures reply { reply.new
         ≡ text (48 + parts.old.user) (entering command (present_of parts.old trace.now)).lines }
 {

@@ -69,9 +69,7 @@ impl<'a, A: Allocator> Machine<'a, A> {
 
     /// Carries out one command of a user: the line without the user's digit and the space after it.
     /// Answers it in place of what the reply held. Nobody else's machine changes.
-    #[tactic(auto, unfolding(rv_model::specs::machine::PrivateMachine::event,
-    // And what becomes of the vector unit.
-    rv_model::specs::machine::UnitEvents::unit_after_event))]
+    #[tactic(auto, unfolding(rv_model::specs::machine::PrivateMachine::event))]
     pub fn command(&mut self, user: User, line: &[u8], reply: &mut Reply)
         ensures world { self.new.world
             ≡ after_events self.old.setup self.old.world (commands user line.now ∷ []) }
@@ -87,8 +85,6 @@ impl<'a, A: Allocator> Machine<'a, A> {
     /// command of a user or of the operator, after the digit or the star and a space. An empty line
     /// has no answer; one of more than 1,024 bytes, or without such a prefix, is refused.
     #[tactic(auto, unfolding(rv_model::specs::machine::PrivateMachine::event,
-    // And what becomes of the vector unit.
-    rv_model::specs::machine::UnitEvents::unit_after_event,
     // What a line does, and what it prints.
     rv_model::specs::machine::Script::world_after, rv_model::specs::machine::Script::told,
     // Its lines that are no user's.

@@ -17,9 +17,7 @@ impl<A: Allocator> Machine<'_, A> {
     /// Grants a slice to a user, and answers whether the user's program ran. The reply is then the
     /// line that says why the program stopped, or empty where it still runs; it is empty, too, and
     /// nothing changes where the program didn't run. Nobody else's machine changes.
-    #[tactic(auto, unfolding(rv_model::specs::machine::PrivateMachine::event,
-    // And what becomes of the vector unit.
-    rv_model::specs::machine::UnitEvents::unit_after_event), using(crate::proofs::GrantLaws::stops_room_is_small))]
+    #[tactic(auto, unfolding(rv_model::specs::machine::PrivateMachine::event), using(crate::proofs::GrantLaws::stops_room_is_small))]
     pub fn slice(&mut self, user: User, reply: &mut Reply) -> bool
         ensures world { self.new.world
             ≡ after_events self.old.setup self.old.world (slice_of user false ∷ []) }

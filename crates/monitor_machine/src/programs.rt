@@ -1,5 +1,5 @@
 //! Commands on programs in a user's memory, carried out.
-ghost use Rattle.std.specs.Prelude.{◌≡◌, ◌+◌, ◌*◌, ◌≤◌, Some, None, true, length, List, ℕ, MatchOption, if◌then◌else◌};
+ghost use Rattle.std.specs.Prelude.{◌≡◌, ◌+◌, ◌*◌, ◌≤◌, Some, None, true, length, List, ℕ, MatchOption};
 ghost use Rattle.std.specs.Int.{to_le_bytes, w32};
 ghost use Rattle.lazy_context.specs.LazyUnit.{record_of};
 ghost use Rattle.rv_model.specs.declared.vector.state.VState.{VState};
@@ -14,8 +14,7 @@ ghost use Rattle.rv_model.specs.commands.Programs.{
   shows_instructions,
   program_command,
 };
-ghost use Rattle.rv_model.specs.machine.UnitEvents.{can_be_loaded, unit_after_load, unit_after_programs};
-ghost use Rattle.rv_model.specs.machine.VectorUnit.{unit_discarded};
+ghost use Rattle.rv_model.specs.machine.VectorUnit.{unit_after_uses};
 ghost use Rattle.rv_model.specs.text.Lines.{text};
 ghost use Rattle.user_mem.specs.Users.{memory_of_user, with_memory};
 ghost use Rattle.monitor_machine.specs.declared.context.Context.{Context};
@@ -43,7 +42,7 @@ const WORD_SIZE: usize = 4;
 const MAX_SHOWN: usize = 16;
 
 /// Carries out a command on programs in the memory of a user who has entered, and answers it.
-#[tactic(auto, unfolding(rv_model::specs::commands::Programs::program_command), using(crate::proofs::Steps::present))]
+#[tactic(auto, unfolding(rv_model::specs::commands::Programs::program_command), using(crate::proofs::Steps::programs))]
 pub(crate) fn carry_out<A: Allocator>(
     images: &[Image<'_>],
     parts: &mut Parts<'_, '_, '_, A>,
@@ -54,8 +53,9 @@ pub(crate) fn carry_out<A: Allocator>(
     requires present { parts.old.context.now.entered ≡ true }
     ensures next { machine_of parts.new trace.new
         ≡ (program_command (named_images images.now) command.now (present_of parts.old trace.old)).next }
-    ensures parts { PartsMove parts.old parts.new (unit_after_programs
-        (named_images images.now) parts.old.user command.now (record_of parts.old.unit.now)) }
+    ensures parts { PartsMove parts.old parts.new (unit_after_uses parts.old.user
+        (program_command (named_images images.now) command.now (present_of parts.old trace.old)).uses
+        (record_of parts.old.unit.now)) }
     ensures reply { reply.new ≡ text (48 + parts.old.user)
         (program_command (named_images images.now) command.now (present_of parts.old trace.old)).lines }
 {
@@ -201,9 +201,8 @@ fn load_plan<A: Allocator>(
     requires sound { first_fault plan.now ≡ None }
     requires present { parts.old.context.now.entered ≡ true }
     ensures next { machine_of parts.new trace.new ≡ (loading plan.now None (present_of parts.old trace.old)).next }
-    ensures parts { PartsMove parts.old parts.new (if can_be_loaded plan.now None
-        then unit_discarded parts.old.user (record_of parts.old.unit.now)
-        else record_of parts.old.unit.now) }
+    ensures parts { PartsMove parts.old parts.new (unit_after_uses parts.old.user
+        (loading plan.now None (present_of parts.old trace.old)).uses (record_of parts.old.unit.now)) }
     ensures reply { reply.new
         ≡ text (48 + parts.old.user) (loading plan.now None (present_of parts.old trace.old)).lines }
 {
@@ -234,8 +233,9 @@ fn load<A: Allocator>(
     requires present { parts.old.context.now.entered ≡ true }
     ensures next { machine_of parts.new trace.new
         ≡ (loads (named_images images.now) name.now (present_of parts.old trace.old)).next }
-    ensures parts { PartsMove parts.old parts.new (unit_after_load parts.old.user
-        (image_named_of (named_images images.now) name.now) (record_of parts.old.unit.now)) }
+    ensures parts { PartsMove parts.old parts.new (unit_after_uses parts.old.user
+        (loads (named_images images.now) name.now (present_of parts.old trace.old)).uses
+        (record_of parts.old.unit.now)) }
     ensures reply { reply.new ≡ text (48 + parts.old.user)
         (loads (named_images images.now) name.now (present_of parts.old trace.old)).lines }
 {

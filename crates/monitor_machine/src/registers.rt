@@ -3,7 +3,7 @@ ghost use Rattle.std.specs.Prelude.{◌≡◌, ◌+◌, Some, List, ℕ};
 ghost use Rattle.lazy_context.specs.LazyUnit.{IsSettled, record_of, state_of};
 ghost use Rattle.rv_model.specs.memory.Memory.{Memory};
 ghost use Rattle.rv_model.specs.commands.Registers.{register_command};
-ghost use Rattle.rv_model.specs.machine.UnitEvents.{unit_after_registers};
+ghost use Rattle.rv_model.specs.machine.VectorUnit.{unit_after_uses};
 ghost use Rattle.rv_model.specs.text.Lines.{text};
 ghost use Rattle.monitor_machine.specs.Parts.{UnitMoves, present};
 
@@ -28,7 +28,9 @@ pub(crate) fn carry_out(
         → (register_command command.now (present context.old trace (state_of unit.old user) memory)).next
         ≡ Some (present context.new trace (state_of unit.new user) memory) }
     ensures entered { context.new.entered ≡ context.old.entered }
-    ensures unit { UnitMoves user unit.old unit.new (unit_after_registers user command.now (record_of unit.old)) }
+    ensures unit { (trace : List ℕ) (memory : Memory) → UnitMoves user unit.old unit.new (unit_after_uses user
+        (register_command command.now (present context.old trace (state_of unit.old user) memory)).uses
+        (record_of unit.old)) }
     ensures reply { (trace : List ℕ) (memory : Memory) → reply.new
         ≡ text (48 + user) (register_command command.now
         (present context.old trace (state_of unit.old user) memory)).lines }

@@ -4,7 +4,7 @@ ghost use Rattle.std.specs.Prelude.{◌≡◌, ◌+◌, ℕ, List, Some, true};
 ghost use Rattle.lazy_context.specs.LazyUnit.{record_of};
 ghost use Rattle.rv_model.specs.declared.vector.state.VState.{VState};
 ghost use Rattle.rv_model.specs.commands.Running.{halts, running_command};
-ghost use Rattle.rv_model.specs.machine.UnitEvents.{unit_after_running};
+ghost use Rattle.rv_model.specs.machine.VectorUnit.{unit_after_uses};
 ghost use Rattle.rv_model.specs.memory.Memory.{Memory};
 ghost use Rattle.rv_model.specs.text.Lines.{text};
 ghost use Rattle.monitor_machine.specs.PartMoves.{PartsMove, machine_of, present_of};
@@ -21,7 +21,7 @@ use std::alloc::Allocator;
 
 /// Carries out a command that runs instructions of a user who has entered, or tells how far the
 /// program is or what it has put out, and answers it.
-#[tactic(auto, unfolding(rv_model::specs::commands::Running::running_command), using(crate::proofs::Steps::present))]
+#[tactic(auto, unfolding(rv_model::specs::commands::Running::running_command), using(crate::proofs::Steps::telling))]
 pub(crate) fn carry_out<A: Allocator>(
     parts: &mut Parts<'_, '_, '_, A>,
     trace: &mut Trace<A>,
@@ -31,8 +31,8 @@ pub(crate) fn carry_out<A: Allocator>(
     requires present { parts.old.context.now.entered ≡ true }
     ensures next { machine_of parts.new trace.new
         ≡ (running_command command.now (present_of parts.old trace.old)).next }
-    ensures parts { PartsMove parts.old parts.new (unit_after_running
-        parts.old.user command.now (present_of parts.old trace.old) (record_of parts.old.unit.now)) }
+    ensures parts { PartsMove parts.old parts.new (unit_after_uses parts.old.user
+        (running_command command.now (present_of parts.old trace.old)).uses (record_of parts.old.unit.now)) }
     ensures reply { reply.new ≡ text (48 + parts.old.user)
         (running_command command.now (present_of parts.old trace.old)).lines }
 {

@@ -1,10 +1,10 @@
 //! A slice of one user.
 ghost use Rattle.std.specs.Prelude.{◌≡◌, ◌+◌, ◌≤◌, ◌++◌, true, length};
 ghost use Rattle.lazy_context.specs.LazyUnit.{record_of};
-ghost use Rattle.rv_model.specs.machine.Cuts.{IsConfigured, tried_in};
+ghost use Rattle.rv_model.specs.machine.Cuts.{IsConfigured};
 ghost use Rattle.rv_model.specs.machine.Grants.{runs};
 ghost use Rattle.rv_model.specs.machine.PrivateMachine.{sliced};
-ghost use Rattle.rv_model.specs.machine.UnitEvents.{unit_after_tries};
+ghost use Rattle.rv_model.specs.machine.VectorUnit.{unit_after_uses};
 ghost use Rattle.rv_model.specs.text.Lines.{text};
 ghost use Rattle.monitor_machine.specs.PartMoves.{PartsMove, machine_of};
 ghost use Rattle.monitor_machine.specs.StopRoom.{stop_room};
@@ -17,9 +17,7 @@ use std::alloc::Allocator;
 
 /// Carries out a slice of `quantum` ticks of a user whose program runs, and adds to the reply why
 /// it stopped, if it did.
-#[tactic(auto, unfolding(rv_model::specs::machine::PrivateMachine::sliced, rv_model::specs::machine::Cuts::tried_in,
-// And what becomes of the vector unit.
-rv_model::specs::machine::UnitEvents::unit_after_tries), using(crate::proofs::Steps::present))]
+#[tactic(auto, unfolding(rv_model::specs::machine::PrivateMachine::sliced), using(crate::proofs::Steps::present))]
 fn run_slice<A: Allocator>(
     parts: &mut Parts<'_, '_, '_, A>,
     trace: &mut Trace<A>,
@@ -30,8 +28,8 @@ fn run_slice<A: Allocator>(
     requires running { parts.old.context.now.running ≡ true }
     requires room { length reply.old + 80 ≤ 4096 }
     ensures next { machine_of parts.new trace.new ≡ (sliced quantum (machine_of parts.old trace.old)).next }
-    ensures parts { PartsMove parts.old parts.new (unit_after_tries parts.old.user
-        (tried_in quantum (machine_of parts.old trace.old)) (record_of parts.old.unit.now)) }
+    ensures parts { PartsMove parts.old parts.new (unit_after_uses parts.old.user
+        (sliced quantum (machine_of parts.old trace.old)).uses (record_of parts.old.unit.now)) }
     ensures reply { reply.new
         ≡ reply.old ++ text (48 + parts.old.user) (sliced quantum (machine_of parts.old trace.old)).lines }
     ensures bound { length reply.new + stop_room (machine_of parts.new trace.new) ≤ length reply.old + 80 }
@@ -44,9 +42,7 @@ fn run_slice<A: Allocator>(
 
 /// Grants a slice of `quantum` ticks to a user, if the user's program runs, and adds to the reply
 /// why it stopped, if it did. Answers whether the program ran.
-#[tactic(auto, unfolding(rv_model::specs::machine::PrivateMachine::sliced, rv_model::specs::machine::Cuts::tried_in,
-// And what becomes of the vector unit.
-rv_model::specs::machine::UnitEvents::unit_after_tries), using(crate::proofs::Steps::granting))]
+#[tactic(auto, unfolding(rv_model::specs::machine::PrivateMachine::sliced), using(crate::proofs::Steps::granting))]
 pub(crate) fn grant<A: Allocator>(
     parts: &mut Parts<'_, '_, '_, A>,
     trace: &mut Trace<A>,
@@ -55,8 +51,8 @@ pub(crate) fn grant<A: Allocator>(
 ) -> bool
     requires room { length reply.old + stop_room (machine_of parts.old trace.old) ≤ 4096 }
     ensures next { machine_of parts.new trace.new ≡ (sliced quantum (machine_of parts.old trace.old)).next }
-    ensures parts { PartsMove parts.old parts.new (unit_after_tries parts.old.user
-        (tried_in quantum (machine_of parts.old trace.old)) (record_of parts.old.unit.now)) }
+    ensures parts { PartsMove parts.old parts.new (unit_after_uses parts.old.user
+        (sliced quantum (machine_of parts.old trace.old)).uses (record_of parts.old.unit.now)) }
     ensures reply { reply.new
         ≡ reply.old ++ text (48 + parts.old.user) (sliced quantum (machine_of parts.old trace.old)).lines }
     ensures ran { result ≡ runs (machine_of parts.old trace.old) }

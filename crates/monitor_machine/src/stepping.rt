@@ -2,9 +2,8 @@
 ghost use Rattle.std.specs.Prelude.{◌≡◌, false, length, nat_le, true};
 ghost use Rattle.hart.specs.States.{EndsBy, Returns};
 ghost use Rattle.lazy_context.specs.LazyUnit.{IsSettled, record_of};
-ghost use Rattle.rv_model.specs.machine.Cuts.{tries};
 ghost use Rattle.rv_model.specs.machine.Runs.{steps as steps_spec, stop_of as stop_spec, ticked};
-ghost use Rattle.rv_model.specs.machine.UnitEvents.{tried_steps, unit_after_tries, unit_after_try};
+ghost use Rattle.rv_model.specs.machine.VectorUnit.{unit_after_use, unit_after_uses};
 ghost use Rattle.rv_model.specs.step.Hart.{hart_state};
 ghost use Rattle.rv_model.specs.step.Step.{dirties, fetched, step as step_spec, touches};
 ghost use Rattle.monitor_machine.specs.Lent.{StepsTo, TicksTo, TriesTo, VectorsMove, lent, lent_state};
@@ -90,7 +89,7 @@ fn step_lent<M: UserBytes>(
     ensures context { context.new ≡ record context.old { scalar = context.new.scalar; output = context.new.output } }
     ensures memory { memory.new ≡ M.with_memory memory.old (M.memory memory.new) }
     ensures vectors { VectorsMove vectors.old vectors.new }
-    ensures unit { record_of vectors.new.unit.now ≡ unit_after_try vectors.old.user
+    ensures unit { record_of vectors.new.unit.now ≡ unit_after_use vectors.old.user
         (try_of terms.limit context.old (lent_state vectors.old) (M.memory memory.old))
         (record_of vectors.old.unit.now) }
 {
@@ -178,8 +177,8 @@ pub(crate) fn steps<A: Allocator>(
     ensures next { present_of parts.new trace.new ≡ (steps_spec count true (present_of parts.old trace.old)).state }
     ensures stop { (steps_spec count true (present_of parts.old trace.old)).stop ≡ result }
     ensures entered { parts.new.context.now.entered ≡ parts.old.context.now.entered }
-    ensures parts { PartsMove parts.old parts.new (unit_after_tries parts.old.user
-        (tried_steps count true (present_of parts.old trace.old)) (record_of parts.old.unit.now)) }
+    ensures parts { PartsMove parts.old parts.new (unit_after_uses parts.old.user
+        (steps_spec count true (present_of parts.old trace.old)).uses (record_of parts.old.unit.now)) }
 {
     let user = parts.user;
     let mut memory = UserMemory {
@@ -239,8 +238,8 @@ pub(crate) fn slice<A: Allocator>(
     ensures next { present_of parts.new trace.new ≡ (ticked quantum (present_of parts.old trace.old)).state }
     ensures stop { (ticked quantum (present_of parts.old trace.old)).stop ≡ result }
     ensures entered { parts.new.context.now.entered ≡ parts.old.context.now.entered }
-    ensures parts { PartsMove parts.old parts.new (unit_after_tries parts.old.user
-        (tries quantum quantum (present_of parts.old trace.old)) (record_of parts.old.unit.now)) }
+    ensures parts { PartsMove parts.old parts.new (unit_after_uses parts.old.user
+        (ticked quantum (present_of parts.old trace.old)).uses (record_of parts.old.unit.now)) }
 {
     let user = parts.user;
     let mut memory = UserMemory {

@@ -1,7 +1,8 @@
--- What any command comes to: it is refused, and leaves the user's machine and the vector unit; or it prints lines, none of which is a refusal.
+-- What any command comes to: it is refused, and leaves the user's machine and the vector unit; or it prints lines, none of which is
+-- a refusal.
 -- Only `leave` makes a user absent, and none leaves a vector length that isn't one of the vector type.
 use Rattle.std.proofs.Common.{◌≡◌, ◌⊎◌, inl, inr, ℕ, zero, suc, ◌+◌, ◌*◌, List, [], ◌∷◌, length, Bool, true, false, ◌&&◌, Option, Some, None, Result, Ok, Err, refl, subst, sym, ap}
-use Rattle.std.specs.Prelude.{⊤, not, map, nat_le, nat_lt, if◌then◌else◌}
+use Rattle.std.specs.Prelude.{⊤, map, nat_le, nat_lt}
 use Rattle.std.specs.List.{range_with_len}
 use Rattle.std.proofs.lemmas.Bool.{and_from}
 use Rattle.rv_model.specs.declared.commands.breakpoints.BreakpointCommand.{BreakpointCommand}
@@ -31,7 +32,7 @@ use Rattle.rv_model.specs.commands.Commands.{Parsed, needs_stopped, of_absent, o
 use Rattle.rv_model.specs.commands.Entering.{entering_absent, entering}
 use Rattle.rv_model.specs.commands.Memory.{mapping, peek_line, memory_command, why_not_mapped}
 use Rattle.rv_model.specs.commands.Printing.{refused}
-use Rattle.rv_model.specs.commands.Programs.{image_named, loaded_line, loading, loading_named, asm_line, assembling, dis_line, word_in, dis_lines, program_command, with_image}
+use Rattle.rv_model.specs.commands.Programs.{image_named, loaded_line, loading, loading_named, asm_line, assembling, dis_line, word_in, dis_lines, program_command}
 use Rattle.rv_model.specs.commands.Registers.{register_text, register_line, register_lines, regs_lines, vreg_line, vcsr_line, register_command}
 use Rattle.rv_model.specs.commands.Running.{step_line, running_line, stopped_line, state_line, trace_line, out_line, running_command}
 use Rattle.rv_model.specs.images.Faults.{first_fault}
@@ -39,10 +40,9 @@ use Rattle.rv_model.specs.images.Fields.{entry_of}
 use Rattle.rv_model.specs.images.Image.{memory_of_image}
 use Rattle.rv_model.specs.machine.Runs.{Halted, steps}
 use Rattle.rv_model.specs.machine.Setup.{Image}
-use Rattle.rv_model.specs.machine.UnitEvents.{can_be_loaded, unit_after_command, unit_after_line, unit_after_load, unit_of_absent, unit_of_present}
-use Rattle.rv_model.specs.machine.UserMachine.{Present, Private, Outcome, has_breakpoint, refuses, replies}
-use Rattle.rv_model.specs.machine.VectorUnit.{VectorUnit, unit_discarded, unused_unit}
+use Rattle.rv_model.specs.machine.UserMachine.{Present, Private, Outcome, has_breakpoint, refuses}
 use Rattle.rv_model.specs.memory.Memory.{bytes_at, can_access, map_refusal, page_count}
+use Rattle.rv_model.specs.memory.Sizes.{page_quota}
 use Rattle.rv_model.specs.declared.scalar.Scalar.{Scalar}
 use Rattle.rv_model.proofs.Choices.{of_either}
 use Rattle.rv_model.proofs.machine_lemmas.Configurations.{StaysAs, steps_stay}
@@ -67,15 +67,15 @@ pub prints : (line : List ℕ) → IsLine line → is_plain line ≡ true → Pr
 prints line h plain = (one_line line h, plain_line line plain)
 
 -- refused; or lines, and a fact of what is left
-abbrev Answers : (Private → Type 0) → Private → Outcome → VectorUnit → VectorUnit → Type 0
-Answers Left p o before after = (((reason : Refusal) × (o ≡ refuses p reason)) × (after ≡ before)) ⊎ (Printed o.lines × Left o.next)
+abbrev Answers : (Private → Type 0) → Private → Outcome → Type 0
+Answers Left p o = ((reason : Refusal) × (o ≡ refuses p reason)) ⊎ (Printed o.lines × Left o.next)
 
-abbrev Answered : Private → Outcome → VectorUnit → VectorUnit → Type 0
-Answered p o before after = Answers (λ next. ⊤) p o before after
+abbrev Answered : Private → Outcome → Type 0
+Answered p o = Answers (λ next. ⊤) p o
 
-answered : (Left : Private → Type 0) (p : Private) (o : Outcome) (before after : VectorUnit) → Answers Left p o before after → Answered p o before after
-answered Left p o before after (inl refused) = inl refused
-answered Left p o before after (inr lines) = inr (lines.0, tt)
+answered : (Left : Private → Type 0) (p : Private) (o : Outcome) → Answers Left p o → Answered p o
+answered Left p o (inl refused) = inl refused
+answered Left p o (inr lines) = inr (lines.0, tt)
 
 -- ---- each group of commands, of a user who has entered
 
@@ -84,16 +84,16 @@ abbrev Stays : Present → Cmd → Private → Type 0
 Stays p (Entering Leave) next = ⊤
 Stays p _ next = StaysAs p next
 
-module _ (images : List Image) (user : ℕ) (p : Present) (unit : VectorUnit) where
+module _ (images : List Image) (p : Present) where
   abbrev CommandAnswers : Cmd → Type 0
-  CommandAnswers c = Answers (Stays p c) (Some p) (of_present images c p) unit (unit_of_present images user c p unit)
+  CommandAnswers c = Answers (Stays p c) (Some p) (of_present images c p)
 
-  -- of those that leave the unit
+  -- of those after which the user is there
   abbrev Here : Outcome → Type 0
-  Here o = Answers (StaysAs p) (Some p) o unit unit
+  Here o = Answers (StaysAs p) (Some p) o
 
   refuses_now : (reason : Refusal) → Here (refuses (Some p) reason)
-  refuses_now reason = inl ((reason, refl), refl)
+  refuses_now reason = inl (reason, refl)
 
   mapping_answers : (reason : Option MapRefusal) (pages : Pages) (allowed : Permissions) → Here (mapping reason pages allowed p)
   mapping_answers None pages allowed = inr ((refl, refl), λ is. is)
@@ -123,22 +123,15 @@ module _ (images : List Image) (user : ℕ) (p : Present) (unit : VectorUnit) wh
   registers_answer Vcsr = inr (prints (vcsr_line p.hart.vector) (no_newline_in_vcsr_line p.hart.vector) refl, λ is. is)
   registers_answer _ = inr ((refl, refl), λ is. is)
 
-  -- an image that is too large is refused, and a smaller one drops the vector state
-  sized : (b : Bool) (image : List ℕ)
-      → Answers (StaysAs p) (Some p) (if b then refuses (Some p) refusal.Quota else replies (with_image image) (loaded_line (entry_of image) (page_count (memory_of_image image))))
-      unit (if not b then unit_discarded user unit else unit)
+  loading_answers : (image : List ℕ) (fault : Option ElfFault) → Here (loading image fault p)
   unfolding loaded_line initial_vector
-  sized true image = refuses_now refusal.Quota
-  sized false image =
-      let pages = page_count (memory_of_image image) in
-      inr (prints (loaded_line (entry_of image) pages) (no_newline_in_loaded_line (entry_of image) pages) refl, λ is. refl)
-
-  loading_answers : (image : List ℕ) (fault : Option ElfFault)
-      → Answers (StaysAs p) (Some p) (loading image fault p) unit (if can_be_loaded image fault then unit_discarded user unit else unit)
   loading_answers image (Some fault) = refuses_now (refusal.ElfFault fault)
-  loading_answers image None = sized (nat_lt 256 (page_count (memory_of_image image))) image
+  loading_answers image None =
+      let pages = page_count (memory_of_image image) in
+      of_either Here (nat_lt page_quota pages) _ _ (refuses_now refusal.Quota)
+      (inr (prints (loaded_line (entry_of image) pages) (no_newline_in_loaded_line (entry_of image) pages) refl, λ is. refl))
 
-  load_answers : (image : Option (List ℕ)) → Answers (StaysAs p) (Some p) (loading_named image p) unit (unit_after_load user image unit)
+  load_answers : (image : Option (List ℕ)) → Here (loading_named image p)
   load_answers None = refuses_now refusal.ImageName
   load_answers (Some image) = loading_answers image (first_fault image)
 
@@ -204,50 +197,44 @@ module _ (images : List Image) (user : ℕ) (p : Present) (unit : VectorUnit) wh
   present_answers (Breakpoints c) = breakpoints_answer c
   present_answers (Running c) = running_answers c
 
-  still_there : (o : Outcome) (after : VectorUnit) → Answers (StaysAs p) (Some p) o unit after → StaysAs p o.next
-  still_there o after (inl refused) = subst (λ (o : Outcome). StaysAs p o.next) (sym refused.0.1) (λ is. is)
-  still_there o after (inr lines) = lines.1
+  still_there : (o : Outcome) → Here o → StaysAs p o.next
+  still_there o (inl refused) = subst (λ (o : Outcome). StaysAs p o.next) (sym refused.1) (λ is. is)
+  still_there o (inr lines) = lines.1
 
   pub stays_there : (c : Cmd) → Stays p c (of_present images c p).next
   stays_there (Entering Leave) = tt
-  stays_there c = still_there (of_present images c p) (unit_of_present images user c p unit) (present_answers c)
+  stays_there c = still_there (of_present images c p) (present_answers c)
 
 -- ---- of any user
 
-absent_answers : (user : ℕ) (c : Cmd) (unit : VectorUnit) → Answered None (of_absent c) unit (unit_of_absent user c unit)
+absent_answers : (c : Cmd) → Answered None (of_absent c)
 unfolding of_absent entering_absent
-absent_answers user (Entering Enter) unit = inr ((refl, refl), tt)
-absent_answers user _ unit = inl ((refusal.NotEntered, refl), refl)
+absent_answers (Entering Enter) = inr ((refl, refl), tt)
+absent_answers _ = inl (refusal.NotEntered, refl)
 
-carried_out_answers : (images : List Image) (user : ℕ) (c : Cmd) (p : Private) (unit : VectorUnit)
-    → Answered p (carried_out images c p) unit (unit_after_command images user c p unit)
+carried_out_answers : (images : List Image) (c : Cmd) (p : Private) → Answered p (carried_out images c p)
 unfolding carried_out
-carried_out_answers images user c None unit = absent_answers user c unit
-carried_out_answers images user c (Some p) unit = held (p.running && needs_stopped c)
-  where
-    held : (b : Bool)
-        → Answered (Some p) (if b then refuses (Some p) refusal.Running else of_present images c p) unit (if b then unit else unit_of_present images user c p unit)
-    held true = inl ((refusal.Running, refl), refl)
-    held false = answered (Stays p c) _ _ _ _ (present_answers images user p unit c)
+carried_out_answers images c None = absent_answers c
+carried_out_answers images c (Some p) =
+    of_either (λ (o : Outcome). Answered (Some p) o) (p.running && needs_stopped c) (refuses (Some p) refusal.Running) (of_present images c p)
+    (inl (refusal.Running, refl)) (answered (Stays p c) (Some p) (of_present images c p) (present_answers images p c))
 
-commanded_answers : (images : List Image) (user : ℕ) (p : Private) (r : Parsed) (unit : VectorUnit)
-    → Answered p (commanded images p r) unit (unit_after_line images user p r unit)
-commanded_answers images user p (Err reason) unit = inl ((reason, refl), refl)
-commanded_answers images user p (Ok c) unit = carried_out_answers images user c p unit
+commanded_answers : (images : List Image) (p : Private) (r : Parsed) → Answered p (commanded images p r)
+commanded_answers images p (Err reason) = inl (reason, refl)
+commanded_answers images p (Ok c) = carried_out_answers images c p
 
--- neither the machine nor the unit changes; or none of the lines is a refusal
-abbrev pub Settles : Private → Outcome → VectorUnit → VectorUnit → Type 0
-Settles p o before after = ((o.next ≡ p) × (after ≡ before)) ⊎ (are_plain o.lines ≡ true)
+-- the machine stays, and the vector unit isn't used; or none of the lines is a refusal
+abbrev pub Settles : Private → Outcome → Type 0
+Settles p o = ((o.next ≡ p) × (o.uses ≡ [])) ⊎ (are_plain o.lines ≡ true)
 
-pub commanded_settles : (images : List Image) (user : ℕ) (p : Private) (r : Parsed) (unit : VectorUnit)
-    → Settles p (commanded images p r) unit (unit_after_line images user p r unit)
-commanded_settles images user p r unit = elim (commanded_answers images user p r unit) [
-  | inl refused ↦ inl (ap (λ (o : Outcome). o.next) refused.0.1, refused.1)
+pub commanded_settles : (images : List Image) (p : Private) (r : Parsed) → Settles p (commanded images p r)
+commanded_settles images p r = elim (commanded_answers images p r) [
+  | inl refused ↦ inl (ap (λ (o : Outcome). o.next) refused.1, ap (λ (o : Outcome). o.uses) refused.1)
   | inr lines ↦ inr lines.0.1
 ]
 
 pub commanded_prints : (images : List Image) (p : Private) (r : Parsed) → PrintsLines (commanded images p r)
-commanded_prints images p r = elim (commanded_answers images 1 p r unused_unit) [
-  | inl refused ↦ subst PrintsLines (sym refused.0.1) (refusal_prints p refused.0.0)
+commanded_prints images p r = elim (commanded_answers images p r) [
+  | inl refused ↦ subst PrintsLines (sym refused.1) (refusal_prints p refused.0)
   | inr lines ↦ lines.0.0
 ]

@@ -6,25 +6,17 @@ use Rattle.std.proofs.lemmas.Bool.{cases_eq, false≢true}
 use Rattle.std.proofs.lemmas.Bool.Decides.{nat_tests}
 use Rattle.std.proofs.lemmas.List.{get_or-replicate, get_or-set_other, set-get_or}
 use Rattle.rv_model.specs.declared.commands.command.Cmd.{Cmd}
-use Rattle.rv_model.specs.declared.commands.command.Cmd.TheVariants.{Entering, Registers, Programs, Running}
+use Rattle.rv_model.specs.declared.commands.command.Cmd.TheVariants.{Entering}
 use Rattle.rv_model.specs.declared.commands.entering.EnteringCommand.TheVariants.{Enter, Leave}
-use Rattle.rv_model.specs.declared.commands.programs.ProgramCommand.TheVariants.{Load}
-use Rattle.rv_model.specs.declared.commands.registers.RegisterCommand.{RegisterCommand}
-use Rattle.rv_model.specs.declared.commands.registers.RegisterCommand.TheVariants.{Vset}
-use Rattle.rv_model.specs.declared.commands.running.RunningCommand.{RunningCommand}
-use Rattle.rv_model.specs.declared.commands.running.RunningCommand.TheVariants.{Step}
 use Rattle.rv_model.specs.declared.commands.refusal.Refusal.TheVariants as refusal
-use Rattle.rv_model.specs.commands.Commands.{Parsed, carried_out, commanded, needs_stopped, of_present, parse}
-use Rattle.rv_model.specs.commands.Programs.{image_named}
-use Rattle.rv_model.specs.images.Faults.{first_fault}
+use Rattle.rv_model.specs.commands.Commands.{Parsed, carried_out, commanded, needs_stopped, of_absent, of_present, parse}
+use Rattle.rv_model.specs.commands.Entering.{entering, entering_absent}
 use Rattle.rv_model.specs.machine.AbsentUsers.{AbsentUsersHaveNothing, AbsentUsersLeaveTheUnit, HappeningsKeepNothing, HasNothing, ScriptsKeepNothing}
-use Rattle.rv_model.specs.machine.Cuts.{Try, tried_in}
 use Rattle.rv_model.specs.machine.PrivateMachine.{Private, Event, Command, Slice, event, sliced}
 use Rattle.rv_model.specs.machine.Script.{after_all, after_script, events_of, kind_of, new_world, world_after}
 use Rattle.rv_model.specs.machine.Setup.{Image, Setup}
-use Rattle.rv_model.specs.machine.UnitEvents.{can_be_loaded, tried_steps, unit_after_command, unit_after_event, unit_after_line, unit_after_load, unit_after_registers, unit_after_running, unit_after_tries, unit_after_try, unit_of_absent, unit_of_present}
-use Rattle.rv_model.specs.machine.UserMachine.{Present, refuses}
-use Rattle.rv_model.specs.machine.VectorUnit.{VectorUnit, is_marked, is_owned_by, owner_changed, owner_saved, unit_after_instruction, unit_discarded, unit_register_written, unit_touched, with_mark}
+use Rattle.rv_model.specs.machine.UserMachine.{Outcome, Present, Use, Tries, Writes, Drops, refuses}
+use Rattle.rv_model.specs.machine.VectorUnit.{VectorUnit, is_marked, is_owned_by, owner_changed, owner_saved, unit_after_instruction, unit_after_use, unit_after_uses, unit_discarded, unit_register_written, unit_touched, with_mark}
 use Rattle.rv_model.specs.machine.World.{World, Happening, after_events, after_one, outcome_of, unit_after, with_unit, user_machine, with_user_machine}
 use Rattle.rv_model.specs.step.Step.{dirties, fetched, touches}
 use Rattle.rv_model.specs.text.Lines.{pieces}
@@ -33,7 +25,7 @@ use Rattle.rv_model.proofs.machine_lemmas.Configurations.{not_gone}
 use Rattle.rv_model.proofs.machine_lemmas.Cuts.{sliced_stays}
 use Rattle.rv_model.proofs.machine_lemmas.Grants.{AreUsers}
 use Rattle.rv_model.proofs.machine_lemmas.Headline.{length-after, length-after_one, part_after_one, part_other, part_same, users_of}
-use Rattle.rv_model.proofs.Choices.{of_either, of_test, of_bool}
+use Rattle.rv_model.proofs.Choices.{of_either, of_test}
 
 -- ---- marks and owners
 
@@ -112,14 +104,6 @@ module _ (user : ℕ) (low : 1 ≤ user) (high : user ≤ 8) where
   instruction true false unit = touched unit
   instruction true true unit = and_then user unit (unit_touched user unit) _ (touched unit) (changed (unit_touched user unit))
 
-  tries : (ts : List Try) (unit : VectorUnit) → Moves user unit (unit_after_tries user ts unit)
-  unfolding unit_after_tries
-  tries [] unit = still user unit
-  tries (t ∷ ts) unit =
-      let i = fetched t.hart.memory t.hart.scalar.pc in
-      and_then user unit (unit_after_try user t unit) _ (instruction (touches i) (dirties t.left i t.hart) unit)
-      (tries ts (unit_after_try user t unit))
-
   writes : (unit : VectorUnit) → Moves user unit (unit_register_written user unit)
   writes unit =
       picks (is_owned_by unit.owner user) user unit _ _ (changed unit)
@@ -152,87 +136,62 @@ module _ (user : ℕ) (low : 1 ≤ user) (high : user ≤ 8) where
       ap (λ (b : Bool). record unit { owner = (if b then None else unit.owner); saved = with_mark user false unit.saved }) nothing.0
       ∙ ap (λ (saved : List Bool). record unit { saved = saved }) marks
 
-  -- ---- events
+  -- ---- uses
 
-  registers_move : (c : RegisterCommand) (unit : VectorUnit) → Moves user unit (unit_after_registers user c unit)
-  registers_move (Vset register bytes) unit = writes unit
-  registers_move c unit = still user unit
+  used : (one : Use) (unit : VectorUnit) → Moves user unit (unit_after_use user one unit)
+  used (Tries left hart) unit =
+      let i = fetched hart.memory hart.scalar.pc in
+      instruction (touches i) (dirties left i hart) unit
+  used Writes unit = writes unit
+  used Drops unit = discards unit
 
-  load_moves : (image : Option (List ℕ)) (unit : VectorUnit) → Moves user unit (unit_after_load user image unit)
-  load_moves None unit = still user unit
-  load_moves (Some image) unit = picks (can_be_loaded image (first_fault image)) user unit _ unit (discards unit) (still user unit)
-
-  running_moves : (c : RunningCommand) (p : Present) (unit : VectorUnit) → Moves user unit (unit_after_running user c p unit)
-  running_moves (Step n) p unit = tries (tried_steps n true p) unit
-  running_moves c p unit = still user unit
-
-  present_moves : (images : List Image) (c : Cmd) (p : Present) (unit : VectorUnit) → Moves user unit (unit_of_present images user c p unit)
-  present_moves images (Entering Enter) p unit = still user unit
-  present_moves images (Entering Leave) p unit = discards unit
-  present_moves images (Registers c) p unit = registers_move c unit
-  present_moves images (Programs (Load name)) p unit = load_moves (image_named images name) unit
-  present_moves images (Programs c) p unit = still user unit
-  present_moves images (Running c) p unit = running_moves c p unit
-  present_moves images c p unit = still user unit
-
-  absent_moves : (c : Cmd) (unit : VectorUnit) → Moves user unit (unit_of_absent user c unit)
-  absent_moves (Entering Enter) unit = discards unit
-  absent_moves (Entering Leave) unit = still user unit
-  absent_moves c unit = still user unit
-
-  command_moves : (images : List Image) (c : Cmd) (p : Private) (unit : VectorUnit) → Moves user unit (unit_after_command images user c p unit)
-  command_moves images c None unit = absent_moves c unit
-  command_moves images c (Some p) unit =
-      picks (p.running && needs_stopped c) user unit unit _ (still user unit) (present_moves images c p unit)
-
-  event_moves : (s : Setup) (p : Private) (e : Event) (unit : VectorUnit) → Moves user unit (unit_after_event s user p e unit)
-  unfolding unit_after_event
-  event_moves s p (Command line) unit = parsed (parse line)
-    where
-      parsed : (r : Parsed) → Moves user unit (unit_after_line s.images user p r unit)
-      parsed (Err reason) = still user unit
-      parsed (Ok c) = command_moves s.images c p unit
-  event_moves s p Slice unit = tries (tried_in s.quantum p) unit
+  all_used : (uses : List Use) (unit : VectorUnit) → Moves user unit (unit_after_uses user uses unit)
+  all_used [] unit = still user unit
+  all_used (first ∷ others) unit =
+      and_then user unit (unit_after_use user first unit) _ (used first unit) (all_used others (unit_after_use user first unit))
 
   -- ---- a user who is absent
 
-  absent_command : (c : Cmd) (unit : VectorUnit) → HasNothing user unit → unit_of_absent user c unit ≡ unit
+  absent_command : (c : Cmd) (unit : VectorUnit) → HasNothing user unit → unit_after_uses user (of_absent c).uses unit ≡ unit
+  unfolding of_absent entering_absent
   absent_command (Entering Enter) unit nothing = nothing_dropped unit nothing
   absent_command (Entering Leave) unit nothing = refl
   absent_command _ unit nothing = refl
 
-  absent_event : (s : Setup) (e : Event) (unit : VectorUnit) → HasNothing user unit → unit_after_event s user None e unit ≡ unit
-  unfolding unit_after_event tried_in unit_after_tries
+  absent_event : (s : Setup) (e : Event) (unit : VectorUnit) → HasNothing user unit
+      → unit_after_uses user (event s None e).uses unit ≡ unit
+  unfolding event carried_out sliced
   absent_event s (Command line) unit nothing = parsed (parse line)
     where
-      parsed : (r : Parsed) → unit_after_line s.images user None r unit ≡ unit
+      parsed : (r : Parsed) → unit_after_uses user (commanded s.images None r).uses unit ≡ unit
       parsed (Err reason) = refl
       parsed (Ok c) = absent_command c unit nothing
   absent_event s Slice unit nothing = refl
 
   -- ---- a user who becomes absent
 
-  left : (images : List Image) (p : Present) (c : Cmd) (unit : VectorUnit) → (of_present images c p).next ≡ None
-      → HasNothing user (unit_of_present images user c p unit)
-  left images p (Entering Leave) unit none = nothing_left unit
-  left images p c unit none = absurd (not_gone p (of_present images c p).next (stays_there images user p unit c) none)
+  abbrev LeavesNothing : Outcome → VectorUnit → Type 0
+  LeavesNothing o unit = o.next ≡ None → HasNothing user (unit_after_uses user o.uses unit)
 
-  present_leaves : (images : List Image) (p : Present) (c : Cmd) (unit : VectorUnit) → (carried_out images c (Some p)).next ≡ None
-      → HasNothing user (unit_after_command images user c (Some p) unit)
+  left : (images : List Image) (p : Present) (c : Cmd) (unit : VectorUnit) → LeavesNothing (of_present images c p) unit
+  unfolding of_present entering
+  left images p (Entering Leave) unit none = nothing_left unit
+  left images p c unit none = absurd (not_gone p (of_present images c p).next (stays_there images p c) none)
+
+  present_leaves : (images : List Image) (p : Present) (c : Cmd) (unit : VectorUnit) → LeavesNothing (carried_out images c (Some p)) unit
   unfolding carried_out
   present_leaves images p c unit =
-      of_bool (p.running && needs_stopped c)
-      (λ b. (cond b (refuses (Some p) refusal.Running) (of_present images c p)).next ≡ None → HasNothing user (cond b unit (unit_of_present images user c p unit)))
-      (λ e none. absurd (not_gone p (Some p) (λ is. is) none)) (λ e. left images p c unit)
+      of_either (λ (o : Outcome). LeavesNothing o unit) (p.running && needs_stopped c) (refuses (Some p) refusal.Running) (of_present images c p)
+      (λ none. absurd (not_gone p (Some p) (λ is. is) none)) (left images p c unit)
 
   -- who is absent after an event has nothing of the unit, if who was absent had nothing
   absent_after : (s : Setup) (p : Private) (e : Event) (unit : VectorUnit) → (p ≡ None → HasNothing user unit)
-      → (event s p e).next ≡ None → HasNothing user (unit_after_event s user p e unit)
-  unfolding event unit_after_event
+      → LeavesNothing (event s p e) unit
+  unfolding event
   absent_after s None e unit nothing none = subst (HasNothing user) (sym (absent_event s e unit (nothing refl))) (nothing refl)
   absent_after s (Some p) (Command line) unit nothing none = parsed (parse line) none
     where
-      parsed : (r : Parsed) → (commanded s.images (Some p) r).next ≡ None → HasNothing user (unit_after_line s.images user (Some p) r unit)
+      parsed : (r : Parsed) → LeavesNothing (commanded s.images (Some p) r) unit
       parsed (Err reason) none = absurd (not_gone p (Some p) (λ is. is) none)
       parsed (Ok c) none = present_leaves s.images p c unit none
   absent_after s (Some p) Slice unit nothing none =
@@ -253,7 +212,7 @@ unit_after_one s w h = unit_after_turn h.turn h.user (with_unit (unit_after s w 
 
 pub happenings_keep_nothing : HappeningsKeepNothing
 happenings_keep_nothing s w h low high eight nothing =
-    let moves : Moves h.user w.unit (unit_after s w h) = event_moves h.user low high s (user_machine h.user w) h.event w.unit in
+    let moves : Moves h.user w.unit (unit_after s w h) = all_used h.user low high (outcome_of s w h).uses w.unit in
     let is_unit = sym (unit_after_one s w h) in
     let next : Private = (outcome_of s w h).next in (
       subst (λ (unit : VectorUnit). OwnerIsUser unit.owner) is_unit (moves.owner nothing.0),
@@ -293,5 +252,5 @@ scripts_keep_nothing s w script eight nothing = lines_keep_nothing s w (pieces s
 
 pub absent_users_leave_the_unit : AbsentUsersLeaveTheUnit
 absent_users_leave_the_unit s w h low high nothing absent =
-    ap (λ (p : Private). unit_after_event s h.user p h.event w.unit) absent
+    ap (λ (p : Private). unit_after_uses h.user (event s p h.event).uses w.unit) absent
     ∙ absent_event h.user low high s h.event w.unit (nothing.1 h.user low high absent)

@@ -4,7 +4,7 @@ use Rattle.std.specs.Prelude.{◌&&◌, not, is_none}
 use Rattle.rv_model.specs.declared.step.step_end.StepEnd.{StepEnd}
 use Rattle.rv_model.specs.declared.step.step_end.StepEnd.TheVariants.{Ran}
 use Rattle.rv_model.specs.machine.Cuts.{IsConfigured}
-use Rattle.rv_model.specs.machine.Runs.{after, at_breakpoint, stop_of, Halted, runs_on, slice_steps, steps}
+use Rattle.rv_model.specs.machine.Runs.{after, at_breakpoint, stop_of, Halted, halted, runs_on, slice_steps, steps}
 use Rattle.rv_model.specs.machine.UserMachine.{Present, Private}
 use Rattle.rv_model.specs.step.Hart.{HartState, Stepped}
 use Rattle.rv_model.specs.step.Step.{step}
@@ -33,23 +33,25 @@ hart_after : (e : StepEnd) (state : HartState) (p : Present) → (after e state 
 hart_after Ran state p = refl
 hart_after _ state p = refl
 
-run_stays : (exempt : Bool) (limit : ℕ) (p : Present) (others : Present → Halted) → ((q : Present) → HasLength q → HasLength (others q).state)
-    → HasLength p → HasLength (runs_on exempt (step limit p.hart) p others).state
+run_stays : (exempt : Bool) (limit : ℕ) (p : Present) (others : ℕ → Present → Halted)
+    → ((later : ℕ) (q : Present) → HasLength q → HasLength (others later q).state)
+    → HasLength p → HasLength (runs_on exempt limit p others).state
 run_stays exempt limit p others rest is =
     let one : Stepped = step limit p.hart in
     let q : Present = after one.end one.state p in
     let left : HasLength q = subst (λ (s : HartState). IsConfiguration s.vector.conf) (sym (hart_after one.end one.state p))
     (step_keeps_configuration limit p.hart is) in
     of_either (λ (r : Halted). HasLength r.state) (not exempt && at_breakpoint p) _ _ is
-    (of_either (λ (r : Halted). HasLength r.state) (is_none (stop_of one.end)) _ _ (rest q left) left)
+    (of_either (λ (r : Halted). HasLength r.state) (is_none (stop_of one.end)) (others (limit - one.ticks) q)
+    (halted q (stop_of one.end)) (rest (limit - one.ticks) q left) left)
 
 pub steps_stay : (n : ℕ) (exempt : Bool) (p : Present) → HasLength p → HasLength (steps n exempt p).state
 steps_stay zero exempt p is = is
-steps_stay (suc n) exempt p is = run_stays exempt 256 p (steps n false) (steps_stay n false) is
+steps_stay (suc n) exempt p is =
+    run_stays exempt 256 p (λ later next. steps n false next) (λ later next. steps_stay n false next) is
 
 pub slice_stays : (n left : ℕ) (p : Present) → HasLength p → HasLength (slice_steps n left p).state
 slice_stays zero left p is = is
 slice_stays (suc n) zero p is = is
 slice_stays (suc n) (suc left) p is =
-    let later : ℕ = suc left - (step (suc left) p.hart).ticks in
-    run_stays p.fresh (suc left) p (slice_steps n later) (slice_stays n later) is
+    run_stays p.fresh (suc left) p (λ later next. slice_steps n later next) (λ later next. slice_stays n later next) is

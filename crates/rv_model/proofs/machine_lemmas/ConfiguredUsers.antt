@@ -12,7 +12,6 @@ use Rattle.rv_model.specs.machine.PrivateMachine.{Event, Command, Slice, event}
 use Rattle.rv_model.specs.machine.Script.{after_script, events_of, kind_of, new_world, world_after}
 use Rattle.rv_model.specs.machine.Setup.{Image, Setup}
 use Rattle.rv_model.specs.machine.UserMachine.{Outcome, Present, Private}
-use Rattle.rv_model.specs.machine.VectorUnit.{unused_unit}
 use Rattle.rv_model.specs.machine.World.{World, Happening, after_events, after_one, outcome_of, user_machine}
 use Rattle.rv_model.specs.text.Lines.{pieces}
 use Rattle.rv_model.specs.vector.State.{initial_vector}
@@ -32,7 +31,7 @@ absent_command _ = tt
 present_command : (images : List Image) (p : Present) (c : Cmd) → IsConfigured (Some p) → IsConfigured (of_present images c p).next
 unfolding of_present entering
 present_command images p (Entering Leave) is = tt
-present_command images p c is = stays_configured p (of_present images c p).next (stays_there images 1 p unused_unit c) is
+present_command images p c is = stays_configured p (of_present images c p).next (stays_there images p c) is
 
 line_keeps : (images : List Image) (p : Private) (r : Parsed) → IsConfigured p → IsConfigured (commanded images p r).next
 unfolding carried_out

@@ -9,10 +9,10 @@ use Rattle.rv_model.specs.declared.step.step_end.StepEnd.TheVariants.{Ran, Exit,
 use Rattle.rv_model.specs.declared.step.step_end.Stop.{Stop}
 use Rattle.rv_model.specs.declared.step.step_end.Stop.TheVariants as stop
 use Rattle.rv_model.specs.accesses.Restarts.{overlay}
-use Rattle.rv_model.specs.machine.Cuts.{CutsAreInvisible, KeepsWordIfCut, SliceKeepsConfiguration, SlicesAddUp, Try, joined, slices, tried_in, tried_in_slices, tries}
+use Rattle.rv_model.specs.machine.Cuts.{ComeToTheSame, CutsAreInvisible, IsConfigured, KeepsWordIfCut, SliceKeepsConfiguration, SlicesAddUp, joined, slices}
 use Rattle.rv_model.specs.machine.PrivateMachine.{slice_ends, sliced}
 use Rattle.rv_model.specs.machine.Runs.{stop_of, at_breakpoint, recorded, after, Halted, halted, slice_steps, ticked}
-use Rattle.rv_model.specs.machine.UserMachine.{Outcome, Present, Private}
+use Rattle.rv_model.specs.machine.UserMachine.{Outcome, Present, Private, Use, Tries}
 use Rattle.rv_model.specs.memory.Memory.{Memory}
 use Rattle.rv_model.specs.declared.memory.Access.TheVariants.{Monitor}
 use Rattle.rv_model.specs.step.Hart.{HartState, Stepped}
@@ -74,6 +74,21 @@ running_after _ state p = refl
 
 -- ---- a run of instructions
 
+-- what a run comes to, but for its uses of the vector unit
+abbrev bare : Halted → Halted
+bare run = record run { uses = [] }
+
+abbrev comes_to : ℕ → ℕ → Present → Halted
+comes_to n left p = bare (slice_steps n left p)
+
+bare_either : (b : Bool) (x y : Halted) → bare (if b then x else y) ≡ (if b then bare x else bare y)
+bare_either true x y = refl
+bare_either false x y = refl
+
+uses_either : (b : Bool) (x y : Halted) → (if b then x else y).uses ≡ (if b then x.uses else y.uses)
+uses_either true x y = refl
+uses_either false x y = refl
+
 -- a breakpoint stops the program before its next instruction
 abbrev is_held : Present → Bool
 is_held p = not p.fresh && at_breakpoint p
@@ -81,37 +96,44 @@ is_held p = not p.fresh && at_breakpoint p
 -- what follows an instruction
 follows : ℕ → ℕ → Present → Stepped → Halted
 follows n left p one =
-    if is_none (stop_of one.end) then slice_steps n (left - one.ticks) (after one.end one.state p)
+    if is_none (stop_of one.end) then comes_to n (left - one.ticks) (after one.end one.state p)
     else halted (after one.end one.state p) (stop_of one.end)
 
-steps_none : (n : ℕ) (p : Present) → slice_steps n 0 p ≡ halted p None
+steps_none : (n : ℕ) (p : Present) → comes_to n 0 p ≡ halted p None
 steps_none zero p = refl
 steps_none (suc n) p = refl
 
 steps_held : (n left : ℕ) (p : Present) → is_held p ≡ true → 1 ≤ left
-    → slice_steps (suc n) left p ≡ halted p (Some stop.Breakpoint)
+    → comes_to (suc n) left p ≡ halted p (Some stop.Breakpoint)
 steps_held n zero p h l = absurd (omega (arith, l))
 steps_held n (suc left) p h l = rw h refl
 
 steps_tried : (n left : ℕ) (p : Present) → is_held p ≡ false → 1 ≤ left
-    → slice_steps (suc n) left p ≡ follows n left p (step left p.hart)
+    → comes_to (suc n) left p ≡ follows n left p (step left p.hart)
 unfolding follows
 steps_tried n zero p h l = absurd (omega (arith, l))
-steps_tried n (suc left) p h l = rw h refl
+steps_tried n (suc left) p h l =
+    let one : Stepped = step (suc left) p.hart in
+    let next : Present = after one.end one.state p in
+    rw h (bare_either (is_none (stop_of one.end)) (slice_steps n (suc left - one.ticks) next) (halted next (stop_of one.end)))
 
--- the tries after an instruction
-tries_after : ℕ → ℕ → Present → Stepped → List Try
-tries_after n left p one =
-    if is_none (stop_of one.end) then tries n (left - one.ticks) (after one.end one.state p) else []
+-- the uses after an instruction
+uses_after : ℕ → ℕ → Present → Stepped → List Use
+uses_after n left p one =
+    if is_none (stop_of one.end) then (slice_steps n (left - one.ticks) (after one.end one.state p)).uses else []
 
-tries_tried : (n left : ℕ) (p : Present) → is_held p ≡ false → 1 ≤ left
-    → tries (suc n) left p ≡ record { left = left; hart = p.hart } ∷ tries_after n left p (step left p.hart)
-unfolding tries tries_after
-tries_tried n zero p h l = absurd (omega (arith, l))
-tries_tried n (suc left) p h l = rw h refl
+uses_tried : (n left : ℕ) (p : Present) → is_held p ≡ false → 1 ≤ left
+    → (slice_steps (suc n) left p).uses ≡ Tries left p.hart ∷ uses_after n left p (step left p.hart)
+unfolding uses_after
+uses_tried n zero p h l = absurd (omega (arith, l))
+uses_tried n (suc left) p h l =
+    let one : Stepped = step (suc left) p.hart in
+    let next : Present = after one.end one.state p in
+    rw h (ap (λ (others : List Use). Tries (suc left) p.hart ∷ others)
+    (uses_either (is_none (stop_of one.end)) (slice_steps n (suc left - one.ticks) next) (halted next (stop_of one.end))))
 
 follows_on : (n left : ℕ) (p : Present) (one : Stepped) (e : StepEnd) → one.end ≡ e → stop_of e ≡ None
-    → follows n left p one ≡ slice_steps n (left - one.ticks) (after e one.state p)
+    → follows n left p one ≡ comes_to n (left - one.ticks) (after e one.state p)
 unfolding follows
 follows_on n left p one e h s = rw (h, s) refl
 
@@ -120,10 +142,10 @@ follows_stop : (n left : ℕ) (p : Present) (one : Stepped) (reason : Stop) → 
 unfolding follows
 follows_stop n left p one reason h = rw h refl
 
-tries_on : (n left : ℕ) (p : Present) (one : Stepped) → one.end ≡ Ran
-    → tries_after n left p one ≡ tries n (left - one.ticks) (after Ran one.state p)
-unfolding tries_after
-tries_on n left p one h = rw h refl
+uses_on : (n left : ℕ) (p : Present) (one : Stepped) → one.end ≡ Ran
+    → uses_after n left p one ≡ (slice_steps n (left - one.ticks) (after Ran one.state p)).uses
+unfolding uses_after
+uses_on n left p one h = rw h refl
 
 -- what follows an instruction that was cut and goes on is what follows it uncut
 follows_resumed : (b c left more : ℕ) (p : Present) (half : HartState) (two : Stepped) → half.scalar ≡ p.hart.scalar
@@ -134,10 +156,10 @@ follows_resumed b c left more p half two h lb lc some least =
     let over : (left + more) - (two.ticks + left) ≡ more - two.ticks = omega arith in
     let whole : Present = after two.end two.state p in
     let reason : Option Stop = stop_of two.end in
-    ap (λ (n : ℕ). if is_none reason then slice_steps b n whole else halted whole reason) over
-    ∙ ap (λ (r : Halted). if is_none reason then r else halted whole reason)
+    ap (λ (n : ℕ). if is_none reason then comes_to b n whole else halted whole reason) over
+    ∙ ap (λ (r : Halted). if is_none reason then bare r else halted whole reason)
     (fuel_is_enough b c (more - two.ticks) whole (omega (arith, lb, some, least)) (omega (arith, lc, least)))
-    ∙ ap (λ (q : Present). if is_none reason then slice_steps c (more - two.ticks) q else halted q reason)
+    ∙ ap (λ (q : Present). if is_none reason then comes_to c (more - two.ticks) q else halted q reason)
     (sym (after_resumed two.end two.state half p h))
 
 -- a run, and then another from where it ends, unless it stopped
@@ -145,16 +167,17 @@ abbrev goes_on : Halted → (Present → Halted) → Halted
 goes_on first more = if is_none first.stop then more first.state else first
 
 adds_none : (a b c more : ℕ) (p : Present) → more ≤ b → more ≤ c
-    → slice_steps b (0 + more) p ≡ goes_on (slice_steps a 0 p) (slice_steps c more)
+    → comes_to b (0 + more) p ≡ goes_on (comes_to a 0 p) (λ q. comes_to c more q)
 adds_none a b c more p lb lc =
     let zeros : 0 + more ≡ more = omega arith in
-    ap (λ (n : ℕ). slice_steps b n p) zeros ∙ fuel_is_enough b c more p lb lc
-    ∙ ap (λ (r : Halted). goes_on r (slice_steps c more)) (sym (steps_none a p))
+    ap (λ (n : ℕ). comes_to b n p) zeros
+    ∙ ap (λ (r : Halted). bare r) (fuel_is_enough b c more p lb lc)
+    ∙ ap (λ (r : Halted). goes_on r (λ q. comes_to c more q)) (sym (steps_none a p))
 
 adds : (a b c left more : ℕ) (p : Present) → left ≤ a → left + more ≤ b → more ≤ c → 1 ≤ more
     → IsConfiguration p.hart.vector.conf
-    → All KeepsWordIfCut (tries a left p)
-    → slice_steps b (left + more) p ≡ goes_on (slice_steps a left p) (slice_steps c more)
+    → All KeepsWordIfCut (slice_steps a left p).uses
+    → comes_to b (left + more) p ≡ goes_on (comes_to a left p) (λ q. comes_to c more q)
 adds a b c zero more p la lb lc some is keeps = adds_none a b c more p (omega (arith, lb)) lc
 adds zero b c (suc left) more p la lb lc some is keeps = absurd (omega (arith, la))
 adds (suc a) zero c (suc left) more p la lb lc some is keeps = absurd (omega (arith, lb))
@@ -165,24 +188,24 @@ adds (suc a) (suc b) (suc c) (suc left) more p la lb lc some is keeps =
     let larger : suc left ≤ suc left + more = omega arith in
     let one : Stepped = step (suc left) p.hart in
     let ticks = step_takes_ticks (suc left) p.hart here in
-    let onwards : Halted → Halted = λ r. goes_on r (slice_steps (suc c) more) in
+    let onwards : Halted → Halted = λ r. goes_on r (λ q. comes_to (suc c) more q) in
     elim (cases_Bool (is_held p)) [
       | inl h ↦ steps_held b (suc left + more) p h both ∙ ap onwards (sym (steps_held a (suc left) p h here))
       | inr h ↦
           let whole = steps_tried b (suc left + more) p h both in
           let first = ap onwards (sym (steps_tried a (suc left) p h here)) in
-          let each = All-same KeepsWordIfCut _ _ (sym (tries_tried a (suc left) p h here)) keeps in
+          let each = All-same KeepsWordIfCut _ _ (sym (uses_tried a (suc left) p h here)) keeps in
           elim (ended one.end) [
             | inl (ran, uncut) ↦
                 let same = steps_take_ticks.more (suc left) (suc left + more) p.hart larger uncut in
                 let q : Present = after Ran one.state p in
                 let apart : (suc left + more) - one.ticks ≡ (suc left - one.ticks) + more = omega (arith, ticks.1) in
                 let rest =
-                All-same KeepsWordIfCut _ _ (sym (tries_on a (suc left) p one ran)) (All-tail KeepsWordIfCut _ _ each) in
+                All-same KeepsWordIfCut _ _ (sym (uses_on a (suc left) p one ran)) (All-tail KeepsWordIfCut _ _ each) in
                 whole
                 ∙ ap (follows b (suc left + more) p) same
                 ∙ follows_on b (suc left + more) p one Ran ran refl
-                ∙ ap (λ (n : ℕ). slice_steps b n q) apart
+                ∙ ap (λ (n : ℕ). comes_to b n q) apart
                 ∙ adds a b (suc c) (suc left - one.ticks) more q (omega (arith, la, ticks.0)) (omega (arith, lb, ticks.0)) lc some
                 (step_keeps_configuration (suc left) p.hart is) rest
                 ∙ ap onwards (sym (follows_on a (suc left) p one Ran ran refl))
@@ -198,7 +221,7 @@ adds (suc a) (suc b) (suc c) (suc left) more p la lb lc some is keeps =
                 ∙ follows_resumed b c (suc left) more p one.state two spent.1 lb lc here (step_takes_ticks more one.state some).0
                 ∙ sym (steps_tried c more q refl some)
                 ∙ ap onwards
-                (sym (follows_on a (suc left) p one Cut cut refl ∙ ap (λ (n : ℕ). slice_steps a n q) over ∙ steps_none a q))
+                (sym (follows_on a (suc left) p one Cut cut refl ∙ ap (λ (n : ℕ). comes_to a n q) over ∙ steps_none a q))
                 ∙ first
             | inr (inr (reason, (stops, uncut))) ↦
                 let same = steps_take_ticks.more (suc left) (suc left + more) p.hart larger uncut in
@@ -219,27 +242,47 @@ steps_run (suc a) (suc left) p =
     let q : Present = after one.end one.state p in
     let on : q.running ≡ p.running = running_after one.end one.state p in
     of_either (λ (r : Halted). r.state.running ≡ p.running) (is_held p) _ _ refl
-    (of_either (λ (r : Halted). r.state.running ≡ p.running) (is_none (stop_of one.end)) _ _
-    (steps_run a (suc left - one.ticks) q ∙ on) on)
+    (of_either (λ (r : Halted). r.state.running ≡ p.running) (is_none (stop_of one.end)) (slice_steps a (suc left - one.ticks) q)
+    (halted q (stop_of one.end)) (steps_run a (suc left - one.ticks) q ∙ on) on)
 
 -- ---- a slice
+
+-- what is seen of an outcome: the machine and the lines
+abbrev seen : Outcome → Outcome
+seen o = record o { uses = [] }
+
+come_to_the_same : (one other : Outcome) → seen one ≡ seen other → ComeToTheSame one other
+come_to_the_same one other same = (ap (λ (o : Outcome). o.next) same, ap (λ (o : Outcome). o.lines) same)
 
 sliced_running : (quantum : ℕ) (p : Present) → p.running ≡ true
     → sliced quantum (Some p) ≡ slice_ends (ticked quantum p) (ticked quantum p).stop
 unfolding sliced
 sliced_running quantum p h = rw h refl
 
-sliced_stopped : (quantum : ℕ) (p : Present) → p.running ≡ false → sliced quantum (Some p) ≡ record { next = Some p; lines = [] }
+sliced_stopped : (quantum : ℕ) (p : Present) → p.running ≡ false → sliced quantum (Some p) ≡ record { next = Some p; lines = []; uses = [] }
 unfolding sliced
 sliced_stopped quantum p h = rw h refl
 
-sliced_absent : (quantum : ℕ) → sliced quantum None ≡ record { next = None; lines = [] }
+sliced_absent : (quantum : ℕ) → sliced quantum None ≡ record { next = None; lines = []; uses = [] }
 unfolding sliced
 sliced_absent quantum = refl
 
-tried_running : (quantum : ℕ) (p : Present) → p.running ≡ true → tried_in quantum (Some p) ≡ tries quantum quantum p
-unfolding tried_in
-tried_running quantum p h = rw h refl
+ends_uses : (run : Halted) (reason : Option Stop) → (slice_ends run reason).uses ≡ run.uses
+ends_uses run None = refl
+ends_uses run (Some reason) = refl
+
+uses_running : (quantum : ℕ) (p : Present) → p.running ≡ true → (sliced quantum (Some p)).uses ≡ (ticked quantum p).uses
+uses_running quantum p h =
+    ap (λ (o : Outcome). o.uses) (sliced_running quantum p h) ∙ ends_uses (ticked quantum p) (ticked quantum p).stop
+
+-- of a run's end its uses aren't seen
+ends_bare : (run : Halted) (reason : Option Stop) → seen (slice_ends run reason) ≡ seen (slice_ends (bare run) reason)
+ends_bare run None = refl
+ends_bare run (Some reason) = refl
+
+seen_running : (quantum : ℕ) (p : Present) → p.running ≡ true
+    → seen (sliced quantum (Some p)) ≡ seen (slice_ends (comes_to quantum quantum p) (comes_to quantum quantum p).stop)
+seen_running quantum p h = ap seen (sliced_running quantum p h) ∙ ends_bare (ticked quantum p) (ticked quantum p).stop
 
 ends_stay : (p : Present) (run : Halted) (reason : Option Stop) → StaysAs p (Some run.state) → StaysAs p (slice_ends run reason).next
 ends_stay p run None stays = stays
@@ -258,59 +301,68 @@ slice_keeps_configuration quantum None is = tt
 slice_keeps_configuration quantum (Some p) is = stays_configured p (sliced quantum (Some p)).next (sliced_stays quantum p) is
 
 -- no ticks change nothing
-sliced_nothing : (p : Private) → sliced 0 p ≡ record { next = p; lines = [] }
+sliced_nothing : (p : Private) → sliced 0 p ≡ record { next = p; lines = []; uses = [] }
 sliced_nothing None = sliced_absent 0
 sliced_nothing (Some p) = elim (cases_Bool p.running) [
-  | inl h ↦ sliced_running 0 p h ∙ ap (λ (r : Halted). slice_ends r r.stop) (steps_none 0 p)
+  | inl h ↦ sliced_running 0 p h
   | inr h ↦ sliced_stopped 0 p h
 ]
 
 -- nothing comes after
-joined_nothing : (first : Outcome) → joined first (sliced 0 first.next) ≡ first
+joined_nothing : (first : Outcome) → seen (joined first (sliced 0 first.next)) ≡ seen first
 joined_nothing first =
-    ap (joined first) (sliced_nothing first.next)
-    ∙ ap (λ (ls : List (List ℕ)). record { next = first.next; lines = ls }) (append-nil first.lines)
+    ap (λ (o : Outcome). seen (joined first o)) (sliced_nothing first.next)
+    ∙ ap (λ (ls : List (List ℕ)). seen (record first { lines = ls })) (append-nil first.lines)
 
-ends_joined : (n : ℕ) (state : Present) (reason : Option Stop) → state.running ≡ true
-    → joined (slice_ends (halted state reason) reason) (sliced n (slice_ends (halted state reason) reason).next)
-    ≡ slice_ends (goes_on (halted state reason) (slice_steps n n)) (goes_on (halted state reason) (slice_steps n n)).stop
-ends_joined n state None h = ap (joined (record { next = Some state; lines = [] })) (sliced_running n state h)
-ends_joined n state (Some reason) h =
-    ap (joined (slice_ends (halted state (Some reason)) (Some reason))) (sliced_stopped n (record state { running = false }) refl)
+ends_joined : (n : ℕ) (run : Halted) (reason : Option Stop) → run.state.running ≡ true
+    → let whole : Halted = goes_on (halted run.state reason) (λ q. comes_to n n q) in
+    seen (joined (slice_ends run reason) (sliced n (slice_ends run reason).next)) ≡ seen (slice_ends whole whole.stop)
+ends_joined n run None h = seen_running n run.state h
+ends_joined n run (Some reason) h =
+    ap (λ (o : Outcome). seen (joined (slice_ends run (Some reason)) o)) (sliced_stopped n (record run.state { running = false }) refl)
 
-pub cuts_are_invisible : CutsAreInvisible
-cuts_are_invisible m zero p is keeps =
+cuts_add_up : (m n : ℕ) (p : Private) → IsConfigured p → All KeepsWordIfCut (sliced m p).uses
+    → seen (joined (sliced m p) (sliced n (sliced m p).next)) ≡ seen (sliced (m + n) p)
+cuts_add_up m zero p is keeps =
     let same : m ≡ m + 0 = omega arith in
-    joined_nothing (sliced m p) ∙ ap (λ (q : ℕ). sliced q p) same
-cuts_are_invisible m (suc n) None is keeps =
-    ap (λ (first : Outcome). joined first (sliced (suc n) first.next)) (sliced_absent m)
-    ∙ ap (joined (record { next = None; lines = [] })) (sliced_absent (suc n)) ∙ sym (sliced_absent (m + suc n))
-cuts_are_invisible m (suc n) (Some p) is keeps = elim (cases_Bool p.running) [
+    joined_nothing (sliced m p) ∙ ap (λ (q : ℕ). seen (sliced q p)) same
+cuts_add_up m (suc n) None is keeps =
+    ap (λ (first : Outcome). seen (joined first (sliced (suc n) first.next))) (sliced_absent m)
+    ∙ ap seen (sliced_absent (suc n) ∙ sym (sliced_absent (m + suc n)))
+cuts_add_up m (suc n) (Some p) is keeps = elim (cases_Bool p.running) [
   | inl h ↦
       let run : Halted = ticked m p in
       let on : run.state.running ≡ true = steps_run m m p ∙ h in
-      ap (λ (first : Outcome). joined first (sliced (suc n) first.next)) (sliced_running m p h)
-      ∙ ends_joined (suc n) run.state run.stop on
-      ∙ ap (λ (r : Halted). slice_ends r r.stop)
+      ap (λ (first : Outcome). seen (joined first (sliced (suc n) first.next))) (sliced_running m p h)
+      ∙ ends_joined (suc n) run run.stop on
+      ∙ ap (λ (r : Halted). seen (slice_ends r r.stop))
       (sym (adds m (m + suc n) (suc n) m (suc n) p (omega arith) (omega arith) (omega arith) (omega arith) is
-      (All-same KeepsWordIfCut _ _ (sym (tried_running m p h)) keeps)))
-      ∙ sym (sliced_running (m + suc n) p h)
+      (All-same KeepsWordIfCut _ _ (sym (uses_running m p h)) keeps)))
+      ∙ sym (seen_running (m + suc n) p h)
   | inr h ↦
-      ap (λ (first : Outcome). joined first (sliced (suc n) first.next)) (sliced_stopped m p h)
-      ∙ ap (joined (record { next = Some p; lines = [] })) (sliced_stopped (suc n) p h) ∙ sym (sliced_stopped (m + suc n) p h)
+      ap (λ (first : Outcome). seen (joined first (sliced (suc n) first.next))) (sliced_stopped m p h)
+      ∙ ap seen (sliced_stopped (suc n) p h ∙ sym (sliced_stopped (m + suc n) p h))
 ]
 
-pub slices_add_up : SlicesAddUp
-unfolding slices tried_in_slices
-slices_add_up zero quantum p is keeps =
+pub cuts_are_invisible : CutsAreInvisible
+cuts_are_invisible m n p is keeps =
+    come_to_the_same (joined (sliced m p) (sliced n (sliced m p).next)) (sliced (m + n) p) (cuts_add_up m n p is keeps)
+
+all_add_up : (k quantum : ℕ) (p : Private) → IsConfigured p → All KeepsWordIfCut (slices k quantum p).uses
+    → seen (slices k quantum p) ≡ seen (sliced (k * quantum) p)
+unfolding slices
+all_add_up zero quantum p is keeps =
     let none : 0 ≡ 0 * quantum = omega arith in
-    sym (sliced_nothing p) ∙ ap (λ (q : ℕ). sliced q p) none
-slices_add_up (suc k) quantum p is keeps =
+    ap seen (sym (sliced_nothing p)) ∙ ap (λ (q : ℕ). seen (sliced q p)) none
+all_add_up (suc k) quantum p is keeps =
     let first : Outcome = sliced quantum p in
-    let one : List Try = tried_in quantum p in
-    let rest : List Try = tried_in_slices k quantum first.next in
+    let rest : Outcome = slices k quantum first.next in
     let more : quantum + k * quantum ≡ suc k * quantum = omega arith in
-    ap (joined first)
-    (slices_add_up k quantum first.next (slice_keeps_configuration quantum p is) (All-right KeepsWordIfCut one rest keeps))
-    ∙ cuts_are_invisible quantum (k * quantum) p is (All-left KeepsWordIfCut one rest keeps)
-    ∙ ap (λ (q : ℕ). sliced q p) more
+    ap (λ (o : Outcome). seen (joined first o))
+    (all_add_up k quantum first.next (slice_keeps_configuration quantum p is) (All-right KeepsWordIfCut first.uses rest.uses keeps))
+    ∙ cuts_add_up quantum (k * quantum) p is (All-left KeepsWordIfCut first.uses rest.uses keeps)
+    ∙ ap (λ (q : ℕ). seen (sliced q p)) more
+
+pub slices_add_up : SlicesAddUp
+slices_add_up k quantum p is keeps =
+    come_to_the_same (slices k quantum p) (sliced (k * quantum) p) (all_add_up k quantum p is keeps)

@@ -14,8 +14,8 @@ use Rattle.rv_model.specs.machine.PrivateMachine.{Private, Event, Command, Slice
 use Rattle.rv_model.specs.machine.Refusals.{IsRefusal, RefusedHappeningsChangeNothing, RefusedLinesChangeNothing}
 use Rattle.rv_model.specs.machine.Script.{Kind, Empty, Long, Bad, Operator, Of, commands, common, events_of, kind_of, told, world_after}
 use Rattle.rv_model.specs.machine.Setup.{Setup}
-use Rattle.rv_model.specs.machine.UnitEvents.{unit_after_event}
-use Rattle.rv_model.specs.machine.VectorUnit.{VectorUnit}
+use Rattle.rv_model.specs.machine.UserMachine.{Use}
+use Rattle.rv_model.specs.machine.VectorUnit.{unit_after_uses}
 use Rattle.rv_model.specs.machine.World.{World, Happening, after_events, after_one, outcome_of, told_by, unit_after, with_unit, user_machine, with_user_machine}
 use Rattle.rv_model.specs.text.Lines.{is_newline, pieces, tagged, text}
 use Rattle.rv_model.proofs.text_lemmas.Newlines.{is_line, are_lines, AreLines, IsLine}
@@ -78,27 +78,26 @@ unfolding event
 slice_plain s p e is =
     subst (λ (e : Event). are_plain (event s p e).lines ≡ true) (sym is) (sliced_printed s.quantum p).1
 
-event_settles : (s : Setup) (user : ℕ) (p : Private) (e : Event) (unit : VectorUnit)
-    → Settles p (event s p e) unit (unit_after_event s user p e unit)
-unfolding event unit_after_event
-event_settles s user p (Command line) unit = commanded_settles s.images user p (parse line) unit
-event_settles s user p Slice unit = inr (sliced_printed s.quantum p).1
+event_settles : (s : Setup) (p : Private) (e : Event) → Settles p (event s p e)
+unfolding event
+event_settles s p (Command line) = commanded_settles s.images p (parse line)
+event_settles s p Slice = inr (sliced_printed s.quantum p).1
 
--- where neither a user's machine nor the unit moves and it's nobody's turn, the world stays
+-- where a user's machine doesn't move, the unit isn't used and it's nobody's turn, the world stays
 same_world : (s : Setup) (w : World) (h : Happening) → h.turn ≡ false → (outcome_of s w h).next ≡ user_machine h.user w
-    → unit_after s w h ≡ w.unit → after_one s w h ≡ w
-same_world s w h turn same still =
+    → (outcome_of s w h).uses ≡ [] → after_one s w h ≡ w
+same_world s w h turn same unused =
     let moved : World = with_unit (unit_after s w h) (with_user_machine h.user (outcome_of s w h).next w) in
     ap (λ (t : Bool). if t then record moved { cursor = h.user } else moved) turn
     ∙ ap (λ (p : Private). with_unit (unit_after s w h) (with_user_machine h.user p w)) same
-    ∙ ap (λ (unit : VectorUnit). with_unit unit (with_user_machine h.user (user_machine h.user w) w)) still
+    ∙ ap (λ (uses : List Use). with_unit (unit_after_uses h.user uses w.unit) (with_user_machine h.user (user_machine h.user w) w)) unused
     ∙ ap (λ (parts : List Private). record w { parts = parts }) (set-get_or w.parts (h.user - 1) None)
 
 pub refused_happenings_change_nothing : RefusedHappeningsChangeNothing
 refused_happenings_change_nothing s w h slices refused =
     of_bool h.turn (λ b. after_one s w h ≡ w)
     (λ turn. absurd (none_refused (outcome_of s w h).lines (slice_plain s (user_machine h.user w) h.event (slices turn)) refused))
-    (λ turn. elim (event_settles s h.user (user_machine h.user w) h.event w.unit) [
+    (λ turn. elim (event_settles s (user_machine h.user w) h.event) [
       | inl same ↦ same_world s w h turn same.0 same.1
       | inr plain ↦ absurd (none_refused (outcome_of s w h).lines plain refused)
     ])
@@ -143,7 +142,7 @@ user_line : (s : Setup) (w : World) (u : ℕ) (line : List ℕ)
     → Any IsRefusal (answers_in (told_by s w (commands u line ∷ []) ++ [])) → after_one s w (commands u line) ≡ w
 user_line s w u line refused =
     let h : Happening = commands u line in
-    elim (event_settles s u (user_machine u w) (Command line) w.unit) [
+    elim (event_settles s (user_machine u w) (Command line)) [
       | inl same ↦ same_world s w h refl same.0 same.1
       | inr plain ↦
           let ls : List (List ℕ) = (outcome_of s w h).lines in

@@ -19,7 +19,7 @@ use Rattle.rv_model.specs.images.Faults.{first_fault}
 use Rattle.rv_model.specs.images.Fields.{entry_of}
 use Rattle.rv_model.specs.images.Image.{memory_of_image}
 use Rattle.rv_model.specs.machine.Setup.{Image}
-use Rattle.rv_model.specs.machine.UserMachine.{Present, Outcome, refuses, initial, replies}
+use Rattle.rv_model.specs.machine.UserMachine.{Present, Outcome, Drops, refuses, initial, replies}
 use Rattle.rv_model.specs.memory.Memory.{bytes_at, put_bytes, page_count}
 use Rattle.rv_model.specs.memory.Sizes.{page_quota}
 use Rattle.rv_model.specs.scalar.Registers.{initial_scalar, with_register}
@@ -40,12 +40,12 @@ with_image image =
 unfoldable pub loaded_line : ℕ → ℕ → List ℕ
 loaded_line pc pages = codes "loaded pc=" ++ hex16 pc ++ codes " pages=" ++ decimal pages
 
--- what `load` does with an image, by its first fault
+-- what `load` does with an image, by its first fault; the vector state that the user had is dropped
 abbrev pub loading : List ℕ → Option ElfFault → Present → Outcome
 loading image (Some fault) p = refuses (Some p) (refusal.ElfFault fault)
 loading image None p =
     if nat_lt page_quota (page_count (memory_of_image image)) then refuses (Some p) refusal.Quota
-    else replies (with_image image) (loaded_line (entry_of image) (page_count (memory_of_image image)))
+    else record (replies (with_image image) (loaded_line (entry_of image) (page_count (memory_of_image image)))) { uses = Drops ∷ [] }
 
 -- the same for the image of a name, which there may not be
 abbrev pub loading_named : Option (List ℕ) → Present → Outcome
@@ -93,7 +93,7 @@ dis_lines addr count bytes = map (λ i. dis_line (addr + 4 * i) (word_in bytes i
 -- instructions are shown
 abbrev pub shows_instructions : ℕ → ℕ → Present → Outcome
 shows_instructions addr n p =
-    if_mapped addr (4 * n) p (record { next = Some p; lines = dis_lines addr n (bytes_at p.hart.memory addr (4 * n)) })
+    if_mapped addr (4 * n) p (record { next = Some p; lines = dis_lines addr n (bytes_at p.hart.memory addr (4 * n)); uses = [] })
 
 -- ---- all of them
 

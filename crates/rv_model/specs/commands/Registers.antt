@@ -12,7 +12,7 @@ use Rattle.rv_model.specs.commands.Arguments.{address, instruction_address, scal
 use Rattle.rv_model.specs.commands.Printing.{hex16}
 use Rattle.rv_model.specs.commands.Reading.{done, meaning_in, one_argument, two_arguments}
 use Rattle.rv_model.specs.instructions.BitFields.{flag_bit}
-use Rattle.rv_model.specs.machine.UserMachine.{Present, Outcome, replies}
+use Rattle.rv_model.specs.machine.UserMachine.{Present, Outcome, Writes, replies}
 use Rattle.rv_model.specs.scalar.Registers.{with_register}
 use Rattle.rv_model.specs.vector.Configuration.{sew_bits}
 use Rattle.rv_model.specs.vector.Registers.{register_of, with_register_bytes}
@@ -81,13 +81,14 @@ registers_named name args = meaning_in (
 unfoldable pub register_command : RegisterCommand → Present → Outcome
 -- a register is written
 register_command (Set register value) p = replies (with_scalar (with_register register value p.hart.scalar) p) (codes "ok")
-register_command Regs p = record { next = Some p; lines = regs_lines p.hart.scalar }
+register_command Regs p = record { next = Some p; lines = regs_lines p.hart.scalar; uses = [] }
 -- the program counter is written
 register_command (SetPc addr) p = replies (with_scalar (record p.hart.scalar { pc = addr }) p) (codes "ok")
 -- a vector register's elements are shown
 register_command (Vreg register width) p = replies p (vreg_line register width (register_of p.hart.vector.file register))
 -- a vector register is written
-register_command (Vset register bytes) p = replies (with_file (with_register_bytes register bytes p.hart.vector.file) p) (codes "ok")
+register_command (Vset register bytes) p =
+    record (replies (with_file (with_register_bytes register bytes p.hart.vector.file) p) (codes "ok")) { uses = Writes ∷ [] }
 register_command Vcsr p = replies p (vcsr_line p.hart.vector)
 -- what becomes of agnostic elements from now on
 register_command (SetPolicy policy) p = replies (record p { hart = record p.hart { policy = policy } }) (codes "ok")

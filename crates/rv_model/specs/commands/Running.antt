@@ -71,7 +71,7 @@ unfoldable pub running_command : RunningCommand → Present → Outcome
 -- instructions are carried out, the first of them also at a breakpoint
 running_command (Step n) p =
     let run = steps n true p in
-    replies run.state (step_line n run.state.hart.scalar.pc run.stop)
+    record (replies run.state (step_line n run.state.hart.scalar.pc run.stop)) { uses = run.uses }
 -- the program runs; a breakpoint at its first instruction doesn't stop it
 running_command Go p = replies (record p { running = true; fresh = true }) (running_line p.hart.scalar.pc)
 running_command StopRunning p = halts p

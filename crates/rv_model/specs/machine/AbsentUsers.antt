@@ -1,7 +1,7 @@
 -- Users who are absent have nothing of the vector unit: none of them is its owner, and none has a state saved. So `enter` has
+-- nothing to drop, though it is said to drop what is there.
 use Rattle.std.specs.Prelude.{ℕ, ◌≡◌, ◌≤◌, false, List, length, None, IfSome}
 use Rattle.rv_model.specs.machine.Script.{after_script}
--- nothing to drop, though `unit_of_absent` says that it drops what is there.
 use Rattle.rv_model.specs.machine.Setup.{Setup}
 use Rattle.rv_model.specs.machine.Users.{user_count}
 use Rattle.rv_model.specs.machine.VectorUnit.{VectorUnit, is_marked, is_owned_by}

@@ -1,7 +1,7 @@
 -- Each user's machine has a vector length that is one of its vector type. It has from the first on and whatever happens, so slices
 -- add up after any script.
-use Rattle.std.specs.Prelude.{ℕ, ◌≡◌, ◌*◌, List, All}
-use Rattle.rv_model.specs.machine.Cuts.{IsConfigured, KeepsWordIfCut, slices, tried_in_slices}
+use Rattle.std.specs.Prelude.{ℕ, ◌*◌, List, All}
+use Rattle.rv_model.specs.machine.Cuts.{ComeToTheSame, IsConfigured, KeepsWordIfCut, slices}
 use Rattle.rv_model.specs.machine.PrivateMachine.{sliced}
 use Rattle.rv_model.specs.machine.Script.{World, Happening, after_all, after_one, after_script, new_world, user_machine}
 use Rattle.rv_model.specs.machine.Setup.{Setup}
@@ -26,4 +26,4 @@ ScriptsKeepConfigurations =
 abbrev pub SlicesAddUpAfterScripts : Type 0
 SlicesAddUpAfterScripts = (setup : Setup) (script : List ℕ) (u k quantum : ℕ) →
     let p = user_machine u (after_script setup new_world script) in
-    All KeepsWordIfCut (tried_in_slices k quantum p) → slices k quantum p ≡ sliced (k * quantum) p
+    All KeepsWordIfCut (slices k quantum p).uses → ComeToTheSame (slices k quantum p) (sliced (k * quantum) p)

@@ -9,15 +9,16 @@ pub use Rattle.rv_model.specs.machine.UserMachine.{Private, Present, Outcome, re
 
 -- a run ended: it goes on in the next slice, or its program stopped
 abbrev pub slice_ends : Halted → Option Stop → Outcome
-slice_ends run None = record { next = Some run.state; lines = [] }
-slice_ends run (Some stop) = replies (record run.state { running = false }) (stop_line run.state.hart.scalar.pc stop)
+slice_ends run None = record { next = Some run.state; lines = []; uses = run.uses }
+slice_ends run (Some stop) =
+    record (replies (record run.state { running = false }) (stop_line run.state.hart.scalar.pc stop)) { uses = run.uses }
 
 -- the ticks of a slice, for a program that runs
 unfoldable pub sliced : ℕ → Private → Outcome
-sliced quantum None = record { next = None; lines = [] }
+sliced quantum None = record { next = None; lines = []; uses = [] }
 sliced quantum (Some p) =
     let run = ticked quantum p in
-    if p.running then slice_ends run run.stop else record { next = Some p; lines = [] }
+    if p.running then slice_ends run run.stop else record { next = Some p; lines = []; uses = [] }
 
 -- what happens to a machine: a command, as the bytes after its user's digit and a space, or a slice
 pub data Event : Type 0 where

@@ -4,8 +4,8 @@ use Rattle.rv_model.specs.declared.step.step_end.StepEnd.{StepEnd}
 use Rattle.rv_model.specs.declared.step.step_end.StepEnd.TheVariants.{Ran, Exit, Ebreak, Fault, OutputFull, Cut}
 use Rattle.rv_model.specs.declared.step.step_end.Stop.{Stop}
 use Rattle.rv_model.specs.declared.step.step_end.Stop.TheVariants as stop
-use Rattle.rv_model.specs.machine.UserMachine.{Present, has_breakpoint}
-use Rattle.rv_model.specs.step.Hart.{HartState, Stepped}
+use Rattle.rv_model.specs.machine.UserMachine.{Present, Use, Tries, has_breakpoint}
+use Rattle.rv_model.specs.step.Hart.{HartState}
 use Rattle.rv_model.specs.step.Step.{step}
 
 -- why the program stops after an instruction that ends so, if it does: one that ran leads to the next one, and one that was cut
@@ -31,35 +31,38 @@ after Ran hart p = record p { hart = hart; trace = recorded p.trace p.hart.scala
 after Cut hart p = record p { hart = hart; fresh = true }
 after _ hart p = record p { hart = hart; fresh = false }
 
--- where a run of instructions leaves a machine, and why it stopped, if it did
+-- where a run of instructions leaves a machine, why it stopped, if it did, and the instructions that were tried, in order
 pub record Halted : Type 0 where
   pub state : Present
   pub stop : Option Stop
+  pub uses : List Use
 
+-- no instruction is tried
 abbrev pub halted : Present → Option Stop → Halted
-halted p reason = record { state = p; stop = reason }
+halted p reason = record { state = p; stop = reason; uses = [] }
 
--- one instruction, with what it comes to, and then the others; a breakpoint stops the program before it, unless it is exempt
-abbrev pub runs_on : Bool → Stepped → Present → (Present → Halted) → Halted
-runs_on exempt one p others =
+-- one instruction in the ticks that are left, and then the others in those that it leaves; a breakpoint stops the program before
+-- it, unless it is exempt
+abbrev pub runs_on : Bool → ℕ → Present → (ℕ → Present → Halted) → Halted
+runs_on exempt left p others =
+    let one = step left p.hart in
+    let next = after one.end one.state p in
+    let rest : Halted = if is_none (stop_of one.end) then others (left - one.ticks) next else halted next (stop_of one.end) in
     if not exempt && at_breakpoint p then halted p (Some stop.Breakpoint)
-    else if is_none (stop_of one.end) then others (after one.end one.state p)
-    else halted (after one.end one.state p) (stop_of one.end)
+    else record rest { uses = Tries left p.hart ∷ rest.uses }
 
 -- at most n instructions; a breakpoint stops the program before each but an exempt first one. No memory instruction has
 -- more than 256 elements, so none is cut.
 abbrev pub steps : ℕ → Bool → Present → Halted
 steps zero exempt p = halted p None
-steps (suc n) exempt p = runs_on exempt (step 256 p.hart) p (λ next. steps n false next)
+steps (suc n) exempt p = runs_on exempt 256 p (λ left next. steps n false next)
 
 -- at most n instructions in the ticks that are left; a breakpoint stops the program before each but the first one after it
 -- was told to run. An instruction takes a tick at least, and one that is cut takes all that are left.
 abbrev pub slice_steps : ℕ → ℕ → Present → Halted
 slice_steps zero left p = halted p None
 slice_steps (suc n) zero p = halted p None
-slice_steps (suc n) (suc left) p =
-    let one = step (suc left) p.hart in
-    runs_on p.fresh one p (λ next. slice_steps n (suc left - one.ticks) next)
+slice_steps (suc n) (suc left) p = runs_on p.fresh (suc left) p (λ later next. slice_steps n later next)
 
 -- a run of so many ticks
 abbrev pub ticked : ℕ → Present → Halted

@@ -32,15 +32,23 @@ initial =
     let h : HartState = record { scalar = initial_scalar; vector = initial_vector; memory = empty; output = []; policy = Keep } in
     record { hart = h; breakpoints = []; trace = []; running = false; fresh = false }
 
--- what a machine does: where it stands then, and the lines that it prints
+-- a use of the vector unit: an instruction is tried, with so many ticks left and in this state; a command writes a vector
+-- register; the user's vector state is dropped
+pub data Use : Type 0 where
+  Tries : ℕ → HartState → Use
+  Writes : Use
+  Drops : Use
+
+-- what a machine does: where it stands then, the lines that it prints, and how it uses the vector unit, in order
 pub record Outcome : Type 0 where
   pub next : Private
   pub lines : List (List ℕ)
+  pub uses : List Use
 
 -- the machine becomes this one, and a line is printed
 abbrev pub replies : Present → List ℕ → Outcome
-replies p line = record { next = Some p; lines = line ∷ [] }
+replies p line = record { next = Some p; lines = line ∷ []; uses = [] }
 
 -- nothing changes, and the reason is printed
 abbrev pub refuses : Private → Refusal → Outcome
-refuses p reason = record { next = p; lines = refused reason ∷ [] }
+refuses p reason = record { next = p; lines = refused reason ∷ []; uses = [] }

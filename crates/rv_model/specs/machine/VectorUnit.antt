@@ -1,9 +1,11 @@
 -- The one vector unit of all users, as it is counted: whose state it holds, whether that state was changed since it was saved
 -- last, whose states are saved, and how often a state was saved, restored and used for the first time (Privileged Architecture
 -- 20211203, section 3.1.6.6, the field VS).
-use Rattle.std.specs.Prelude.{ℕ, ◌+◌, ◌-◌, ◌^◌, ◌==◌, Bool, true, false, List, Option, Some, None, if◌then◌else◌, min, replicate, slice_index_or, slice_set}
+use Rattle.std.specs.Prelude.{ℕ, ◌+◌, ◌-◌, ◌^◌, ◌==◌, Bool, true, false, List, [], ◌∷◌, Option, Some, None, if◌then◌else◌, min, replicate, slice_index_or, slice_set}
 use Rattle.rv_model.specs.declared.machine.stats.Stats.{Stats}
+use Rattle.rv_model.specs.machine.UserMachine.{Use, Tries, Writes, Drops}
 use Rattle.rv_model.specs.machine.Users.{user_count}
+use Rattle.rv_model.specs.step.Step.{dirties, fetched, touches}
 
 pub record VectorUnit : Type 0 where
   pub owner : Option ℕ
@@ -75,3 +77,18 @@ unit_register_written user unit =
 abbrev pub unit_discarded : ℕ → VectorUnit → VectorUnit
 unit_discarded user unit =
     record unit { owner = (if is_owned_by unit.owner user then None else unit.owner); saved = with_mark user false unit.saved }
+
+-- ---- what a user's machine does with it
+
+-- after one use
+abbrev pub unit_after_use : ℕ → Use → VectorUnit → VectorUnit
+unit_after_use user (Tries left hart) unit =
+    let instruction = fetched hart.memory hart.scalar.pc in
+    unit_after_instruction (touches instruction) (dirties left instruction hart) user unit
+unit_after_use user Writes unit = unit_register_written user unit
+unit_after_use user Drops unit = unit_discarded user unit
+
+-- after some, in their order
+abbrev pub unit_after_uses : ℕ → List Use → VectorUnit → VectorUnit
+unit_after_uses user [] unit = unit
+unit_after_uses user (first ∷ others) unit = unit_after_uses user others (unit_after_use user first unit)

@@ -3,8 +3,7 @@ use Rattle.std.specs.Prelude.{ℕ, ◌+◌, ◌-◌, Bool, List, [], ◌∷◌, 
 use Rattle.rv_model.specs.machine.PrivateMachine.{Private, Outcome, Event, event}
 use Rattle.rv_model.specs.machine.Setup.{Setup}
 use Rattle.rv_model.specs.machine.Users.{user_count}
-use Rattle.rv_model.specs.machine.UnitEvents.{unit_after_event}
-use Rattle.rv_model.specs.machine.VectorUnit.{VectorUnit, unused_unit}
+use Rattle.rv_model.specs.machine.VectorUnit.{VectorUnit, unit_after_uses, unused_unit}
 use Rattle.rv_model.specs.text.Lines.{text}
 
 -- the machines of all users in order, who was last granted a slice in turn, and the vector unit
@@ -40,7 +39,7 @@ outcome_of setup w h = event setup (user_machine h.user w) h.event
 
 -- what becomes of the vector unit
 abbrev pub unit_after : Setup → World → Happening → VectorUnit
-unit_after setup w h = unit_after_event setup h.user (user_machine h.user w) h.event w.unit
+unit_after setup w h = unit_after_uses h.user (outcome_of setup w h).uses w.unit
 
 -- the world with the cursor at a user whose turn it was
 abbrev pub with_turn : Happening → World → World

@@ -30,7 +30,7 @@ returns-in-Ok-clause-parts g c =
       unit = record {
         settled = c.discard.ensures.settled old.settled;
         strangers = c.discard.ensures.others;
-        counts = c.discard.ensures.counts ∙ sym (loaded_unit old.user c.args.plan.now (record_of old.unit.now) few);
+        counts = c.discard.ensures.counts ∙ sym (loaded_unit old.context.now c.args.trace.now (state_of old.unit.now old.user) (memory_of_user old.pool.now old.user) old.user c.args.plan.now (record_of old.unit.now) few);
       };
       others = c.in-Ok.ensures.memory ∙ ap (λ (m : Memory). with_memory old.pool.now old.user m) (sym memory);
       user = refl;
@@ -60,7 +60,7 @@ returns-in-Err-clause-parts g c =
       unit = record {
         settled = old.settled;
         strangers = λ other low apart. refl;
-        counts = sym (too_large_unit old.user c.args.plan.now (record_of old.unit.now) many);
+        counts = sym (too_large_unit old.context.now c.args.trace.now (state_of old.unit.now old.user) (memory_of_user old.pool.now old.user) old.user c.args.plan.now (record_of old.unit.now) many);
       };
       others = same ∙ sym (same_memory old.pool.now old.user) ∙ ap (λ (ms : List Memory). with_memory old.pool.now old.user (memory_of_user ms old.user)) (sym same);
       user = refl;

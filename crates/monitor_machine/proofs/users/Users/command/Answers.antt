@@ -1,8 +1,8 @@
 use Rattle.std.proofs.Common.{◌+◌, ◌≤◌, ℕ, ap, refl, ◌∙◌, arith, Ok}
 use Rattle.rv_model.specs.commands.Commands.{Parsed, commanded}
-use Rattle.rv_model.specs.machine.UnitEvents.{unit_after_line}
 use Rattle.rv_model.specs.machine.UserMachine.{Private}
 use Rattle.rv_model.specs.machine.Script.{World, user_machine}
+use Rattle.rv_model.specs.machine.VectorUnit.{unit_after_uses}
 use Rattle.rv_model.specs.text.Lines.{text}
 use Rattle.monitor_machine.specs.Images.{named_images}
 use Rattle.monitor_machine.specs.MachineState.{after_parsed}
@@ -15,7 +15,7 @@ returns-in-Ok-clause-world g c =
     let low : 1 ≤ user = omega (arith, c.number.ensures.low, c.number.ensures.value) in
     let images = named_images c.args.images.now in
     let inside = c.self.inside in
-    world_with _ c.carry_out.new.parts _ c.carry_out.ensures.parts inside.contexts inside.traces.items c.index_mut.result.now c.carry_out.new.trace inside.cursor c.index-index.result c.index-self-index.result (λ p. (commanded images p (Ok c.in-Ok.cmd)).next) (λ p r. unit_after_line images user p (Ok c.in-Ok.cmd) r) c.index-index.ensures.value c.index-index.ensures.small low c.self.invariant refl c.index_mut.ensures.value c.carry_out.ensures.next refl
+    world_with _ c.carry_out.new.parts _ c.carry_out.ensures.parts inside.contexts inside.traces.items c.index_mut.result.now c.carry_out.new.trace inside.cursor c.index-index.result c.index-self-index.result (λ p. (commanded images p (Ok c.in-Ok.cmd)).next) (λ p r. unit_after_uses user (commanded images p (Ok c.in-Ok.cmd)).uses r) c.index-index.ensures.value c.index-index.ensures.small low c.self.invariant refl c.index_mut.ensures.value c.carry_out.ensures.next refl
     ∙ ap (λ (w : World). after_parsed images user (Ok c.in-Ok.cmd) w) c.self.view_is
     ∙ ap (λ (p : Parsed). after_parsed images user p c.args.self.now) c.in-Ok.ensures
 

@@ -1,10 +1,10 @@
 use Rattle.std.proofs.Common.{◌+◌, ◌-◌, ◌≤◌, ℕ, length, get_or-set_same, ap, refl, subst, ◌++◌, ◌∙◌, sym, arith, None}
-use Rattle.rv_model.specs.machine.Cuts.{IsConfigured, tried_in}
+use Rattle.rv_model.specs.machine.Cuts.{IsConfigured}
 use Rattle.rv_model.specs.machine.Grants.{runs}
 use Rattle.rv_model.specs.machine.PrivateMachine.{sliced}
-use Rattle.rv_model.specs.machine.UnitEvents.{unit_after_tries}
 use Rattle.rv_model.specs.machine.UserMachine.{Private}
 use Rattle.rv_model.specs.machine.Script.{World, user_machine}
+use Rattle.rv_model.specs.machine.VectorUnit.{unit_after_uses}
 use Rattle.rv_model.specs.text.Lines.{text}
 use Rattle.monitor_machine.specs.MachineState.{after_slice}
 use Rattle.monitor_machine.specs.StopRoom.{stop_room, stops_room}
@@ -29,7 +29,7 @@ returns-clause-world g c =
     let user : ℕ = c.args.user in
     let low : 1 ≤ user = omega (arith, c.number.ensures.low, c.number.ensures.value) in
     let inside = c.self.inside in
-    world_with _ c.grant.new.parts _ c.grant.ensures.parts inside.contexts inside.traces.items c.index_mut.result.now c.grant.new.trace inside.cursor c.index-index.result c.index-self-index.result (λ p. (sliced c.args.quantum p).next) (λ p r. unit_after_tries user (tried_in c.args.quantum p) r) c.index-index.ensures.value c.index-index.ensures.small low c.self.invariant refl c.index_mut.ensures.value c.grant.ensures.next refl
+    world_with _ c.grant.new.parts _ c.grant.ensures.parts inside.contexts inside.traces.items c.index_mut.result.now c.grant.new.trace inside.cursor c.index-index.result c.index-self-index.result (λ p. (sliced c.args.quantum p).next) (λ p r. unit_after_uses user (sliced c.args.quantum p).uses r) c.index-index.ensures.value c.index-index.ensures.small low c.self.invariant refl c.index_mut.ensures.value c.grant.ensures.next refl
     ∙ ap (λ (w : World). after_slice c.args.quantum user w) c.self.view_is
 
 pub returns-clause-reply : goal.returns-clause-reply
