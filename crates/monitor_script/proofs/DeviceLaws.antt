@@ -9,7 +9,7 @@ use Rattle.monitor_machine.specs.MachineState.{MachineState}
 use Rattle.rv_model.specs.machine.Setup.{Setup}
 use Rattle.rv_model.specs.machine.Script.{World, kind_of, common, after_all, told, told_all, world_after}
 use Rattle.rv_model.specs.text.Lines.{pieces}
-use Rattle.monitor_script.specs.Device.{Rose}
+use Rattle.devices.specs.Device.{Rose}
 use Rattle.monitor_script.specs.EndedLines.{ended_lines}
 use Rattle.monitor_script.specs.FailedWrites.{CutShort}
 use Rattle.monitor_script.specs.declared.script.RunFault.{RunFault}

@@ -1,7 +1,6 @@
 -- A script that is taken byte by byte: what a clipped line means, and bytes in two parts.
-use Rattle.std.proofs.Common.{◌≡◌, ℕ, ◌+◌, ◌<◌, inl, inr, List, [], ◌∷◌, ◌++◌, length, take, Bool, true, false, refl, ap, ◌∙◌, sym, append_assoc, arith, eqb, cond, get_or, drop, drop-cons, add-one, subst, Result, Ok, Err}
+use Rattle.std.proofs.Common.{◌≡◌, ℕ, ◌+◌, ◌<◌, inl, inr, List, [], ◌∷◌, ◌++◌, length, take, Bool, true, false, refl, ap, ◌∙◌, sym, append_assoc, arith, eqb, cond, get_or, drop, drop-cons, add-one}
 use Rattle.std.specs.Prelude.{nat_lt, not}
-use Rattle.std.specs.Result.{OnErr}
 use Rattle.std.proofs.lemmas.Bool.{cases_lt, lt-ltb, and_parts, and_from}
 use Rattle.std.proofs.lemmas.List.{take_all, take-take, take_more, take-append-drop, length-take-le, take-append-le}
 use Rattle.monitor_machine.specs.MachineState.{MachineState, after_line, line_output}
@@ -10,14 +9,6 @@ use Rattle.rv_model.specs.text.Lines.{is_newline, text}
 use Rattle.rv_model.proofs.text_lemmas.Newlines.{is_line, IsLine}
 use Rattle.rv_model.specs.machine.Script.{World, Kind, kind_of, prefixed, Long, events_of, common, after_events, told_by, told, after_all, told_all, world_after}
 use Rattle.monitor_script.specs.Feed.{Fed, longer, feed, fed}
-
--- the same bytes, written otherwise
-pub moved : {D : Type 0} (R : D → List ℕ → D → Type 0) (a b : D) (xs ys : List ℕ) → xs ≡ ys → R a xs b → R a ys b
-moved R a b xs ys e h = subst (λ (l : List ℕ). R a l b) e h
-
-pub on_err : {T E P : Type 0} (r : Result T E) → P → OnErr r P
-on_err (Ok x) h = tt
-on_err (Err e) h = h
 
 -- a clipped line is of the same kind
 kind_clipped : (a : List ℕ) → kind_of (take 1025 a) ≡ kind_of a

@@ -5,3 +5,4 @@ pub mod LineBuffer
 pub mod Prefixes
 pub mod ReadsInTurn
 pub mod Runs
+pub use Rattle.devices.proofs.Moves

@@ -1,4 +1,3 @@
-pub mod Device
 pub mod EndedLines
 pub mod FailedWrites
 pub mod Feed

@@ -2,29 +2,14 @@
 ghost use Rattle.std.specs.Prelude.{◌≡◌, ℕ, ◌<◌, length, take, OnOk, OnErr};
 ghost use Rattle.monitor_machine.specs.MachineState.{after_line, line_output};
 ghost use Rattle.rv_model.specs.machine.Users.{user_count};
-ghost use Rattle.monitor_script.specs.Device.{Rose};
+ghost use Rattle.devices.specs.Device.{Rose};
 ghost use Rattle.monitor_script.specs.Feed.{feed, fed, Cut};
 
-use crate::device::{DeviceFault, Sink};
 use crate::line::Line;
+use devices::{DeviceFault, Sink, write_all};
 use monitor_cmds::Reply;
 use monitor_machine::Machine;
 use std::alloc::Allocator;
-
-/// Writes all the bytes.
-fn write_all<K: Sink>(sink: &mut K, bytes: &[u8]) -> Result<(), DeviceFault>
-    ensures ok { OnOk result (K.took sink.old bytes.now sink.new) }
-    ensures unfailed { OnOk result (K.failures sink.new ≡ K.failures sink.old) }
-    ensures cause { OnErr result (Rose (K.failures sink.old) (K.failures sink.new)) }
-    ensures part { OnErr result ((n : ℕ) × ((n < length bytes.now)
-        × K.took sink.old (take n bytes.now) sink.new)) }
-{
-    let mut at = 0;
-    while at < bytes.len() {
-        at += sink.write(&bytes[at..])?;
-    }
-    Ok(())
-}
 
 /// Answers a line, and writes the answer.
 pub(crate) fn serve<A: Allocator, K: Sink>(

@@ -14,14 +14,14 @@ ghost use Rattle.rv_model.specs.machine.Script.{
   user_machine,
 };
 ghost use Rattle.rv_model.specs.machine.Users.{user_count};
-ghost use Rattle.monitor_script.specs.Device.{Rose};
+ghost use Rattle.devices.specs.Device.{Rose};
 ghost use Rattle.monitor_script.specs.EndedLines.{ended_lines};
 ghost use Rattle.monitor_script.specs.FailedWrites.{CutShort};
 ghost use Rattle.monitor_script.specs.Feed.{fed, Cut};
 
-use crate::device::{Sink, Source};
 use crate::feed::{serve, take_bytes};
 use crate::line::Line;
+use devices::{Sink, Source};
 use monitor_cmds::Reply;
 use monitor_machine::Machine;
 use std::alloc::Allocator;

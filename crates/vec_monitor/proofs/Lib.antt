@@ -2,4 +2,4 @@ pub mod CommandLineLaws
 pub mod ImageWordLaws
 pub mod ProgramRunLaws
 pub use Rattle.monitor_script.proofs.DeviceLaws
-pub use Rattle.monitor_script.proofs.Feeding
+pub use Rattle.monitor_script.proofs.Moves

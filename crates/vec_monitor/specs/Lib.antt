@@ -7,6 +7,5 @@ pub mod Statuses
 pub use Rattle.monitor_machine.specs.Images
 pub use Rattle.monitor_machine.specs.MachineState
 pub use Rattle.monitor_machine.specs.NewFaults
-pub use Rattle.monitor_script.specs.Device
 pub use Rattle.monitor_script.specs.EndedLines
 pub use Rattle.monitor_script.specs.FailedWrites

@@ -1,7 +1,8 @@
 use Rattle.std.proofs.Common.{◌≡◌, ℕ, ◌+◌, ◌<◌, ◌++◌, List, length, take, drop, get_or, ap, ◌∙◌, sym, append-nil, arith}
 use Rattle.monitor_machine.specs.MachineState.{MachineState, after_line, line_output}
 use Rattle.monitor_script.specs.Feed.{Fed, feed, fed}
-use Rattle.monitor_script.proofs.Feeding.{moved, on_err, one_more, split_at_byte}
+use Rattle.devices.proofs.Moves.{moved, on_err}
+use Rattle.monitor_script.proofs.Feeding.{one_more, split_at_byte}
 use Rattle.monitor_script.proofs.feed.take_bytes.Goals as goal
 
 pub loop-byte-preserved : goal.loop-byte-preserved

@@ -5,7 +5,7 @@ use Rattle.monitor_machine.specs.MachineState.{MachineState}
 use Rattle.rv_model.specs.machine.Script.{whole_from}
 use Rattle.rv_model.proofs.machine_lemmas.Headline.{headline}
 use Rattle.monitor_script.specs.declared.script.RunFault.TheVariants.{TooLong, Write}
-use Rattle.monitor_script.proofs.Feeding.{moved}
+use Rattle.devices.proofs.Moves.{moved}
 use Rattle.monitor_script.proofs.ReadsInTurn.{one_read_more}
 use Rattle.monitor_script.proofs.Runs.{so_far_more, output_more, world_ends, output_ends, world_before_end, output_before_end, world_too_long, output_too_long, cut_at_end, cut_in_piece, eight_before, new_headline, nothing_read}
 use Rattle.monitor_script.proofs.script.run.Goals as goal

@@ -1,6 +1,6 @@
 use Rattle.std.proofs.Common.{◌∙◌}
 use Rattle.std.proofs.lemmas.Result.{on_ok_weaker}
-use Rattle.vec_monitor.proofs.Feeding.{moved}
+use Rattle.vec_monitor.proofs.Moves.{moved}
 use Rattle.vec_monitor.proofs.DeviceLaws.{never_rose, only_too_long, newlines_after, newlines_told, no_answer}
 use Rattle.test_faults.proofs.known_devices.run_newlines.Goals as goal
 

@@ -4,7 +4,7 @@ use Rattle.rv_model.specs.machine.Script.{whole_from, after_script, after_all, o
 use Rattle.rv_model.specs.machine.PrivateMachine.{solo}
 use Rattle.vec_monitor.specs.EndedLines.{ended_lines}
 use Rattle.vec_monitor.specs.MachineState.{MachineState}
-use Rattle.vec_monitor.proofs.Feeding.{moved}
+use Rattle.vec_monitor.proofs.Moves.{moved}
 use Rattle.vec_monitor.proofs.DeviceLaws.{given_whole, same_front}
 use Rattle.test_faults.proofs.known_devices.run_slice.Goals as goal
 

@@ -3,7 +3,7 @@ use Rattle.std.proofs.lemmas.Result.{on_ok_weaker}
 use Rattle.rv_model.specs.machine.Script.{World, whole_from, after_script}
 use Rattle.rv_model.specs.machine.Setup.{Setup}
 use Rattle.vec_monitor.specs.MachineState.{MachineState}
-use Rattle.vec_monitor.proofs.Feeding.{moved}
+use Rattle.vec_monitor.proofs.Moves.{moved}
 use Rattle.test_faults.proofs.known_devices.run_twice.Goals as goal
 
 pub returns : goal.returns

@@ -1,6 +1,6 @@
 //! Where a script comes from, and where the output goes.
 ghost use Rattle.std.specs.Prelude.{◌≡◌, ℕ, ◌<◌, ◌≤◌, List, [], ◌++◌, length, take, IfOk, OnErr};
-ghost use Rattle.monitor_script.specs.Device.{Counts};
+ghost use Rattle.devices.specs.Device.{Counts};
 
 use thiserror::Error;
 

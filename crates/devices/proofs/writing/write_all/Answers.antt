@@ -1,8 +1,8 @@
 use Rattle.std.proofs.Common.{◌≡◌, ℕ, ◌+◌, ◌<◌, ◌++◌, List, length, take, drop, ◌-◌, ap, ◌∙◌, sym, append-nil, arith, length-drop}
 use Rattle.std.proofs.lemmas.List.{take_rest}
 use Rattle.std.proofs.Math.Seq.{take-add}
-use Rattle.monitor_script.proofs.Feeding.{moved, on_err}
-use Rattle.monitor_script.proofs.feed.write_all.Goals as goal
+use Rattle.devices.proofs.Moves.{moved, on_err}
+use Rattle.devices.proofs.writing.write_all.Goals as goal
 
 pub loop-at-preserved : goal.loop-at-preserved
 loop-at-preserved g c =

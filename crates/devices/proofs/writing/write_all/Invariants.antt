@@ -1,5 +1,5 @@
 use Rattle.std.proofs.Common.{length, ◌-◌, ◌≡◌, ◌≤◌, take}
-use Rattle.monitor_script.proofs.feed.write_all.Given as goal
+use Rattle.devices.proofs.writing.write_all.Given as goal
 
 -- the sink took the front that was written
 abbrev pub invariant-loop-at : goal.invariant-loop-at
