@@ -1,0 +1,91 @@
+-- A run beside the monitor's steps.
+use Rattle.std.proofs.Common.{◌≡◌, ◌≤◌, ◌+◌, ◌-◌, refl, ℕ, suc, zero, Bool, true, false, List, [], ◌∷◌, ◌++◌, Option, Some, None, is_none, length, if◌then◌else◌, ap, ◌∙◌, sym, subst, append-nil, append_assoc, flat_map, length-append, arith}
+use Rattle.std.specs.Prelude.{not, ◌&&◌}
+use Rattle.rv_model.specs.declared.step.step_end.StepEnd.{StepEnd}
+use Rattle.rv_model.specs.declared.step.step_end.StepEnd.TheVariants.{Ran, Cut}
+use Rattle.rv_model.specs.declared.step.step_end.Stop.{Stop}
+use Rattle.rv_model.specs.declared.step.step_end.Stop.TheVariants as stop
+use Rattle.rv_model.specs.machine.Runs.{Halted, after, at_breakpoint, halted, runs_on, steps, stop_of}
+use Rattle.rv_model.specs.machine.UserMachine.{Present}
+use Rattle.rv_model.specs.step.Hart.{HartState, Stepped}
+use Rattle.rv_model.specs.step.Step.{step}
+use Rattle.recording.specs.Laws.{RunsAsSteps}
+use Rattle.recording.specs.Machines.{taken}
+use Rattle.recording.specs.Runs.{Run, begins, put_out, ran, run, stays}
+use Rattle.recording.proofs.Outputs.{joined, step_joins, with_output}
+
+after_hart : (end : StepEnd) (h : HartState) (p : Present) → (after end h p).hart ≡ h
+after_hart Ran h p = refl
+after_hart Cut h p = refl
+after_hart _ h p = refl
+
+after_breaks : (end : StepEnd) (h : HartState) (p : Present) → (after end h p).breakpoints ≡ p.breakpoints
+after_breaks Ran h p = refl
+after_breaks Cut h p = refl
+after_breaks _ h p = refl
+
+none_holds : (p : Present) → p.breakpoints ≡ [] → at_breakpoint p ≡ false
+none_holds p none = subst (λ (bs : List ℕ). at_breakpoint (record p { breakpoints = bs }) ≡ false) (sym none) refl
+
+never_held : (exempt held : Bool) → held ≡ false → (not exempt && held) ≡ false
+never_held true held e = refl
+never_held false held e = e
+
+-- one instruction with what it comes to, by whether it is held and whether the program goes on
+abbrev hart_by : Bool → Bool → Halted → HartState → HartState → HartState
+hart_by held goes others here next = if held then here else if goes then others.state.hart else next
+
+by_choice : (held goes : Bool) (p next : Present) (others : Present → Halted) (why : Option Stop)
+    → (if held then halted p (Some stop.Breakpoint) else if goes then others next else halted next why).state.hart ≡ hart_by held goes (others next) p.hart next.hart
+by_choice true goes p next others why = refl
+by_choice false true p next others why = refl
+by_choice false false p next others why = refl
+
+-- a run's first instruction, where the others are as steps
+module _ (x : HartState) (o : List ℕ) (exempt : Bool) (p : Present) (rest : Run) (none : p.breakpoints ≡ []) (at : p.hart ≡ with_output o x) where
+  first_is : (m : ℕ) (goes : Bool) → length o ≤ 768 → is_none (stop_of (step 256 (taken x)).end) ≡ goes
+      → (steps (suc m) exempt p).state.hart
+      ≡ (if goes then (steps m false (after (step 256 (taken x)).end (joined o (step 256 (taken x))).state p)).state.hart else (joined o (step 256 (taken x))).state)
+  first_is m goes few whether =
+      let one : Stepped = step 256 (taken x) in
+      let next : Present = after one.end (joined o one).state p in
+      ap (λ (j : Stepped). (runs_on exempt j p (λ q. steps m false q)).state.hart) (ap (λ (h : HartState). step 256 h) at ∙ step_joins o x few)
+      ∙ by_choice (not exempt && at_breakpoint p) (is_none (stop_of one.end)) p next (λ q. steps m false q) (stop_of one.end)
+      ∙ ap (λ (b : Bool). hart_by b (is_none (stop_of one.end)) (steps m false next) p.hart next.hart) (never_held exempt (at_breakpoint p) (none_holds p none))
+      ∙ ap (λ (b : Bool). if b then (steps m false next).state.hart else next.hart) whether
+      ∙ ap (λ (h : HartState). if goes then (steps m false next).state.hart else h) (after_hart one.end (joined o one).state p)
+
+  begun : (goes : Bool) → is_none (stop_of (step 256 (taken x)).end) ≡ goes
+      → length (o ++ flat_map put_out (begins (taken x) goes (step 256 (taken x)).end (taken (step 256 (taken x)).state) rest).found) ≤ 768
+      → ((next : Present) → next.breakpoints ≡ [] → next.hart ≡ with_output (o ++ put_out (taken x)) (step 256 (taken x)).state
+      → length ((o ++ put_out (taken x)) ++ flat_map put_out rest.found) ≤ 768
+      → (steps (length rest.found) false next).state.hart ≡ with_output ((o ++ put_out (taken x)) ++ flat_map put_out rest.found) rest.state)
+      → (steps (length (begins (taken x) goes (step 256 (taken x)).end (taken (step 256 (taken x)).state) rest).found) exempt p).state.hart
+      ≡ with_output (o ++ flat_map put_out (begins (taken x) goes (step 256 (taken x)).end (taken (step 256 (taken x)).state) rest).found) (begins (taken x) goes (step 256 (taken x)).end (taken (step 256 (taken x)).state) rest).state
+  begun true whether fits others =
+      let one : Stepped = step 256 (taken x) in
+      let more : List ℕ = flat_map put_out rest.found in
+      let next : Present = after one.end (joined o one).state p in
+      let same : length ((o ++ put_out (taken x)) ++ more) ≡ length (o ++ (put_out (taken x) ++ more)) = ap length (append_assoc o (put_out (taken x)) more) in
+      let few : length o ≤ 768 = omega (arith, fits, length-append o (put_out (taken x) ++ more)) in
+      first_is (length rest.found) true few whether
+      ∙ others next (after_breaks one.end (joined o one).state p ∙ none) (after_hart one.end (joined o one).state p) (omega (arith, fits, same))
+      ∙ ap (λ (l : List ℕ). with_output l rest.state) (append_assoc o (put_out (taken x)) more)
+  begun false whether fits others =
+      let few : length o ≤ 768 = omega (arith, fits, length-append o (put_out (taken x) ++ [])) in
+      first_is 0 false few whether
+      ∙ ap (λ (l : List ℕ). with_output (o ++ l) (step 256 (taken x)).state) (sym (append-nil (put_out (taken x))))
+
+steps_from : (n left : ℕ) (x : HartState) (o : List ℕ) (exempt : Bool) (p : Present) → p.breakpoints ≡ [] → p.hart ≡ with_output o x
+    → length (o ++ flat_map put_out (run n left (taken x)).found) ≤ 768
+    → (steps (length (run n left (taken x)).found) exempt p).state.hart ≡ with_output (o ++ flat_map put_out (run n left (taken x)).found) (run n left (taken x)).state
+unfolding run
+steps_from zero left x o exempt p none at fits = at ∙ ap (λ (l : List ℕ). with_output l x) (sym (append-nil o))
+steps_from (suc n) zero x o exempt p none at fits = at ∙ ap (λ (l : List ℕ). with_output l x) (sym (append-nil o))
+steps_from (suc n) (suc left) x o exempt p none at fits =
+    let one : Stepped = step 256 (taken x) in
+    begun x o exempt p (run n (suc left - one.ticks) (taken one.state)) none at (is_none (stop_of one.end)) refl fits
+    (λ next breaks here few. steps_from n (suc left - one.ticks) one.state (o ++ put_out (taken x)) false next breaks here few)
+
+pub runs_as_steps : RunsAsSteps
+runs_as_steps ticks exempt p none fits = steps_from ticks ticks p.hart p.hart.output exempt p none refl (omega (arith, fits))

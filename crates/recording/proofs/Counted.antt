@@ -1,0 +1,97 @@
+-- What the rows have more after one instruction.
+use Rattle.std.proofs.Common.{◌≡◌, ◌+◌, ◌-◌, refl, ℕ, Bool, true, false, List, Option, Some, None, if◌then◌else◌, ap, ◌∙◌, sym, subst, add-zero, zero-add}
+use Rattle.rv_model.specs.declared.memory.Access.TheVariants.{Fetch}
+use Rattle.rv_model.specs.declared.step.step_end.Cause.TheVariants.{FetchAccess}
+use Rattle.rv_model.specs.declared.step.step_end.StepEnd.{StepEnd}
+use Rattle.rv_model.specs.elements.Elements.{Body}
+use Rattle.rv_model.specs.instructions.Table.{scan, table}
+use Rattle.rv_model.specs.memory.Memory.{can_access}
+use Rattle.rv_model.specs.step.Hart.{HartState, Stepped, ends_after, faults}
+use Rattle.rv_model.specs.step.Step.{executed, step}
+use Rattle.rv_model.specs.vector.Configuration.{Configuration}
+use Rattle.rv_model.specs.vector.Registers.{register_of}
+use Rattle.recording.specs.Classes.{Class, active_count, body, body_end, class_of, is_unmasked, tail_end}
+use Rattle.recording.specs.declared.key.Key.TheVariants.{Word}
+use Rattle.recording.specs.Runs.{carried_out, counted, is_counted, key_beside, once_more, share, word_of}
+use Rattle.recording.specs.Sums.{HasMore, Key, Row, Sums, more_of, no_more}
+use Rattle.recording.proofs.Actives.{all_are_active}
+use Rattle.recording.proofs.TableTotals.{composed, none_more}
+
+-- ---- in its row, and beside it
+
+-- the same, by whether it is counted
+abbrev counted_if : Bool → Key → Sums → Option Key → (Sums → ℕ) → (Key → Bool) → ℕ
+counted_if counts key sums beside number asked = if counts then more_of key sums number asked + once_more beside number asked else 0
+
+pub not_counted : (end : StepEnd) (key : Key) (sums : Sums) (beside : Option Key) (rows : List Row) → is_counted end ≡ false → HasMore (counted end key sums beside) rows rows
+not_counted end key sums beside rows isnt =
+    subst (λ (b : Bool). HasMore (counted_if b key sums beside) rows rows) (sym isnt) (none_more rows)
+
+pub both_counted : (end : StepEnd) (key : Key) (made sums : Sums) (told beside : Option Key) (old mid new : List Row) → is_counted end ≡ true → made ≡ sums → told ≡ beside
+    → HasMore (more_of key made) old mid → HasMore (once_more told) mid new → HasMore (counted end key sums beside) old new
+both_counted end key made sums told beside old mid new is e f one two =
+    subst (λ (b : Bool). HasMore (counted_if b key sums beside) old new) (sym is)
+    (composed (more_of key sums) (once_more beside) (counted_if true key sums beside) old mid new (λ number asked. refl)
+    (subst (λ (a : Sums). HasMore (more_of key a) old mid) e one) (subst (λ (b : Option Key). HasMore (once_more b) mid new) f two))
+
+-- a key is counted in its row, which may be a new one
+pub counted_in : (more : (Sums → ℕ) → (Key → Bool) → ℕ) (old mid new : List Row) → HasMore no_more old mid → HasMore more mid new → HasMore more old new
+counted_in more old mid new = composed no_more more more old mid new (λ number asked. zero-add (more number asked))
+
+-- ---- by what the code sees
+
+-- the mask only counts where the instruction is masked
+same_active : (unmasked : Bool) (mask other : List ℕ) (start end : ℕ) → (unmasked ≡ false → mask ≡ other)
+    → active_count (record { unmasked = unmasked; mask = mask; start = start; end = end }) ≡ active_count (record { unmasked = unmasked; mask = other; start = start; end = end })
+same_active true mask other start end same = all_are_active mask start end ∙ sym (all_are_active other start end)
+same_active false mask other start end same = ap (λ (m : List ℕ). active_count (record { unmasked = false; mask = m; start = start; end = end })) (same refl)
+
+same_sums : (k : Class) (mask other : List ℕ) (start ticks : ℕ) (c : Configuration) → (is_unmasked k ≡ false → mask ≡ other)
+    → carried_out ticks (body k mask start c) (tail_end k c) ≡ carried_out ticks (body k other start c) (tail_end k c)
+same_sums k mask other start ticks c same =
+    ap (λ (n : ℕ).
+    let made : Sums = record { times = 1; ticks = ticks; active = n; masked = body_end k c - start - n; tail = tail_end k c - body_end k c } in made)
+    (same_active (is_unmasked k) mask other start (body_end k c) same)
+
+-- an instruction that is counted was fetched
+pub was_fetched : (s next : HartState) (ticks : ℕ) (end : StepEnd) → step 256 s ≡ ends_after ticks end next → is_counted end ≡ true
+    → can_access Fetch s.memory s.scalar.pc 4 ≡ true
+unfolding step
+was_fetched s next ticks end made counts =
+    by (can_access Fetch s.memory s.scalar.pc 4) (executed 256 (scan table (word_of s)) (word_of s) s)
+    (ap (λ (o : Stepped). is_counted o.end) made ∙ counts)
+  where
+    by : (fetches : Bool) (one : Stepped) → is_counted (if fetches then one else faults FetchAccess s.scalar.pc s).end ≡ true → fetches ≡ true
+    by true one h = refl
+    by false one h = h
+
+-- what an instruction is counted by that comes to this
+abbrev share_of : HartState → Stepped → Bool → ℕ → Class → List ℕ → ℕ → (Sums → ℕ) → (Key → Bool) → ℕ
+share_of s one counts word k mask start =
+    let c = one.state.vector.conf in
+    counted_if counts (Word s.scalar.pc word) (carried_out one.ticks (body k mask start c) (tail_end k c)) (key_beside k s.vector.conf s.scalar.pc one.state.scalar.pc)
+
+-- the code's word, class and mask are those of the state, where they count
+module _ (s : HartState) (word : ℕ) (k : Class) (mask : List ℕ) (start : ℕ) (old new : List Row)
+    (class_is : k ≡ class_of (scan table word)) (mask_is : is_unmasked k ≡ false → mask ≡ register_of s.vector.file 0) (start_is : start ≡ s.vector.vstart) where
+  by_state : (one : Stepped) (counts : Bool) → (counts ≡ true → word ≡ word_of s) → HasMore (share_of s one counts word k mask start) old new
+      → HasMore (share_of s one counts (word_of s) (class_of (scan table (word_of s))) (register_of s.vector.file 0) s.vector.vstart) old new
+  by_state one false word_is more = more
+  by_state one true word_is more =
+      subst (λ (w : ℕ). HasMore (share_of s one true w (class_of (scan table w)) (register_of s.vector.file 0) s.vector.vstart) old new) (word_is refl)
+      (subst (λ (j : Class). HasMore (share_of s one true word j (register_of s.vector.file 0) s.vector.vstart) old new) class_is
+      (subst (λ (n : ℕ). HasMore (share_of s one true word k (register_of s.vector.file 0) n) old new) start_is
+      (subst (λ (sums : Sums). HasMore (counted_if true (Word s.scalar.pc word) sums (key_beside k s.vector.conf s.scalar.pc one.state.scalar.pc)) old new)
+      (same_sums k mask (register_of s.vector.file 0) start one.ticks one.state.vector.conf mask_is) more)))
+
+  pub share_is : (next : HartState) (ticks : ℕ) (end : StepEnd) (c : Configuration) (pc : ℕ) → step 256 s ≡ ends_after ticks end next → c ≡ s.vector.conf → pc ≡ s.scalar.pc
+      → (can_access Fetch s.memory s.scalar.pc 4 ≡ true → word ≡ word_of s)
+      → HasMore (counted end (Word s.scalar.pc word) (carried_out ticks (body k mask start next.vector.conf) (tail_end k next.vector.conf)) (key_beside k c pc next.scalar.pc)) old new
+      → HasMore (share s) old new
+  share_is next ticks end c pc made conf_is pc_is word_is more =
+      let sums : Sums = carried_out ticks (body k mask start next.vector.conf) (tail_end k next.vector.conf) in
+      subst (λ (one : Stepped). HasMore (share_of s one (is_counted one.end) (word_of s) (class_of (scan table (word_of s))) (register_of s.vector.file 0) s.vector.vstart) old new)
+      (sym made)
+      (by_state (ends_after ticks end next) (is_counted end) (λ counts. word_is (was_fetched s next ticks end made counts))
+      (subst (λ (d : Configuration). HasMore (counted end (Word s.scalar.pc word) sums (key_beside k d s.scalar.pc next.scalar.pc)) old new) conf_is
+      (subst (λ (p : ℕ). HasMore (counted end (Word s.scalar.pc word) sums (key_beside k c p next.scalar.pc)) old new) pc_is more)))

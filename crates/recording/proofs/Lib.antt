@@ -1,0 +1,7 @@
+pub mod Actives
+pub mod AsSteps
+pub mod Bodies
+pub mod Counted
+pub mod Outputs
+pub mod Runs
+pub mod TableTotals

@@ -1,0 +1,26 @@
+-- Laws of what is counted.
+use Rattle.std.specs.Prelude.{ℕ, ◌≡◌, ◌+◌, ◌≤◌, ◌++◌, Bool, List, [], Some, flat_map, length}
+use Rattle.rv_model.specs.accesses.VectorAccess.{VectorAccess, access_of}
+use Rattle.rv_model.specs.declared.instructions.access.AccessInstr.{AccessInstr}
+use Rattle.rv_model.specs.declared.scalar.Scalar.{Scalar}
+use Rattle.rv_model.specs.declared.vector.state.VState.{VState}
+use Rattle.rv_model.specs.machine.Runs.{steps}
+use Rattle.rv_model.specs.machine.UserMachine.{Present}
+use Rattle.rv_model.specs.step.WriteCall.{output_size, write_size}
+use Rattle.rv_model.specs.vector.Registers.{register_of}
+use Rattle.recording.specs.Classes.{access_class, body}
+use Rattle.recording.specs.Machines.{taken}
+use Rattle.recording.specs.Runs.{put_out, ran}
+
+-- A run leaves what as many steps of the monitor leave, where there is no breakpoint, with all that it put out in the buffer, while each
+-- call that writes finds room there for the bytes that it may write.
+abbrev pub RunsAsSteps : Type 0
+RunsAsSteps = (ticks : ℕ) (exempt : Bool) (p : Present) → p.breakpoints ≡ []
+    → length (p.hart.output ++ flat_map put_out (ran ticks (taken p.hart)).found) + write_size ≤ output_size
+    → (steps (length (ran ticks (taken p.hart)).found) exempt p).state.hart
+    ≡ record (ran ticks (taken p.hart)).state { output = p.hart.output ++ flat_map put_out (ran ticks (taken p.hart)).found }
+
+-- The body that is counted of a load or store is that of its access, which says what it moves.
+abbrev pub AccessBody : Type 0
+AccessBody = (i : AccessInstr) (v : VState) (x : Scalar) (a : VectorAccess) → access_of i v x ≡ Some a
+    → a.body ≡ body (access_class i) (register_of v.file 0) v.vstart v.conf

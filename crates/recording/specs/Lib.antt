@@ -1,0 +1,5 @@
+pub mod Classes
+pub mod Laws
+pub mod Machines
+pub mod Runs
+pub mod Sums

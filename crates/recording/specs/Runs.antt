@@ -1,0 +1,106 @@
+-- A run of a machine of one user, whose output is taken after each instruction, and what is counted of it.
+use Rattle.std.specs.Prelude.{ℕ, zero, suc, ◌+◌, ◌-◌, Bool, true, false, List, [], ◌∷◌, Option, Some, None, is_none, if◌then◌else◌}
+use Rattle.std.specs.List.{sum_by}
+use Rattle.rv_model.specs.declared.step.step_end.StepEnd.{StepEnd}
+use Rattle.rv_model.specs.declared.step.step_end.StepEnd.TheVariants.{Ran, Exit}
+use Rattle.rv_model.specs.instructions.Table.{scan, table}
+use Rattle.rv_model.specs.machine.Runs.{stop_of}
+use Rattle.rv_model.specs.step.Hart.{HartState}
+use Rattle.rv_model.specs.step.Step.{step, word_at}
+use Rattle.rv_model.specs.elements.Elements.{Body}
+use Rattle.rv_model.specs.vector.Configuration.{Configuration}
+use Rattle.rv_model.specs.vector.Registers.{register_of}
+use Rattle.rv_model.specs.vector.TypeRules.{vtype_number}
+use Rattle.recording.specs.Classes.{Class, active_count, body, class_of, tail_end}
+use Rattle.recording.specs.declared.class.Class.TheVariants as class
+use Rattle.recording.specs.declared.key.Key.TheVariants.{Word, Length, Jump}
+use Rattle.recording.specs.Machines.{taken}
+use Rattle.recording.specs.Sums.{Key, Sums, more_of, once}
+
+-- ---- a run
+
+-- the states that the instructions found, the state that the last one leaves, and how it ended if it stopped the program
+pub record Run : Type 0 where
+  pub found : List HartState
+  pub state : HartState
+  pub end : Option StepEnd
+
+-- no instruction
+abbrev pub stays : HartState → Run
+stays s = record { found = []; state = s; end = None }
+
+-- one that found this, ended so and leaves that; and a run of others, if the program goes on
+abbrev pub begins : HartState → Bool → StepEnd → HartState → Run → Run
+begins s goes end next others =
+    if goes then record others { found = s ∷ others.found }
+    else record { found = s ∷ []; state = next; end = Some end }
+
+-- at most n instructions, while ticks are left and up to the one that stops the program. No memory instruction has more than 256
+-- elements, so none is cut.
+unfoldable pub run : ℕ → ℕ → HartState → Run
+run zero left s = stays s
+run (suc n) zero s = stays s
+run (suc n) (suc left) s =
+    let one = step 256 s in
+    begins s (is_none (stop_of one.end)) one.end (taken one.state) (run n (suc left - one.ticks) (taken one.state))
+
+-- a run of so many ticks; the last instruction may take more
+abbrev pub ran : ℕ → HartState → Run
+ran ticks s = run ticks ticks s
+
+-- what the instruction put out that found this
+abbrev pub put_out : HartState → List ℕ
+put_out s = (step 256 s).state.output
+
+-- ---- what is counted of an instruction
+
+-- once more, of so many ticks, with these elements: those of its body that are active, the others, and those of its tail
+abbrev pub carried_out : ℕ → Body → ℕ → Sums
+carried_out ticks b end =
+    record {
+      times = 1;
+      ticks = ticks;
+      active = active_count b;
+      masked = b.end - b.start - active_count b;
+      tail = end - b.end;
+    }
+
+-- whether an instruction that ends so is counted: it ran, or it is the call that exits
+abbrev pub is_counted : StepEnd → Bool
+is_counted Ran = true
+is_counted (Exit status) = true
+is_counted _ = false
+
+-- what it is counted as beside its word: an instruction with elements under the vector type and length that it found, a jump by where it
+-- stood and where it leads
+abbrev pub key_beside : Class → Configuration → ℕ → ℕ → Option Key
+key_beside class.Plain c pc target = None
+key_beside class.Link c pc target = Some (Jump pc target)
+key_beside k c pc target = Some (Length (vtype_number c.vtype) c.vl)
+
+-- once more of a key, if there is one
+abbrev pub once_more : Option Key → (Sums → ℕ) → (Key → Bool) → ℕ
+once_more None number asked = 0
+once_more (Some key) number asked = more_of key once number asked
+
+-- an instruction that ended so is counted for its word, and once beside it
+abbrev pub counted : StepEnd → Key → Sums → Option Key → (Sums → ℕ) → (Key → Bool) → ℕ
+counted end key sums beside number asked =
+    if is_counted end then more_of key sums number asked + once_more beside number asked else 0
+
+-- the word that a state finds
+abbrev pub word_of : HartState → ℕ
+word_of s = word_at s.memory s.scalar.pc
+
+-- what is counted of the instruction that found this
+abbrev pub share : HartState → (Sums → ℕ) → (Key → Bool) → ℕ
+share s =
+    let one = step 256 s in
+    let k = class_of (scan table (word_of s)) in
+    let c = one.state.vector.conf in
+    counted one.end (Word s.scalar.pc (word_of s)) (carried_out one.ticks (body k (register_of s.vector.file 0) s.vector.vstart c) (tail_end k c))
+    (key_beside k s.vector.conf s.scalar.pc one.state.scalar.pc)
+
+-- of all that found these
+abbrev pub shares : List HartState → (Sums → ℕ) → (Key → Bool) → ℕ
+shares states number asked = sum_by (λ s. share s number asked) states

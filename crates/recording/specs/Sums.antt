@@ -1,0 +1,71 @@
+-- What is counted of instructions, and the table of it: a row for each key.
+use Rattle.std.specs.Prelude.{ℕ, ◌≡◌, ◌<◌, ◌+◌, ◌%◌, ◌^◌, Bool, true, false, List, length, get_or, Option, Some, if◌then◌else◌}
+use Rattle.std.specs.Int.{w64}
+use Rattle.std.specs.List.{sum_by}
+use Rattle.std.specs.Option.{option_map_or}
+use Rattle.rv_model.specs.scalar.Arithmetic.{sum}
+pub use Rattle.recording.specs.declared.key.Key.{Key}
+use Rattle.recording.specs.declared.key.Key.TheVariants.{Word}
+pub use Rattle.recording.specs.declared.sums.Sums.{Sums}
+pub use Rattle.recording.specs.declared.row.Row.{Row}
+
+-- nothing
+abbrev pub no_sums : Sums
+no_sums = record { times = 0; ticks = 0; active = 0; masked = 0; tail = 0 }
+
+-- once
+abbrev pub once : Sums
+once = record { times = 1; ticks = 0; active = 0; masked = 0; tail = 0 }
+
+-- both together, as far as 64 bits tell
+abbrev pub added : Sums → Sums → Sums
+added a b =
+    record {
+      times = sum w64 a.times b.times;
+      ticks = sum w64 a.ticks b.ticks;
+      active = sum w64 a.active b.active;
+      masked = sum w64 a.masked b.masked;
+      tail = sum w64 a.tail b.tail;
+    }
+
+-- something holds of each number that is counted
+pub record OfEach (Holds : (Sums → ℕ) → Type 0) : Type 0 where
+  pub times : Holds (λ s. s.times)
+  pub ticks : Holds (λ s. s.ticks)
+  pub active : Holds (λ s. s.active)
+  pub masked : Holds (λ s. s.masked)
+  pub tail : Holds (λ s. s.tail)
+
+-- a number of a row, if its key is asked for
+abbrev pub part_of : (Sums → ℕ) → (Key → Bool) → Row → ℕ
+part_of number asked row = option_map_or (λ key. if asked key then number row.sums else 0) row.key 0
+
+-- what the rows have whose keys are asked for
+abbrev pub total : (Sums → ℕ) → (Key → Bool) → List Row → ℕ
+total number asked rows = sum_by (part_of number asked) rows
+
+-- These rows have what those have, and so much more, whichever keys are asked for, as far as 64 bits tell.
+abbrev pub HasMore : ((Sums → ℕ) → (Key → Bool) → ℕ) → List Row → List Row → Type 0
+HasMore more old new = (asked : Key → Bool) → OfEach (λ number. total number asked new % 2 ^ 64 ≡ (total number asked old + more number asked) % 2 ^ 64)
+
+-- whether a key is a word's
+abbrev pub is_word : Key → Bool
+is_word (Word pc word) = true
+is_word _ = false
+
+-- The rows have nothing of any key.
+abbrev pub HasNothing : List Row → Type 0
+HasNothing rows = (number : Sums → ℕ) (asked : Key → Bool) → total number asked rows ≡ 0
+
+-- no more of any
+abbrev pub no_more : (Sums → ℕ) → (Key → Bool) → ℕ
+no_more number asked = 0
+
+-- this more of one key
+abbrev pub more_of : Key → Sums → (Sums → ℕ) → (Key → Bool) → ℕ
+more_of key sums number asked = if asked key then number sums else 0
+
+-- The row with an index is of a key.
+pub record IsRowOf (key : Key) (index : ℕ) (rows : List Row) : Type 0 where
+  pub there : index < length rows
+  pub of : (d : Row) → (get_or rows index d).key ≡ Some key

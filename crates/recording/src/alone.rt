@@ -1,0 +1,68 @@
+//! A machine of one user, which no other one shares its vector unit with.
+ghost use Rattle.std.specs.Prelude.{◌≡◌};
+
+use arrayvec::ArrayVec;
+use hart::{Vectors, View, step};
+use rv_model::{OUTPUT_SIZE, Policy, Scalar, Seat, StepEnd};
+use vector_memory::UserBytes;
+
+/// More ticks than an instruction takes: no memory instruction has more elements.
+const MAX_TICKS: usize = 256;
+
+/// A vector state that is lent to each instruction.
+#[derive(Drop)]
+pub struct OneSeat {
+    pub seat: Seat,
+}
+
+impl Vectors for OneSeat {
+    ghost use Rattle.std.specs.Prelude.{⊤};
+    ghost use Rattle.std.proofs.Common.{refl};
+
+    ghost ready = { λ _. ⊤ };
+
+    ghost lent = { λ v. v.seat };
+
+    ghost back = { λ v s. record v { seat = s } };
+
+    ghost ready_again = { λ _ _ is _. is };
+
+    ghost lent_again = { λ _ _ _. refl };
+
+    #[inline(always)]
+    fn seat(&mut self) -> &mut Seat {
+        &mut self.seat
+    }
+}
+
+/// The registers, bytes, vector state and output buffer of one user, and what becomes of agnostic elements.
+#[derive(Drop)]
+pub struct Alone<M> {
+    pub scalar: Scalar,
+    pub memory: M,
+    pub vectors: OneSeat,
+    pub output: ArrayVec<u8, OUTPUT_SIZE>,
+    pub policy: Policy,
+}
+
+impl<M: UserBytes> Alone<M> {
+    ghost use Rattle.recording.specs.Machines.{LeadsTo};
+
+    /// Carries out one instruction: how it ended, and its ticks.
+    #[inline(always)]
+    pub fn step(&mut self) -> (StepEnd, usize)
+        ensures model { LeadsTo M.memory self.old self.new result.0 result.1 }
+        ensures memory { self.new.memory ≡ M.with_memory self.old.memory (M.memory self.new.memory) }
+        ensures policy { self.new.policy ≡ self.old.policy }
+    {
+        let policy = self.policy;
+        let mut view = View {
+            scalar: &mut self.scalar,
+            memory: &mut self.memory,
+            vectors: &mut self.vectors,
+            output: &mut self.output,
+            policy,
+        };
+        step(&mut view, MAX_TICKS)
+    }
+}

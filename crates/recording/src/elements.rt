@@ -1,0 +1,178 @@
+//! How many elements an instruction has of each kind.
+ghost use Rattle.std.specs.Prelude.{◌≡◌, ◌≤◌, ◌-◌, false, true};
+ghost use Rattle.rv_model.specs.vector.Registers.{register_of};
+ghost use Rattle.recording.specs.Classes.{active_count, body, body_end, is_unmasked, moved, most, tail_end};
+ghost use Rattle.recording.specs.Runs.{carried_out};
+
+use crate::class::Class;
+use crate::sums::Sums;
+use lane_arith::Body;
+use mask_unit::count;
+use reg_groups::{mask_register, register_count};
+use rv_model::instructions::operations::RegisterCount;
+use rv_model::{GROUP_BYTES, VConf, VLENB, VState};
+
+/// What an instruction finds: where it stands, its class, vl and the vector type, vstart, and v0 if it is masked.
+#[derive(Clone, Copy)]
+pub(crate) struct Found {
+    pub pc: u64,
+    pub class: Class,
+    pub conf: VConf,
+    pub start: usize,
+    pub mask: [u8; VLENB],
+}
+
+/// v0, where an instruction of a class is masked.
+#[inline(always)]
+fn found_mask(class: Class, state: &VState) -> [u8; VLENB]
+    ensures { is_unmasked class ≡ false → result ≡ register_of state.now.file 0 }
+{
+    match class {
+        Class::Length { unmasked: false } => mask_register(&state.file),
+        Class::Length { unmasked: true }
+        | Class::Plain
+        | Class::Link
+        | Class::MaskBytes
+        | Class::Elements { count: _ }
+        | Class::Registers { count: _ } => [0; VLENB],
+    }
+}
+
+impl Found {
+    /// What an instruction of a class finds.
+    #[inline(always)]
+    pub(crate) fn new(class: Class, pc: u64, state: &VState) -> Found
+        ensures pc { result.pc ≡ pc }
+        ensures class { result.class ≡ class }
+        ensures conf { result.conf ≡ state.now.conf }
+        ensures start { result.start ≡ state.now.vstart }
+        ensures mask { is_unmasked class ≡ false → result.mask ≡ register_of state.now.file 0 }
+    {
+        Found {
+            pc,
+            class,
+            conf: state.conf,
+            start: usize::from(state.vstart),
+            mask: found_mask(class, state),
+        }
+    }
+}
+
+/// VLMAX, where there is a vector type.
+fn most(conf: VConf) -> usize
+    ensures { result ≡ most conf }
+{
+    match conf.vtype() {
+        Some(vtype) => usize::from(vtype.vlmax()),
+        None => 0,
+    }
+}
+
+/// How many elements of SEW so many registers have, where there is a vector type.
+fn moved(count: RegisterCount, conf: VConf) -> usize
+    ensures { result ≡ moved count conf }
+{
+    match conf.vtype() {
+        Some(vtype) => 8 * usize::from(register_count(count)) * VLENB
+            / usize::from(vtype.sew.bits()),
+        None => 0,
+    }
+}
+
+/// Where the body ends.
+fn body_end(class: Class, conf: VConf) -> usize
+    ensures { result ≡ body_end class conf }
+{
+    match class {
+        Class::Plain | Class::Link => 0,
+        Class::Length { unmasked: _ } => usize::from(conf.vl()),
+        Class::MaskBytes => (usize::from(conf.vl()) + 7) / 8,
+        Class::Elements { count } => usize::from(count),
+        Class::Registers { count } => moved(count, conf),
+    }
+}
+
+/// Where the tail ends.
+fn tail_end(class: Class, conf: VConf) -> usize
+    ensures { result ≡ tail_end class conf }
+{
+    match class {
+        Class::Length { unmasked: _ } => most(conf),
+        Class::MaskBytes => (most(conf) + 7) / 8,
+        Class::Plain | Class::Link | Class::Elements { count: _ } | Class::Registers { count: _ } =>
+            body_end(class, conf),
+    }
+}
+
+/// How many elements of a body are active, under the mask.
+#[tactic(auto, using(crate::proofs::Actives::set_are_active))]
+fn active_under(found: &Found, end: usize) -> usize
+    requires { end ≤ GROUP_BYTES }
+    ensures { result ≡ active_count (record { unmasked = false; mask = found.now.mask; start = found.now.start; end = end }) }
+{
+    count(
+        &Body::new(false, &found.mask, found.start, end),
+        &found.mask,
+    )
+}
+
+/// The same without a mask.
+#[tactic(auto, using(crate::proofs::Actives::all_are_active))]
+fn active_of_all(found: &Found, end: usize) -> usize
+    ensures { result ≡ active_count (record { unmasked = true; mask = found.now.mask; start = found.now.start; end = end }) }
+{
+    end.saturating_sub(found.start)
+}
+
+/// How many elements are active, under this length and type.
+fn active(found: &Found, conf: VConf) -> usize
+    ensures { result ≡ active_count (body found.now.class found.now.mask found.now.start conf) }
+{
+    match found.class {
+        Class::Length { unmasked: false } => active_under(found, usize::from(conf.vl())),
+        Class::Length { unmasked: true }
+        | Class::Plain
+        | Class::Link
+        | Class::MaskBytes
+        | Class::Elements { count: _ }
+        | Class::Registers { count: _ } => active_of_all(found, body_end(found.class, conf)),
+    }
+}
+
+/// What is counted of an instruction of so many ticks that found this and left this length and type, if it has elements.
+fn with_elements(found: &Found, conf: VConf, ticks: usize) -> Sums
+    ensures { result ≡ carried_out ticks (body found.now.class found.now.mask found.now.start conf)
+        (tail_end found.now.class conf) }
+{
+    let end = body_end(found.class, conf);
+    let active = active(found, conf);
+    Sums {
+        times: 1,
+        ticks: ticks as u64,
+        active: active as u64,
+        masked: end.saturating_sub(found.start).saturating_sub(active) as u64,
+        tail: tail_end(found.class, conf).saturating_sub(end) as u64,
+    }
+}
+
+/// The same of any instruction.
+#[tactic(auto, using(crate::proofs::Actives::no_elements))]
+#[inline(always)]
+pub(crate) fn carried_out(found: &Found, conf: VConf, ticks: usize) -> Sums
+    ensures { result ≡ carried_out ticks (body found.now.class found.now.mask found.now.start conf)
+        (tail_end found.now.class conf) }
+{
+    match found.class {
+        Class::Plain | Class::Link => Sums {
+            times: 1,
+            ticks: ticks as u64,
+            active: 0,
+            masked: 0,
+            tail: 0,
+        },
+        Class::Length { unmasked: _ }
+        | Class::MaskBytes
+        | Class::Elements { count: _ }
+        | Class::Registers { count: _ } => with_elements(found, conf, ticks),
+    }
+}

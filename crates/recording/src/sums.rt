@@ -1,0 +1,56 @@
+//! What is counted.
+ghost use Rattle.std.specs.Prelude.{◌≡◌};
+ghost use Rattle.recording.specs.Sums.{added, no_sums, once};
+
+/// How often instructions were carried out, in how many ticks, and how many of their elements were active, masked off
+/// and of the tail. Each is counted modulo 2^64.
+#[derive(Clone, Copy)]
+pub struct Sums {
+    pub times: u64,
+    pub ticks: u64,
+    pub active: u64,
+    pub masked: u64,
+    pub tail: u64,
+}
+
+impl Sums {
+    /// Nothing.
+    pub fn none() -> Sums
+        ensures { result ≡ no_sums }
+    {
+        Sums {
+            times: 0,
+            ticks: 0,
+            active: 0,
+            masked: 0,
+            tail: 0,
+        }
+    }
+
+    /// Once, and nothing else.
+    pub fn once() -> Sums
+        ensures { result ≡ once }
+    {
+        Sums {
+            times: 1,
+            ticks: 0,
+            active: 0,
+            masked: 0,
+            tail: 0,
+        }
+    }
+
+    /// Both together.
+    #[inline(always)]
+    pub fn added(self, other: Sums) -> Sums
+        ensures { result ≡ added self other }
+    {
+        Sums {
+            times: self.times.wrapping_add(other.times),
+            ticks: self.ticks.wrapping_add(other.ticks),
+            active: self.active.wrapping_add(other.active),
+            masked: self.masked.wrapping_add(other.masked),
+            tail: self.tail.wrapping_add(other.tail),
+        }
+    }
+}
