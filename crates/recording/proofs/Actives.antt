@@ -5,7 +5,7 @@ use Rattle.std.proofs.lemmas.Bool.Decides.{nat_tests}
 use Rattle.std.specs.Int.{from_bool}
 use Rattle.std.specs.List.{filter, range_with_len}
 use Rattle.rv_model.specs.elements.Elements.{Body, in_range, is_active, mask_bit}
-use Rattle.rv_model.specs.elements.Masks.{is_set, set_count}
+use Rattle.rv_model.specs.elements.Masks.{set_count}
 use Rattle.rv_model.proofs.element_lemmas.Ranges.{count_more}
 use Rattle.recording.specs.Classes.{active_count}
 use Rattle.recording.specs.Runs.{carried_out}

@@ -1,5 +1,5 @@
 -- A run beside the monitor's steps.
-use Rattle.std.proofs.Common.{◌≡◌, ◌≤◌, ◌+◌, ◌-◌, refl, ℕ, suc, zero, Bool, true, false, List, [], ◌∷◌, ◌++◌, Option, Some, None, is_none, length, if◌then◌else◌, ap, ◌∙◌, sym, subst, append-nil, append_assoc, flat_map, length-append, arith}
+use Rattle.std.proofs.Common.{◌≡◌, ◌≤◌, ◌-◌, refl, ℕ, suc, zero, Bool, true, false, List, [], ◌++◌, Option, Some, is_none, length, if◌then◌else◌, ap, ◌∙◌, sym, subst, append-nil, append_assoc, flat_map, length-append, arith}
 use Rattle.std.specs.Prelude.{not, ◌&&◌}
 use Rattle.rv_model.specs.declared.step.step_end.StepEnd.{StepEnd}
 use Rattle.rv_model.specs.declared.step.step_end.StepEnd.TheVariants.{Ran, Cut}
@@ -11,7 +11,7 @@ use Rattle.rv_model.specs.step.Hart.{HartState, Stepped}
 use Rattle.rv_model.specs.step.Step.{step}
 use Rattle.recording.specs.Laws.{RunsAsSteps}
 use Rattle.recording.specs.Machines.{taken}
-use Rattle.recording.specs.Runs.{Run, begins, put_out, ran, run, stays}
+use Rattle.recording.specs.Runs.{Run, begins, put_out, run}
 use Rattle.recording.proofs.Outputs.{joined, step_joins, with_output}
 
 after_hart : (end : StepEnd) (h : HartState) (p : Present) → (after end h p).hart ≡ h

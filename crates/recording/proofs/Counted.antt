@@ -1,9 +1,8 @@
 -- What the rows have more after one instruction.
-use Rattle.std.proofs.Common.{◌≡◌, ◌+◌, ◌-◌, refl, ℕ, Bool, true, false, List, Option, Some, None, if◌then◌else◌, ap, ◌∙◌, sym, subst, add-zero, zero-add}
+use Rattle.std.proofs.Common.{◌≡◌, ◌+◌, ◌-◌, refl, ℕ, Bool, true, false, List, Option, if◌then◌else◌, ap, ◌∙◌, sym, subst, zero-add}
 use Rattle.rv_model.specs.declared.memory.Access.TheVariants.{Fetch}
 use Rattle.rv_model.specs.declared.step.step_end.Cause.TheVariants.{FetchAccess}
 use Rattle.rv_model.specs.declared.step.step_end.StepEnd.{StepEnd}
-use Rattle.rv_model.specs.elements.Elements.{Body}
 use Rattle.rv_model.specs.instructions.Table.{scan, table}
 use Rattle.rv_model.specs.memory.Memory.{can_access}
 use Rattle.rv_model.specs.step.Hart.{HartState, Stepped, ends_after, faults}

@@ -1,7 +1,7 @@
 -- A step with something in the output buffer, beside the same step with nothing in it.
-use Rattle.std.proofs.Common.{◌≡◌, ◌≤◌, ◌+◌, ◌-◌, ◌==◌, ◌||◌, refl, ℕ, Bool, true, false, List, [], ◌++◌, Option, Some, None, cond, length, min, ap, ◌∙◌, sym, append-nil, append_assoc, arith, ◌%◌, ◌^◌}
+use Rattle.std.proofs.Common.{◌≡◌, ◌≤◌, ◌-◌, ◌==◌, ◌||◌, refl, ℕ, Bool, true, false, List, [], ◌++◌, Option, Some, None, cond, length, min, ap, ◌∙◌, sym, append-nil, arith, ◌%◌}
 use Rattle.std.specs.Prelude.{not, ◌&&◌}
-use Rattle.std.specs.Int.{byte_len, w64, to_le_bytes}
+use Rattle.std.specs.Int.{byte_len, w64}
 use Rattle.std.proofs.lemmas.Bool.Decides.{nat_tests}
 use Rattle.rv_model.specs.declared.instructions.access.AccessInstr.{AccessInstr}
 use Rattle.rv_model.specs.declared.instructions.csr.CsrInstr.{CsrInstr}
@@ -14,7 +14,7 @@ use Rattle.rv_model.specs.declared.instructions.operations.SystemOp.TheVariants 
 use Rattle.rv_model.specs.declared.instructions.operations.VectorOp.{VectorOp}
 use Rattle.rv_model.specs.declared.instructions.operations.VectorOp.TheVariants.{Binary}
 use Rattle.rv_model.specs.declared.instructions.scalar.ScalarInstr.{ScalarInstr}
-use Rattle.rv_model.specs.declared.instructions.scalar.ScalarInstr.TheVariants.{Upper, Jump, JumpRegister, Branch, Load, Store, System}
+use Rattle.rv_model.specs.declared.instructions.scalar.ScalarInstr.TheVariants.{Jump, JumpRegister, Branch, Load, Store, System}
 use Rattle.rv_model.specs.declared.instructions.source.Source.{Source}
 use Rattle.rv_model.specs.declared.instructions.vector.VectorInstr.{VectorInstr}
 use Rattle.rv_model.specs.declared.instructions.vector.VectorInstr.TheVariants.{SetVli, SetIvli, SetVl, Arith, MaskUnary}
@@ -30,16 +30,16 @@ use Rattle.rv_model.specs.accesses.VectorAccess.{VectorAccess, access_of}
 use Rattle.rv_model.specs.instructions.Immediates.{b_immediate, i_immediate, j_immediate, s_immediate}
 use Rattle.rv_model.specs.instructions.Table.{scan, table}
 use Rattle.rv_model.specs.legality.Legality.{is_legal}
-use Rattle.rv_model.specs.memory.Memory.{bytes_at, can_access}
+use Rattle.rv_model.specs.memory.Memory.{can_access}
 use Rattle.rv_model.specs.scalar.Arithmetic.{sum}
 use Rattle.rv_model.specs.scalar.ControlTransfer.{is_taken, register_target}
 use Rattle.rv_model.specs.scalar.LoadsAndStores.{load_width, store_width}
 use Rattle.rv_model.specs.scalar.Registers.{read_register, with_register}
 use Rattle.rv_model.specs.step.Hart.{HartState, Stepped, ends, faults, gives}
-use Rattle.rv_model.specs.step.ScalarStep.{csr_executed, csr_step, environment_call, jump_step, jumps, scalar_step}
+use Rattle.rv_model.specs.step.ScalarStep.{csr_executed, csr_step, environment_call, jumps, scalar_step}
 use Rattle.rv_model.specs.step.Step.{executed, step, word_at}
-use Rattle.rv_model.specs.step.VectorStep.{VectorStepped, access_step, after_vector, arith_step, operation_step, performed, typed, typed_step, vector_ends, vector_executed, vector_step, vector_ticks}
-use Rattle.rv_model.specs.step.WriteCall.{call_fails, output_room, puts_out, write_call, write_count}
+use Rattle.rv_model.specs.step.VectorStep.{VectorStepped, access_step, after_vector, arith_step, operation_step, performed, typed, typed_step, vector_executed, vector_step, vector_ticks}
+use Rattle.rv_model.specs.step.WriteCall.{call_fails, puts_out, write_call, write_count}
 use Rattle.rv_model.specs.vector.Configuration.{GroupType, group_type}
 use Rattle.rv_model.specs.vector.Control.{csr_form, is_write}
 use Rattle.rv_model.specs.vector.ControlRegisters.{control_register, is_read_only}

@@ -1,12 +1,12 @@
 -- The first instruction of a run, and the others.
-use Rattle.std.proofs.Common.{◌≡◌, refl, ℕ, suc, zero, ◌+◌, ◌-◌, Bool, true, false, List, [], ◌∷◌, ◌++◌, Option, Some, None, is_none, if◌then◌else◌, ap, ◌∙◌, sym, subst, append-nil, append_assoc, flat_map, arith}
+use Rattle.std.proofs.Common.{◌≡◌, refl, ℕ, suc, zero, ◌-◌, Bool, List, [], ◌∷◌, ◌++◌, is_none, ap, ◌∙◌, sym, subst, append-nil, append_assoc, flat_map, arith}
 use Rattle.std.proofs.lemmas.List.Concat.{flat_map-append}
 use Rattle.std.proofs.lemmas.List.Sums.{sum_by_push}
 use Rattle.rv_model.specs.declared.step.step_end.StepEnd.{StepEnd}
 use Rattle.rv_model.specs.machine.Runs.{stop_of}
 use Rattle.rv_model.specs.step.Hart.{HartState, Stepped, ends_after}
 use Rattle.rv_model.specs.step.Step.{step}
-use Rattle.recording.specs.Machines.{Advances, LeadsTo, taken}
+use Rattle.recording.specs.Machines.{Advances, taken}
 use Rattle.recording.specs.Runs.{Run, begins, put_out, run, share, shares, stays}
 use Rattle.recording.specs.Sums.{HasMore, Row}
 use Rattle.recording.proofs.TableTotals.{composed, none_more}

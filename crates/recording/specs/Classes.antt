@@ -1,6 +1,6 @@
 -- How an instruction is counted: by the elements of its operation ("V" Vector Extension 1.0, sections 5.4, 7.4, 7.9, 16.1 and 16.6),
 -- or as a jump (Unprivileged ISA 20191213, section 2.5).
-use Rattle.std.specs.Prelude.{ℕ, ◌+◌, ◌-◌, ◌*◌, ◌/◌, ◌==◌, ◌||◌, Bool, true, false, Option, Some, None, List, length, if◌then◌else◌}
+use Rattle.std.specs.Prelude.{ℕ, ◌*◌, ◌==◌, ◌||◌, Bool, true, false, Option, Some, List, length, if◌then◌else◌}
 use Rattle.std.specs.List.{filter, range_with_len}
 use Rattle.std.specs.Option.{option_map_or}
 use Rattle.rv_model.specs.accesses.VectorAccess.{mask_length, whole_length}
@@ -11,14 +11,12 @@ use Rattle.rv_model.specs.declared.instructions.instruction.Instr.TheVariants as
 use Rattle.rv_model.specs.declared.instructions.scalar.ScalarInstr.{ScalarInstr}
 use Rattle.rv_model.specs.declared.instructions.scalar.ScalarInstr.TheVariants as scalar
 use Rattle.rv_model.specs.declared.instructions.vector.VectorInstr.{VectorInstr}
-use Rattle.rv_model.specs.declared.instructions.vector.VectorInstr.TheVariants.{SetVli, SetIvli, SetVl, Arith, Carry, Move, WholeMove, MaskLogic, Compress, MaskToScalar, Extend, MaskUnary, ElementIndex, MoveToScalar, MoveToVector}
+use Rattle.rv_model.specs.declared.instructions.vector.VectorInstr.TheVariants.{SetVli, SetIvli, SetVl, Arith, WholeMove, MaskToScalar, Extend, MaskUnary, ElementIndex, MoveToScalar, MoveToVector}
 use Rattle.rv_model.specs.declared.instructions.operations.RegisterCount.{RegisterCount}
 use Rattle.rv_model.specs.elements.Elements.{Body, is_active}
-use Rattle.rv_model.specs.declared.vector.state.VState.{VState}
 use Rattle.rv_model.specs.vector.Configuration.{Configuration, element_count, vlmax}
 use Rattle.rv_model.specs.vector.Groups.{register_count, whole_type}
 use Rattle.rv_model.specs.declared.vector.sizes.TheConstants.{VLENB}
-use Rattle.rv_model.specs.vector.Registers.{register_of}
 pub use Rattle.recording.specs.declared.class.Class.{Class}
 use Rattle.recording.specs.declared.class.Class.TheVariants as class
 

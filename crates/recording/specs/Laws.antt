@@ -1,5 +1,5 @@
 -- Laws of what is counted.
-use Rattle.std.specs.Prelude.{ℕ, ◌≡◌, ◌+◌, ◌≤◌, ◌++◌, Bool, List, [], Some, flat_map, length}
+use Rattle.std.specs.Prelude.{ℕ, ◌≡◌, ◌+◌, ◌≤◌, ◌++◌, Bool, [], Some, flat_map, length}
 use Rattle.rv_model.specs.accesses.VectorAccess.{VectorAccess, access_of}
 use Rattle.rv_model.specs.declared.instructions.access.AccessInstr.{AccessInstr}
 use Rattle.rv_model.specs.declared.scalar.Scalar.{Scalar}

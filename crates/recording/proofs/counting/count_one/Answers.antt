@@ -1,4 +1,4 @@
-use Rattle.std.proofs.Common.{◌≡◌, ℕ, ap, ◌∙◌, sym, Bool, List}
+use Rattle.std.proofs.Common.{ℕ, ap, ◌∙◌, sym, Bool, List}
 use Rattle.rv_model.specs.step.Hart.{HartState}
 use Rattle.rv_model.specs.vector.Configuration.{Configuration}
 use Rattle.recording.specs.Classes.{Class, body, is_unmasked, tail_end}

@@ -1,4 +1,4 @@
-use Rattle.std.proofs.Common.{List, ℕ, ap, sym, ◌∙◌}
+use Rattle.std.proofs.Common.{ap, sym}
 use Rattle.devices.proofs.Moves.{moved}
 use Rattle.rv_model.specs.step.Hart.{Stepped}
 use Rattle.recording.proofs.Runs.{advanced}

@@ -1,9 +1,8 @@
-use Rattle.std.proofs.Common.{◌≡◌, ℕ, suc, ◌+◌, ◌-◌, ◌++◌, true, false, List, [], ◌∷◌, Some, None, flat_map, ap, ◌∙◌, sym, refl, subst, arith}
+use Rattle.std.proofs.Common.{ℕ, ◌+◌, ◌-◌, ◌++◌, true, false, List, [], ◌∷◌, Some, ap, ◌∙◌, sym, refl, subst, arith}
 use Rattle.devices.proofs.Moves.{moved}
-use Rattle.rv_model.specs.declared.step.step_end.StepEnd.{StepEnd}
 use Rattle.rv_model.specs.step.Hart.{HartState}
 use Rattle.recording.specs.Machines.{state_of}
-use Rattle.recording.specs.Runs.{Run, begins, put_out, ran, run}
+use Rattle.recording.specs.Runs.{Run, begins, ran, run}
 use Rattle.recording.proofs.Runs.{SoFar, all_counted, all_put_out, more_put_out, nothing_yet, one_more, run_is, without_fuel, without_ticks}
 use Rattle.recording.proofs.run.count.Goals as goal
 
