@@ -61,7 +61,7 @@ pub(crate) fn user(word: &[u8]) -> Option<User>
 }
 
 /// An address of 1 to 16 hexadecimal digits.
-pub(crate) fn address(word: &[u8]) -> Option<u64>
+pub fn address(word: &[u8]) -> Option<u64>
     ensures { result ≡ address word.now }
 {
     if word.is_empty() || word.len() > 16 {
@@ -76,7 +76,7 @@ pub(crate) fn address(word: &[u8]) -> Option<u64>
 }
 
 /// An address that is divisible by 4.
-pub(crate) fn instruction_address(word: &[u8]) -> Option<u64>
+pub fn instruction_address(word: &[u8]) -> Option<u64>
     ensures { result ≡ instruction_address word.now }
 {
     let addr = address(word)?;
@@ -84,7 +84,7 @@ pub(crate) fn instruction_address(word: &[u8]) -> Option<u64>
 }
 
 /// One of `x1` to `x31`.
-pub(crate) fn scalar_register(word: &[u8]) -> Option<Reg>
+pub fn scalar_register(word: &[u8]) -> Option<Reg>
     ensures { result ≡ scalar_register word.now }
 {
     let [b'x', digits @ ..] = word else {
@@ -95,7 +95,7 @@ pub(crate) fn scalar_register(word: &[u8]) -> Option<Reg>
 }
 
 /// One of `v0` to `v31`.
-pub(crate) fn vector_register(word: &[u8]) -> Option<VReg>
+pub fn vector_register(word: &[u8]) -> Option<VReg>
     ensures { result ≡ vector_register word.now }
 {
     let [b'v', digits @ ..] = word else {
@@ -125,7 +125,7 @@ pub(crate) fn element_width(word: &[u8]) -> Option<Sew>
 }
 
 /// What becomes of agnostic elements: `keep` or `ones`.
-pub(crate) fn policy(word: &[u8]) -> Option<Policy>
+pub fn policy(word: &[u8]) -> Option<Policy>
     ensures { result ≡ policy_word word.now }
 {
     if word == b"keep".as_slice() {
@@ -149,7 +149,7 @@ fn allowing(read: bool, write: bool, execute: bool) -> Option<Permissions>
 }
 
 /// One of `r`, `w`, `x`, `rw`, `rx`, `wx`, `rwx`.
-pub(crate) fn permissions(word: &[u8]) -> Option<Permissions>
+pub fn permissions(word: &[u8]) -> Option<Permissions>
     ensures { result ≡ permissions word.now }
 {
     if word == b"r".as_slice() {

@@ -8,7 +8,7 @@ use itoa::Buffer;
 
 /// Adds 16 hexadecimal digits in lower case, the highest first.
 #[tactic(auto, unfolding(rv_model::specs::commands::Printing::hex16))]
-pub(crate) fn push_hex16(reply: &mut Reply, number: u64)
+pub fn push_hex16(reply: &mut Reply, number: u64)
     requires { length reply.old + 16 ≤ 4096 }
     ensures text { reply.new ≡ reply.old ++ hex16 number }
     ensures bound { length reply.new ≡ length reply.old + 16 }
@@ -20,7 +20,7 @@ pub(crate) fn push_hex16(reply: &mut Reply, number: u64)
 
 /// Adds 8 hexadecimal digits in lower case, the highest first.
 #[tactic(auto, unfolding(rv_model::specs::commands::Printing::hex8))]
-pub(crate) fn push_hex8(reply: &mut Reply, word: u32)
+pub fn push_hex8(reply: &mut Reply, word: u32)
     requires { length reply.old + 8 ≤ 4096 }
     ensures text { reply.new ≡ reply.old ++ hex8 word }
     ensures bound { length reply.new ≡ length reply.old + 8 }
@@ -31,7 +31,7 @@ pub(crate) fn push_hex8(reply: &mut Reply, word: u32)
 }
 
 /// Adds a decimal number.
-pub(crate) fn push_decimal(reply: &mut Reply, number: u64)
+pub fn push_decimal(reply: &mut Reply, number: u64)
     requires { length reply.old + 20 ≤ 4096 }
     ensures text { reply.new ≡ reply.old ++ decimal number }
     ensures bound { length reply.new ≤ length reply.old + 20 }

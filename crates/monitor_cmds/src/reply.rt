@@ -44,7 +44,7 @@ impl Reply {
     }
 
     /// Adds bytes at the end.
-    pub(crate) fn push(&mut self, bytes: &[u8])
+    pub fn push(&mut self, bytes: &[u8])
         requires { length self.old + length bytes.now ≤ 4096 }
         ensures { self.new ≡ self.old ++ bytes.now }
     {

@@ -62,7 +62,7 @@ fn push_place(reply: &mut Reply, words: &[u8], pc: u64)
 
 /// Adds why a program stopped.
 #[tactic(auto, unfolding(rv_model::specs::commands::Printing::stop_line))]
-fn push_stop(reply: &mut Reply, pc: u64, stop: Stop)
+pub fn push_stop(reply: &mut Reply, pc: u64, stop: Stop)
     requires { length reply.old + 75 ≤ 4096 }
     ensures text { reply.new ≡ reply.old ++ stop_line pc stop }
     ensures bound { length reply.new ≤ length reply.old + 75 }

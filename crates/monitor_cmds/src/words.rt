@@ -8,7 +8,7 @@ use std::marker::Model;
 
 /// The words of a line that are still to be read. Words stand between spaces (byte 20).
 #[derive(Drop)]
-pub(crate) struct Words<'a> {
+pub struct Words<'a> {
     rest: &'a [u8],
 }
 
@@ -23,14 +23,14 @@ impl<'a> Model for Words<'a> {
 
 impl<'a> Words<'a> {
     /// All words of a line.
-    pub(crate) fn new(line: &'a [u8]) -> Words<'a>
+    pub fn new(line: &'a [u8]) -> Words<'a>
         ensures { result ≡ words line.now }
     {
         Words { rest: line }
     }
 
     /// The next word, if one is left.
-    pub(crate) fn next_word(&mut self) -> Option<&'a [u8]>
+    pub fn next_word(&mut self) -> Option<&'a [u8]>
         ensures { MatchOption result (self.old ≡ []) (λ word. self.old ≡ word.now ∷ self.new) }
     {
         let (word, rest) = first_word(self.rest)?;
