@@ -1,6 +1,6 @@
 //! Scripts that are as long as they may be, and longer: one byte more, and without an end.
 
-use crate::devices::PieceSink;
+use crate::failing_devices::PieceSink;
 use crate::known_devices::{EndlessSource, run_newlines, run_slice};
 use crate::tally::Tally;
 use crate::transcript::QUANTUM;

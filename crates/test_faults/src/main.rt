@@ -9,7 +9,7 @@
 #![tactic(auto)]
 
 mod commands;
-mod devices;
+mod failing_devices;
 mod growths;
 mod known_devices;
 mod lengths;

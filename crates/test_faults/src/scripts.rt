@@ -2,7 +2,7 @@
 
 ghost use Rattle.std.specs.Prelude.{◌≤◌};
 
-use crate::devices::{PieceSink, PieceSource, run_pieces};
+use crate::failing_devices::{PieceSink, PieceSource, run_pieces};
 use crate::tally::Tally;
 use crate::transcript::{QUANTUM, Transcript};
 use anyhow::Result;

@@ -2,7 +2,7 @@
 //! to the two outputs. A call of a file or of standard output may fail, once.
 ghost use Rattle.std.specs.Prelude.{IsErr};
 
-use crate::devices::Countdown;
+use crate::failing_devices::Countdown;
 use std::alloc::{Allocator, Global};
 use std::cell::RefCell;
 use std::fmt::Display;

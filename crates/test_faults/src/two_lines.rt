@@ -1,7 +1,7 @@
 //! A script of two lines over devices that take little, fail, or give a part of it. What is printed was worked out by
 //! hand.
 
-use crate::devices::{PieceSink, PieceSource, run_pieces};
+use crate::failing_devices::{PieceSink, PieceSource, run_pieces};
 use crate::known_devices::run_twice;
 use crate::transcript::QUANTUM;
 use anyhow::Result;
