@@ -237,7 +237,7 @@ CASES = (
 LEFT_OUT = (
     "type commands.Operator commands.Commands.parse commands.Commands.of_absent commands.Running.stop_line "
     "machine.UserMachine.refuses machine.UserMachine.Use machine.Script.common machine.Grants machine.World.unit_after "
-    "machine.VectorUnit legality.Legality step.VectorStep.vector_ticks"
+    "machine.VectorUnit legality.Legality step.Step.vector_ticks"
 )
 ADDITION = Part(frozenset(CASES.split()), frozenset(LEFT_OUT.split()))
 

@@ -29,9 +29,9 @@ what else is asked for; scalar instructions have none. `Section` is one of the m
 STEPS = (
     ("step.ScalarStep", "scalar_step"),
     ("step.ScalarStep", "csr_executed"),
-    ("step.VectorStep", "operation_step"),
-    ("step.VectorStep", "typed_step"),
-    ("step.VectorStep", "arith_step"),  # behind `typed_step`, which has one line for all of these
+    ("step.Step", "operation_step"),
+    ("step.Step", "typed_step"),
+    ("step.Step", "arith_step"),  # behind `typed_step`, which has one line for all of these
     ("accesses.VectorAccess", "access_of"),
 )
 # The names that these definitions of `InstructionTexts` may give

@@ -14,7 +14,7 @@ use Rattle.rv_model.specs.accesses.VectorAccess.{VectorAccess, access_of}
 use Rattle.rv_model.specs.legality.Legality.{is_legal}
 use Rattle.rv_model.specs.step.Hart.{HartState}
 use Rattle.rv_model.specs.step.MemoryStep.{access_end}
-use Rattle.rv_model.specs.step.VectorStep.{VectorStepped, access_step, accessed, after_vector, performed, vector_ends, vector_executed, vector_step, vector_ticks}
+use Rattle.rv_model.specs.step.Step.{VectorStepped, access_step, accessed, after_vector, performed, vector_ends, vector_executed, vector_step, vector_ticks}
 use Rattle.rv_model.proofs.access_lemmas.Runs.{AllOrShorter, AtEnd}
 use Rattle.rv_model.proofs.step_lemmas.Cuts.{accessed_facts}
 use Rattle.rv_model.proofs.step_lemmas.TicksTaken.{access_ticks, ticks_show}

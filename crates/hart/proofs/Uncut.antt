@@ -7,7 +7,7 @@ use Rattle.rv_model.specs.declared.vector.sizes.TheConstants.{GROUP_BYTES}
 use Rattle.rv_model.specs.step.Hart.{HartState}
 use Rattle.rv_model.specs.step.Step.{fetched, step, touches}
 use Rattle.rv_model.specs.step.Ticks.{is_scalar}
-use Rattle.rv_model.specs.vector.Configuration.{IsConfiguration}
+use Rattle.rv_model.specs.vector.Groups.{IsConfiguration}
 use Rattle.rv_model.proofs.step_lemmas.FetchesResume.{step_uncut}
 use Rattle.rv_model.proofs.step_lemmas.StepTicks.{scalar_steps_take_one_tick}
 

@@ -8,7 +8,7 @@ use Rattle.rv_model.specs.declared.vector.state.Seat.{Seat}
 use Rattle.rv_model.specs.declared.vector.state.VState.{VState}
 use Rattle.rv_model.specs.step.Hart.{HartState, Stepped, hart_state, ends_after}
 use Rattle.rv_model.specs.memory.Memory.{Memory}
-use Rattle.rv_model.specs.vector.Configuration.{IsConfiguration}
+use Rattle.rv_model.specs.vector.Groups.{IsConfiguration}
 use Rattle.rv_model.specs.instructions.Table.{scan, table}
 use Rattle.rv_model.specs.step.Step.{dirties, executed, touches}
 use Rattle.hart.specs.declared.ending.Ending.{Ending}

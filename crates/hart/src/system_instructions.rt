@@ -9,7 +9,7 @@ ghost use Rattle.rv_model.specs.step.ScalarStep.{csr_step};
 ghost use Rattle.rv_model.specs.step.Step.{dirties, executed, touches, touches_control};
 ghost use Rattle.rv_model.specs.vector.Control.{is_write};
 ghost use Rattle.rv_model.specs.vector.ControlRegisters.{control_register};
-ghost use Rattle.rv_model.specs.vector.Configuration.{IsConfiguration};
+ghost use Rattle.rv_model.specs.vector.Groups.{IsConfiguration};
 ghost use Rattle.hart.specs.States.{EndsBy, Leads, Returns};
 
 use crate::control_registers::{csr_form, is_write, read, write, written_value};

@@ -2,7 +2,7 @@
 ghost use Rattle.std.specs.Prelude.{◌≡◌, ◌≤◌, ℕ};
 ghost use Rattle.rv_model.specs.declared.instructions.instruction.Instr.TheVariants as instr;
 ghost use Rattle.rv_model.specs.step.Hart.{HartState};
-ghost use Rattle.rv_model.specs.step.VectorStep.{after_vector, vector_ends, vector_executed, vector_step};
+ghost use Rattle.rv_model.specs.step.Step.{after_vector, vector_ends, vector_executed, vector_step};
 
 use rv_model::{AccessInstr, VEnd, VState};
 use vector_memory::index_count;

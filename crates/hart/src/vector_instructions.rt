@@ -8,7 +8,7 @@ ghost use Rattle.rv_model.specs.declared.vector.policy.Policy.{Policy};
 ghost use Rattle.rv_model.specs.instructions.Table.{scan, table};
 ghost use Rattle.rv_model.specs.memory.Memory.{Memory};
 ghost use Rattle.rv_model.specs.step.Hart.{hart_state};
-ghost use Rattle.rv_model.specs.step.VectorStep.{access_cause, after_vector, is_legal_end};
+ghost use Rattle.rv_model.specs.step.Step.{access_cause, after_vector, is_legal_end};
 ghost use Rattle.hart.specs.States.{EndsBy, Executes, Seats};
 
 use crate::ending::Ending;

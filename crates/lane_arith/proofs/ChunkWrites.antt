@@ -7,8 +7,7 @@ use Rattle.std.proofs.lemmas.List.{drop-take, take-take, drop-drop}
 use Rattle.std.proofs.lemmas.Simd.{length-put_chunk, get_or-put_chunk_at, get_or-put_chunk_below, get_or-put_chunk_above, length-chunk, get_or-chunk, Each1-chunk, below_from_Fits}
 use Rattle.std.specs.Int.{byte_at}
 use lib.Lanes.{Each1, number_l, chunk, put_chunk}
-use Rattle.rv_model.specs.elements.Elements.{Body, element, in_body, is_enabled, is_active, is_changed, result_or_ones}
-use Rattle.rv_model.specs.elements.Writes.{byte_or}
+use Rattle.rv_model.specs.elements.Elements.{Body, element, in_body, is_enabled, is_active, is_changed, result_or_ones, byte_or}
 use Rattle.rv_model.specs.lending.Writes.{Writes}
 use Rattle.rv_model.proofs.element_lemmas.Writes.{byte_at-is}
 use Rattle.lane_arith.proofs.MaskBits.{byte_of_number}

@@ -10,9 +10,8 @@ use Rattle.std.proofs.lemmas.Simd.{get_or-replicate, get_or-zip2, length-replica
 use Rattle.std.specs.Int.{bit_not, w8}
 use lib.Bits.{and_le_r}
 use lib.Lanes.{Each1, sel_l, top, zip2}
-use Rattle.rv_model.specs.elements.Elements.{in_range, mask_bit}
+use Rattle.rv_model.specs.elements.Elements.{in_range, mask_bit, bit_or as old_or_new}
 use Rattle.rv_model.specs.elements.Masks.{xor}
-use Rattle.rv_model.specs.elements.Writes.{bit_or as old_or_new}
 use Rattle.rv_model.specs.lending.Writes.{WritesBits}
 use Rattle.rv_model.proofs.element_lemmas.Bits.{same_byte}
 use Rattle.lane_arith.proofs.MaskWords.{byte_of_own}

@@ -7,8 +7,7 @@ use Rattle.std.proofs.lemmas.Simd.{length-put_chunk, get_or-put_chunk_at, get_or
 use Rattle.std.proofs.Math.Nat.{div-div-eq-div-mul, div-one, mod-lt}
 use Rattle.std.specs.Int.{byte_at, bytes_low_first}
 use lib.Lanes.{put_chunk}
-use Rattle.rv_model.specs.elements.Elements.{element, mask_bit, byte_of_bits}
-use Rattle.rv_model.specs.elements.Writes.{bit_or, byte_with_bits}
+use Rattle.rv_model.specs.elements.Elements.{element, mask_bit, byte_of_bits, bit_or, byte_with_bits}
 use Rattle.rv_model.specs.lending.Writes.{WritesBits}
 use Rattle.rv_model.proofs.element_lemmas.Bits.{RebuiltTo, byte_kept, same_byte}
 use Rattle.rv_model.proofs.element_lemmas.Reads.{bytes_power}

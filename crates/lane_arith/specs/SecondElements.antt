@@ -7,7 +7,7 @@ use Rattle.std.specs.declared.option.Option.TheVariants.{Some, None}
 use mir.Val.{bits}
 use Rattle.rv_model.specs.elements.Elements.{element}
 use Rattle.rv_model.specs.lending.Writes.{HasElement}
-use Rattle.rv_model.specs.vector.Configuration.{width_bytes}
+use Rattle.rv_model.specs.vector.Groups.{width_bytes}
 use Rattle.lane_arith.specs.declared.second_elements.SecondElements.{SecondElements}
 
 -- element i of a width, or else the low bits of a number

@@ -10,7 +10,7 @@ ghost use Rattle.rv_model.specs.declared.vector.sizes.TheConstants.{GROUP_BYTES}
 ghost use Rattle.rv_model.specs.elements.Elements.{mask_bit};
 ghost use Rattle.rv_model.specs.elements.Formulas.{carry_formula, compare_formula, formula, multiply_add_formula, ones};
 ghost use Rattle.rv_model.specs.elements.Formulas.{wrap};
-ghost use Rattle.rv_model.specs.vector.Configuration.{width_bytes};
+ghost use Rattle.rv_model.specs.vector.Groups.{width_bytes};
 ghost use mir.Val.{bits, hbits};
 ghost use Rattle.lane_arith.specs.SimdOperations.{is_simd};
 

@@ -5,7 +5,7 @@ ghost use Rattle.lane_arith.specs.SecondElements.{HasNumber, number_at};
 ghost use Rattle.rv_model.specs.elements.Elements.{element, mask_bit};
 ghost use Rattle.rv_model.specs.lending.Writes.{HasElement};
 ghost use Rattle.rv_model.specs.elements.Formulas.{carry_out_formula, compare_formula};
-ghost use Rattle.rv_model.specs.vector.Configuration.{width_bytes};
+ghost use Rattle.rv_model.specs.vector.Groups.{width_bytes};
 
 use crate::chunk::compare;
 use crate::lane::Lane;

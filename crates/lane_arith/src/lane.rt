@@ -7,7 +7,7 @@ ghost use lib.ListN.{get_or};
 ghost use Rattle.std.specs.Simd.Lanes.{put_chunk};
 ghost use Rattle.rv_model.specs.declared.instructions.operations.BinaryOp.TheVariants.{Vadd, Vmul, Vsll, Vsub};
 ghost use Rattle.rv_model.specs.elements.Elements.{element};
-ghost use Rattle.rv_model.specs.vector.Configuration.{width_bytes};
+ghost use Rattle.rv_model.specs.vector.Groups.{width_bytes};
 ghost use Rattle.rv_model.specs.elements.Formulas.{formula, ones, wrap};
 ghost use mir.Val.{bits};
 

@@ -4,7 +4,7 @@ ghost use Rattle.rv_model.specs.declared.vector.sizes.TheConstants.{GROUP_BYTES}
 ghost use Rattle.rv_model.specs.elements.Elements.{element, mask_bit};
 ghost use Rattle.rv_model.specs.lending.Writes.{HasElement};
 ghost use Rattle.rv_model.specs.elements.Formulas.{carry_formula, wrap};
-ghost use Rattle.rv_model.specs.vector.Configuration.{width_bytes};
+ghost use Rattle.rv_model.specs.vector.Groups.{width_bytes};
 
 use crate::chunk::with_mask_operand;
 use crate::chunk_bits::mask_bits;

@@ -3,8 +3,7 @@
 ghost use Rattle.std.specs.Prelude.{◌≡◌, ◌+◌, ◌*◌, ◌/◌, ◌%◌, ◌^◌, ◌<◌, ◌≤◌, ◌==◌, ℕ, Bool, IfSome, length, nat_lt, not};
 ghost use Rattle.std.specs.Prelude.{slice_index, true, false, if◌then◌else◌};
 ghost use Rattle.std.specs.Int.{from_bool};
-ghost use Rattle.rv_model.specs.elements.Elements.{is_active, mask_bit};
-ghost use Rattle.rv_model.specs.elements.Writes.{bit_or, byte_with_bits};
+ghost use Rattle.rv_model.specs.elements.Elements.{is_active, mask_bit, bit_or, byte_with_bits};
 ghost use Rattle.rv_model.specs.lending.Writes.{WritesBits};
 
 use crate::body::Body;

@@ -4,7 +4,7 @@ ghost use Rattle.lane_arith.specs.SecondElements.{HasNumber, number_at};
 ghost use Rattle.rv_model.specs.elements.Elements.{element};
 ghost use Rattle.rv_model.specs.lending.Writes.{HasElement};
 ghost use Rattle.rv_model.specs.elements.Formulas.{narrow_shift_formula, wrap};
-ghost use Rattle.rv_model.specs.vector.Configuration.{width_bytes};
+ghost use Rattle.rv_model.specs.vector.Groups.{width_bytes};
 ghost use mir.Val.{bits};
 
 use crate::lane::Lane;

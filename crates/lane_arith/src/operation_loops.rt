@@ -7,7 +7,7 @@ ghost use Rattle.rv_model.specs.declared.instructions.operations.BinaryOp.TheVar
 ghost use Rattle.rv_model.specs.elements.Elements.{element, in_range};
 ghost use Rattle.rv_model.specs.elements.Formulas.{formula, wrap};
 ghost use Rattle.rv_model.specs.lending.Writes.{HasElement, Writes};
-ghost use Rattle.rv_model.specs.vector.Configuration.{width_bytes};
+ghost use Rattle.rv_model.specs.vector.Groups.{width_bytes};
 
 use crate::division::{quotient, remainder, signed_quotient, signed_remainder};
 use crate::high_products::{high_product, mixed_high_product, signed_high_product};

@@ -7,7 +7,7 @@ ghost use Rattle.rv_model.specs.elements.Elements.{element};
 ghost use Rattle.rv_model.specs.lending.Writes.{HasElement};
 ghost use Rattle.rv_model.specs.elements.Formulas.{wide_source_formula, widen_formula, widen_multiply_add_formula};
 ghost use Rattle.rv_model.specs.elements.Formulas.{wrap};
-ghost use Rattle.rv_model.specs.vector.Configuration.{width_bytes};
+ghost use Rattle.rv_model.specs.vector.Groups.{width_bytes};
 
 use crate::lane::Lane;
 use crate::operations::sum;

@@ -5,7 +5,7 @@ ghost use Rattle.rv_model.specs.elements.Elements.{element};
 ghost use Rattle.rv_model.specs.lending.Writes.{HasElement};
 ghost use Rattle.rv_model.specs.elements.FixedPoint.{clip_formula, clip_saturates};
 ghost use Rattle.rv_model.specs.elements.Formulas.{wrap};
-ghost use Rattle.rv_model.specs.vector.Configuration.{width_bytes};
+ghost use Rattle.rv_model.specs.vector.Groups.{width_bytes};
 
 use crate::rounding::{Rounding, rounded, shift_amount, signed_rounded};
 use crate::saturating_results::{Saturated, SaturatingResults};

@@ -6,7 +6,7 @@ ghost use Rattle.rv_model.specs.lending.Writes.{HasElement};
 ghost use Rattle.rv_model.specs.elements.FixedPoint.{clipped, fixed_point_formula, saturates};
 ghost use Rattle.rv_model.specs.elements.Formulas.{wrap};
 ghost use Rattle.rv_model.specs.declared.instructions.operations.FixedPointOp.TheVariants.{Vsmul, Vssra, Vssrl};
-ghost use Rattle.rv_model.specs.vector.Configuration.{width_bytes};
+ghost use Rattle.rv_model.specs.vector.Groups.{width_bytes};
 ghost use mir.Val.{bits};
 
 use crate::chunk::fixed_point;

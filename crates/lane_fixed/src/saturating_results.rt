@@ -6,7 +6,7 @@ ghost use Rattle.std.specs.List.{list_any, range_with_len};
 ghost use Rattle.rv_model.specs.elements.Elements.{is_active, is_changed, result_or_ones, some_active};
 ghost use Rattle.rv_model.specs.elements.Formulas.{ones};
 ghost use Rattle.rv_model.specs.lending.Writes.{Writes};
-ghost use Rattle.rv_model.specs.vector.Configuration.{width_bytes};
+ghost use Rattle.rv_model.specs.vector.Groups.{width_bytes};
 ghost use Rattle.rv_model.specs.declared.vector.state.RoundingMode.{RoundingMode};
 
 use crate::rounding::{Rounding, ToDown, ToNearestEven, ToNearestUp, ToOdd};

@@ -3,7 +3,7 @@ ghost use Rattle.std.specs.Prelude.{◌≡◌, ◌*◌, ◌≤◌, ℕ, length};
 ghost use Rattle.rv_model.specs.elements.Elements.{element};
 ghost use Rattle.rv_model.specs.lending.Writes.{HasElement};
 ghost use Rattle.rv_model.specs.elements.PermutationResults.{gathered};
-ghost use Rattle.rv_model.specs.vector.Configuration.{width_bytes};
+ghost use Rattle.rv_model.specs.vector.Groups.{width_bytes};
 
 use lane_arith::{Lane, Results};
 use std::marker::PhantomData;

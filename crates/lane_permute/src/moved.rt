@@ -4,7 +4,7 @@ ghost use Rattle.std.specs.Prelude.{if◌then◌else◌};
 ghost use Rattle.std.specs.Simd.Lanes.{chunk, put_chunk};
 ghost use Rattle.rv_model.specs.elements.Elements.{element, in_range};
 ghost use Rattle.rv_model.specs.lending.Writes.{Writes};
-ghost use Rattle.rv_model.specs.vector.Configuration.{width_bytes};
+ghost use Rattle.rv_model.specs.vector.Groups.{width_bytes};
 
 use lane_arith::Lane;
 use rv_model::GROUP_BYTES;

@@ -4,7 +4,7 @@ ghost use Rattle.std.specs.Prelude.{not, slice_index};
 ghost use Rattle.rv_model.specs.elements.Elements.{element, mask_bit};
 ghost use Rattle.rv_model.specs.elements.PermutationResults.{packed};
 ghost use Rattle.rv_model.specs.lending.Writes.{Writes};
-ghost use Rattle.rv_model.specs.vector.Configuration.{width_bytes};
+ghost use Rattle.rv_model.specs.vector.Groups.{width_bytes};
 
 use lane_arith::{Lane, mask_bits};
 use rv_model::{GROUP_BYTES, VLENB};

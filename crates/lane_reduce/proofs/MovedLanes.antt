@@ -8,7 +8,7 @@ use Rattle.std.specs.Int.{Width, byte_at, w8, w16, w32, w64, w128}
 use lib.Lanes.{Each1, number_l, chunk, put_chunk}
 use mir.Val.{Fits, bits}
 use Rattle.rv_model.specs.elements.Elements.{element}
-use Rattle.rv_model.specs.vector.Configuration.{width_bytes}
+use Rattle.rv_model.specs.vector.Groups.{width_bytes}
 use Rattle.rv_model.proofs.element_lemmas.Reads.{bytes_power}
 use Rattle.rv_model.proofs.element_lemmas.Widths.{whole_bytes}
 use Rattle.rv_model.proofs.element_lemmas.Writes.{byte_at-is}

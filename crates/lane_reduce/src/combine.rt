@@ -3,7 +3,7 @@ ghost use Rattle.std.specs.Prelude.{◌≡◌, ◌*◌, ◌≤◌, ℕ, IfSome, 
 ghost use Rattle.std.specs.List.{filter, fold, range_with_len};
 ghost use Rattle.rv_model.specs.elements.Elements.{element, is_active};
 ghost use Rattle.rv_model.specs.elements.Reductions.{active_numbers};
-ghost use Rattle.rv_model.specs.vector.Configuration.{width_bytes};
+ghost use Rattle.rv_model.specs.vector.Groups.{width_bytes};
 
 use lane_arith::{Body, Lane};
 

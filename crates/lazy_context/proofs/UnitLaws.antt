@@ -4,7 +4,7 @@ use Rattle.std.proofs.Common.{ap, sym, ◌∙◌, arith, get_or, get_or-set_othe
 use Rattle.std.specs.Option.{ForSome}
 use Rattle.rv_model.specs.declared.vector.state.Seat.{Seat}
 use Rattle.rv_model.specs.declared.vector.state.VState.{VState}
-use Rattle.rv_model.specs.machine.Users.{user_count}
+use Rattle.rv_model.specs.machine.Setup.{user_count}
 use Rattle.rv_model.specs.machine.VectorUnit.{is_owned_by, unit_discarded, unit_register_written, unit_touched}
 use Rattle.rv_model.specs.lending.Seats.{IsGivenBack}
 use Rattle.rv_model.specs.vector.State.{initial_vector}

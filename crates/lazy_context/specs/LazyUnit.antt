@@ -6,7 +6,7 @@ use Rattle.std.specs.Option.{ForSome}
 use Rattle.rv_model.specs.contracts.vector.state.Seat as seat_type
 use Rattle.rv_model.specs.declared.vector.state.Seat.{Seat}
 use Rattle.rv_model.specs.declared.vector.state.VState.{VState}
-use Rattle.rv_model.specs.machine.Users.{user_count}
+use Rattle.rv_model.specs.machine.Setup.{user_count}
 use Rattle.rv_model.specs.machine.VectorUnit.{VectorUnit, counted, is_marked, is_owned_by, with_mark}
 use Rattle.rv_model.specs.lending.Seats.{IsGivenBack}
 use Rattle.rv_model.specs.vector.State.{initial_vector}

@@ -2,9 +2,9 @@
 -- section 3.1.6.6).
 use Rattle.std.specs.Prelude.{ℕ, ◌-◌, true, false, List, if◌then◌else◌, replicate, slice_index_or, slice_set}
 use Rattle.rv_model.specs.declared.vector.state.VState.{VState}
-use Rattle.rv_model.specs.machine.Users.{user_count}
+use Rattle.rv_model.specs.machine.Setup.{user_count}
 use Rattle.rv_model.specs.machine.VectorUnit.{counted, is_marked, with_mark}
-use Rattle.rv_model.specs.vector.Registers.{with_register_bytes}
+use Rattle.rv_model.specs.vector.Groups.{with_register_bytes}
 use Rattle.rv_model.specs.vector.State.{initial_vector}
 use Rattle.lazy_context.specs.declared.areas.Areas.{Areas}
 

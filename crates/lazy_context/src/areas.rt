@@ -1,9 +1,9 @@
 //! The save areas of all users.
 ghost use Rattle.std.specs.Prelude.{◌≡◌, false, length, true};
 ghost use Rattle.lazy_context.specs.SaveAreas.{count_restore, new_areas, saved_state, with_register, with_saved};
-ghost use Rattle.rv_model.specs.machine.Users.{user_count};
+ghost use Rattle.rv_model.specs.machine.Setup.{user_count};
 ghost use Rattle.rv_model.specs.machine.VectorUnit.{counted, is_marked, with_mark};
-ghost use Rattle.rv_model.specs.vector.Configuration.{IsConfiguration};
+ghost use Rattle.rv_model.specs.vector.Groups.{IsConfiguration};
 
 use rv_model::{RegisterBytes, USER_COUNT, User, VConf, VReg, VState};
 

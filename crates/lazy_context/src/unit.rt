@@ -19,7 +19,7 @@ ghost use Rattle.lazy_context.specs.LazyUnit.{
   touched,
 };
 ghost use Rattle.lazy_context.specs.SaveAreas.{with_register};
-ghost use Rattle.rv_model.specs.machine.Users.{user_count};
+ghost use Rattle.rv_model.specs.machine.Setup.{user_count};
 ghost use Rattle.rv_model.specs.machine.VectorUnit.{
   is_owned_by,
   stats_of,
@@ -28,7 +28,7 @@ ghost use Rattle.rv_model.specs.machine.VectorUnit.{
   unit_touched,
   unused_unit,
 };
-ghost use Rattle.rv_model.specs.vector.Configuration.{IsConfiguration};
+ghost use Rattle.rv_model.specs.vector.Groups.{IsConfiguration};
 ghost use Rattle.rv_model.specs.vector.State.{initial_vector};
 ghost use Rattle.std.specs.Borrow.{sem};
 ghost use Rattle.std.specs.Prelude.{ℕ, ◌≡◌, ◌≤◌, false, true};

@@ -5,7 +5,7 @@ use Rattle.std.specs.List.{range_with_len}
 use Rattle.std.proofs.lemmas.Grind.{common_steps}
 use Rattle.rv_model.specs.declared.vector.types.Sew.{Sew}
 use Rattle.rv_model.specs.declared.vector.types.Sew.TheVariants.{E8}
-use Rattle.rv_model.specs.vector.Configuration.{sew_bits}
+use Rattle.rv_model.specs.vector.Groups.{sew_bits}
 
 -- a piece more, and then the pieces that are left
 whole_stays_after_a_piece : (before piece after rest whole : List ℕ) → after ≡ before ++ piece → before ++ (piece ++ rest) ≡ whole → after ++ rest ≡ whole

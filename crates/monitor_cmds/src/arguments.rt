@@ -12,7 +12,7 @@ ghost use Rattle.rv_model.specs.commands.Arguments.{
   number_between,
   sew_argument,
 };
-ghost use Rattle.rv_model.specs.machine.Users.{user_count};
+ghost use Rattle.rv_model.specs.machine.Setup.{user_count};
 ghost use Rattle.rv_model.specs.lending.Text.{capped};
 
 use rv_model::text::digits;

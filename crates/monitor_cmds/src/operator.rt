@@ -12,7 +12,7 @@ ghost use Rattle.rv_model.specs.commands.Operator.{
   list_line,
   stats_line,
 };
-ghost use Rattle.rv_model.specs.machine.Users.{user_count, users};
+ghost use Rattle.rv_model.specs.machine.Setup.{user_count, users};
 ghost use Rattle.rv_model.specs.text.Lines.{text};
 ghost use Rattle.rv_model.specs.text.Words.{words};
 

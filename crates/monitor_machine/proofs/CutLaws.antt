@@ -2,11 +2,11 @@
 use Rattle.std.proofs.Common.{◌≡◌, ℕ, ◌+◌, List, [], ◌∷◌, ◌++◌, append_assoc, refl, ap, ◌∙◌, sym, true, false, Bool, if◌then◌else◌, Some, None}
 use Rattle.rv_model.specs.declared.vector.state.VState.{VState}
 use Rattle.rv_model.specs.machine.Cuts.{IsConfigured}
-use Rattle.rv_model.specs.machine.PrivateMachine.{Outcome, Private, sliced}
+use Rattle.rv_model.specs.machine.World.{Outcome, Private, sliced}
 use Rattle.rv_model.specs.machine.Script.{user_machine}
 use Rattle.rv_model.specs.memory.Memory.{Memory}
 use Rattle.rv_model.specs.text.Lines.{tagged, text}
-use Rattle.rv_model.specs.vector.Configuration.{IsConfiguration}
+use Rattle.rv_model.specs.vector.Groups.{IsConfiguration}
 use Rattle.rv_model.proofs.machine_lemmas.Cuts.{cuts_are_invisible}
 use Rattle.monitor_machine.specs.declared.context.Context.{Context}
 use Rattle.monitor_machine.specs.MachineState.{MachineState, SliceGoesOn}

@@ -5,11 +5,10 @@ use Rattle.std.proofs.lemmas.List.{ext_get_or, get_or-map, length-map}
 use Rattle.std.specs.Option.{option_map_or}
 use Rattle.rv_model.specs.declared.machine.standing.Standing.TheVariants.{Absent, Stopped, Running}
 use Rattle.rv_model.specs.machine.Grants.{granted, next_running, runs, slice_of, standing}
-use Rattle.rv_model.specs.machine.PrivateMachine.{Private, Outcome, event, slice_ends, sliced}
-use Rattle.rv_model.specs.machine.Runs.{Halted, ticked}
+use Rattle.rv_model.specs.machine.World.{Private, Outcome, event, slice_ends, sliced}
+use Rattle.rv_model.specs.machine.UserMachine.{Halted, ticked}
 use Rattle.rv_model.specs.machine.Script.{World, Happening, with_unit, after_one, after_events, told_by, user_machine}
-use Rattle.rv_model.specs.machine.Setup.{Setup}
-use Rattle.rv_model.specs.machine.Users.{user_count}
+use Rattle.rv_model.specs.machine.Setup.{Setup, user_count}
 use Rattle.rv_model.specs.declared.vector.state.VState.{VState}
 use Rattle.rv_model.specs.memory.Memory.{Memory}
 use Rattle.lazy_context.specs.declared.unit.Unit.{Unit}

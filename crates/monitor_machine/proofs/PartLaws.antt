@@ -7,9 +7,9 @@ use Rattle.std.specs.FinMap.{empty}
 use Rattle.std.specs.Prelude.{if◌then◌else◌}
 use Rattle.rv_model.specs.declared.vector.state.VState.{VState}
 use Rattle.rv_model.specs.memory.Memory.{Memory}
-use Rattle.rv_model.specs.machine.PrivateMachine.{Private}
+use Rattle.rv_model.specs.machine.World.{Private}
 use Rattle.rv_model.specs.machine.Script.{World, new_world, with_unit, user_machine, with_user_machine}
-use Rattle.rv_model.specs.machine.Users.{user_count}
+use Rattle.rv_model.specs.machine.Setup.{user_count}
 use Rattle.rv_model.specs.machine.VectorUnit.{VectorUnit, unused_unit}
 use Rattle.rv_model.specs.vector.State.{initial_vector}
 use Rattle.lazy_context.specs.declared.unit.Unit.{Unit}

@@ -3,8 +3,7 @@ use Rattle.std.proofs.Common.{◌≡◌, ℕ, suc, ◌-◌, ◌≤◌, Bool, tru
 use Rattle.std.specs.Prelude.{if◌then◌else◌, is_none, not, ◌&&◌}
 use Rattle.rv_model.specs.declared.step.step_end.Stop.{Stop}
 use Rattle.rv_model.specs.declared.step.step_end.Stop.TheVariants as stop
-use Rattle.rv_model.specs.machine.Runs.{stop_of, at_breakpoint, after, Halted, halted, steps, ticked}
-use Rattle.rv_model.specs.machine.UserMachine.{Present, Tries}
+use Rattle.rv_model.specs.machine.UserMachine.{stop_of, at_breakpoint, after, Halted, halted, steps, ticked, Present, Tries}
 use Rattle.rv_model.specs.machine.VectorUnit.{VectorUnit, unit_after_uses}
 use Rattle.rv_model.specs.step.Step.{step}
 use Rattle.rv_model.proofs.machine_lemmas.Slices.{ticked_is_one_more}

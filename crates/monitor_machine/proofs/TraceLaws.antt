@@ -2,7 +2,7 @@
 use Rattle.std.proofs.Common.{arith, ◌∙◌, ap, sym, ℕ, ◌+◌, ◌-◌, ◌≡◌, ◌++◌, ◌∷◌, [], List, length, drop}
 use Rattle.std.proofs.lemmas.List.{drop-append-le, drop-drop, length-drop, length-append, append_assoc}
 use Rattle.circular_buffer.specs.Buffer.{keep_last}
-use Rattle.rv_model.specs.machine.Runs.{recorded}
+use Rattle.rv_model.specs.machine.UserMachine.{recorded}
 
 -- what is dropped of the older ones first makes no difference
 kept_again : {X : Type 0} (n : ℕ) (xs ys : List X) → keep_last n (keep_last n xs ++ ys) ≡ keep_last n (xs ++ ys)

@@ -2,8 +2,7 @@
 use Rattle.std.specs.Prelude.{ℕ, ◌≡◌, Bool, Option}
 use Rattle.rv_model.specs.declared.step.step_end.Stop.{Stop}
 use Rattle.rv_model.specs.declared.vector.state.VState.{VState}
-use Rattle.rv_model.specs.machine.Runs.{Halted, after, steps, stop_of, ticked}
-use Rattle.rv_model.specs.machine.UserMachine.{Present, Tries}
+use Rattle.rv_model.specs.machine.UserMachine.{Halted, after, steps, stop_of, ticked, Present, Tries}
 use Rattle.rv_model.specs.machine.VectorUnit.{VectorUnit, unit_after_use, unit_after_uses}
 use Rattle.rv_model.specs.memory.Memory.{Memory}
 use Rattle.rv_model.specs.step.Step.{step}

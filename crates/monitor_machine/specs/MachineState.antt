@@ -3,7 +3,7 @@
 use Rattle.std.specs.Prelude.{ℕ, ◌≡◌, ◌+◌, ◌++◌, List, All}
 use Rattle.rv_model.specs.commands.Commands.{Parsed, commanded, parse}
 use Rattle.rv_model.specs.machine.Cuts.{KeepsWordIfCut}
-use Rattle.rv_model.specs.machine.PrivateMachine.{sliced}
+use Rattle.rv_model.specs.machine.World.{sliced}
 use Rattle.rv_model.specs.machine.Setup.{Image, Setup}
 use Rattle.rv_model.specs.machine.Script.{World, told, with_unit, world_after, user_machine, with_user_machine}
 use Rattle.rv_model.specs.machine.UserMachine.{Outcome}

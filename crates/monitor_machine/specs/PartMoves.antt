@@ -1,7 +1,7 @@
 -- What the parts of one user show, and what a change of them leaves alone.
 use Rattle.std.specs.Prelude.{◌≡◌}
 use Rattle.lazy_context.specs.LazyUnit.{state_of}
-use Rattle.rv_model.specs.machine.PrivateMachine.{Private, Present}
+use Rattle.rv_model.specs.machine.World.{Private, Present}
 use Rattle.rv_model.specs.machine.VectorUnit.{VectorUnit}
 use Rattle.user_mem.specs.Users.{memory_of_user, with_memory}
 use Rattle.monitor_machine.specs.declared.parts.Parts.{Parts}

@@ -4,13 +4,13 @@ use Rattle.rv_model.specs.declared.vector.policy.Policy.TheVariants.{Keep}
 use Rattle.rv_model.specs.declared.vector.state.VState.{VState}
 use Rattle.rv_model.specs.memory.Memory.{Memory}
 use Rattle.rv_model.specs.step.Step.{HartState}
-use Rattle.rv_model.specs.machine.PrivateMachine.{Private, Present}
+use Rattle.rv_model.specs.machine.World.{Private, Present}
 use Rattle.rv_model.specs.machine.UserMachine.{Use, Tries}
 use Rattle.rv_model.specs.scalar.Registers.{initial_scalar, with_register}
 use Rattle.rv_model.specs.declared.machine.standing.Standing.{Standing}
 use Rattle.rv_model.specs.declared.machine.standing.Standing.TheVariants.{Absent, Stopped, Running}
 use Rattle.rv_model.specs.machine.Script.{World}
-use Rattle.rv_model.specs.machine.Users.{user_count, users}
+use Rattle.rv_model.specs.machine.Setup.{user_count, users}
 use Rattle.rv_model.specs.machine.VectorUnit.{VectorUnit}
 use Rattle.lazy_context.specs.declared.unit.Unit.{Unit}
 use Rattle.lazy_context.specs.LazyUnit.{IsSettled, OthersKeep, record_of, state_of}

@@ -1,7 +1,7 @@
 -- How many bytes of a reply the stop lines of users may take: each user whose program runs may stop once.
 use Rattle.std.specs.Prelude.{ℕ, ◌+◌, List, [], ◌∷◌, if◌then◌else◌}
 use Rattle.rv_model.specs.machine.Grants.{runs}
-use Rattle.rv_model.specs.machine.PrivateMachine.{Private}
+use Rattle.rv_model.specs.machine.World.{Private}
 
 -- the bytes of a user's stop line, with its digit and newline, at most
 abbrev pub stop_room : Private → ℕ

@@ -1,7 +1,7 @@
 //! The machine of eight users.
 ghost use Rattle.std.specs.Prelude.{◌≡◌, [], ◌∷◌, length, None, IsOk, IfOk, IfSome, IsErrOf, IsOkUnless};
 ghost use Rattle.rv_model.specs.machine.Script.{commands, after_events, told_by, new_world};
-ghost use Rattle.rv_model.specs.machine.Users.{user_count};
+ghost use Rattle.rv_model.specs.machine.Setup.{user_count};
 ghost use Rattle.monitor_machine.specs.MachineState.{after_line, line_output};
 ghost use Rattle.monitor_machine.specs.Images.{setup_of};
 ghost use Rattle.monitor_machine.specs.NewFaults.{new_fault};
@@ -26,7 +26,7 @@ pub struct Machine<'a, A: Allocator = Global> {
 impl<'a, A: Allocator> Model for Machine<'a, A> {
     ghost use Rattle.std.specs.Coded.{codes};
     ghost use Rattle.std.specs.Prelude.{◌≡◌, length};
-    ghost use Rattle.rv_model.specs.machine.Users.{user_count};
+    ghost use Rattle.rv_model.specs.machine.Setup.{user_count};
     ghost use Rattle.rv_model.specs.lending.StoredMemory.{coded_memory};
     ghost use Rattle.monitor_machine.specs.Images.{setup_of};
     ghost use Rattle.monitor_machine.specs.MachineState.{MachineState};
@@ -69,7 +69,7 @@ impl<'a, A: Allocator> Machine<'a, A> {
 
     /// Carries out one command of a user: the line without the user's digit and the space after it.
     /// Answers it in place of what the reply held. Nobody else's machine changes.
-    #[tactic(auto, unfolding(rv_model::specs::machine::PrivateMachine::event))]
+    #[tactic(auto, unfolding(rv_model::specs::machine::World::event))]
     pub fn command(&mut self, user: User, line: &[u8], reply: &mut Reply)
         ensures world { self.new.world
             ≡ after_events self.old.setup self.old.world (commands user line.now ∷ []) }
@@ -84,7 +84,7 @@ impl<'a, A: Allocator> Machine<'a, A> {
     /// Answers one line of a script, without its newline, in place of what the reply held: a
     /// command of a user or of the operator, after the digit or the star and a space. An empty line
     /// has no answer; one of more than 1,024 bytes, or without such a prefix, is refused.
-    #[tactic(auto, unfolding(rv_model::specs::machine::PrivateMachine::event,
+    #[tactic(auto, unfolding(rv_model::specs::machine::World::event,
     // What a line does, and what it prints.
     rv_model::specs::machine::Script::world_after, rv_model::specs::machine::Script::told,
     // Its lines that are no user's.

@@ -4,7 +4,7 @@ ghost use Rattle.rv_model.specs.commands.Operator.{granted_line, operator_parse}
 ghost use Rattle.rv_model.specs.machine.Grants.{granted, grants, grants_of, operator_line, runs, slice_of};
 ghost use Rattle.rv_model.specs.machine.Script.{after_events, told_by, user_machine};
 ghost use Rattle.rv_model.specs.machine.Turns.{AreInTurn};
-ghost use Rattle.rv_model.specs.machine.Users.{user_count};
+ghost use Rattle.rv_model.specs.machine.Setup.{user_count};
 ghost use Rattle.rv_model.specs.text.Lines.{text};
 ghost use Rattle.monitor_machine.specs.MachineState.{SliceGoesOn};
 
@@ -17,7 +17,7 @@ impl<A: Allocator> Machine<'_, A> {
     /// Grants a slice to a user, and answers whether the user's program ran. The reply is then the
     /// line that says why the program stopped, or empty where it still runs; it is empty, too, and
     /// nothing changes where the program didn't run. Nobody else's machine changes.
-    #[tactic(auto, unfolding(rv_model::specs::machine::PrivateMachine::event), using(crate::proofs::GrantLaws::stops_room_is_small))]
+    #[tactic(auto, unfolding(rv_model::specs::machine::World::event), using(crate::proofs::GrantLaws::stops_room_is_small))]
     pub fn slice(&mut self, user: User, reply: &mut Reply) -> bool
         ensures world { self.new.world
             ≡ after_events self.old.setup self.old.world (slice_of user false ∷ []) }

@@ -3,7 +3,7 @@ ghost use Rattle.std.specs.Prelude.{◌≡◌, ◌+◌, ◌≤◌, ◌++◌, tru
 ghost use Rattle.lazy_context.specs.LazyUnit.{record_of};
 ghost use Rattle.rv_model.specs.machine.Cuts.{IsConfigured};
 ghost use Rattle.rv_model.specs.machine.Grants.{runs};
-ghost use Rattle.rv_model.specs.machine.PrivateMachine.{sliced};
+ghost use Rattle.rv_model.specs.machine.World.{sliced};
 ghost use Rattle.rv_model.specs.machine.VectorUnit.{unit_after_uses};
 ghost use Rattle.rv_model.specs.text.Lines.{text};
 ghost use Rattle.monitor_machine.specs.PartMoves.{PartsMove, machine_of};
@@ -17,7 +17,7 @@ use std::alloc::Allocator;
 
 /// Carries out a slice of `quantum` ticks of a user whose program runs, and adds to the reply why
 /// it stopped, if it did.
-#[tactic(auto, unfolding(rv_model::specs::machine::PrivateMachine::sliced), using(crate::proofs::Steps::present))]
+#[tactic(auto, unfolding(rv_model::specs::machine::World::sliced), using(crate::proofs::Steps::present))]
 fn run_slice<A: Allocator>(
     parts: &mut Parts<'_, '_, '_, A>,
     trace: &mut Trace<A>,
@@ -42,7 +42,7 @@ fn run_slice<A: Allocator>(
 
 /// Grants a slice of `quantum` ticks to a user, if the user's program runs, and adds to the reply
 /// why it stopped, if it did. Answers whether the program ran.
-#[tactic(auto, unfolding(rv_model::specs::machine::PrivateMachine::sliced), using(crate::proofs::Steps::granting))]
+#[tactic(auto, unfolding(rv_model::specs::machine::World::sliced), using(crate::proofs::Steps::granting))]
 pub(crate) fn grant<A: Allocator>(
     parts: &mut Parts<'_, '_, '_, A>,
     trace: &mut Trace<A>,

@@ -2,7 +2,7 @@
 ghost use Rattle.std.specs.Prelude.{◌≡◌, false, length, nat_le, true};
 ghost use Rattle.hart.specs.States.{EndsBy, Returns};
 ghost use Rattle.lazy_context.specs.LazyUnit.{IsSettled, record_of};
-ghost use Rattle.rv_model.specs.machine.Runs.{steps as steps_spec, stop_of as stop_spec, ticked};
+ghost use Rattle.rv_model.specs.machine.UserMachine.{steps as steps_spec, stop_of as stop_spec, ticked};
 ghost use Rattle.rv_model.specs.machine.VectorUnit.{unit_after_use, unit_after_uses};
 ghost use Rattle.rv_model.specs.step.Hart.{hart_state};
 ghost use Rattle.rv_model.specs.step.Step.{dirties, fetched, step as step_spec, touches};

@@ -33,7 +33,7 @@ impl<A: Allocator> Model for Trace<A> {
 impl<A: Allocator> Trace<A> {
     ghost use Rattle.std.specs.Prelude.{◌≡◌, ◌++◌, ◌+◌, ◌≤◌, [], ◌∷◌, length, IfOk};
     ghost use Rattle.rv_model.specs.commands.Running.{trace_line};
-    ghost use Rattle.rv_model.specs.machine.Runs.{recorded};
+    ghost use Rattle.rv_model.specs.machine.UserMachine.{recorded};
     ghost use Rattle.rv_model.specs.text.Lines.{text};
     ghost use Rattle.monitor_cmds.specs.Tag.{tag_byte};
 

@@ -3,9 +3,9 @@ ghost use Rattle.std.specs.Prelude.{◌≡◌, ◌+◌, ◌≤◌, ◌++◌, [],
 ghost use Rattle.rv_model.specs.commands.Commands.{commanded, parse as parse_spec};
 ghost use Rattle.rv_model.specs.machine.Cuts.{IsConfigured};
 ghost use Rattle.rv_model.specs.machine.Grants.{next_running, runs, standing};
-ghost use Rattle.rv_model.specs.machine.PrivateMachine.{sliced};
+ghost use Rattle.rv_model.specs.machine.World.{sliced};
 ghost use Rattle.rv_model.specs.machine.Script.{new_world, user_machine};
-ghost use Rattle.rv_model.specs.machine.Users.{user_count};
+ghost use Rattle.rv_model.specs.machine.Setup.{user_count};
 ghost use Rattle.rv_model.specs.machine.VectorUnit.{stats_of};
 ghost use Rattle.rv_model.specs.text.Lines.{text};
 ghost use Rattle.monitor_machine.specs.Images.{named_images};

@@ -4,7 +4,7 @@ use Rattle.std.proofs.lemmas.List.{get_or-replicate, take_all}
 use Rattle.std.proofs.Math.Seq.{take-append-add}
 use Rattle.monitor_machine.specs.MachineState.{MachineState, after_line, line_output}
 use Rattle.rv_model.specs.machine.Script.{World, after_all, told, told_all, whole_from, after_script, lines, own, own_from, new_world, user_machine}
-use Rattle.rv_model.specs.machine.PrivateMachine.{Private, solo, solo_from}
+use Rattle.rv_model.specs.machine.World.{Private, solo, solo_from}
 use Rattle.rv_model.specs.text.Lines.{pieces}
 use Rattle.rv_model.proofs.machine_lemmas.Headline.{headline, length-after_all}
 use Rattle.monitor_script.specs.EndedLines.{ended_lines}

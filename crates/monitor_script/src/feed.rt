@@ -1,7 +1,7 @@
 //! A script, byte by byte.
 ghost use Rattle.std.specs.Prelude.{◌≡◌, ℕ, ◌<◌, length, take, OnOk, OnErr};
 ghost use Rattle.monitor_machine.specs.MachineState.{after_line, line_output};
-ghost use Rattle.rv_model.specs.machine.Users.{user_count};
+ghost use Rattle.rv_model.specs.machine.Setup.{user_count};
 ghost use Rattle.devices.specs.Device.{Rose};
 ghost use Rattle.monitor_script.specs.Feed.{feed, fed, Cut};
 

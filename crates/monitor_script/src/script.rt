@@ -1,7 +1,7 @@
 //! A whole script.
 ghost use Rattle.std.specs.Prelude.{◌≡◌, ◌≢◌, ℕ, ◌+◌, ◌<◌, ◌≤◌, List, Err, length, take, OnOk, IfOk};
 ghost use Rattle.monitor_machine.specs.MachineState.{after_line, line_output};
-ghost use Rattle.rv_model.specs.machine.PrivateMachine.{solo, solo_from};
+ghost use Rattle.rv_model.specs.machine.World.{solo, solo_from};
 ghost use Rattle.rv_model.specs.machine.Script.{
   after_all,
   told_all,
@@ -13,7 +13,7 @@ ghost use Rattle.rv_model.specs.machine.Script.{
   new_world,
   user_machine,
 };
-ghost use Rattle.rv_model.specs.machine.Users.{user_count};
+ghost use Rattle.rv_model.specs.machine.Setup.{user_count};
 ghost use Rattle.devices.specs.Device.{Rose};
 ghost use Rattle.monitor_script.specs.EndedLines.{ended_lines};
 ghost use Rattle.monitor_script.specs.FailedWrites.{CutShort};

@@ -5,8 +5,7 @@ use Rattle.rv_model.specs.declared.step.step_end.StepEnd.{StepEnd}
 use Rattle.rv_model.specs.declared.step.step_end.StepEnd.TheVariants.{Ran, Cut}
 use Rattle.rv_model.specs.declared.step.step_end.Stop.{Stop}
 use Rattle.rv_model.specs.declared.step.step_end.Stop.TheVariants as stop
-use Rattle.rv_model.specs.machine.Runs.{Halted, after, at_breakpoint, halted, runs_on, steps, stop_of}
-use Rattle.rv_model.specs.machine.UserMachine.{Present}
+use Rattle.rv_model.specs.machine.UserMachine.{Halted, after, at_breakpoint, halted, runs_on, steps, stop_of, Present}
 use Rattle.rv_model.specs.step.Hart.{HartState, Stepped}
 use Rattle.rv_model.specs.step.Step.{step}
 use Rattle.recording.specs.Laws.{RunsAsSteps}

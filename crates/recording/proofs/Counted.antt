@@ -7,8 +7,7 @@ use Rattle.rv_model.specs.instructions.Table.{scan, table}
 use Rattle.rv_model.specs.memory.Memory.{can_access}
 use Rattle.rv_model.specs.step.Hart.{HartState, Stepped, ends_after, faults}
 use Rattle.rv_model.specs.step.Step.{executed, step}
-use Rattle.rv_model.specs.vector.Configuration.{Configuration}
-use Rattle.rv_model.specs.vector.Registers.{register_of}
+use Rattle.rv_model.specs.vector.Groups.{Configuration, register_of}
 use Rattle.recording.specs.Classes.{Class, active_count, body, body_end, class_of, is_unmasked, tail_end}
 use Rattle.recording.specs.declared.key.Key.TheVariants.{Word}
 use Rattle.recording.specs.Runs.{carried_out, counted, is_counted, key_beside, once_more, share, word_of}

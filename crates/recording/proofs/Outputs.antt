@@ -37,13 +37,11 @@ use Rattle.rv_model.specs.scalar.LoadsAndStores.{load_width, store_width}
 use Rattle.rv_model.specs.scalar.Registers.{read_register, with_register}
 use Rattle.rv_model.specs.step.Hart.{HartState, Stepped, ends, faults, gives}
 use Rattle.rv_model.specs.step.ScalarStep.{csr_executed, csr_step, environment_call, jumps, scalar_step}
-use Rattle.rv_model.specs.step.Step.{executed, step, word_at}
-use Rattle.rv_model.specs.step.VectorStep.{VectorStepped, access_step, after_vector, arith_step, operation_step, performed, typed, typed_step, vector_executed, vector_step, vector_ticks}
+use Rattle.rv_model.specs.step.Step.{executed, step, word_at, VectorStepped, access_step, after_vector, arith_step, operation_step, performed, typed, typed_step, vector_executed, vector_step, vector_ticks}
 use Rattle.rv_model.specs.step.WriteCall.{call_fails, puts_out, write_call, write_count}
-use Rattle.rv_model.specs.vector.Configuration.{GroupType, group_type}
+use Rattle.rv_model.specs.vector.Groups.{GroupType, group_type, wide_type}
 use Rattle.rv_model.specs.vector.Control.{csr_form, is_write}
 use Rattle.rv_model.specs.vector.ControlRegisters.{control_register, is_read_only}
-use Rattle.rv_model.specs.vector.Groups.{wide_type}
 use Rattle.recording.specs.Machines.{taken}
 
 -- this in the output buffer, whatever was there

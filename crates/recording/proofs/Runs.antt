@@ -3,7 +3,7 @@ use Rattle.std.proofs.Common.{◌≡◌, refl, ℕ, suc, zero, ◌-◌, Bool, Li
 use Rattle.std.proofs.lemmas.List.Concat.{flat_map-append}
 use Rattle.std.proofs.lemmas.List.Sums.{sum_by_push}
 use Rattle.rv_model.specs.declared.step.step_end.StepEnd.{StepEnd}
-use Rattle.rv_model.specs.machine.Runs.{stop_of}
+use Rattle.rv_model.specs.machine.UserMachine.{stop_of}
 use Rattle.rv_model.specs.step.Hart.{HartState, Stepped, ends_after}
 use Rattle.rv_model.specs.step.Step.{step}
 use Rattle.recording.specs.Machines.{Advances, taken}

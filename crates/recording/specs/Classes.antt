@@ -14,8 +14,7 @@ use Rattle.rv_model.specs.declared.instructions.vector.VectorInstr.{VectorInstr}
 use Rattle.rv_model.specs.declared.instructions.vector.VectorInstr.TheVariants.{SetVli, SetIvli, SetVl, Arith, WholeMove, MaskToScalar, Extend, MaskUnary, ElementIndex, MoveToScalar, MoveToVector}
 use Rattle.rv_model.specs.declared.instructions.operations.RegisterCount.{RegisterCount}
 use Rattle.rv_model.specs.elements.Elements.{Body, is_active}
-use Rattle.rv_model.specs.vector.Configuration.{Configuration, element_count, vlmax}
-use Rattle.rv_model.specs.vector.Groups.{register_count, whole_type}
+use Rattle.rv_model.specs.vector.Groups.{Configuration, element_count, vlmax, register_count, whole_type}
 use Rattle.rv_model.specs.declared.vector.sizes.TheConstants.{VLENB}
 pub use Rattle.recording.specs.declared.class.Class.{Class}
 use Rattle.recording.specs.declared.class.Class.TheVariants as class

@@ -4,10 +4,9 @@ use Rattle.rv_model.specs.accesses.VectorAccess.{VectorAccess, access_of}
 use Rattle.rv_model.specs.declared.instructions.access.AccessInstr.{AccessInstr}
 use Rattle.rv_model.specs.declared.scalar.Scalar.{Scalar}
 use Rattle.rv_model.specs.declared.vector.state.VState.{VState}
-use Rattle.rv_model.specs.machine.Runs.{steps}
-use Rattle.rv_model.specs.machine.UserMachine.{Present}
+use Rattle.rv_model.specs.machine.UserMachine.{steps, Present}
 use Rattle.rv_model.specs.step.WriteCall.{output_size, write_size}
-use Rattle.rv_model.specs.vector.Registers.{register_of}
+use Rattle.rv_model.specs.vector.Groups.{register_of}
 use Rattle.recording.specs.Classes.{access_class, body}
 use Rattle.recording.specs.Machines.{taken}
 use Rattle.recording.specs.Runs.{put_out, ran}

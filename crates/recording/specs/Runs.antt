@@ -4,12 +4,11 @@ use Rattle.std.specs.List.{sum_by}
 use Rattle.rv_model.specs.declared.step.step_end.StepEnd.{StepEnd}
 use Rattle.rv_model.specs.declared.step.step_end.StepEnd.TheVariants.{Ran, Exit}
 use Rattle.rv_model.specs.instructions.Table.{scan, table}
-use Rattle.rv_model.specs.machine.Runs.{stop_of}
+use Rattle.rv_model.specs.machine.UserMachine.{stop_of}
 use Rattle.rv_model.specs.step.Hart.{HartState}
 use Rattle.rv_model.specs.step.Step.{step, word_at}
 use Rattle.rv_model.specs.elements.Elements.{Body}
-use Rattle.rv_model.specs.vector.Configuration.{Configuration}
-use Rattle.rv_model.specs.vector.Registers.{register_of}
+use Rattle.rv_model.specs.vector.Groups.{Configuration, register_of}
 use Rattle.rv_model.specs.vector.TypeRules.{vtype_number}
 use Rattle.recording.specs.Classes.{Class, active_count, body, class_of, tail_end}
 use Rattle.recording.specs.declared.class.Class.TheVariants as class

@@ -1,6 +1,6 @@
 //! How many elements an instruction has of each kind.
 ghost use Rattle.std.specs.Prelude.{◌≡◌, ◌≤◌, ◌-◌, false, true};
-ghost use Rattle.rv_model.specs.vector.Registers.{register_of};
+ghost use Rattle.rv_model.specs.vector.Groups.{register_of};
 ghost use Rattle.recording.specs.Classes.{active_count, body, body_end, is_unmasked, moved, most, tail_end};
 ghost use Rattle.recording.specs.Runs.{carried_out};
 

@@ -1,6 +1,6 @@
 //! A run that is counted.
 ghost use Rattle.std.specs.Prelude.{◌≡◌, flat_map, is_none, IfOk, OnOk};
-ghost use Rattle.rv_model.specs.machine.Runs.{stop_of};
+ghost use Rattle.rv_model.specs.machine.UserMachine.{stop_of};
 ghost use Rattle.recording.specs.Machines.{Advances, state_of, taken};
 ghost use Rattle.recording.specs.Runs.{put_out, ran, share, shares};
 ghost use Rattle.recording.specs.Sums.{HasMore};

@@ -10,8 +10,7 @@ use Rattle.rv_model.specs.declared.instructions.operations.Eew.{Eew}
 use Rattle.rv_model.specs.legality.Legality.{access_operands}
 use Rattle.rv_model.specs.legality.OperandShapes.{group, mask, v0}
 use Rattle.rv_model.specs.legality.RegisterOperands.{allows, are_legal, is_group}
-use Rattle.rv_model.specs.vector.Configuration.{GroupType, element_width, group_type, lmul_eighths, sew_bits}
-use Rattle.rv_model.specs.vector.Registers.{registers}
+use Rattle.rv_model.specs.vector.Groups.{GroupType, element_width, group_type, lmul_eighths, sew_bits, registers}
 use Rattle.rv_model.proofs.legality_lemmas.Bounds.{emul-sew}
 use Rattle.reg_groups.specs.Roles.{is_apart_from_mask}
 use Rattle.reg_groups.proofs.Sources.{masked_legal}

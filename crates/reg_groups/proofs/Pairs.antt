@@ -20,9 +20,7 @@ use Rattle.rv_model.specs.declared.vector.types.VType.{VType}
 use Rattle.rv_model.specs.legality.Legality.{compress_operands, whole_move_operands}
 use Rattle.rv_model.specs.legality.OperandShapes.{group, mask, v0}
 use Rattle.rv_model.specs.legality.RegisterOperands.{allows, are_legal, is_group, overlaps}
-use Rattle.rv_model.specs.vector.Configuration.{GroupType, group_type, lmul_eighths, sew_bits, sew_width}
-use Rattle.rv_model.specs.vector.Groups.{doubled, whole_type, wide_type}
-use Rattle.rv_model.specs.vector.Registers.{registers}
+use Rattle.rv_model.specs.vector.Groups.{GroupType, group_type, lmul_eighths, sew_bits, sew_width, registers, doubled, whole_type, wide_type}
 use Rattle.rv_model.specs.vector.TypeNames.{lmuls, sews}
 use Rattle.rv_model.proofs.legality_lemmas.Accesses.{of_lmuls, of_sews}
 use Rattle.rv_model.proofs.legality_lemmas.Bounds.{first_of}

@@ -11,8 +11,7 @@ use Rattle.rv_model.specs.declared.legality.Shape.TheVariants.{Gather, GatherInd
 use Rattle.rv_model.specs.declared.vector.types.VType.{VType}
 use Rattle.rv_model.specs.legality.OperandShapes.{destination, first_source, group, mask, second_source, shape_operands, vector_source}
 use Rattle.rv_model.specs.legality.RegisterOperands.{allows, are_legal, is_group}
-use Rattle.rv_model.specs.vector.Configuration.{GroupType, group_type, sew_width}
-use Rattle.rv_model.specs.vector.Groups.{single_type, wide_type}
+use Rattle.rv_model.specs.vector.Groups.{GroupType, group_type, sew_width, single_type, wide_type}
 use Rattle.reg_groups.specs.Roles.{is_apart_from_mask, is_other_group, is_wide_beside, of_vector, stands_beside}
 use Rattle.reg_groups.proofs.EqualWidths.{role_allows}
 use Rattle.reg_groups.proofs.Pairs.{apart_beside, equal_beside, free_beside, narrowing_beside, widening_beside}

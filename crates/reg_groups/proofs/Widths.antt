@@ -9,8 +9,7 @@ use Rattle.rv_model.specs.declared.vector.types.Sew.TheVariants.{E8}
 use Rattle.rv_model.specs.declared.vector.types.VType.{VType}
 use Rattle.rv_model.specs.legality.Legality.{extension_source}
 use Rattle.rv_model.specs.lending.GroupBounds.{emul}
-use Rattle.rv_model.specs.vector.Configuration.{sew_bits, sew_width}
-use Rattle.rv_model.specs.vector.Groups.{doubled, extension_divisor, part_width}
+use Rattle.rv_model.specs.vector.Groups.{sew_bits, sew_width, doubled, extension_divisor, part_width}
 use Rattle.reg_groups.specs.Roles.{groups_of}
 
 -- twice SEW, in bits

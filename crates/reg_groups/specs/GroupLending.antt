@@ -2,7 +2,7 @@
 use Rattle.std.specs.Prelude.{ℕ, List}
 use Rattle.std.specs.Borrow.{Lends, MutBor, Fml, u8, Array}
 use Rattle.rv_model.specs.contracts.vector.file.VFile.{the_row}
-use Rattle.rv_model.specs.vector.Registers.{with_group}
+use Rattle.rv_model.specs.vector.Groups.{with_group}
 
 -- once the loan ends, the registers from `first` on hold what was written through it
 abbrev pub LendsGroup : MutBor (List ℕ) → ℕ → MutBor (List ℕ) → Fml

@@ -9,9 +9,7 @@ use Rattle.rv_model.specs.declared.legality.Role.TheVariants.{Read, Write, Apart
 use Rattle.rv_model.specs.declared.vector.types.VType.{VType}
 use Rattle.rv_model.specs.legality.OperandShapes.{group, mask}
 use Rattle.rv_model.specs.legality.RegisterOperands.{allows, is_group}
-use Rattle.rv_model.specs.vector.Configuration.{group_type, lmul_eighths}
-use Rattle.rv_model.specs.vector.Groups.{wide_type}
-use Rattle.rv_model.specs.vector.Registers.{registers}
+use Rattle.rv_model.specs.vector.Groups.{group_type, lmul_eighths, registers, wide_type}
 
 -- registers that may not hold the mask of the same instruction
 abbrev pub is_apart_from_mask : Role → Bool

@@ -1,6 +1,6 @@
 //! Registers and groups, copied: a destination may overlap them ("V" Vector Extension 1.0, sections 5.2 and 5.3).
 ghost use Rattle.std.specs.Prelude.{◌≡◌, ◌+◌, ◌*◌, ◌≤◌, length};
-ghost use Rattle.rv_model.specs.vector.Registers.{group_of, register_of, registers, with_group};
+ghost use Rattle.rv_model.specs.vector.Groups.{group_of, register_of, registers, with_group};
 
 use crate::groups::{group, group_mut, registers};
 use rv_model::{GROUP_BYTES, VECTOR_REGISTERS, VFile, VLENB, VReg};

@@ -1,7 +1,7 @@
 //! The bytes of a group of vector registers ("V" Vector Extension 1.0, sections 3.1 and 3.4.2).
 ghost use Rattle.std.specs.Prelude.{◌≡◌, ◌+◌, ◌*◌, ◌≤◌, length};
 ghost use Rattle.std.specs.Borrow.{sem};
-ghost use Rattle.rv_model.specs.vector.Registers.{group_of, registers};
+ghost use Rattle.rv_model.specs.vector.Groups.{group_of, registers};
 ghost use Rattle.reg_groups.specs.GroupLending.{LendsGroup};
 
 use rv_model::{FILE_BYTES, VECTOR_REGISTERS, VFile, VLENB, VReg};

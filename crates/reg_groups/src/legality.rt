@@ -6,8 +6,7 @@ ghost use Rattle.rv_model.specs.legality.Legality.{extension_operands, indexed_r
 ghost use Rattle.rv_model.specs.legality.Legality.{unit_role, whole_move_operands};
 ghost use Rattle.rv_model.specs.legality.OperandShapes.{group, mask, v0};
 ghost use Rattle.rv_model.specs.legality.RegisterOperands.{are_legal, is_group};
-ghost use Rattle.rv_model.specs.vector.Configuration.{group_type, sew_width};
-ghost use Rattle.rv_model.specs.vector.Groups.{registers_type};
+ghost use Rattle.rv_model.specs.vector.Groups.{group_type, sew_width, registers_type};
 ghost use Rattle.rv_model.specs.lending.Irregular.{is_irregular};
 ghost use Rattle.reg_groups.specs.Roles.{is_apart_from_mask, is_mask_outside};
 

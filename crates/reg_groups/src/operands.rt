@@ -4,7 +4,7 @@ ghost use Rattle.std.specs.Int.{w16};
 ghost use Rattle.rv_model.specs.legality.Legality.{extension_source};
 ghost use Rattle.rv_model.specs.legality.OperandShapes.{field_groups, group, mask};
 ghost use Rattle.rv_model.specs.lending.GroupBounds.{emul};
-ghost use Rattle.rv_model.specs.vector.Configuration.{element_width, group_type, sew_bits};
+ghost use Rattle.rv_model.specs.vector.Groups.{element_width, group_type, sew_bits};
 ghost use Rattle.rv_model.specs.vector.Groups.{access_type, extension_divisor, register_count, with_width};
 ghost use Rattle.reg_groups.specs.Roles.{groups_of};
 

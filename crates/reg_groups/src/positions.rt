@@ -3,8 +3,7 @@
 ghost use Rattle.std.specs.Prelude.{◌||◌, ◌≡◌, ◌==◌, ◌*◌, not};
 ghost use Rattle.rv_model.specs.legality.OperandShapes.{destination, group, mask, vector_source};
 ghost use Rattle.rv_model.specs.legality.RegisterOperands.{allows, is_group};
-ghost use Rattle.rv_model.specs.vector.Configuration.{group_type, lmul_eighths, sew_width};
-ghost use Rattle.rv_model.specs.vector.Groups.{single_type, wide_type};
+ghost use Rattle.rv_model.specs.vector.Groups.{group_type, lmul_eighths, sew_width, single_type, wide_type};
 ghost use Rattle.reg_groups.specs.Roles.{groups_of, is_beside_mask, is_other_group, is_wide_beside, stands_beside};
 
 use crate::agreement::{allows, is_group};

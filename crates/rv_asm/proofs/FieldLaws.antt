@@ -1,7 +1,7 @@
 -- The operands that a word has, at their places again
 use Rattle.std.proofs.Common.{◌≡◌, ℕ, ◌+◌, ◌*◌, ◌/◌, ◌%◌, ◌^◌, ◌<◌, List, [], ◌∷◌, ◌++◌, refl, sym, ap, ap₂, ◌∙◌, arith}
 use Rattle.std.proofs.Math.Nat.{mod-eq_of_lt}
-use Rattle.rv_model.specs.instructions.BitFields.{field, Part, part, sum_of}
+use Rattle.rv_model.specs.instructions.FixedBits.{field, Part, part, sum_of}
 use Rattle.rv_model.specs.instructions.Immediates.{branch_offset, jump_offset}
 use Rattle.rv_model.specs.declared.assembler.forms.Slot.{Slot}
 use Rattle.rv_model.specs.declared.assembler.forms.Slot.TheVariants.{Scalar, Vector, Unsigned, Signed, Csr, VectorType, ShortVectorType, Mask, Word}

@@ -2,7 +2,7 @@
 use Rattle.std.proofs.Common.{◌≡◌, ℕ, zero, suc, ◌+◌, ◌<◌, Bool, true, false, ◌&&◌, List, [], ◌∷◌, ◌++◌, length, Result, Ok, refl, sym, ap, ◌∙◌, arith}
 use Rattle.std.proofs.lemmas.Bool.{and_parts}
 use Rattle.rv_model.specs.assembler.Tokens.{Token, tokens, begins_run}
-use Rattle.rv_model.specs.instructions.BitFields.{sum_of}
+use Rattle.rv_model.specs.instructions.FixedBits.{sum_of}
 use Rattle.rv_model.specs.declared.assembler.forms.Slot.{Slot}
 use Rattle.rv_model.specs.declared.assembler.forms.Slot.TheVariants.{Comma, Open, Close, Mask}
 use Rattle.rv_model.specs.assembler.Slots.{◌>>=◌, printed}

@@ -11,7 +11,7 @@ use Rattle.rv_model.specs.declared.vector.types.Sew.{Sew}
 use Rattle.rv_model.specs.declared.vector.types.Sew.TheVariants.{E8, E16, E32, E64}
 use Rattle.rv_model.specs.declared.vector.types.Lmul.{Lmul}
 use Rattle.rv_model.specs.declared.vector.types.Lmul.TheVariants.{Mf8, Mf4, Mf2, M1, M2, M4, M8}
-use Rattle.rv_model.specs.instructions.BitFields.{flag_bit}
+use Rattle.rv_model.specs.instructions.FixedBits.{flag_bit}
 use Rattle.rv_model.specs.vector.ControlRegisters.{control_register, control_registers, register_name, register_number}
 use Rattle.rv_model.specs.vector.TypeNames.{lmul_name, mask_name, sew_name, tail_name}
 use Rattle.rv_model.specs.vector.TypeRules.{lmul_number, lmul_with_number, sew_number, sew_with_number}

@@ -3,7 +3,7 @@ use Rattle.std.proofs.Common.{◌≡◌, ℕ, zero, suc, ◌+◌, ◌-◌, ◌^�
 use Rattle.std.specs.Int.Bits.{bit_and}
 use Rattle.std.proofs.lemmas.Bool.{agree_below_at, and_parts, ltb-true, eqb-true}
 use Rattle.rv_model.specs.assembler.Tokens.{Token, tokens}
-use Rattle.rv_model.specs.instructions.BitFields.{Part, sum_of, mask_of}
+use Rattle.rv_model.specs.instructions.FixedBits.{Part, sum_of, mask_of}
 use Rattle.rv_model.specs.declared.assembler.forms.Slot.{Slot}
 use Rattle.rv_model.specs.declared.assembler.mnemonics.TheConstants.{ROW_COUNT}
 use Rattle.rv_model.specs.assembler.Table.{read_operands, operands_text, printed_operands}

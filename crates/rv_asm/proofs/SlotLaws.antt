@@ -16,7 +16,7 @@ use Rattle.rv_model.specs.assembler.Slots.{◌>>=◌, accept, one, half, signed_
 use Rattle.rv_model.specs.lending.Slots.{limit, value_count}
 use Rattle.rv_model.specs.declared.vector.types.Sew.{Sew}
 use Rattle.rv_model.specs.declared.vector.types.Lmul.{Lmul}
-use Rattle.rv_model.specs.instructions.BitFields.{flag_bit}
+use Rattle.rv_model.specs.instructions.FixedBits.{flag_bit}
 use Rattle.rv_model.specs.vector.TypeNames.{lmul_name, mask_name, sew_name, tail_name}
 use Rattle.rv_model.specs.vector.TypeRules.{lmul_number, lmul_with_number, sew_number, sew_with_number}
 use Rattle.rv_model.proofs.assembler_lemmas.Operands.{limit_small}

@@ -1,6 +1,6 @@
 -- The bits that operands may fill
 use Rattle.std.specs.Prelude.{ℕ, ◌+◌, List, [], ◌∷◌}
-use Rattle.rv_model.specs.instructions.BitFields.{mask_of}
+use Rattle.rv_model.specs.instructions.FixedBits.{mask_of}
 use Rattle.rv_model.specs.assembler.Fields.{parts_of}
 use Rattle.rv_model.specs.declared.assembler.forms.Slot.{Slot}
 

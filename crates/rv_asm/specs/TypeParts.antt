@@ -1,6 +1,6 @@
 -- The parts of vtype, as a text names them
 use Rattle.std.specs.Prelude.{ℕ, List, Option, option_map}
-use Rattle.rv_model.specs.instructions.BitFields.{flag_bit}
+use Rattle.rv_model.specs.instructions.FixedBits.{flag_bit}
 use Rattle.rv_model.specs.vector.TypeNames.{lmul_name, lmuls, mask_name, with_name, policies, sew_name, sews, tail_name}
 use Rattle.rv_model.specs.vector.TypeRules.{lmul_number, sew_number}
 

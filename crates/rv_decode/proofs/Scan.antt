@@ -18,14 +18,12 @@ use Rattle.rv_model.specs.declared.instructions.scalar.ScalarInstr.TheVariants.{
 use Rattle.rv_model.specs.declared.instructions.csr.CsrInstr.TheVariants.{Register, Immediate}
 use Rattle.rv_model.specs.declared.instructions.vector.VectorInstr.TheVariants.{Arith, Carry, WholeMove, MaskLogic, MaskToScalar, Extend, MaskUnary}
 use Rattle.rv_model.specs.declared.instructions.access.AccessInstr.TheVariants.{UnitStride, Strided, Indexed, WholeLoad, WholeStore, MaskAccess}
-use Rattle.rv_model.specs.instructions.BitFields.{part, fixed}
-use Rattle.rv_model.specs.instructions.Sources.{source_of}
+use Rattle.rv_model.specs.instructions.FixedBits.{part, fixed}
+use Rattle.rv_model.specs.instructions.Operations.{source_of, has_form, line, carry_line, line_bits, major_bits, vector_ops}
 use Rattle.rv_model.specs.lending.ListedBits.{whole_move_bits, mask_memory_bits, upper_bits, branch_bits, load_bits, store_bits, immediate_op_bits, shift_immediate_bits, shift_immediate_word_bits, register_op_bits, system_bits, csr_bits, csr_immediate_bits, mask_logic_bits, mask_to_scalar_bits, extend_bits, mask_unary_bits, unit_access_bits, strided_access_bits, indexed_access_bits, whole_load_bits, whole_store_bits}
 use Rattle.rv_model.specs.lending.Families.{upper_ops, branch_ops, load_ops, store_ops, immediate_ops, shift_immediate_ops, shift_immediate_word_ops, register_ops, system_ops, csr_ops, csr_immediate_ops, mask_logic_ops, mask_to_scalar_ops, extend_ops, mask_unary_ops, carry_ops, filled, row_of, rows, Family, unit_accesses, strided_accesses, indexed_accesses, whole_loads, Uppers, Jumps, JumpRegisters, Branches, Loads, Stores, RegisterImmediates, ShiftImmediates, ShiftImmediateWords, RegisterRegisters, Fences, Systems, Csrs, CsrImmediates, SetVlis, SetIvlis, SetVls, Ariths, Carries, Moves, WholeMoves, MaskLogics, Compresses, MasksToScalar, Extends, MaskUnaries, ElementIndices, MovesToScalar, MovesToVector, Units, Strideds, Indexeds, WholeLoads, WholeStores, MaskMemories}
-use Rattle.rv_model.specs.instructions.Table.{Row, directions, counts, table, scan}
-use Rattle.rv_model.specs.instructions.Operations.{has_form, line, carry_line, line_bits, major_bits, vector_ops}
+use Rattle.rv_model.specs.instructions.Table.{Row, directions, counts, table, scan, parts, bits}
 use Rattle.rv_model.specs.lending.Search.{same_major, those, find, find_at}
-use Rattle.rv_model.specs.instructions.Layout.{parts, bits}
 use Rattle.rv_model.proofs.instruction_lemmas.Words.{form_source_of}
 use Rattle.rv_model.proofs.instruction_lemmas.Parts.{masked}
 use Rattle.rv_model.proofs.instruction_lemmas.Scans.{narrowed, scan_narrow, same_narrow, no_scan, DiffersFrom}

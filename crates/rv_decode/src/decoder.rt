@@ -1,11 +1,10 @@
 //! Words to instructions.
 ghost use Rattle.std.specs.Prelude.{◌≡◌, ◌++◌, ◌⊎◌, bit_and, option_map, false, true, IfSome, IfNone, Some};
 ghost use Rattle.rv_model.specs.declared.instructions.operations.Form.TheVariants as form;
-ghost use Rattle.rv_model.specs.instructions.Layout.{word_of};
+ghost use Rattle.rv_model.specs.instructions.Table.{word_of, Row, IsRow, scan, table};
 ghost use Rattle.rv_decode.specs.Groups.{rows_where, is_irregular_instr, is_unit_stride, is_other_access, is_csr};
 ghost use Rattle.rv_decode.specs.Opcodes.{IsKind, is_scalar};
 ghost use Rattle.rv_model.specs.lending.Irregular.{is_irregular};
-ghost use Rattle.rv_model.specs.instructions.Table.{Row, IsRow, scan, table};
 ghost use Rattle.rv_model.specs.lending.Families.{rows, RegisterImmediates, ShiftImmediates, ShiftImmediateWords};
 ghost use Rattle.rv_model.specs.lending.Families.{SetVlis, SetIvlis, SetVls, Carries, Moves, WholeMoves};
 ghost use Rattle.rv_model.specs.lending.Families.{MaskLogics, Compresses, MasksToScalar, Extends, MaskUnaries};

@@ -1,10 +1,8 @@
 //! Instructions to words.
 ghost use Rattle.std.specs.Prelude.{◌≡◌, ◌<◌, ◌^◌, Some, true};
-ghost use Rattle.rv_model.specs.instructions.Sources.{form_of};
-ghost use Rattle.rv_model.specs.instructions.Operations.{has_form, line, carry_line, line_bits, major_bits};
-ghost use Rattle.rv_model.specs.instructions.Layout.{bits, word_of};
+ghost use Rattle.rv_model.specs.instructions.Operations.{form_of, has_form, line, carry_line, line_bits, major_bits};
+ghost use Rattle.rv_model.specs.instructions.Table.{bits, word_of, scan, table};
 ghost use Rattle.rv_model.specs.lending.ListedBits.{Allowed};
-ghost use Rattle.rv_model.specs.instructions.Table.{scan, table};
 
 use crate::fixed_bits::{
     branch_bits, count_bits, csr_bits, csr_immediate_bits, direction_bits, extend_bits,

@@ -1,9 +1,9 @@
 //! The operands of instructions, each at its place in a word.
 ghost use Rattle.std.specs.Prelude.{◌≡◌, ◌<◌, ◌*◌, ◌+◌, ◌/◌, ◌%◌, ◌^◌};
-ghost use Rattle.rv_model.specs.instructions.BitFields.{flag_bit, sum_of};
+ghost use Rattle.rv_model.specs.instructions.FixedBits.{flag_bit, sum_of};
 ghost use Rattle.rv_model.specs.lending.ListedBits.{AllFit};
-ghost use Rattle.rv_model.specs.instructions.Sources.{source_number};
-ghost use Rattle.rv_model.specs.instructions.Layout.{parts};
+ghost use Rattle.rv_model.specs.instructions.Operations.{source_number};
+ghost use Rattle.rv_model.specs.instructions.Table.{parts};
 
 use rv_model::{AccessInstr, CsrInstr, Field, Instr, Reg, ScalarInstr, Source, VReg, VectorInstr};
 

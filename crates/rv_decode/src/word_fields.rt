@@ -1,8 +1,8 @@
 //! The operands that a word holds.
 ghost use Rattle.std.specs.Prelude.{◌≡◌, ◌≤◌, ◌<◌, ◌+◌, ◌^◌};
-ghost use Rattle.rv_model.specs.instructions.BitFields.{field, flag};
+ghost use Rattle.rv_model.specs.instructions.FixedBits.{field, flag};
 ghost use Rattle.rv_model.specs.instructions.Immediates.{store_immediate, branch_offset, jump_offset};
-ghost use Rattle.rv_model.specs.instructions.Sources.{source_of};
+ghost use Rattle.rv_model.specs.instructions.Operations.{source_of};
 
 use rv_model::instructions::bits;
 use rv_model::instructions::operations::Form;

@@ -9,4 +9,3 @@ pub mod Formulas
 pub mod Masks
 pub mod PermutationResults
 pub mod Reductions
-pub mod Writes

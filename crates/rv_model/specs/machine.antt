@@ -11,13 +11,10 @@ pub mod Cuts
 pub mod Examples
 pub mod Grants
 pub mod Laws
-pub mod PrivateMachine
 pub mod Refusals
-pub mod Runs
 pub mod Script
 pub mod Setup
 pub mod Turns
 pub mod UserMachine
-pub mod Users
 pub mod VectorUnit
 pub mod World

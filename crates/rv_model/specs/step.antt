@@ -9,5 +9,4 @@ pub mod Resumes
 pub mod ScalarStep
 pub mod Step
 pub mod Ticks
-pub mod VectorStep
 pub mod WriteCall

@@ -1,7 +1,7 @@
 //! Turns of the users, one after another.
 ghost use Rattle.std.specs.Prelude.{◌≡◌, ◌<◌, slice_index_or};
 ghost use Rattle.rv_model.specs.machine.Grants.{next_user, turns_after};
-ghost use Rattle.rv_model.specs.machine.Users.{user_count};
+ghost use Rattle.rv_model.specs.machine.Setup.{user_count};
 
 use rv_model::{USER_COUNT, User};
 

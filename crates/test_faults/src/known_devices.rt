@@ -1,7 +1,7 @@
 //! What a caller of `run` knows by its contract alone, at devices of which enough is known: a slice of bytes as the
 //! source, a source that gives one byte over and over, and one source for two scripts.
 ghost use Rattle.std.specs.Prelude.{◌≡◌, ◌<◌, ◌≤◌, ℕ, List, [], ◌++◌, Err, length, take, OnOk};
-ghost use Rattle.rv_model.specs.machine.PrivateMachine.{solo};
+ghost use Rattle.rv_model.specs.machine.World.{solo};
 ghost use Rattle.rv_model.specs.machine.Script.{after_all, whole_from, after_script, lines, own, new_world};
 ghost use Rattle.vec_monitor.specs.EndedLines.{ended_lines};
 ghost use Rattle.test_faults.specs.GivenBytes.{AreAll, no_bytes, more_bytes};

@@ -2,7 +2,7 @@
 //!
 //! A family of kernels is one more `impl Kernel`, a table of its names, and a `Sweep` of its cases.
 ghost use Rattle.std.specs.Prelude.{◌*◌, ◌≤◌, length};
-ghost use Rattle.rv_model.specs.vector.Configuration.{width_bytes};
+ghost use Rattle.rv_model.specs.vector.Groups.{width_bytes};
 
 use crate::numbers::{bit_at, nearest_signed, nearest_unsigned, put};
 use crate::operands::{ALL, Inputs, LONGEST, MIXED, NO_MASK, Operands};

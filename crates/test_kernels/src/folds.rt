@@ -1,7 +1,7 @@
 //! Reductions, and counts and searches of set bits ("V" Vector Extension 1.0, chapter 14, sections 15.2 and 15.3):
 //! their result is element 0. `a` is vs2, and the first element of `b` is that of vs1.
 ghost use Rattle.std.specs.Prelude.{◌*◌, ◌≤◌, length};
-ghost use Rattle.rv_model.specs.vector.Configuration.{width_bytes};
+ghost use Rattle.rv_model.specs.vector.Groups.{width_bytes};
 
 use crate::comparison::{Case, Kernel, MASKED, Sweep, Written, compare_kernels, is_active};
 use crate::numbers::{bit_at, low_bits, signed, two_complement, unsigned};

@@ -1,7 +1,7 @@
 //! Permutations, and elements that count ("V" Vector Extension 1.0, chapter 16, sections 15.8 and 15.9). `a` is vs2,
 //! which has 65 elements, and `b` is vs1.
 ghost use Rattle.std.specs.Prelude.{◌*◌, ◌<◌, ◌≤◌, length};
-ghost use Rattle.rv_model.specs.vector.Configuration.{width_bytes};
+ghost use Rattle.rv_model.specs.vector.Groups.{width_bytes};
 
 use crate::comparison::{Case, Kernel, MASKED, Sweep, Written, compare_kernels, is_active};
 use crate::numbers::{bit_at, unsigned};

@@ -1,7 +1,7 @@
 //! Operations of two widths ("V" Vector Extension 1.0, sections 11.2, 11.3, 11.7, 11.12 and 11.14). `a` is vs2, `b` is
 //! vs1 or the other second operand, and `d` is vd.
 ghost use Rattle.std.specs.Prelude.{◌*◌, ◌≤◌, length};
-ghost use Rattle.rv_model.specs.vector.Configuration.{width_bytes};
+ghost use Rattle.rv_model.specs.vector.Groups.{width_bytes};
 
 use crate::comparison::{Case, Kernel, MASKED, Sweep, compare_kernels};
 use crate::numbers::{shift, signed, unsigned};

@@ -1,6 +1,6 @@
 //! The ways in which a word is carried out, and whether it ends as it should.
 ghost use Rattle.std.specs.Prelude.{◌≡◌};
-ghost use Rattle.rv_model.specs.step.VectorStep.{is_vector};
+ghost use Rattle.rv_model.specs.step.Step.{is_vector};
 
 use crate::ends::Ending;
 use crate::lending::{CODE, OneSeat, UserMemory};

@@ -7,7 +7,7 @@ use Rattle.rv_model.specs.declared.memory.Access.{Access}
 use Rattle.rv_model.specs.memory.Memory.{can_access, can_access_byte, permits}
 use Rattle.rv_model.proofs.memory_lemmas.Memory.{can_access_from}
 use Rattle.rv_model.specs.memory.Sizes.{page_size, page_limit, frame_count}
-use Rattle.rv_model.specs.machine.Users.{user_count}
+use Rattle.rv_model.specs.machine.Setup.{user_count}
 use Rattle.user_mem.specs.declared.entry.Entry.{Entry}
 use Rattle.user_mem.specs.declared.translations.Translation.{Translation}
 use Rattle.user_mem.specs.declared.translations.Translations.{Translations}

@@ -5,7 +5,7 @@ use Rattle.user_mem.specs.declared.entry.Entry.{Entry}
 use Rattle.arrayvec.specs.ArrayVec.{ArrayVec}
 use Rattle.rv_model.specs.memory.Memory.{Memory}
 use Rattle.rv_model.specs.memory.Sizes.{page_size, page_quota, frame_count}
-use Rattle.rv_model.specs.machine.Users.{user_count}
+use Rattle.rv_model.specs.machine.Setup.{user_count}
 use Rattle.user_mem.specs.Table.{memory_of, IsSorted, AreBelow}
 use Rattle.user_mem.specs.Frames.{times_free, times_used}
 

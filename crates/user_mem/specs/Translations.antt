@@ -4,7 +4,7 @@ use Rattle.rv_model.specs.declared.memory.Access.{Access}
 use Rattle.rv_model.specs.declared.memory.Access.TheVariants as access
 use Rattle.rv_model.specs.memory.Memory.{permits}
 use Rattle.rv_model.specs.memory.Sizes.{page_size, frame_count}
-use Rattle.rv_model.specs.machine.Users.{user_count}
+use Rattle.rv_model.specs.machine.Setup.{user_count}
 use Rattle.user_mem.specs.declared.entry.Entry.{Entry}
 use Rattle.user_mem.specs.declared.translations.Translation.{Translation}
 use Rattle.user_mem.specs.declared.translations.Translations.{Translations}

@@ -3,7 +3,7 @@ ghost use Rattle.std.specs.Prelude.{◌≡◌, ◌≢◌, List, ℕ, ◌<◌, �
 ghost use Rattle.std.specs.Prelude.{IsOk, IfErr, OnOk, OnErr, slice_index_or, slice_set};
 ghost use Rattle.rv_model.specs.memory.Memory.{can_access, put_bytes, with_pages};
 ghost use Rattle.rv_model.specs.memory.Sizes.{page_quota, page_limit};
-ghost use Rattle.rv_model.specs.machine.Users.{user_count};
+ghost use Rattle.rv_model.specs.machine.Setup.{user_count};
 ghost use Rattle.user_mem.specs.Table.{entry_at, memory_of};
 ghost use Rattle.user_mem.specs.Pool.{IsPool, entries_of, table_at, memories_of};
 ghost use Rattle.user_mem.specs.Translations.{AllTranslate, Translates};

@@ -6,10 +6,9 @@ use Rattle.std.specs.List.{AllZip}
 use Rattle.std.specs.Option.{option_map_or}
 use Rattle.clap.specs.Words.{Text}
 use Rattle.monitor_machine.specs.NewFaults.{new_fault}
-use Rattle.rv_model.specs.machine.PrivateMachine.{solo}
+use Rattle.rv_model.specs.machine.World.{solo}
 use Rattle.rv_model.specs.machine.Script.{lines, own, whole}
-use Rattle.rv_model.specs.machine.Setup.{Image, Setup}
-use Rattle.rv_model.specs.machine.Users.{user_count}
+use Rattle.rv_model.specs.machine.Setup.{Image, Setup, user_count}
 use Rattle.vec_monitor.specs.CommandLine.{image_words, quantum_word, script_word, words_fault, IsQuantum}
 use Rattle.vec_monitor.specs.ImageWords.{IsNameAndPath}
 use Rattle.vec_monitor.specs.KnownBytes.{AreKnownAs}

@@ -24,10 +24,9 @@ use Rattle.rv_model.specs.lending.GroupBounds.{SegmentsInside, emul}
 use Rattle.rv_model.specs.legality.Legality.{is_legal, operands}
 use Rattle.rv_model.specs.step.Hart.{HartState}
 use Rattle.rv_model.specs.step.MemoryStep.{access_end, after_access, filled_type, load_fills_masked_off, reads_memory, tail_type, with_tails}
-use Rattle.rv_model.specs.step.VectorStep.{access_step, accessed, performed, vector_ends}
-use Rattle.rv_model.specs.vector.Configuration.{GroupType, IsConfiguration, group_type, lmul_eighths, sew_bits, sew_width, vlmax}
+use Rattle.rv_model.specs.step.Step.{access_step, accessed, performed, vector_ends}
+use Rattle.rv_model.specs.vector.Groups.{GroupType, IsConfiguration, group_type, lmul_eighths, sew_bits, sew_width, vlmax, access_type, register_count}
 use Rattle.rv_model.proofs.vector_lemmas.Lengths.{IsLength}
-use Rattle.rv_model.specs.vector.Groups.{access_type, register_count}
 use Rattle.rv_model.proofs.access_lemmas.Runs.{run_is}
 use Rattle.rv_model.proofs.legality_lemmas.Accesses.{indexed_inside, strided_inside, unit_inside}
 use Rattle.rv_model.proofs.legality_lemmas.Bounds.{emul-sew}

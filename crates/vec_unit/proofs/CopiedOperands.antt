@@ -1,9 +1,8 @@
 -- Copies of operands stand for the operands.
 use Rattle.std.proofs.Common.{ℕ, ◌<◌, ◌≡◌, ◌∙◌, ap, List}
 use Rattle.rv_model.specs.elements.Arithmetic.{group_element}
-use Rattle.rv_model.specs.vector.Configuration.{GroupType, width_bytes}
+use Rattle.rv_model.specs.vector.Groups.{GroupType, width_bytes, group_of}
 use Rattle.rv_model.specs.elements.Elements.{element}
-use Rattle.rv_model.specs.vector.Registers.{group_of}
 
 -- what is made of an element of a copy of a group, and of a number that is told
 pub told_second : {A : Type 0} (u : GroupType) (made : ℕ → ℕ → A) (first file : List ℕ) (vs2 i number told : ℕ)

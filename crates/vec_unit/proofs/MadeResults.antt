@@ -9,8 +9,7 @@ use Rattle.rv_model.specs.elements.Arithmetic.{with_results}
 use Rattle.rv_model.specs.elements.Elements.{Body, in_body, in_range, is_active, is_changed, is_enabled, result_or_ones}
 use Rattle.rv_model.specs.elements.Formulas.{ones}
 use Rattle.rv_model.specs.lending.Writes.{Writes}
-use Rattle.rv_model.specs.vector.Configuration.{GroupType, width_bytes}
-use Rattle.rv_model.specs.vector.Registers.{group_of, with_group}
+use Rattle.rv_model.specs.vector.Groups.{GroupType, width_bytes, group_of, with_group}
 use Rattle.rv_model.proofs.element_lemmas.Arithmetic.{results_are}
 use Rattle.rv_model.proofs.element_lemmas.Sets.{active_end}
 use Rattle.rv_model.proofs.element_lemmas.Writes.{writes_same, writes_then}

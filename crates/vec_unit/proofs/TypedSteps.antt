@@ -4,7 +4,7 @@ use Rattle.rv_model.specs.declared.instructions.vector.VectorInstr.{VectorInstr}
 use Rattle.rv_model.specs.declared.instructions.vector.VectorInstr.TheVariants.{Arith, Extend, SetIvli, SetVl, SetVli}
 use Rattle.rv_model.specs.step.Hart.{HartState}
 use Rattle.rv_model.proofs.element_lemmas.Numbers.{extends_sign}
-use Rattle.rv_model.specs.step.VectorStep.{operation_step, typed, typed_step}
+use Rattle.rv_model.specs.step.Step.{operation_step, typed, typed_step}
 use Rattle.vec_unit.specs.Arithmetic.{is_typed}
 
 pub by_type : (i : VectorInstr) (s : HartState) → is_typed i ≡ true

@@ -12,11 +12,10 @@ use Rattle.rv_model.specs.declared.instructions.source.Source.{Source}
 use Rattle.rv_model.specs.declared.instructions.source.Source.TheVariants as source
 use Rattle.rv_model.specs.declared.scalar.Scalar.{Scalar}
 use Rattle.rv_model.specs.elements.Arithmetic.{binary_result, second_element, with_results}
-use Rattle.rv_model.specs.vector.Configuration.{GroupType, width_bytes}
+use Rattle.rv_model.specs.vector.Groups.{GroupType, width_bytes, group_of, registers}
 use Rattle.rv_model.specs.elements.Elements.{Body, element, in_body, is_active, is_changed, is_enabled, result_or_ones}
 use Rattle.rv_model.specs.elements.Formulas.{formula, has_unsigned_immediate, ones, wrap}
 use Rattle.rv_model.specs.lending.Writes.{Writes}
-use Rattle.rv_model.specs.vector.Registers.{group_of, registers}
 use Rattle.rv_model.proofs.element_lemmas.Arithmetic.{results_are}
 use Rattle.rv_model.proofs.element_lemmas.Sets.{changed_inside, to_end}
 use Rattle.rv_model.proofs.element_lemmas.Writes.{writes_same}

@@ -13,8 +13,7 @@ use Rattle.rv_model.specs.elements.Elements.{Body, element}
 use Rattle.rv_model.specs.elements.Formulas.{formula, immediate_value, wrap}
 use Rattle.rv_model.specs.scalar.Registers.{read_register}
 use Rattle.rv_model.specs.lending.GroupBounds.{HoldsBody, IsInside, SourceIsInside}
-use Rattle.rv_model.specs.vector.Configuration.{width_bytes}
-use Rattle.rv_model.specs.vector.Registers.{registers}
+use Rattle.rv_model.specs.vector.Groups.{width_bytes, registers}
 use Rattle.lane_arith.specs.SimdOperations.{is_simd}
 use Rattle.vec_unit.specs.declared.binary.BinaryOperation.{BinaryOperation}
 use Rattle.vec_unit.specs.declared.destination.Destination.{Destination}

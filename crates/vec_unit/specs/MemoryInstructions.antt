@@ -15,7 +15,7 @@ use Rattle.rv_model.specs.accesses.VectorAccess.{unit_direction}
 use Rattle.rv_model.specs.elements.Arithmetic.{body_of, fills_masked_off, fills_tail}
 use Rattle.rv_model.specs.step.MemoryStep.{reads_memory, tails_filled}
 use Rattle.rv_model.specs.lending.GroupBounds.{emul}
-use Rattle.rv_model.specs.vector.Configuration.{GroupType, element_width, sew_bits, sew_width}
+use Rattle.rv_model.specs.vector.Groups.{GroupType, element_width, sew_bits, sew_width}
 use Rattle.vec_unit.specs.declared.memory_instructions.Filled.{Filled}
 use Rattle.vec_unit.specs.declared.tails.Fields.{Fields}
 

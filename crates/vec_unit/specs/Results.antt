@@ -4,7 +4,7 @@ use Rattle.std.specs.Int.{Width}
 use Rattle.rv_model.specs.declared.vector.state.VState.{VState}
 use Rattle.rv_model.specs.elements.Arithmetic.{body_of, fills_masked_off, fills_tail, with_results}
 use Rattle.rv_model.specs.elements.Elements.{Body}
-use Rattle.rv_model.specs.vector.Configuration.{GroupType}
+use Rattle.rv_model.specs.vector.Groups.{GroupType}
 use Rattle.vec_unit.specs.declared.destination.Destination.{Destination}
 use Rattle.vec_unit.specs.declared.destination.Target.{Target}
 

@@ -1,11 +1,10 @@
 //! Arithmetic instructions, once they are known to be legal ("V" Vector Extension 1.0, chapter 11).
 ghost use Rattle.std.specs.Prelude.{◌≡◌, ◌≢◌, ◌≤◌, IsTrue, List, Some, not, ℕ};
-ghost use Rattle.rv_model.specs.vector.Configuration.{group_type, vlmax};
-ghost use Rattle.rv_model.specs.vector.Groups.{wide_type};
+ghost use Rattle.rv_model.specs.vector.Groups.{group_type, vlmax, wide_type};
 ghost use Rattle.rv_model.specs.step.Hart.{hart_state};
 ghost use Rattle.rv_model.specs.memory.Memory.{Memory};
 ghost use Rattle.rv_model.specs.legality.Legality.{is_legal};
-ghost use Rattle.rv_model.specs.step.VectorStep.{arith_step, typed, typed_step, vector_ends};
+ghost use Rattle.rv_model.specs.step.Step.{arith_step, typed, typed_step, vector_ends};
 ghost use Rattle.vec_unit.specs.Arithmetic.{has_two_widths, is_binary};
 
 use crate::binary::BinaryOperation;

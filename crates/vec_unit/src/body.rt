@@ -1,7 +1,7 @@
 //! The body of an instruction under a state ("V" Vector Extension 1.0, section 5.4).
 ghost use Rattle.std.specs.Prelude.{◌≡◌};
 ghost use Rattle.rv_model.specs.elements.Arithmetic.{body_of};
-ghost use Rattle.rv_model.specs.vector.Registers.{register_of};
+ghost use Rattle.rv_model.specs.vector.Groups.{register_of};
 
 use lane_arith::Body;
 use rv_model::{VLENB, VState};

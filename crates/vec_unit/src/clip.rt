@@ -1,8 +1,7 @@
 //! Clips of a source of twice the width, carried out ("V" Vector Extension 1.0, section 12.5).
 ghost use Rattle.std.specs.Prelude.{◌≡◌, ◌*◌, ◌≤◌, ◌||◌};
 ghost use Rattle.rv_model.specs.elements.Arithmetic.{body_of, clip_result, clip_saturates_at};
-ghost use Rattle.rv_model.specs.vector.Configuration.{group_type, lmul_eighths, sew_bits};
-ghost use Rattle.rv_model.specs.vector.Groups.{wide_type};
+ghost use Rattle.rv_model.specs.vector.Groups.{group_type, lmul_eighths, sew_bits, wide_type};
 ghost use Rattle.rv_model.specs.elements.Elements.{some_active};
 ghost use Rattle.rv_model.specs.lending.GroupBounds.{IsInside, SourceIsInside};
 ghost use Rattle.vec_unit.specs.Results.{carried_out};

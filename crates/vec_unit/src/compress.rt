@@ -1,14 +1,13 @@
 //! Compressions, carried out ("V" Vector Extension 1.0, section 16.5).
 ghost use Rattle.std.specs.Prelude.{◌≡◌, ◌*◌, ◌≤◌, length, true};
 ghost use Rattle.rv_model.specs.elements.Arithmetic.{body_of, fills_tail, group_element};
-ghost use Rattle.rv_model.specs.vector.Configuration.{group_type, lmul_eighths, vlmax, width_bytes};
+ghost use Rattle.rv_model.specs.vector.Groups.{group_type, lmul_eighths, vlmax, width_bytes, register_of};
 ghost use Rattle.rv_model.specs.elements.Elements.{element};
 ghost use Rattle.rv_model.specs.elements.Formulas.{ones};
 ghost use Rattle.rv_model.specs.elements.PermutationResults.{with_packed};
 ghost use Rattle.rv_model.specs.elements.PermutationResults.{is_packed_or_filled, packed, packed_or_ones};
 ghost use Rattle.rv_model.specs.lending.Writes.{Writes};
 ghost use Rattle.rv_model.specs.lending.GroupBounds.{HoldsBody, IsInside};
-ghost use Rattle.rv_model.specs.vector.Registers.{register_of};
 
 use crate::body::body_under;
 use crate::destination::{Destination, agnostic_under};

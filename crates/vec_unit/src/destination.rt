@@ -6,8 +6,7 @@ ghost use Rattle.rv_model.specs.elements.Elements.{is_changed, result_or_ones};
 ghost use Rattle.rv_model.specs.elements.Formulas.{ones};
 ghost use Rattle.rv_model.specs.lending.Writes.{Writes};
 ghost use Rattle.rv_model.specs.lending.GroupBounds.{HoldsBody, IsInside};
-ghost use Rattle.rv_model.specs.vector.Configuration.{width_bytes};
-ghost use Rattle.rv_model.specs.vector.Registers.{registers};
+ghost use Rattle.rv_model.specs.vector.Groups.{width_bytes, registers};
 ghost use Rattle.vec_unit.specs.Agnostic.{is_agnostic};
 
 use lane_arith::{Body, Lane, Results, fill, write_results};

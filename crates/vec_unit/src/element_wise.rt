@@ -3,9 +3,8 @@
 ghost use Rattle.std.specs.Prelude.{◌≡◌, ◌≤◌, List, true, ℕ};
 ghost use Rattle.rv_model.specs.declared.scalar.Scalar.{Scalar as ScalarRegisters};
 ghost use Rattle.rv_model.specs.elements.Arithmetic.{body_of, fills_masked_off, fills_tail, with_results};
-ghost use Rattle.rv_model.specs.vector.Configuration.{GroupType, group_type, lmul_eighths, vlmax};
+ghost use Rattle.rv_model.specs.vector.Groups.{GroupType, group_type, lmul_eighths, vlmax, register_of};
 ghost use Rattle.rv_model.specs.lending.GroupBounds.{HoldsBody, IsInside};
-ghost use Rattle.rv_model.specs.vector.Registers.{register_of};
 ghost use Rattle.vec_unit.specs.Results.{carried_out, with_written};
 
 use crate::body::body_under;

@@ -3,7 +3,7 @@ ghost use Rattle.std.specs.Prelude.{◌≡◌, ◌≢◌, ◌≤◌, IsTrue, Lis
 ghost use Rattle.rv_model.specs.memory.Memory.{Memory};
 ghost use Rattle.rv_model.specs.step.Hart.{hart_state};
 ghost use Rattle.rv_model.specs.step.Resumes.{InstructionGoesOn};
-ghost use Rattle.rv_model.specs.step.VectorStep.{is_vector, operation_step, vector_ends, vector_executed};
+ghost use Rattle.rv_model.specs.step.Step.{is_vector, operation_step, vector_ends, vector_executed};
 ghost use Rattle.rv_model.specs.legality.Legality.{is_legal};
 ghost use Rattle.rv_model.specs.lending.Irregular.{is_irregular};
 
@@ -17,7 +17,7 @@ use rv_model::{ArithOperation, Instr, Policy, RequestedLength, Scalar, VEnd, VSt
 use vector_memory::UserBytes;
 
 /// Carries out a legal vector operation that has no line of its own in the manual's table.
-#[tactic(auto, unfolding(rv_model::specs::step::VectorStep::operation_step), using(crate::proofs::TypedSteps::by_type))]
+#[tactic(auto, unfolding(rv_model::specs::step::Step::operation_step), using(crate::proofs::TypedSteps::by_type))]
 #[inline(always)]
 fn perform_irregular(
     operation: &VectorInstr,
@@ -61,7 +61,7 @@ fn perform_irregular(
 
 /// Carries out a vector operation of a user that has a line of its own in the manual's table, by its operands: the same
 /// as `exec` of the instruction.
-#[tactic(auto, unfolding(rv_model::specs::step::VectorStep::vector_executed))]
+#[tactic(auto, unfolding(rv_model::specs::step::Step::vector_executed))]
 #[inline(always)]
 pub fn exec_arith(
     operation: ArithOperation,
@@ -95,7 +95,7 @@ pub fn exec_arith(
 
 /// Carries out a vector operation of a user that has no line of its own in the manual's table: the same as `exec` of
 /// the instruction.
-#[tactic(auto, unfolding(rv_model::specs::step::VectorStep::vector_executed))]
+#[tactic(auto, unfolding(rv_model::specs::step::Step::vector_executed))]
 #[inline(always)]
 pub fn exec_operation(
     operation: &VectorInstr,

@@ -1,7 +1,7 @@
 //! Extensions of elements of a part of the width ("V" Vector Extension 1.0, section 11.3).
 ghost use Rattle.std.specs.Prelude.{◌≡◌, ◌/◌, ◌≤◌};
 ghost use Rattle.rv_model.specs.elements.Arithmetic.{extend_result};
-ghost use Rattle.rv_model.specs.vector.Configuration.{group_type, lmul_eighths, sew_bits, sew_width};
+ghost use Rattle.rv_model.specs.vector.Groups.{group_type, lmul_eighths, sew_bits, sew_width};
 ghost use Rattle.rv_model.specs.vector.Groups.{extension_divisor, part_type, part_width};
 ghost use Rattle.rv_model.specs.lending.GroupBounds.{HasRoom, IsInside};
 ghost use Rattle.vec_unit.specs.Results.{carried_out};

@@ -1,7 +1,7 @@
 //! Fixed-point operations of one width, carried out ("V" Vector Extension 1.0, chapter 12).
 ghost use Rattle.std.specs.Prelude.{◌≡◌, ◌||◌};
 ghost use Rattle.rv_model.specs.elements.Arithmetic.{body_of, fixed_point_result, saturates_at};
-ghost use Rattle.rv_model.specs.vector.Configuration.{group_type, lmul_eighths};
+ghost use Rattle.rv_model.specs.vector.Groups.{group_type, lmul_eighths};
 ghost use Rattle.rv_model.specs.elements.Elements.{some_active};
 ghost use Rattle.rv_model.specs.elements.FixedPoint.{has_unsigned_shift};
 ghost use Rattle.rv_model.specs.lending.GroupBounds.{IsInside, SourceIsInside};

@@ -5,7 +5,7 @@ ghost use Rattle.lane_arith.specs.SimdOperations.{is_simd};
 ghost use Rattle.rv_model.specs.elements.Elements.{is_active, is_changed, result_or_ones};
 ghost use Rattle.rv_model.specs.elements.Formulas.{ones};
 ghost use Rattle.rv_model.specs.lending.Writes.{Writes};
-ghost use Rattle.rv_model.specs.vector.Configuration.{width_bytes};
+ghost use Rattle.rv_model.specs.vector.Groups.{width_bytes};
 ghost use Rattle.vec_unit.specs.InTurn.{
   IsReadFirst,
   SourceHasRegisters,

@@ -1,11 +1,11 @@
 //! Operations without a line of their own in the manual's table, under the vector type that they need, once they are
 //! known to be legal ("V" Vector Extension 1.0, sections 11.4, 11.15 and 11.16, and chapters 15 and 16).
 ghost use Rattle.std.specs.Prelude.{◌≡◌, ◌≤◌, IsTrue, List, Some, ℕ};
-ghost use Rattle.rv_model.specs.vector.Configuration.{vlmax};
+ghost use Rattle.rv_model.specs.vector.Groups.{vlmax};
 ghost use Rattle.rv_model.specs.legality.Legality.{is_legal};
 ghost use Rattle.rv_model.specs.memory.Memory.{Memory};
 ghost use Rattle.rv_model.specs.step.Hart.{hart_state};
-ghost use Rattle.rv_model.specs.step.VectorStep.{typed_step, vector_ends};
+ghost use Rattle.rv_model.specs.step.Step.{typed_step, vector_ends};
 ghost use Rattle.vec_unit.specs.Arithmetic.{is_typed};
 
 use crate::compress::carry_out_compress;

@@ -5,8 +5,8 @@ ghost use Rattle.rv_model.specs.declared.scalar.Scalar.{Scalar as ScalarRegister
 ghost use Rattle.rv_model.specs.elements.Arithmetic.{body_of, with_mask_results};
 ghost use Rattle.rv_model.specs.elements.Elements.{Body as BodyOf, is_active};
 ghost use Rattle.rv_model.specs.lending.Writes.{WritesBits};
-ghost use Rattle.rv_model.specs.vector.Configuration.{GroupType, group_type, lmul_eighths, vlmax, width_bytes};
-ghost use Rattle.rv_model.specs.vector.Registers.{register_of, registers};
+ghost use Rattle.rv_model.specs.vector.Groups.{GroupType, group_type, lmul_eighths, vlmax, width_bytes};
+ghost use Rattle.rv_model.specs.vector.Groups.{register_of, registers};
 
 use crate::body::body_under;
 use crate::destination::Target;

@@ -2,7 +2,7 @@
 ghost use Rattle.std.specs.Prelude.{◌≡◌, ◌%◌, ◌^◌, ◌<◌, ⊤, ℕ, slice_index, true};
 ghost use Rattle.rv_model.specs.elements.Arithmetic.{body_of, index_result, mask_logic_result, with_mask_results};
 ghost use Rattle.rv_model.specs.elements.Masks.{first_set, mask_scan_formula, mask_to_scalar_formula, set_count};
-ghost use Rattle.rv_model.specs.vector.Registers.{register_of};
+ghost use Rattle.rv_model.specs.vector.Groups.{register_of};
 ghost use mir.Val.{bits};
 
 use crate::body::body_under;

@@ -5,7 +5,7 @@ ghost use Rattle.rv_model.specs.lending.GroupBounds.{SegmentsInside};
 ghost use Rattle.rv_model.specs.legality.Legality.{is_legal};
 ghost use Rattle.rv_model.specs.step.Hart.{hart_state};
 ghost use Rattle.rv_model.specs.step.MemoryStep.{access_end};
-ghost use Rattle.rv_model.specs.step.VectorStep.{performed, vector_ends, vector_executed};
+ghost use Rattle.rv_model.specs.step.Step.{performed, vector_ends, vector_executed};
 ghost use Rattle.vec_unit.specs.MemoryInstructions.{
   direction_of,
   filled_by,
@@ -185,7 +185,7 @@ fn perform_access<M: UserBytes>(
 }
 
 /// Carries out a vector load or store of a user, of at most `limit` indices, and answers how it ended.
-#[tactic(auto, unfolding(rv_model::specs::step::VectorStep::vector_executed))]
+#[tactic(auto, unfolding(rv_model::specs::step::Step::vector_executed))]
 #[inline(always)]
 pub fn exec_access<M: UserBytes>(
     access: &AccessInstr,
@@ -224,7 +224,7 @@ pub fn exec_access<M: UserBytes>(
 
 /// The same, with whole registers and masks in line, which fill nothing, and the other loads and stores, which are
 /// seldom done at once, by one function for both policies.
-#[tactic(auto, unfolding(rv_model::specs::step::VectorStep::vector_executed))]
+#[tactic(auto, unfolding(rv_model::specs::step::Step::vector_executed))]
 #[inline(always)]
 pub fn exec_other_access<M: UserBytes>(
     access: &AccessInstr,

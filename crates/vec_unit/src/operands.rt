@@ -1,12 +1,11 @@
 //! The second operand of an element-wise instruction ("V" Vector Extension 1.0, sections 5.2 and 11.1).
 ghost use Rattle.std.specs.Prelude.{◌≡◌, ◌*◌, ◌%◌, ◌^◌, ◌<◌, ◌≤◌, ℕ, false, length};
 ghost use Rattle.rv_model.specs.elements.Elements.{element};
-ghost use Rattle.rv_model.specs.vector.Registers.{registers};
+ghost use Rattle.rv_model.specs.vector.Groups.{registers, width_bytes};
 ghost use Rattle.rv_model.specs.lending.GroupBounds.{SourceIsInside};
 ghost use Rattle.rv_model.specs.elements.Arithmetic.{second_element};
 ghost use Rattle.rv_model.specs.elements.Formulas.{immediate_value};
 ghost use Rattle.lane_arith.specs.SecondElements.{HasNumber, number_at};
-ghost use Rattle.rv_model.specs.vector.Configuration.{width_bytes};
 ghost use Rattle.std.specs.Int.{Width};
 ghost use Rattle.vec_unit.specs.InTurn.{second_number};
 ghost use mir.Val.{bits};

@@ -1,7 +1,7 @@
 //! Slides and gathers, carried out ("V" Vector Extension 1.0, sections 16.3 and 16.4).
 ghost use Rattle.std.specs.Prelude.{◌≡◌, ◌*◌, ◌<◌, ◌≤◌, length};
 ghost use Rattle.rv_model.specs.elements.Arithmetic.{body_of, fills_masked_off, fills_tail, with_results};
-ghost use Rattle.rv_model.specs.vector.Configuration.{element_count, group_type, lmul_eighths, width_bytes};
+ghost use Rattle.rv_model.specs.vector.Groups.{element_count, group_type, lmul_eighths, width_bytes};
 ghost use Rattle.rv_model.specs.elements.Elements.{element};
 ghost use Rattle.rv_model.specs.elements.PermutationResults.{
   index_of,

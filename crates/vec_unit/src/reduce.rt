@@ -7,8 +7,7 @@ ghost use Rattle.rv_model.specs.elements.Arithmetic.{
   widen_reduce_result,
   with_first_result,
 };
-ghost use Rattle.rv_model.specs.vector.Configuration.{group_type, lmul_eighths, sew_bits};
-ghost use Rattle.rv_model.specs.vector.Groups.{wide_type};
+ghost use Rattle.rv_model.specs.vector.Groups.{group_type, lmul_eighths, sew_bits, wide_type};
 ghost use Rattle.rv_model.specs.lending.GroupBounds.{HasRoom, IsInside, SourceIsInside};
 
 use crate::body::body_under;

@@ -6,8 +6,7 @@ ghost use Rattle.rv_model.specs.elements.Arithmetic.{body_of};
 ghost use Rattle.rv_model.specs.elements.Elements.{is_active, some_active};
 ghost use Rattle.rv_model.specs.lending.GroupBounds.{HasRoom, IsInside};
 ghost use Rattle.rv_model.specs.lending.Writes.{Writes};
-ghost use Rattle.rv_model.specs.vector.Configuration.{GroupType, width_bytes};
-ghost use Rattle.rv_model.specs.vector.Registers.{registers};
+ghost use Rattle.rv_model.specs.vector.Groups.{GroupType, width_bytes, registers};
 ghost use Rattle.vec_unit.specs.Results.{carried_out};
 
 use crate::body::body_under;

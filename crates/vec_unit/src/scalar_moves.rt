@@ -7,7 +7,7 @@ ghost use Rattle.rv_model.specs.elements.Elements.{element};
 ghost use Rattle.rv_model.specs.elements.Formulas.{wrap};
 ghost use Rattle.rv_model.specs.elements.PermutationResults.{moved_to_scalar};
 ghost use Rattle.rv_model.specs.scalar.Registers.{read_register};
-ghost use Rattle.rv_model.specs.vector.Configuration.{sew_bits, sew_width, width_bytes};
+ghost use Rattle.rv_model.specs.vector.Groups.{sew_bits, sew_width, width_bytes};
 ghost use mir.Val.{bits};
 
 use crate::body::body_under;
@@ -27,7 +27,7 @@ fn first_extended<L: Lane>(bytes: &[u8]) -> u64
 }
 
 /// What a scalar register takes: element 0 of `vs2`, sign-extended, whatever `vl` is.
-#[tactic(auto, using(crate::proofs::TypedSteps::signs), unfolding(rv_model::specs::vector::Registers::register_of))]
+#[tactic(auto, using(crate::proofs::TypedSteps::signs), unfolding(rv_model::specs::vector::Groups::register_of))]
 pub(crate) fn scalar_of_first(vs2: VReg, vtype: VType, file: &VFile) -> u64
     ensures { result ≡ moved_to_scalar vtype vs2 file.now }
 {

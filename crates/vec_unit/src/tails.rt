@@ -2,8 +2,7 @@
 ghost use Rattle.std.specs.Prelude.{◌≡◌, ◌+◌, ◌*◌, ◌≤◌};
 ghost use Rattle.rv_model.specs.lending.GroupBounds.{HoldsBody, IsInside, SegmentsInside};
 ghost use Rattle.rv_model.specs.step.MemoryStep.{tail_filled, tails_filled};
-ghost use Rattle.rv_model.specs.vector.Configuration.{sew_width};
-ghost use Rattle.rv_model.specs.vector.Registers.{registers};
+ghost use Rattle.rv_model.specs.vector.Groups.{sew_width, registers};
 
 use lane_arith::{Lane, fill};
 use reg_groups::{group_mut, registers};

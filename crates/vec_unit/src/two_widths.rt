@@ -2,11 +2,11 @@
 //! 11.12 and 11.14).
 ghost use Rattle.std.specs.Prelude.{◌≡◌, ◌*◌, ◌≤◌, List, length, ℕ};
 ghost use Rattle.rv_model.specs.declared.scalar.Scalar.{Scalar as ScalarRegisters};
-ghost use Rattle.rv_model.specs.vector.Configuration.{GroupType, group_type, lmul_eighths, sew_bits, vlmax};
-ghost use Rattle.rv_model.specs.vector.Configuration.{width_bytes};
+ghost use Rattle.rv_model.specs.vector.Groups.{GroupType, group_type, lmul_eighths, sew_bits, vlmax};
+ghost use Rattle.rv_model.specs.vector.Groups.{width_bytes};
 ghost use Rattle.rv_model.specs.vector.Groups.{wide_type};
 ghost use Rattle.rv_model.specs.lending.GroupBounds.{HasRoom, IsInside};
-ghost use Rattle.rv_model.specs.vector.Registers.{register_of, registers};
+ghost use Rattle.rv_model.specs.vector.Groups.{register_of, registers};
 ghost use Rattle.rv_model.specs.elements.Elements.{is_active};
 ghost use Rattle.rv_model.specs.lending.Writes.{Writes};
 ghost use Rattle.vec_unit.specs.Results.{carried_out};

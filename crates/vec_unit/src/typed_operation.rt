@@ -2,7 +2,7 @@
 ghost use Rattle.std.specs.Prelude.{◌≡◌, ◌≤◌};
 ghost use Rattle.rv_model.specs.declared.scalar.Scalar.{Scalar as ScalarRegisters};
 ghost use Rattle.rv_model.specs.declared.vector.state.VState.{VState as State};
-ghost use Rattle.rv_model.specs.vector.Configuration.{vlmax};
+ghost use Rattle.rv_model.specs.vector.Groups.{vlmax};
 ghost use Rattle.vec_unit.specs.declared.destination.Target.{Target as OperationTarget};
 
 use crate::destination::Target;

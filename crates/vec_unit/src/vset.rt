@@ -1,7 +1,7 @@
 //! The instructions that set the vector length and type ("V" Vector Extension 1.0, section 6).
 ghost use Rattle.std.specs.Prelude.{◌≡◌};
 ghost use Rattle.rv_model.specs.scalar.Registers.{with_register};
-ghost use Rattle.rv_model.specs.step.VectorStep.{requested_length};
+ghost use Rattle.rv_model.specs.step.Step.{requested_length};
 ghost use Rattle.rv_model.specs.vector.TypeRules.{requested};
 
 use rv_model::{Reg, RequestedLength, Scalar, VEnd, VState, VectorRequest};

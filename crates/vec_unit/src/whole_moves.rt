@@ -1,10 +1,9 @@
 //! Moves of whole registers ("V" Vector Extension 1.0, section 16.6).
 ghost use Rattle.std.specs.Prelude.{◌≡◌, ◌*◌, false, true};
 ghost use Rattle.rv_model.specs.elements.Arithmetic.{group_element, with_results};
-ghost use Rattle.rv_model.specs.vector.Groups.{register_count, whole_type};
+ghost use Rattle.rv_model.specs.vector.Groups.{register_count, whole_type, register_of};
 ghost use Rattle.rv_model.specs.lending.GroupBounds.{HoldsBody, IsInside};
-ghost use Rattle.rv_model.specs.step.VectorStep.{whole_body};
-ghost use Rattle.rv_model.specs.vector.Registers.{register_of};
+ghost use Rattle.rv_model.specs.step.Step.{whole_body};
 
 use crate::destination::{Agnostic, Destination, write_group};
 use lane_arith::{Body, Copies, Lane};

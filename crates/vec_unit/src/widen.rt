@@ -5,8 +5,7 @@ ghost use Rattle.rv_model.specs.elements.Arithmetic.{wide_source_result, widen_m
 ghost use Rattle.rv_model.specs.lending.GroupBounds.{HasRoom, IsInside, SourceIsInside};
 ghost use Rattle.rv_model.specs.lending.Writes.{Writes};
 ghost use Rattle.rv_model.specs.elements.Elements.{is_active};
-ghost use Rattle.rv_model.specs.vector.Configuration.{width_bytes};
-ghost use Rattle.rv_model.specs.vector.Registers.{registers};
+ghost use Rattle.rv_model.specs.vector.Groups.{width_bytes, registers};
 
 use crate::operands::{second_elements, second_in_place, signed_operand};
 use crate::two_widths::{Groups, TwoWidths};

@@ -11,12 +11,11 @@ use lib.Lanes.{Each1, chunk, number_l, put_chunk}
 use Rattle.lane_arith.proofs.MaskBits.{byte_of_number}
 use Rattle.rv_model.specs.declared.vector.sizes.TheConstants.{VLENB}
 use Rattle.rv_model.specs.accesses.Transfers.{registers_loaded, memory_stored}
-use Rattle.rv_model.specs.elements.Elements.{element, is_changed, is_enabled, result_or_ones}
+use Rattle.rv_model.specs.elements.Elements.{element, is_changed, is_enabled, result_or_ones, written}
 use Rattle.rv_model.specs.elements.Formulas.{ones}
-use Rattle.rv_model.specs.elements.Writes.{written}
 use Rattle.rv_model.specs.lending.Writes.{Writes}
 use Rattle.rv_model.specs.memory.Memory.{Memory, bytes_at, put_bytes}
-use Rattle.rv_model.specs.vector.Configuration.{width_bytes}
+use Rattle.rv_model.specs.vector.Groups.{width_bytes}
 use Rattle.rv_model.proofs.element_lemmas.Sets.{body_begins, body_ends, step_off, step_ones, step_result}
 use Rattle.rv_model.proofs.element_lemmas.Widths.{bytes_positive}
 use Rattle.rv_model.proofs.memory_lemmas.Memory.{length-bytes_at}

@@ -8,10 +8,8 @@ use Rattle.rv_model.specs.declared.vector.sizes.TheConstants.{VECTOR_REGISTERS, 
 use Rattle.rv_model.specs.declared.vector.types.Sew.{Sew}
 use Rattle.rv_model.specs.declared.vector.types.Sew.TheVariants.{E8}
 use Rattle.rv_model.specs.accesses.VectorAccess.{whole_length}
-use Rattle.rv_model.specs.vector.Configuration.{GroupType, element_width, sew_width, width_bytes}
+use Rattle.rv_model.specs.vector.Groups.{GroupType, element_width, sew_width, width_bytes, registers, register_count}
 use Rattle.rv_model.specs.lending.GroupBounds.{SegmentsInside}
-use Rattle.rv_model.specs.vector.Groups.{register_count}
-use Rattle.rv_model.specs.vector.Registers.{registers}
 use Rattle.vector_memory.specs.SegmentRoom.{HasRoom}
 use Rattle.vector_memory.specs.declared.segments.Segments.{Segments}
 

@@ -20,12 +20,11 @@ use Rattle.rv_model.specs.declared.vector.state.VState.{VState}
 use Rattle.rv_model.specs.declared.vector.types.VType.{VType}
 use Rattle.rv_model.specs.accesses.AccessRuns.{access_run, run_or_nothing, runs_to}
 use Rattle.rv_model.specs.accesses.VectorAccess.{VectorAccess, is_first_only, mask_length, segments, unit_direction, unmasked_access, whole_length}
-use Rattle.rv_model.specs.vector.Groups.{access_type, register_count}
+use Rattle.rv_model.specs.vector.Groups.{access_type, register_count, IsConfiguration, element_width}
 use Rattle.rv_model.specs.lending.GroupBounds.{SegmentsInside}
 use Rattle.rv_model.specs.legality.Legality.{is_legal, operands}
 use Rattle.rv_model.specs.memory.Memory.{Memory}
 use Rattle.rv_model.specs.scalar.Registers.{read_register}
-use Rattle.rv_model.specs.vector.Configuration.{IsConfiguration, element_width}
 use Rattle.rv_model.proofs.vector_lemmas.Lengths.{IsLength}
 use Rattle.rv_model.proofs.legality_lemmas.Accesses.{mask_memory_inside, strided_inside, unit_inside, whole_load_inside, whole_store_inside}
 use Rattle.rv_model.proofs.legality_lemmas.Bounds.{configuration_below, fewer}

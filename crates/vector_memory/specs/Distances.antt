@@ -15,12 +15,10 @@ use Rattle.rv_model.specs.declared.instructions.operations.UnitOp.TheVariants as
 use Rattle.rv_model.specs.declared.vector.sizes.TheConstants.{GROUP_BYTES}
 use Rattle.rv_model.specs.declared.vector.state.VState.{VState}
 use Rattle.rv_model.specs.declared.vector.types.VType.{VType}
-use Rattle.rv_model.specs.vector.Groups.{register_count}
+use Rattle.rv_model.specs.vector.Groups.{register_count, element_width, sew_bits, sew_width, width_bytes, register_of, registers}
 use Rattle.rv_model.specs.lending.GroupBounds.{emul}
 use Rattle.rv_model.specs.memory.Memory.{Memory}
 use Rattle.rv_model.specs.scalar.Registers.{read_register}
-use Rattle.rv_model.specs.vector.Configuration.{element_width, sew_bits, sew_width, width_bytes}
-use Rattle.rv_model.specs.vector.Registers.{register_of, registers}
 use Rattle.vector_memory.specs.SegmentRoom.{HasRoom, operation_access}
 use Rattle.vector_memory.specs.declared.addresses.Strided.{Strided as StridedAddresses}
 use Rattle.vector_memory.specs.declared.transfers.Transfer.{Transfer}

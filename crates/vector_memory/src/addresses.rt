@@ -1,7 +1,7 @@
 //! Where the segments of a load or store begin ("V" Vector Extension 1.0, sections 7.4 to 7.6).
 ghost use Rattle.std.specs.Prelude.{◌≡◌, ◌+◌, ◌*◌, ◌/◌, ◌%◌, ◌^◌, ◌<◌, ℕ, IfSome, length};
 ghost use Rattle.rv_model.specs.elements.Elements.{element};
-ghost use Rattle.rv_model.specs.vector.Configuration.{element_width, sew_width, width_bytes};
+ghost use Rattle.rv_model.specs.vector.Groups.{element_width, sew_width, width_bytes};
 
 use lane_arith::Lane;
 use rv_model::instructions::operations::Eew;

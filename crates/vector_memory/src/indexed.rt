@@ -2,7 +2,7 @@
 ghost use Rattle.std.specs.Prelude.{◌≡◌, ◌+◌, ◌%◌, ◌^◌};
 ghost use Rattle.rv_model.specs.elements.Arithmetic.{body_of, group_element};
 ghost use Rattle.rv_model.specs.lending.GroupBounds.{HasRoom as GroupHasRoom, IsInside};
-ghost use Rattle.rv_model.specs.vector.Configuration.{element_width, sew_width};
+ghost use Rattle.rv_model.specs.vector.Groups.{element_width, sew_width};
 ghost use Rattle.vector_memory.specs.Runs.{RunLeaves, segments_run};
 ghost use Rattle.vector_memory.specs.SegmentRoom.{HasRoom};
 

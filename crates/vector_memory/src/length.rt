@@ -3,7 +3,7 @@ ghost use Rattle.std.specs.Prelude.{◌≡◌, ◌≤◌, Some};
 ghost use Rattle.rv_model.specs.accesses.VectorAccess.{VectorAccess, access_of, mask_length, whole_length};
 ghost use Rattle.rv_model.specs.declared.scalar.Scalar.{Scalar};
 ghost use Rattle.rv_model.specs.declared.vector.state.VState.{VState};
-ghost use Rattle.rv_model.specs.vector.Configuration.{element_width, sew_width, width_bytes};
+ghost use Rattle.rv_model.specs.vector.Groups.{element_width, sew_width, width_bytes};
 
 use reg_groups::register_count;
 use rv_model::instructions::operations::{Eew, RegisterCount};

@@ -4,7 +4,7 @@ ghost use Rattle.std.specs.Prelude.{◌≡◌, ◌*◌, ◌<◌, ◌≤◌, ℕ,
 ghost use Rattle.rv_model.specs.elements.Elements.{element, is_changed, result_or_ones};
 ghost use Rattle.rv_model.specs.lending.Writes.{HasElement, Writes};
 ghost use Rattle.rv_model.specs.elements.Formulas.{ones};
-ghost use Rattle.rv_model.specs.vector.Configuration.{width_bytes};
+ghost use Rattle.rv_model.specs.vector.Groups.{width_bytes};
 ghost use Rattle.vector_memory.specs.SpanAccess.{IsBlend, IsRead, IsWritten, part_of};
 
 use crate::spans::Span;

@@ -2,7 +2,7 @@
 //! 7.4, 7.5, 7.8 and 7.9).
 ghost use Rattle.std.specs.Prelude.{◌≡◌, ◌-◌, ◌<◌, ◌≤◌, length};
 ghost use Rattle.rv_model.specs.memory.Memory.{Memory, bytes_at, put_bytes};
-ghost use Rattle.rv_model.specs.vector.Configuration.{width_bytes};
+ghost use Rattle.rv_model.specs.vector.Groups.{width_bytes};
 ghost use Rattle.vector_memory.specs.FieldOrder.{for_each, load_field, store_field};
 ghost use Rattle.vector_memory.specs.SpanAccess.{IsRead, IsWritten, span_access};
 

@@ -26,7 +26,7 @@ impl<'a> Span<'a> {
     ghost use Rattle.rv_model.specs.accesses.Transfers.{memory_stored, registers_loaded};
     ghost use Rattle.rv_model.specs.declared.memory.Access.TheVariants.{Load, Store};
     ghost use Rattle.rv_model.specs.memory.Memory.{can_access};
-    ghost use Rattle.rv_model.specs.vector.Configuration.{width_bytes};
+    ghost use Rattle.rv_model.specs.vector.Groups.{width_bytes};
     ghost use Rattle.vector_memory.specs.Blocks.{IsBlock};
     ghost use Rattle.vector_memory.specs.SegmentRoom.{place_in};
     ghost use Rattle.vector_memory.specs.SpanAccess.{IsRead, IsWritten, span_access, span_transfers};

@@ -7,8 +7,8 @@ use Rattle.rv_model.specs.declared.vector.types.Sew.TheVariants.{E8}
 use Rattle.rv_model.specs.declared.vector.types.Lmul.{Lmul}
 use Rattle.rv_model.specs.declared.vector.types.Lmul.TheVariants.{M1}
 use Rattle.rv_model.specs.declared.vector.types.VType.{VType}
-use Rattle.rv_model.specs.instructions.BitFields.{field, flag_bit}
-use Rattle.rv_model.specs.vector.Configuration.{IsSupported, lmul_eighths, sew_bits}
+use Rattle.rv_model.specs.instructions.FixedBits.{field, flag_bit}
+use Rattle.rv_model.specs.vector.Groups.{IsSupported, lmul_eighths, sew_bits}
 use Rattle.rv_model.specs.vector.TypeRules.{vtype_number, vector_type, sew_number, sew_with_number, lmul_number, lmul_with_number, supported_type}
 
 sew_again : (sew : Sew) → sew_with_number (sew_number sew) ≡ Some sew

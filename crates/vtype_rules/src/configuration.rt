@@ -1,6 +1,6 @@
 //! The configuration that a request leaves ("V" Vector Extension 1.0, sections 6.1 to 6.3).
 ghost use Rattle.std.specs.Prelude.{◌≡◌, ◌≤◌, min};
-ghost use Rattle.rv_model.specs.vector.Configuration.{IsSupported};
+ghost use Rattle.rv_model.specs.vector.Groups.{IsSupported};
 ghost use Rattle.rv_model.specs.declared.vector.request.RequestedLength.TheVariants.{Keep};
 ghost use Rattle.rv_model.specs.vector.TypeRules.{requested, with_length};
 

@@ -1,7 +1,7 @@
 //! The numbers of vector types, as `vtype` holds them ("V" Vector Extension 1.0, section 3.4).
 ghost use Rattle.std.specs.Prelude.{◌≡◌, ◌<◌, ◌^◌, IfSome, Some};
-ghost use Rattle.rv_model.specs.instructions.BitFields.{field};
-ghost use Rattle.rv_model.specs.vector.Configuration.{IsSupported};
+ghost use Rattle.rv_model.specs.instructions.FixedBits.{field};
+ghost use Rattle.rv_model.specs.vector.Groups.{IsSupported};
 ghost use Rattle.rv_model.specs.vector.TypeRules.{vector_type, vtype_number};
 
 use rv_model::{Lmul, Sew, VType};

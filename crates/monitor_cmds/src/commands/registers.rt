@@ -29,10 +29,10 @@ ghost use Rattle.rv_model.specs.commands.Registers.{
   vreg_line,
   vcsr_line,
 };
-ghost use Rattle.rv_model.specs.instructions.BitFields.{flag_bit};
+ghost use Rattle.rv_model.specs.instructions.FixedBits.{flag_bit};
 ghost use Rattle.rv_model.specs.text.Lines.{tagged, text};
 ghost use Rattle.rv_model.specs.text.Words.{words};
-ghost use Rattle.rv_model.specs.vector.Configuration.{sew_bits};
+ghost use Rattle.rv_model.specs.vector.Groups.{sew_bits};
 ghost use Rattle.rv_model.specs.vector.RoundingModes.{rounding_number};
 ghost use Rattle.rv_model.specs.vector.TypeRules.{vtype_number};
 ghost use Rattle.monitor_cmds.specs.Tag.{tag_byte};

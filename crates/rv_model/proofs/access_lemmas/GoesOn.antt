@@ -9,7 +9,7 @@ use Rattle.rv_model.specs.accesses.Restarts.{AccessesGoOn, AccessGoesOn, GoesOn,
 use Rattle.rv_model.specs.accesses.VectorAccess.{access_of, index_count}
 use Rattle.rv_model.specs.legality.Legality.{IsLegal}
 use Rattle.rv_model.specs.memory.Memory.{Memory}
-use Rattle.rv_model.specs.vector.Configuration.{IsConfiguration}
+use Rattle.rv_model.specs.vector.Groups.{IsConfiguration}
 use Rattle.rv_model.proofs.access_lemmas.InstructionsResume.{access_resumes, stops_within}
 use Rattle.rv_model.proofs.access_lemmas.RunsAgain.{ends_whole, larger_limit_is_same, whole_uncut}
 

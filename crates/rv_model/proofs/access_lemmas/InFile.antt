@@ -21,9 +21,7 @@ use Rattle.rv_model.specs.accesses.VectorAccess.{VectorAccess, access_of, elemen
 use Rattle.rv_model.specs.elements.Elements.{is_enabled}
 use Rattle.rv_model.specs.legality.Legality.{IsLegal, is_legal}
 use Rattle.rv_model.specs.lending.GroupBounds.{SegmentsInside}
-use Rattle.rv_model.specs.vector.Configuration.{GroupType, IsConfiguration, group_type, width_bytes}
-use Rattle.rv_model.specs.vector.Groups.{access_type, register_count}
-use Rattle.rv_model.specs.vector.Registers.{registers}
+use Rattle.rv_model.specs.vector.Groups.{GroupType, IsConfiguration, group_type, width_bytes, registers, access_type, register_count}
 use Rattle.rv_model.proofs.access_lemmas.InstructionsResume.{legal_under, length_under}
 use Rattle.rv_model.proofs.access_lemmas.Kept.{all_transfers, element_place}
 use Rattle.rv_model.proofs.access_lemmas.Segments.{field_transfer}

@@ -20,14 +20,12 @@ use Rattle.rv_model.specs.declared.vector.types.VType.{VType}
 use Rattle.rv_model.specs.accesses.AccessRuns.{AccessRun, access_run, directed_run, load_run, run_or_nothing}
 use Rattle.rv_model.specs.accesses.Restarts.{Extends, IsByteOf, IsStopped, overlay}
 use Rattle.rv_model.specs.accesses.VectorAccess.{VectorAccess, access_of, indexed_access, mask_length, strided_access, unit_access, unmasked_access, whole_length}
-use Rattle.rv_model.specs.vector.Groups.{access_type, register_count}
+use Rattle.rv_model.specs.vector.Groups.{access_type, register_count, GroupType, group_type, IsConfiguration, element_width, sew_width, vlmax, width_bytes, register_of}
 use Rattle.rv_model.specs.elements.Arithmetic.{group_element}
-use Rattle.rv_model.specs.vector.Configuration.{GroupType, group_type, IsConfiguration, element_width, sew_width, vlmax, width_bytes}
 use Rattle.rv_model.proofs.vector_lemmas.Lengths.{IsLength}
 use Rattle.rv_model.specs.legality.Legality.{IsLegal}
 use Rattle.rv_model.specs.memory.Memory.{Memory}
 use Rattle.rv_model.specs.scalar.Registers.{read_register}
-use Rattle.rv_model.specs.vector.Registers.{register_of}
 use Rattle.rv_model.specs.declared.vector.sizes.TheConstants.{VLENB}
 use Rattle.rv_model.proofs.access_lemmas.Kept.{Beside, byte_kept, element_kept, element_place, length_kept, let_kept, mask_kept, plan_same}
 use Rattle.rv_model.proofs.access_lemmas.Runs.{access_again, is_stopped, run_facts}

@@ -11,10 +11,9 @@ use Rattle.rv_model.specs.declared.vector.sizes.TheConstants.{VLENB}
 use Rattle.rv_model.specs.accesses.Transfers.{Moved, Ones, Plan, Transfer, TransferKind, bytes_loaded, registers_loaded, transfers}
 use Rattle.rv_model.specs.accesses.VectorAccess.{VectorAccess, filled_segment, element_start, plan, moved_segment}
 use Rattle.rv_model.specs.elements.Arithmetic.{group_element}
-use Rattle.rv_model.specs.vector.Configuration.{GroupType, width_bytes}
+use Rattle.rv_model.specs.vector.Groups.{GroupType, width_bytes, register_of, registers}
 use Rattle.rv_model.specs.elements.Elements.{is_enabled, mask_bit}
 use Rattle.rv_model.specs.memory.Memory.{Memory}
-use Rattle.rv_model.specs.vector.Registers.{register_of, registers}
 use Rattle.rv_model.proofs.access_lemmas.Segments.{field_transfer, filled_transfer}
 use Rattle.rv_model.proofs.memory_lemmas.Memory.{length-bytes_at}
 

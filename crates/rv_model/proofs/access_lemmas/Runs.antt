@@ -19,10 +19,8 @@ use Rattle.rv_model.specs.accesses.AccessRuns.{AccessRun, access_ends, access_ru
 use Rattle.rv_model.specs.accesses.Restarts.{AccessLeavesOff, IsStopped, LeavesOff}
 use Rattle.rv_model.specs.accesses.Transfers.{Plan, end_at, registers_loaded, stop_index, memory_stored, transfers}
 use Rattle.rv_model.specs.accesses.VectorAccess.{VectorAccess, access_of, indexed_access, mask_length, element_start, plan, strided_access, unit_access, unmasked_access}
-use Rattle.rv_model.specs.vector.Groups.{access_type}
-use Rattle.rv_model.specs.vector.Configuration.{group_type}
+use Rattle.rv_model.specs.vector.Groups.{access_type, group_type, register_of}
 use Rattle.rv_model.specs.memory.Memory.{Memory, can_access_byte}
-use Rattle.rv_model.specs.vector.Registers.{register_of}
 use Rattle.rv_model.proofs.access_lemmas.Moves.{stored_allows}
 use Rattle.rv_model.proofs.access_lemmas.Resumes.{stop_from, stop_most}
 use Rattle.rv_model.proofs.Choices.{of_option, of_test}

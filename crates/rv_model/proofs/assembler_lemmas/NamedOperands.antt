@@ -17,10 +17,10 @@ use Rattle.rv_model.specs.declared.assembler.forms.Slot.{Slot}
 use Rattle.rv_model.specs.declared.assembler.forms.Slot.TheVariants.{Comma, Vector}
 use Rattle.rv_model.specs.declared.assembler.mnemonics.Mnemonic.{Mnemonic}
 use Rattle.rv_model.specs.declared.assembler.mnemonics.TheConstants.{MNEMONICS, NAME_COUNT}
-use Rattle.rv_model.specs.instructions.BitFields.{field, flag}
+use Rattle.rv_model.specs.instructions.FixedBits.{field, flag}
 use Rattle.rv_model.specs.lending.Families.{filled}
 use Rattle.rv_model.specs.lending.NameTable.{HasBitsOf, bits_at, row_at, slots_at, slots_of}
-use Rattle.rv_model.specs.instructions.Sources.{form_of, source_of}
+use Rattle.rv_model.specs.instructions.Operations.{form_of, source_of}
 use Rattle.rv_model.specs.instructions.Table.{Row, table, scan}
 use Rattle.rv_model.specs.assembler.InstructionTexts.{arith_slots, carry_out_slots, carry_slots, second, slots}
 use Rattle.rv_model.proofs.instruction_lemmas.Scans.{In}

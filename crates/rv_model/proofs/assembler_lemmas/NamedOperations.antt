@@ -22,12 +22,11 @@ use Rattle.rv_model.specs.declared.instructions.access.AccessInstr.TheVariants.{
 use Rattle.rv_model.specs.declared.assembler.forms.Form.TheVariants as text_form
 use Rattle.rv_model.specs.declared.assembler.mnemonics.Mnemonic.{Mnemonic}
 use Rattle.rv_model.specs.declared.assembler.mnemonics.TheConstants.{MNEMONICS, NAME_COUNT}
-use Rattle.rv_model.specs.instructions.BitFields.{field, flag}
+use Rattle.rv_model.specs.instructions.FixedBits.{field, flag}
 use Rattle.rv_model.specs.lending.Families.{filled}
-use Rattle.rv_model.specs.instructions.Sources.{form_of}
+use Rattle.rv_model.specs.instructions.Operations.{form_of, carry_entry, vector_entry}
 use Rattle.rv_model.specs.instructions.Table.{Row, table, scan}
 use Rattle.rv_model.specs.assembler.InstructionTexts.{mnemonic, unit_name, direction_letters, order_letters, segment_text, source_letter, vector_suffix, width_digits}
-use Rattle.rv_model.specs.instructions.Operations.{carry_entry, vector_entry}
 use Rattle.rv_model.proofs.instruction_lemmas.RoundTrips.{template_of}
 use Rattle.rv_model.proofs.instruction_lemmas.Scans.{In, found, table_apart}
 use Rattle.rv_model.proofs.instruction_lemmas.Words.{form_source_of}

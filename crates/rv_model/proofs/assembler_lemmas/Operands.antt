@@ -1,7 +1,7 @@
 -- The operands of a word are in range.
 use Rattle.std.proofs.Common.{ℕ, ◌/◌, ◌^◌, ◌<◌, arith, lit<}
 use Rattle.std.proofs.lemmas.Nat.{mod_below, pow_pos}
-use Rattle.rv_model.specs.instructions.BitFields.{field}
+use Rattle.rv_model.specs.instructions.FixedBits.{field}
 use Rattle.rv_model.specs.declared.assembler.forms.UnsignedField.{UnsignedField}
 use Rattle.rv_model.specs.declared.assembler.forms.UnsignedField.TheVariants as unsigned
 use Rattle.rv_model.specs.declared.assembler.forms.SignedField.TheVariants as signed

@@ -14,9 +14,9 @@ use Rattle.rv_model.specs.declared.instructions.access.AccessInstr.TheVariants.{
 use Rattle.rv_model.specs.declared.assembler.forms.Slot.{Slot}
 use Rattle.rv_model.specs.elements.Formulas.{has_unsigned_immediate}
 use Rattle.rv_model.specs.elements.FixedPoint.{has_unsigned_shift}
-use Rattle.rv_model.specs.instructions.BitFields.{field, flag}
+use Rattle.rv_model.specs.instructions.FixedBits.{field, flag}
 use Rattle.rv_model.specs.lending.Families.{filled}
-use Rattle.rv_model.specs.instructions.Sources.{form_of, source_of}
+use Rattle.rv_model.specs.instructions.Operations.{form_of, source_of}
 use Rattle.rv_model.specs.instructions.Table.{Row, table, scan}
 use Rattle.rv_model.proofs.instruction_lemmas.Scans.{In, some_row}
 use Rattle.rv_model.proofs.instruction_lemmas.RoundTrips.{template_of}

@@ -38,16 +38,15 @@ use Rattle.rv_model.specs.commands.Running.{step_line, running_line, stopped_lin
 use Rattle.rv_model.specs.images.Faults.{first_fault}
 use Rattle.rv_model.specs.images.Fields.{entry_of}
 use Rattle.rv_model.specs.images.Image.{memory_of_image}
-use Rattle.rv_model.specs.machine.Runs.{Halted, steps}
+use Rattle.rv_model.specs.machine.UserMachine.{Halted, steps, Present, Private, Outcome, has_breakpoint, refuses}
 use Rattle.rv_model.specs.machine.Setup.{Image}
-use Rattle.rv_model.specs.machine.UserMachine.{Present, Private, Outcome, has_breakpoint, refuses}
 use Rattle.rv_model.specs.memory.Memory.{bytes_at, can_access, map_refusal, page_count}
 use Rattle.rv_model.specs.memory.Sizes.{page_quota}
 use Rattle.rv_model.specs.declared.scalar.Scalar.{Scalar}
 use Rattle.rv_model.proofs.Choices.{of_either}
 use Rattle.rv_model.proofs.machine_lemmas.Configurations.{StaysAs, steps_stay}
 use Rattle.rv_model.proofs.text_lemmas.Newlines.{IsLine, AreLines}
-use Rattle.rv_model.specs.vector.Registers.{register_of}
+use Rattle.rv_model.specs.vector.Groups.{register_of}
 use Rattle.rv_model.specs.vector.State.{initial_vector}
 use Rattle.rv_model.proofs.command_lemmas.Breakpoints.{no_newline_in_breaks_line}
 use Rattle.rv_model.proofs.command_lemmas.Memory.{no_newline_in_peek_line}

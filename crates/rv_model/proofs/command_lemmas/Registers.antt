@@ -7,9 +7,9 @@ use Rattle.rv_model.specs.declared.scalar.Scalar.{Scalar}
 use Rattle.rv_model.specs.declared.vector.state.VState.{VState}
 use Rattle.rv_model.specs.declared.vector.types.Sew.{Sew}
 use Rattle.rv_model.specs.commands.Registers.{register_text, register_line, register_lines, regs_lines, element_text, vreg_line, vcsr_line}
-use Rattle.rv_model.specs.instructions.BitFields.{flag_bit}
+use Rattle.rv_model.specs.instructions.FixedBits.{flag_bit}
 use Rattle.rv_model.proofs.text_lemmas.Newlines.{IsLine, AreLines}
-use Rattle.rv_model.specs.vector.Configuration.{sew_bits}
+use Rattle.rv_model.specs.vector.Groups.{sew_bits}
 use Rattle.rv_model.specs.vector.RoundingModes.{rounding_number}
 use Rattle.rv_model.specs.vector.TypeRules.{vtype_number}
 use Rattle.rv_model.proofs.text_lemmas.Pieces.{Piece, ◌▸◌, hexadecimal, number, bytes, space, flat_map_line}

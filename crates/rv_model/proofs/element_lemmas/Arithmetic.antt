@@ -2,9 +2,8 @@
 use Rattle.std.proofs.Common.{ℕ, ◌<◌, ◌≡◌, List, Bool, ap}
 use Rattle.rv_model.specs.elements.Elements.{Body, is_active, is_changed, result_or_ones}
 use Rattle.rv_model.specs.lending.Writes.{Writes, WritesBits}
-use Rattle.rv_model.specs.vector.Registers.{group_of, with_group}
+use Rattle.rv_model.specs.vector.Groups.{group_of, with_group, GroupType, width_bytes}
 use Rattle.rv_model.specs.elements.Arithmetic.{with_mask_results, with_results}
-use Rattle.rv_model.specs.vector.Configuration.{GroupType, width_bytes}
 use Rattle.rv_model.specs.elements.Formulas.{ones}
 use Rattle.rv_model.proofs.element_lemmas.Bits.{same_bits, writes_bits_are}
 use Rattle.rv_model.proofs.element_lemmas.Sets.{active_end, same_results}

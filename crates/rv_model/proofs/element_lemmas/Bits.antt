@@ -5,8 +5,7 @@ use Rattle.std.proofs.lemmas.Bool.{cases_order}
 use Rattle.std.proofs.lemmas.Grind.{same_number_lists}
 use Rattle.std.proofs.lemmas.List.{get_or-set_same}
 use Rattle.std.proofs.lemmas.List.FromFn.{get_or-map-range_with_len, length-map-range_with_len}
-use Rattle.rv_model.specs.elements.Elements.{mask_bit, byte_of_bits}
-use Rattle.rv_model.specs.elements.Writes.{bit_or, byte_with_bits, written_bits}
+use Rattle.rv_model.specs.elements.Elements.{mask_bit, byte_of_bits, bit_or, byte_with_bits, written_bits}
 use Rattle.rv_model.specs.lending.Writes.{WritesBits}
 use Rattle.rv_model.proofs.Choices.{of_bool}
 

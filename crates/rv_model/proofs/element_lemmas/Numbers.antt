@@ -11,7 +11,7 @@ use Rattle.rv_model.specs.declared.vector.types.Sew.{Sew}
 use Rattle.rv_model.specs.declared.vector.types.Sew.TheVariants.{E8, E16, E32, E64}
 use Rattle.rv_model.specs.elements.Formulas.{wrap}
 use Rattle.rv_model.specs.instructions.Immediates.{sign_extended}
-use Rattle.rv_model.specs.vector.Configuration.{sew_bits, sew_width}
+use Rattle.rv_model.specs.vector.Groups.{sew_bits, sew_width}
 use Rattle.rv_model.proofs.element_lemmas.Widths.{power_positive}
 
 -- what is left of a number below a multiple

@@ -11,12 +11,11 @@ use Rattle.std.proofs.Math.Seq.{get_or-append_seam}
 use Rattle.std.specs.Int.{bytes_low_first}
 use Rattle.std.specs.List.{filter, range_with_len}
 use lib.Lanes.{put_chunk}
-use Rattle.rv_model.specs.vector.Configuration.{GroupType, width_bytes}
+use Rattle.rv_model.specs.vector.Groups.{GroupType, width_bytes, group_of, with_group}
 use Rattle.rv_model.specs.elements.Elements.{in_range, mask_bit}
 use Rattle.rv_model.specs.elements.Formulas.{ones}
 use Rattle.rv_model.specs.elements.PermutationResults.{with_packed, is_packed_or_filled, packed, packed_or_ones}
 use Rattle.rv_model.specs.lending.Writes.{Writes}
-use Rattle.rv_model.specs.vector.Registers.{group_of, with_group}
 use Rattle.rv_model.proofs.element_lemmas.Ranges.{range_more}
 use Rattle.rv_model.proofs.element_lemmas.Widths.{bytes_positive}
 use Rattle.rv_model.proofs.element_lemmas.Writes.{ends, step_written, writes_are, writes_same, writes_then}

@@ -7,7 +7,7 @@ use lib.Lanes.{number_l}
 use Rattle.std.specs.Int.{Width}
 use mir.Val.{bits}
 use Rattle.rv_model.specs.elements.Elements.{element}
-use Rattle.rv_model.specs.vector.Configuration.{width_bytes}
+use Rattle.rv_model.specs.vector.Groups.{width_bytes}
 use Rattle.rv_model.proofs.element_lemmas.Widths.{whole_bytes}
 use Rattle.rv_model.proofs.element_lemmas.Writes.{positive_power}
 

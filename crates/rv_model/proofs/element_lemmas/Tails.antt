@@ -7,13 +7,11 @@ use Rattle.std.proofs.lemmas.Bool.Decides.{nat_tests}
 use Rattle.rv_model.specs.declared.vector.policy.Policy.{Policy}
 use Rattle.rv_model.specs.declared.vector.types.VType.{VType}
 use Rattle.rv_model.specs.elements.Arithmetic.{fills_tail, is_ones, with_first_result, with_results}
-use Rattle.rv_model.specs.vector.Configuration.{GroupType, width_bytes}
-use Rattle.rv_model.specs.vector.Groups.{single_type}
+use Rattle.rv_model.specs.vector.Groups.{GroupType, width_bytes, group_of, registers, with_group, single_type}
 use Rattle.rv_model.specs.elements.Elements.{Body, in_range, is_changed, result_or_ones}
 use Rattle.rv_model.specs.elements.Formulas.{ones}
 use Rattle.rv_model.specs.lending.Writes.{Writes, first_alone}
 use Rattle.rv_model.specs.step.MemoryStep.{tail_filled, tails_filled}
-use Rattle.rv_model.specs.vector.Registers.{group_of, registers, with_group}
 use Rattle.rv_model.proofs.element_lemmas.Widths.{bytes_positive}
 use Rattle.rv_model.proofs.element_lemmas.Writes.{writes_are, writes_same, written_are}
 use Rattle.rv_model.proofs.Choices.{of_bool}

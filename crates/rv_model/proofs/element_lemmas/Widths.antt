@@ -6,7 +6,7 @@ use Rattle.rv_model.specs.declared.vector.sizes.TheConstants.{VLEN, VLENB}
 use Rattle.rv_model.specs.declared.vector.types.Sew.{Sew}
 use Rattle.rv_model.specs.declared.vector.types.Sew.TheVariants.{E8}
 use Rattle.rv_model.specs.declared.vector.types.VType.{VType}
-use Rattle.rv_model.specs.vector.Configuration.{lmul_eighths, sew_bits, vlmax, width_bytes}
+use Rattle.rv_model.specs.vector.Groups.{lmul_eighths, sew_bits, vlmax, width_bytes}
 
 -- an element has at least one byte
 pub bytes_positive : (w : Width) → 0 < width_bytes w

@@ -11,8 +11,7 @@ use Rattle.std.proofs.Math.Arith.{mod-mul}
 use Rattle.std.specs.Int.{byte_at, bytes_low_first}
 use borrow.Rule.Slice.PartMut.{put_mid}
 use lib.Lanes.{chunk, put_chunk, number_l}
-use Rattle.rv_model.specs.elements.Elements.{element}
-use Rattle.rv_model.specs.elements.Writes.{byte_or, written}
+use Rattle.rv_model.specs.elements.Elements.{element, byte_or, written}
 use Rattle.rv_model.specs.lending.Writes.{Writes}
 use Rattle.rv_model.proofs.Choices.{of_bool}
 

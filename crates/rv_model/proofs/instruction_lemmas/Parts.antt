@@ -6,7 +6,7 @@ use Rattle.std.proofs.lemmas.Nat.Bits.{same_from_bits, bit_at_and, bit_at_or}
 use Rattle.std.proofs.lemmas.Nat.{and_assoc, and_mask, pow_pos}
 use Rattle.std.proofs.lemmas.Bool.{and_parts, eqb-true}
 use Rattle.std.proofs.Math.Nat.{mul-div_cancel, mod-eq_of_lt}
-use Rattle.rv_model.specs.instructions.BitFields.{Part, part, sum_of, mask_of}
+use Rattle.rv_model.specs.instructions.FixedBits.{Part, part, sum_of, mask_of}
 use Rattle.rv_model.specs.lending.ListedBits.{AllFit}
 
 -- ones at a part's place

@@ -3,10 +3,9 @@ use Rattle.std.proofs.Common.{◌≡◌, ap, ap₂, ◌∙◌, sym, subst, ℕ, 
 use Rattle.std.specs.Prelude.{IfSome, flat_map}
 use Rattle.std.specs.Int.Bits.{bit_and, and_le_r}
 use Rattle.rv_model.specs.declared.instructions.instruction.Instr.{Instr}
-use Rattle.rv_model.specs.instructions.BitFields.{Part, sum_of, mask_of, fixed}
+use Rattle.rv_model.specs.instructions.FixedBits.{Part, sum_of, mask_of, fixed}
 use Rattle.rv_model.specs.lending.ListedBits.{AllFit, Allowed}
-use Rattle.rv_model.specs.instructions.Layout.{parts, bits, word_of}
-use Rattle.rv_model.specs.instructions.Table.{Row, table, Matches, scan}
+use Rattle.rv_model.specs.instructions.Table.{parts, bits, word_of, Row, table, Matches, scan}
 use Rattle.rv_model.specs.lending.Families.{filled, row_of}
 use Rattle.rv_model.proofs.instruction_lemmas.Parts.{share_none, inside_mask, fixed_bits, reads, rebuilt}
 use Rattle.rv_model.proofs.instruction_lemmas.Scans.{In, found, table_apart, some_row}

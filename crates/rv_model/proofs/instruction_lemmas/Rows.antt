@@ -57,13 +57,11 @@ use Rattle.rv_model.specs.declared.instructions.scalar.ScalarInstr.TheVariants.{
 use Rattle.rv_model.specs.declared.instructions.csr.CsrInstr.TheVariants.{Register, Immediate}
 use Rattle.rv_model.specs.declared.instructions.vector.VectorInstr.TheVariants.{SetVli, SetIvli, SetVl, Arith, Carry, Move, WholeMove, MaskLogic, Compress, MaskToScalar, Extend, MaskUnary, ElementIndex, MoveToScalar, MoveToVector}
 use Rattle.rv_model.specs.declared.instructions.access.AccessInstr.TheVariants.{UnitStride, Strided, Indexed, WholeLoad, WholeStore, MaskAccess}
-use Rattle.rv_model.specs.instructions.BitFields.{fixed}
-use Rattle.rv_model.specs.instructions.Sources.{form_of, source_of}
+use Rattle.rv_model.specs.instructions.FixedBits.{fixed}
+use Rattle.rv_model.specs.instructions.Operations.{form_of, source_of, carry_line, has_form, line, line_bits, vector_ops}
 use Rattle.rv_model.specs.lending.ListedBits.{Allowed, whole_move_bits, mask_memory_bits, unit_access_bits, strided_access_bits, indexed_access_bits, whole_load_bits, whole_store_bits, upper_bits, branch_bits, load_bits, store_bits, immediate_op_bits, shift_immediate_bits, shift_immediate_word_bits, register_op_bits, system_bits, csr_bits, csr_immediate_bits, mask_logic_bits, mask_to_scalar_bits, extend_bits, mask_unary_bits}
-use Rattle.rv_model.specs.instructions.Operations.{carry_line, has_form, line, line_bits, vector_ops}
-use Rattle.rv_model.specs.instructions.Layout.{parts, bits}
+use Rattle.rv_model.specs.instructions.Table.{parts, bits, Row, counts, directions, table}
 use Rattle.std.specs.Prelude.{filter, flat_map}
-use Rattle.rv_model.specs.instructions.Table.{Row, counts, directions, table}
 use Rattle.rv_model.specs.lending.Families.{row_of, templates, upper_ops, branch_ops, load_ops, store_ops, immediate_ops, shift_immediate_ops, shift_immediate_word_ops, register_ops, system_ops, csr_ops, csr_immediate_ops, carry_ops, mask_logic_ops, mask_to_scalar_ops, extend_ops, mask_unary_ops, unit_accesses, strided_accesses, indexed_accesses, whole_loads, Uppers, Jumps, JumpRegisters, Branches, Loads, Stores, RegisterImmediates, ShiftImmediates, ShiftImmediateWords, RegisterRegisters, Fences, Systems, Csrs, CsrImmediates, SetVlis, SetIvlis, SetVls, Moves, WholeMoves, MaskLogics, Compresses, MasksToScalar, Extends, MaskUnaries, ElementIndices, MovesToScalar, MovesToVector, Units, Strideds, Indexeds, WholeLoads, WholeStores, MaskMemories}
 use Rattle.rv_model.specs.lending.Search.{find}
 use Rattle.rv_model.proofs.instruction_lemmas.Scans.{In, is_inside, table_inside, all_in}

@@ -11,10 +11,10 @@ use Rattle.rv_model.specs.declared.instructions.scalar.ScalarInstr.TheVariants.{
 use Rattle.rv_model.specs.declared.instructions.csr.CsrInstr.TheVariants.{Register}
 use Rattle.rv_model.specs.declared.instructions.vector.VectorInstr.TheVariants.{SetVli, Arith, Carry, Move, WholeMove, MaskToScalar, Extend, MaskUnary, ElementIndex, MoveToScalar, MoveToVector}
 use Rattle.rv_model.specs.declared.instructions.access.AccessInstr.TheVariants.{UnitStride, Strided, Indexed}
-use Rattle.rv_model.specs.instructions.BitFields.{field, flag, flag_bit, Part, mask_of, fixed}
+use Rattle.rv_model.specs.instructions.FixedBits.{field, flag, flag_bit, Part, mask_of, fixed}
 use Rattle.rv_model.specs.instructions.Immediates.{store_immediate}
-use Rattle.rv_model.specs.instructions.Sources.{form_of, source_of, source_number}
-use Rattle.rv_model.specs.instructions.Layout.{parts, bits}
+use Rattle.rv_model.specs.instructions.Operations.{form_of, source_of, source_number}
+use Rattle.rv_model.specs.instructions.Table.{parts, bits}
 use Rattle.rv_model.specs.lending.Families.{filled}
 use Rattle.rv_model.proofs.instruction_lemmas.Parts.{share_none, clear, Reads, of_word}
 

@@ -20,12 +20,10 @@ use Rattle.rv_model.specs.declared.vector.types.Sew.{Sew}
 use Rattle.rv_model.specs.declared.vector.types.Sew.TheVariants.{E8, E16, E32, E64}
 use Rattle.rv_model.specs.declared.vector.types.VType.{VType}
 use Rattle.rv_model.specs.declared.vector.sizes.TheConstants.{VECTOR_REGISTERS, VLEN, VLENB}
-use Rattle.rv_model.specs.vector.Groups.{access_type, register_count}
-use Rattle.rv_model.specs.vector.Configuration.{GroupType, group_type, element_width, lmul_eighths, sew_bits, sew_width, vlmax, width_bytes}
+use Rattle.rv_model.specs.vector.Groups.{access_type, register_count, GroupType, group_type, element_width, lmul_eighths, sew_bits, sew_width, vlmax, width_bytes, registers}
 use Rattle.rv_model.specs.lending.GroupBounds.{HasRoom, IsInside, SegmentsInside, emul}
 use Rattle.rv_model.specs.legality.Legality.{data_role, indexed_role, is_legal, operands, unit_role}
 use Rattle.rv_model.specs.legality.OperandShapes.{field_groups, group, mask, v0}
-use Rattle.rv_model.specs.vector.Registers.{registers}
 use Rattle.rv_model.specs.vector.TypeNames.{lmuls, sews}
 use Rattle.rv_model.proofs.assembler_lemmas.Naming.{all_at}
 use Rattle.rv_model.proofs.legality_lemmas.Bounds.{emul-sew, fewer, first_of, inside, length_below, second_of, whole_elements}

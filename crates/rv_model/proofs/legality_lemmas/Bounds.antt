@@ -40,13 +40,11 @@ use Rattle.rv_model.specs.declared.vector.types.VType.{VType}
 use Rattle.rv_model.specs.declared.vector.sizes.TheConstants.{GROUP_BYTES, VECTOR_REGISTERS, VLEN, VLENB}
 use Rattle.rv_model.specs.legality.Legality.{extension_source, operands, is_legal}
 use Rattle.rv_model.specs.legality.OperandShapes.{destination, first_source, group, mask, second_source, shape_of, shape_operands, v0, vector_source}
-use Rattle.rv_model.specs.vector.Registers.{registers}
+use Rattle.rv_model.specs.vector.Groups.{registers, Configuration, group_type, IsConfiguration, sew_bits, sew_width, width_bytes, lmul_eighths, vlmax, doubled, extension_divisor, part_type, part_width, wide_type, with_width}
 use Rattle.rv_model.specs.lending.GroupBounds.{HasIndices, HasRoom, HoldsBody, IsInside, SourceIsInside}
 use mir.Val.{bits}
 use Rattle.std.specs.Int.{Width, w16}
 use Rattle.rv_model.specs.elements.PermutationResults.{source_type}
-use Rattle.rv_model.specs.vector.Groups.{doubled, extension_divisor, part_type, part_width, wide_type, with_width}
-use Rattle.rv_model.specs.vector.Configuration.{Configuration, group_type, IsConfiguration, sew_bits, sew_width, width_bytes, lmul_eighths, vlmax}
 use Rattle.rv_model.proofs.vector_lemmas.Lengths.{IsLength}
 use Rattle.rv_model.proofs.legality_lemmas.Meaning.{IsGroup, legal_groups}
 use Rattle.rv_model.proofs.Choices.{of_option}

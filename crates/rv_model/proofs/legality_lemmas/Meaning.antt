@@ -14,8 +14,7 @@ use Rattle.rv_model.specs.declared.instructions.instruction.Instr.{Instr}
 use Rattle.rv_model.specs.declared.vector.types.VType.{VType}
 use Rattle.rv_model.specs.legality.RegisterOperands.{eew, end, Overlap, AreLegal, is_width, is_group, overlaps, may_overlap, may_share, allows, are_legal}
 use Rattle.rv_model.specs.legality.Legality.{operands, starts_at_zero, is_below_64, IsLegal, is_legal}
-use Rattle.rv_model.specs.vector.Configuration.{sew_bits}
-use Rattle.rv_model.specs.vector.Registers.{registers}
+use Rattle.rv_model.specs.vector.Groups.{sew_bits, registers}
 use Rattle.rv_model.specs.vector.Types.{VECTOR_REGISTERS}
 
 decides_le : (a b : ℕ) → Decides (nat_le a b) (a ≤ b)

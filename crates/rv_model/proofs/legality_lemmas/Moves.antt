@@ -10,8 +10,7 @@ use Rattle.rv_model.specs.declared.vector.types.Sew.{Sew}
 use Rattle.rv_model.specs.declared.vector.types.Sew.TheVariants.{E8}
 use Rattle.rv_model.specs.declared.vector.types.VType.{VType}
 use Rattle.rv_model.specs.declared.vector.sizes.TheConstants.{VLEN}
-use Rattle.rv_model.specs.vector.Configuration.{element_count, lmul_eighths, sew_bits, sew_width}
-use Rattle.rv_model.specs.vector.Groups.{whole_type, register_count}
+use Rattle.rv_model.specs.vector.Groups.{element_count, lmul_eighths, sew_bits, sew_width, whole_type, register_count}
 use Rattle.rv_model.specs.lending.GroupBounds.{HoldsBody, IsInside}
 use Rattle.rv_model.specs.legality.Legality.{is_legal, operands}
 use Rattle.rv_model.specs.legality.OperandShapes.{mask}

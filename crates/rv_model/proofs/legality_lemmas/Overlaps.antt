@@ -23,9 +23,7 @@ use Rattle.rv_model.specs.accesses.Restarts.{IsByteOf, LaterIndicesStay}
 use Rattle.rv_model.specs.legality.Legality.{IsLegal, indexed_role, operands}
 use Rattle.rv_model.specs.legality.OperandShapes.{field_groups, group, mask, v0}
 use Rattle.rv_model.specs.legality.RegisterOperands.{Overlap, is_mask, may_share}
-use Rattle.rv_model.specs.vector.Groups.{access_type}
-use Rattle.rv_model.specs.vector.Configuration.{element_width, group_type, lmul_eighths, sew_bits, sew_width, vlmax, width_bytes}
-use Rattle.rv_model.specs.vector.Registers.{registers}
+use Rattle.rv_model.specs.vector.Groups.{access_type, element_width, group_type, lmul_eighths, sew_bits, sew_width, vlmax, width_bytes, registers}
 use Rattle.rv_model.proofs.legality_lemmas.Accesses.{elements_fit}
 use Rattle.rv_model.proofs.legality_lemmas.Meaning.{IsGroup, MayOverlap, groups_are, may_overlap_means}
 use Rattle.rv_model.proofs.legality_lemmas.Bounds.{before_end0, before_end1, emul-sew, first_of, second_of}

@@ -12,12 +12,11 @@ use Rattle.rv_model.specs.declared.commands.refusal.Refusal.TheVariants as refus
 use Rattle.rv_model.specs.commands.Commands.{Parsed, carried_out, commanded, needs_stopped, of_absent, of_present, parse}
 use Rattle.rv_model.specs.commands.Entering.{entering, entering_absent}
 use Rattle.rv_model.specs.machine.AbsentUsers.{AbsentUsersHaveNothing, AbsentUsersLeaveTheUnit, HappeningsKeepNothing, HasNothing, ScriptsKeepNothing}
-use Rattle.rv_model.specs.machine.PrivateMachine.{Private, Event, Command, Slice, event, sliced}
+use Rattle.rv_model.specs.machine.World.{Private, Event, Command, Slice, event, sliced, World, Happening, after_events, after_one, outcome_of, unit_after, with_unit, user_machine, with_user_machine}
 use Rattle.rv_model.specs.machine.Script.{after_all, after_script, events_of, kind_of, new_world, world_after}
 use Rattle.rv_model.specs.machine.Setup.{Image, Setup}
 use Rattle.rv_model.specs.machine.UserMachine.{Outcome, Present, Use, Tries, Writes, Drops, refuses}
 use Rattle.rv_model.specs.machine.VectorUnit.{VectorUnit, is_marked, is_owned_by, owner_changed, owner_saved, unit_after_instruction, unit_after_use, unit_after_uses, unit_discarded, unit_register_written, unit_touched, with_mark}
-use Rattle.rv_model.specs.machine.World.{World, Happening, after_events, after_one, outcome_of, unit_after, with_unit, user_machine, with_user_machine}
 use Rattle.rv_model.specs.step.Step.{dirties, fetched, touches}
 use Rattle.rv_model.specs.text.Lines.{pieces}
 use Rattle.rv_model.proofs.command_lemmas.Commands.{stays_there}

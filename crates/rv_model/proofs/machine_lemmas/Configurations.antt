@@ -4,11 +4,10 @@ use Rattle.std.specs.Prelude.{◌&&◌, not, is_none}
 use Rattle.rv_model.specs.declared.step.step_end.StepEnd.{StepEnd}
 use Rattle.rv_model.specs.declared.step.step_end.StepEnd.TheVariants.{Ran}
 use Rattle.rv_model.specs.machine.Cuts.{IsConfigured}
-use Rattle.rv_model.specs.machine.Runs.{after, at_breakpoint, stop_of, Halted, halted, runs_on, slice_steps, steps}
-use Rattle.rv_model.specs.machine.UserMachine.{Present, Private}
+use Rattle.rv_model.specs.machine.UserMachine.{after, at_breakpoint, stop_of, Halted, halted, runs_on, slice_steps, steps, Present, Private}
 use Rattle.rv_model.specs.step.Hart.{HartState, Stepped}
 use Rattle.rv_model.specs.step.Step.{step}
-use Rattle.rv_model.specs.vector.Configuration.{IsConfiguration}
+use Rattle.rv_model.specs.vector.Groups.{IsConfiguration}
 use Rattle.rv_model.proofs.Choices.{of_either}
 use Rattle.rv_model.proofs.step_lemmas.Configurations.{step_keeps_configuration}
 

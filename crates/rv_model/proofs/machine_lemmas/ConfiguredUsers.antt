@@ -8,11 +8,10 @@ use Rattle.rv_model.specs.commands.Commands.{Parsed, carried_out, commanded, nee
 use Rattle.rv_model.specs.commands.Entering.{entering, entering_absent}
 use Rattle.rv_model.specs.machine.ConfiguredUsers.{HappeningsKeepConfigurations, ScriptsKeepConfigurations, SlicesAddUpAfterScripts, UsersAreConfigured}
 use Rattle.rv_model.specs.machine.Cuts.{IsConfigured}
-use Rattle.rv_model.specs.machine.PrivateMachine.{Event, Command, Slice, event}
+use Rattle.rv_model.specs.machine.World.{Event, Command, Slice, event, World, Happening, after_events, after_one, outcome_of, user_machine}
 use Rattle.rv_model.specs.machine.Script.{after_script, events_of, kind_of, new_world, world_after}
 use Rattle.rv_model.specs.machine.Setup.{Image, Setup}
 use Rattle.rv_model.specs.machine.UserMachine.{Outcome, Present, Private}
-use Rattle.rv_model.specs.machine.World.{World, Happening, after_events, after_one, outcome_of, user_machine}
 use Rattle.rv_model.specs.text.Lines.{pieces}
 use Rattle.rv_model.specs.vector.State.{initial_vector}
 use Rattle.rv_model.proofs.Choices.{of_either}

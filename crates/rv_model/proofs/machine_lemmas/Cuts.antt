@@ -10,15 +10,14 @@ use Rattle.rv_model.specs.declared.step.step_end.Stop.{Stop}
 use Rattle.rv_model.specs.declared.step.step_end.Stop.TheVariants as stop
 use Rattle.rv_model.specs.accesses.Restarts.{overlay}
 use Rattle.rv_model.specs.machine.Cuts.{ComeToTheSame, CutsAreInvisible, IsConfigured, KeepsWordIfCut, SliceKeepsConfiguration, SlicesAddUp, joined, slices}
-use Rattle.rv_model.specs.machine.PrivateMachine.{slice_ends, sliced}
-use Rattle.rv_model.specs.machine.Runs.{stop_of, at_breakpoint, recorded, after, Halted, halted, slice_steps, ticked}
-use Rattle.rv_model.specs.machine.UserMachine.{Outcome, Present, Private, Use, Tries}
+use Rattle.rv_model.specs.machine.World.{slice_ends, sliced}
+use Rattle.rv_model.specs.machine.UserMachine.{stop_of, at_breakpoint, recorded, after, Halted, halted, slice_steps, ticked, Outcome, Present, Private, Use, Tries}
 use Rattle.rv_model.specs.memory.Memory.{Memory}
 use Rattle.rv_model.specs.declared.memory.Access.TheVariants.{Monitor}
 use Rattle.rv_model.specs.step.Hart.{HartState, Stepped}
 use Rattle.rv_model.specs.step.Resumes.{IsUndone, KeepsOwnWord, after_ticks, finds}
 use Rattle.rv_model.specs.step.Step.{fetched, step}
-use Rattle.rv_model.specs.vector.Configuration.{IsConfiguration}
+use Rattle.rv_model.specs.vector.Groups.{IsConfiguration}
 use Rattle.rv_model.proofs.access_lemmas.Growth.{overlay_same}
 use Rattle.rv_model.proofs.machine_lemmas.Configurations.{StaysAs, slice_stays, stays_configured}
 use Rattle.rv_model.proofs.machine_lemmas.Slices.{fuel_is_enough}

@@ -3,10 +3,9 @@ use Rattle.std.proofs.Common.{ℕ, Option, Some, None, refl}
 use Rattle.rv_model.specs.declared.step.step_end.Stop.{Stop}
 use Rattle.rv_model.specs.commands.Commands.{parse}
 use Rattle.rv_model.specs.commands.Printing.{stop_line}
-use Rattle.rv_model.specs.machine.PrivateMachine.{Event, Command, Slice, sliced, slice_ends, event}
-use Rattle.rv_model.specs.machine.Runs.{Halted, ticked}
+use Rattle.rv_model.specs.machine.World.{Event, Command, Slice, sliced, slice_ends, event}
+use Rattle.rv_model.specs.machine.UserMachine.{Halted, ticked, Outcome, Private}
 use Rattle.rv_model.specs.machine.Setup.{Setup}
-use Rattle.rv_model.specs.machine.UserMachine.{Outcome, Private}
 use Rattle.rv_model.proofs.text_lemmas.Newlines.{AreLines}
 use Rattle.rv_model.proofs.command_lemmas.Commands.{Printed, commanded_prints, prints}
 use Rattle.rv_model.proofs.command_lemmas.Printing.{no_newline_in_stop_line}

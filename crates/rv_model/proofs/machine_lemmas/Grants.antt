@@ -8,9 +8,8 @@ use Rattle.rv_model.specs.declared.machine.standing.Standing.TheVariants.{Absent
 use Rattle.rv_model.specs.declared.machine.stats.Stats.{Stats}
 use Rattle.rv_model.specs.commands.Operator.{OperatorParsed, granted_line, standing_word, listed_user, list_line, stats_line}
 use Rattle.rv_model.specs.machine.Grants.{turns_after, next_user, runs, next_running, slice_of, granted, grants, grants_of, standing, operator_line}
-use Rattle.rv_model.specs.machine.Users.{users}
+use Rattle.rv_model.specs.machine.Setup.{users, Setup}
 use Rattle.rv_model.specs.machine.VectorUnit.{stats_of}
-use Rattle.rv_model.specs.machine.Setup.{Setup}
 use Rattle.rv_model.specs.machine.World.{World, Happening, after_one, user_machine}
 use Rattle.rv_model.proofs.text_lemmas.Newlines.{IsLine}
 use Rattle.rv_model.proofs.command_lemmas.Operator.{ParsedNamesUser}

@@ -7,7 +7,7 @@ use Rattle.std.proofs.lemmas.Bool.Decides.{nat_tests}
 use Rattle.rv_model.specs.text.Lines.{pieces, text}
 use Rattle.rv_model.proofs.text_lemmas.Newlines.{AreLines}
 use Rattle.rv_model.specs.machine.Setup.{Setup}
-use Rattle.rv_model.specs.machine.PrivateMachine.{Private, Event, event, solo_from, solo, end_of}
+use Rattle.rv_model.specs.machine.World.{Private, Event, event, solo_from, solo, end_of}
 use Rattle.rv_model.specs.machine.Script.{World, new_world, with_unit, Kind, Long, Bad, Operator, Of, prefixed, kind_of, events_of, common, Happening, outcome_of, unit_after, after_one, after_events, told_by, told, after_all, told_all, schedule, whole_from, after_script, mine, own_from, own, lines, user_machine, with_user_machine, world_after}
 use Rattle.rv_model.specs.machine.Laws.{EachUserAlone, EachNewUserAlone, EachUserEndsAlone, OthersChangeNothing, EqualPartsAnswerAlike, MachinesStayEight}
 use Rattle.rv_model.proofs.text_lemmas.Lines.{lines_text}

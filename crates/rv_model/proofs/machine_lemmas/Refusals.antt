@@ -10,13 +10,12 @@ use Rattle.rv_model.specs.declared.commands.operator.OperatorCommand.TheVariants
 use Rattle.rv_model.specs.commands.Commands.{parse}
 use Rattle.rv_model.specs.commands.Operator.{OperatorParsed, granted_line, list_line, operator_parse, stats_line}
 use Rattle.rv_model.specs.machine.Grants.{granted, grants, grants_of, next_running, operator_line, runs, slice_of}
-use Rattle.rv_model.specs.machine.PrivateMachine.{Private, Event, Command, Slice, event}
+use Rattle.rv_model.specs.machine.World.{Private, Event, Command, Slice, event, World, Happening, after_events, after_one, outcome_of, told_by, unit_after, with_unit, user_machine, with_user_machine}
 use Rattle.rv_model.specs.machine.Refusals.{IsRefusal, RefusedHappeningsChangeNothing, RefusedLinesChangeNothing}
 use Rattle.rv_model.specs.machine.Script.{Kind, Empty, Long, Bad, Operator, Of, commands, common, events_of, kind_of, told, world_after}
 use Rattle.rv_model.specs.machine.Setup.{Setup}
 use Rattle.rv_model.specs.machine.UserMachine.{Use}
 use Rattle.rv_model.specs.machine.VectorUnit.{unit_after_uses}
-use Rattle.rv_model.specs.machine.World.{World, Happening, after_events, after_one, outcome_of, told_by, unit_after, with_unit, user_machine, with_user_machine}
 use Rattle.rv_model.specs.text.Lines.{is_newline, pieces, tagged, text}
 use Rattle.rv_model.proofs.text_lemmas.Newlines.{is_line, are_lines, AreLines, IsLine}
 use Rattle.rv_model.proofs.command_lemmas.Printing.{one_line}

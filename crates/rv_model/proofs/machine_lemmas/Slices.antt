@@ -1,7 +1,6 @@
 -- Slices: how many ticks are left decides alone how far a run of instructions goes.
 use Rattle.std.proofs.Common.{◌≡◌, ℕ, zero, suc, ◌-◌, ◌≤◌, refl, ap, arith}
-use Rattle.rv_model.specs.machine.Runs.{after, Halted, runs_on, slice_steps, ticked}
-use Rattle.rv_model.specs.machine.UserMachine.{Present}
+use Rattle.rv_model.specs.machine.UserMachine.{after, Halted, runs_on, slice_steps, ticked, Present}
 use Rattle.rv_model.specs.step.Hart.{Stepped}
 use Rattle.rv_model.specs.step.Step.{step}
 use Rattle.rv_model.proofs.step_lemmas.StepTicks.{step_takes_ticks}

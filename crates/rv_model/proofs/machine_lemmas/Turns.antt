@@ -7,11 +7,10 @@ use Rattle.std.specs.Option.{option_map_or}
 use Rattle.rv_model.specs.declared.commands.operator.OperatorCommand.TheVariants.{Slices, Run}
 use Rattle.rv_model.specs.commands.Operator.{operator_parse}
 use Rattle.rv_model.specs.machine.Grants.{turns_after, next_user, runs, next_running, slice_of, granted}
-use Rattle.rv_model.specs.machine.PrivateMachine.{Private, Slice}
+use Rattle.rv_model.specs.machine.World.{Private, Slice, World, Happening, with_unit, outcome_of, unit_after, after_one, after_events, user_machine, with_user_machine}
 use Rattle.rv_model.specs.machine.Script.{Kind, Operator, Of, kind_of, events_of, schedule, world_after}
 use Rattle.rv_model.specs.machine.Setup.{Setup}
 use Rattle.rv_model.specs.machine.Turns.{AtEachTurn, AreInTurn, RunsAtEachTurn, turns_of, NobodyHasTwoTurns, EachRunningUserHasATurn, GrantsAreInTurn, ScriptsAreInTurn, OneTurnBetweenTurns}
-use Rattle.rv_model.specs.machine.World.{World, Happening, with_unit, outcome_of, unit_after, after_one, after_events, user_machine, with_user_machine}
 use Rattle.rv_model.specs.text.Lines.{pieces}
 use Rattle.rv_model.proofs.machine_lemmas.Grants.{IsUser, IsUserIfAny, next_is_user}
 use Rattle.rv_model.proofs.machine_lemmas.Headline.{same_number, other_number}

@@ -19,14 +19,13 @@ use Rattle.rv_model.specs.declared.vector.state.VState.{VState}
 use Rattle.rv_model.specs.declared.vector.types.Lmul.{Lmul}
 use Rattle.rv_model.specs.declared.vector.types.Sew.{Sew}
 use Rattle.rv_model.specs.declared.vector.types.VType.{VType}
-use Rattle.rv_model.specs.instructions.BitFields.{field}
+use Rattle.rv_model.specs.instructions.FixedBits.{field}
 use Rattle.rv_model.specs.legality.Legality.{is_legal}
 use Rattle.rv_model.specs.memory.Memory.{Memory, can_access_byte}
 use Rattle.rv_model.specs.step.Effects.{StepKeepsConfiguration, StepKeepsPermissions}
 use Rattle.rv_model.specs.step.Hart.{HartState, Stepped}
-use Rattle.rv_model.specs.step.Step.{step}
-use Rattle.rv_model.specs.step.VectorStep.{VectorStepped, access_step, accessed, after_vector, operation_step, performed, vector_executed, vector_step, vector_ticks, vset_step}
-use Rattle.rv_model.specs.vector.Configuration.{Configuration, IsConfiguration, IsSupported, lmul_eighths, sew_bits, vlmax}
+use Rattle.rv_model.specs.step.Step.{step, VectorStepped, access_step, accessed, after_vector, operation_step, performed, vector_executed, vector_step, vector_ticks, vset_step}
+use Rattle.rv_model.specs.vector.Groups.{Configuration, IsConfiguration, IsSupported, lmul_eighths, sew_bits, vlmax}
 use Rattle.rv_model.proofs.vector_lemmas.Lengths.{IsLength}
 use Rattle.rv_model.specs.vector.Control.{with_control}
 use Rattle.rv_model.specs.vector.TypeRules.{lmul_with_number, requested, sew_with_number, supported_type, vector_type, with_length}

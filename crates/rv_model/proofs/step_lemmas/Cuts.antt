@@ -29,7 +29,7 @@ use Rattle.rv_model.specs.vector.Groups.{register_count}
 use Rattle.rv_model.specs.step.Hart.{HartState}
 use Rattle.rv_model.specs.step.MemoryStep.{access_end, load_fills_masked_off}
 use Rattle.rv_model.specs.step.Resumes.{StopsShort}
-use Rattle.rv_model.specs.step.VectorStep.{VectorStepped, access_step, accessed, after_vector, operation_step, performed, vector_executed, vector_ticks}
+use Rattle.rv_model.specs.step.Step.{VectorStepped, access_step, accessed, after_vector, operation_step, performed, vector_executed, vector_ticks}
 use Rattle.rv_model.proofs.access_lemmas.Runs.{AtStop, CutAt, FaultAt, Facts, run_facts, stop_means}
 use Rattle.rv_model.proofs.step_lemmas.StepCases.{operation_is}
 use Rattle.rv_model.proofs.Choices.{of_either}

@@ -15,8 +15,7 @@ use Rattle.rv_model.specs.step.Hart.{HartState, Stepped, StepEnd}
 use Rattle.rv_model.specs.step.Effects.{FaultsWriteNoRegister, FirstRegisterStays, OutputGrowsWithin, PutsOut}
 use Rattle.rv_model.specs.legality.Legality.{is_legal}
 use Rattle.rv_model.specs.memory.Memory.{bytes_at}
-use Rattle.rv_model.specs.step.Step.{step}
-use Rattle.rv_model.specs.step.VectorStep.{VectorStepped, access_step, accessed, after_vector, operation_step, performed, vector_executed, vector_step, vector_ticks, vset_step}
+use Rattle.rv_model.specs.step.Step.{step, VectorStepped, access_step, accessed, after_vector, operation_step, performed, vector_executed, vector_step, vector_ticks, vset_step}
 use Rattle.rv_model.specs.accesses.VectorAccess.{VectorAccess, access_of}
 use Rattle.rv_model.specs.step.MemoryStep.{access_end}
 use Rattle.rv_model.specs.step.WriteCall.{write_count}

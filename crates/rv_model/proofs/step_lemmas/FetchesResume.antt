@@ -16,9 +16,8 @@ use Rattle.rv_model.specs.instructions.Table.{scan, table}
 use Rattle.rv_model.specs.memory.Memory.{Memory, bytes_at, can_access}
 use Rattle.rv_model.specs.step.Hart.{HartState, Stepped}
 use Rattle.rv_model.specs.step.Resumes.{IsUndone, KeepsOwnWord, StopsShort, after_ticks, finds}
-use Rattle.rv_model.specs.step.Step.{fetched, step, touches, word_at}
-use Rattle.rv_model.specs.step.VectorStep.{VectorStepped, after_vector, vector_executed, vector_step, vector_ticks}
-use Rattle.rv_model.specs.vector.Configuration.{IsConfiguration}
+use Rattle.rv_model.specs.step.Step.{fetched, step, touches, word_at, VectorStepped, after_vector, vector_executed, vector_step, vector_ticks}
+use Rattle.rv_model.specs.vector.Groups.{IsConfiguration}
 use Rattle.rv_model.proofs.access_lemmas.Growth.{allowed_by_get, byte_by_get, bytes_at_extends, can_access_extends, overlay_extends, overlay_grown}
 use Rattle.rv_model.proofs.legality_lemmas.Bounds.{configuration_below}
 use Rattle.rv_model.proofs.step_lemmas.Cuts.{cut_index, cut_short, uncut}

@@ -7,9 +7,8 @@ use Rattle.rv_model.specs.accesses.VectorAccess.{index_count, vector_access}
 use Rattle.rv_model.specs.memory.Memory.{Memory}
 use Rattle.rv_model.specs.step.Hart.{HartState, Stepped}
 use Rattle.rv_model.specs.step.Resumes.{InstructionGoesOn, InstructionsGoOn, StepGoesOn, StepsGoOn, finds, instruction_from, step_from}
-use Rattle.rv_model.specs.step.Step.{fetched, step, touches}
-use Rattle.rv_model.specs.step.VectorStep.{VectorStepped, vector_executed, vector_step}
-use Rattle.rv_model.specs.vector.Configuration.{IsConfiguration}
+use Rattle.rv_model.specs.step.Step.{fetched, step, touches, VectorStepped, vector_executed, vector_step}
+use Rattle.rv_model.specs.vector.Groups.{IsConfiguration}
 use Rattle.rv_model.proofs.access_lemmas.RunsAgain.{ends_whole}
 use Rattle.rv_model.proofs.step_lemmas.Cuts.{IsCutAt, cut_at}
 use Rattle.rv_model.proofs.step_lemmas.FetchesResume.{cut_step_leaves_off, cut_vector_step_leaves_off, fetched_resumes, step_uncut, vector_step_resumes, vector_step_uncut}

@@ -29,8 +29,7 @@ use Rattle.rv_model.specs.declared.step.vector_end.VEnd.TheVariants.{Illegal}
 use Rattle.rv_model.specs.declared.vector.request.RequestedLength.{RequestedLength}
 use Rattle.rv_model.specs.declared.vector.request.RequestedLength.TheVariants.{Elements}
 use Rattle.rv_model.specs.declared.vector.types.VType.{VType}
-use Rattle.rv_model.specs.vector.Configuration.{GroupType, group_type}
-use Rattle.rv_model.specs.vector.Groups.{wide_type}
+use Rattle.rv_model.specs.vector.Groups.{GroupType, group_type, wide_type}
 use Rattle.rv_model.specs.instructions.Immediates.{i_immediate, s_immediate}
 use Rattle.rv_model.specs.instructions.Table.{scan, table}
 use Rattle.rv_model.specs.memory.Memory.{bytes_at, can_access, put_bytes}
@@ -40,9 +39,8 @@ use Rattle.rv_model.specs.scalar.LoadsAndStores.{load_width, store_width}
 use Rattle.rv_model.specs.scalar.Registers.{advanced, read_register, with_register}
 use Rattle.rv_model.specs.step.Hart.{HartState, Stepped, ends, faults, gives, retires}
 use Rattle.rv_model.specs.step.ScalarStep.{csr_executed, csr_step, environment_call, jump_step, jumps, scalar_step}
-use Rattle.rv_model.specs.step.Step.{executed, fetched, step, touches, word_at}
+use Rattle.rv_model.specs.step.Step.{executed, fetched, step, touches, word_at, VectorStepped, arith_step, leaves, operation_step, requested_length, typed, typed_step, vector_ends, vector_step, vset_step}
 use Rattle.rv_model.specs.step.Ticks.{is_scalar}
-use Rattle.rv_model.specs.step.VectorStep.{VectorStepped, arith_step, leaves, operation_step, requested_length, typed, typed_step, vector_ends, vector_step, vset_step}
 use Rattle.rv_model.specs.step.WriteCall.{output_room, write_call, write_count}
 use Rattle.rv_model.specs.vector.Control.{control_value, csr_form, is_write, with_control, written_value}
 use Rattle.rv_model.specs.vector.ControlRegisters.{control_register, is_read_only}

@@ -17,14 +17,13 @@ use Rattle.rv_model.specs.accesses.AccessRuns.{AccessRun, access_run}
 use Rattle.rv_model.specs.accesses.Restarts.{Extends, IsStopped, overlay}
 use Rattle.rv_model.specs.accesses.VectorAccess.{VectorAccess, access_of}
 use Rattle.rv_model.specs.elements.Arithmetic.{is_ones}
-use Rattle.rv_model.specs.vector.Configuration.{GroupType, IsConfiguration}
+use Rattle.rv_model.specs.vector.Groups.{GroupType, IsConfiguration, register_of}
 use Rattle.rv_model.specs.legality.Legality.{IsLegal, is_legal}
 use Rattle.rv_model.specs.memory.Memory.{Memory}
 use Rattle.rv_model.specs.step.Hart.{HartState}
 use Rattle.rv_model.specs.step.MemoryStep.{access_end, after_access, filled_type, load_fills_masked_off, reads_memory, tail_type, with_tails}
 use Rattle.rv_model.specs.step.Resumes.{KeepsOwnWord, KeepsWord, LeavesPart, StopsShort, after_ticks, finds}
-use Rattle.rv_model.specs.step.VectorStep.{VectorStepped, access_step, accessed, after_vector, performed, vector_ends, vector_executed, vector_step, vector_ticks}
-use Rattle.rv_model.specs.vector.Registers.{register_of}
+use Rattle.rv_model.specs.step.Step.{VectorStepped, access_step, accessed, after_vector, performed, vector_ends, vector_executed, vector_step, vector_ticks}
 use Rattle.rv_model.proofs.access_lemmas.InstructionsResume.{access_resumes}
 use Rattle.rv_model.proofs.access_lemmas.Runs.{IsAgain, access_again, again_of, is_stopped, made_of, run_facts, run_is, stopped_state}
 use Rattle.rv_model.proofs.legality_lemmas.Meaning.{is_legal_means}

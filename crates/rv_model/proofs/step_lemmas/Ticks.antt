@@ -16,7 +16,7 @@ use Rattle.rv_model.specs.legality.Legality.{is_legal}
 use Rattle.rv_model.specs.step.Hart.{HartState}
 use Rattle.rv_model.specs.step.MemoryStep.{access_end, after_access, filled_type, load_fills_masked_off}
 use Rattle.rv_model.specs.step.Ticks.{TakesTicks}
-use Rattle.rv_model.specs.step.VectorStep.{VectorStepped, access_step, accessed, after_vector, performed, vector_ends, vector_executed, vector_step, vector_ticks}
+use Rattle.rv_model.specs.step.Step.{VectorStepped, access_step, accessed, after_vector, performed, vector_ends, vector_executed, vector_step, vector_ticks}
 use Rattle.rv_model.proofs.access_lemmas.RunsAgain.{IsUncut, directed_same}
 use Rattle.rv_model.proofs.step_lemmas.Cuts.{accessed_facts, cut_at, cut_index}
 use Rattle.rv_model.proofs.step_lemmas.Effects.{UnlessDone, vector_keeps}

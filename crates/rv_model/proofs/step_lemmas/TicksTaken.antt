@@ -16,7 +16,7 @@ use Rattle.rv_model.specs.accesses.VectorAccess.{VectorAccess, access_of}
 use Rattle.rv_model.specs.legality.Legality.{is_legal}
 use Rattle.rv_model.specs.step.Hart.{HartState}
 use Rattle.rv_model.specs.step.MemoryStep.{access_end}
-use Rattle.rv_model.specs.step.VectorStep.{VectorStepped, access_step, accessed, performed, vector_ends, vector_executed, vector_ticks}
+use Rattle.rv_model.specs.step.Step.{VectorStepped, access_step, accessed, performed, vector_ends, vector_executed, vector_ticks}
 use Rattle.rv_model.proofs.access_lemmas.Runs.{AllOrShorter, AtEnd, AtStop, CutAt, FaultAt}
 use Rattle.rv_model.proofs.step_lemmas.Cuts.{RunFacts, accessed_facts}
 use Rattle.rv_model.proofs.Choices.{of_bool}

@@ -1,7 +1,7 @@
 -- The length that a vector type allows, by the type.
 use Rattle.std.specs.Prelude.{ℕ, ◌≡◌, ◌≤◌, Option, MatchOption}
 use Rattle.rv_model.specs.declared.vector.types.VType.{VType}
-use Rattle.rv_model.specs.vector.Configuration.{IsSupported, vlmax}
+use Rattle.rv_model.specs.vector.Groups.{IsSupported, vlmax}
 
 -- `IsConfiguration` of a type and a length
 abbrev pub IsLength : Option VType → ℕ → Type 0

@@ -13,11 +13,9 @@ use Rattle.rv_model.specs.declared.step.memory_end.MemEnd.TheVariants.{Cut, Done
 use Rattle.rv_model.specs.declared.vector.sizes.TheConstants.{VLENB}
 use Rattle.rv_model.specs.accesses.AccessRuns.{AccessInstr, AccessRun, Memory, Scalar, VState, VectorAccess, access_of, access_run}
 use Rattle.rv_model.specs.accesses.VectorAccess.{VType, group_type, index_count}
-use Rattle.rv_model.specs.vector.Groups.{access_type}
+use Rattle.rv_model.specs.vector.Groups.{access_type, IsConfiguration, vlmax, width_bytes, registers}
 use Rattle.rv_model.specs.legality.Legality.{IsLegal}
 use Rattle.rv_model.specs.memory.Memory.{Cell}
-use Rattle.rv_model.specs.vector.Configuration.{IsConfiguration, vlmax, width_bytes}
-use Rattle.rv_model.specs.vector.Registers.{registers}
 
 -- ---- a memory that grows between two runs
 

@@ -10,7 +10,7 @@ use Rattle.rv_model.specs.accesses.Transfers.{Moved, Transfer, address_of, bytes
 use Rattle.rv_model.specs.accesses.VectorAccess.{AccessInstr, Scalar, VState, VectorAccess, access_of, element_start, plan}
 use Rattle.rv_model.specs.legality.Legality.{IsLegal}
 use Rattle.rv_model.specs.memory.Memory.{Memory, can_access_byte, is_within, memory_byte}
-use Rattle.rv_model.specs.vector.Configuration.{IsConfiguration}
+use Rattle.rv_model.specs.vector.Groups.{IsConfiguration}
 
 -- byte k of the register file after transfers of a load
 abbrev pub LoadsByTransfer : Type 0

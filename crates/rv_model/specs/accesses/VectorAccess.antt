@@ -18,14 +18,12 @@ use Rattle.rv_model.specs.declared.vector.sizes.TheConstants.{VLENB}
 pub use Rattle.rv_model.specs.declared.vector.state.VState.{VState}
 pub use Rattle.rv_model.specs.declared.vector.types.VType.{VType}
 use Rattle.rv_model.specs.accesses.Transfers.{Moved, Ones, Plan, Transfer}
-pub use Rattle.rv_model.specs.vector.Configuration.{GroupType, group_type}
+pub use Rattle.rv_model.specs.vector.Groups.{GroupType, group_type}
 use Rattle.rv_model.specs.elements.Arithmetic.{body_of, group_element}
 use Rattle.rv_model.specs.elements.Elements.{Body, is_enabled}
 use Rattle.rv_model.specs.elements.Formulas.{wrap}
-use Rattle.rv_model.specs.vector.Groups.{access_type, register_count}
+use Rattle.rv_model.specs.vector.Groups.{access_type, register_count, element_width, sew_width, width_bytes, registers}
 use Rattle.rv_model.specs.scalar.Registers.{read_register}
-use Rattle.rv_model.specs.vector.Configuration.{element_width, sew_width, width_bytes}
-use Rattle.rv_model.specs.vector.Registers.{registers}
 
 -- what a load or store moves: the active indices of its body, each a segment of so many fields of so many bytes
 pub record VectorAccess : Type 0 where

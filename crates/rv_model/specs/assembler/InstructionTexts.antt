@@ -13,8 +13,7 @@ use Rattle.rv_model.specs.declared.instructions.operations.Direction.TheVariants
 use Rattle.rv_model.specs.declared.instructions.operations.Order.TheVariants as order
 use Rattle.rv_model.specs.declared.instructions.instruction.Instr.TheVariants as instr
 use Rattle.rv_model.specs.instructions.FixedBits.{upper_entry, branch_entry, load_entry, store_entry, immediate_entry, shift_immediate_entry, shift_immediate_word_entry, register_entry, system_entry, csr_entry, csr_immediate_entry, mask_logic_entry, mask_to_scalar_entry, extend_entry, mask_unary_entry}
-use Rattle.rv_model.specs.instructions.Operations.{carry_entry, vector_entry}
-use Rattle.rv_model.specs.instructions.Sources.{form_of}
+use Rattle.rv_model.specs.instructions.Operations.{carry_entry, vector_entry, form_of}
 use Rattle.rv_model.specs.assembler.Numbers.{hex_digit}
 use Rattle.rv_model.specs.vector.Groups.{register_count}
 use Rattle.rv_model.specs.declared.assembler.forms.Place.TheVariants.{Rd, Rs1, Rs2}

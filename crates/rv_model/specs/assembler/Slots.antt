@@ -11,7 +11,7 @@ use Rattle.rv_model.specs.vector.Types.{Sew, Lmul}
 use Rattle.rv_model.specs.vector.TypeNames.{lmul_name, lmuls, mask_name, with_name, policies, sew_name, sews, tail_name}
 use Rattle.rv_model.specs.vector.TypeRules.{lmul_number, lmul_with_number, sew_number, sew_with_number}
 use Rattle.rv_model.specs.vector.ControlRegisters.{control_register, register_name}
-use Rattle.rv_model.specs.instructions.BitFields.{flag_bit}
+use Rattle.rv_model.specs.instructions.FixedBits.{flag_bit}
 use Rattle.rv_model.specs.declared.assembler.forms.SignedField.{SignedField}
 use Rattle.rv_model.specs.declared.assembler.forms.SignedField.TheVariants as signed
 use Rattle.rv_model.specs.declared.assembler.forms.Slot.{Slot}

@@ -10,8 +10,7 @@ use Rattle.rv_model.specs.declared.instructions.instruction.Instr.TheVariants as
 use Rattle.rv_model.specs.declared.assembler.forms.Slot.{Slot}
 use Rattle.rv_model.specs.declared.assembler.forms.Slot.TheVariants.{Word}
 use Rattle.rv_model.specs.instructions.FixedBits.{coded}
-use Rattle.rv_model.specs.instructions.Layout.{word_of}
-use Rattle.rv_model.specs.instructions.Table.{scan, table}
+use Rattle.rv_model.specs.instructions.Table.{word_of, scan, table}
 use Rattle.rv_model.specs.assembler.Tokens.{Token, tokens}
 use Rattle.rv_model.specs.assembler.Slots.{◌>>=◌, read, printed}
 use Rattle.rv_model.specs.assembler.Fields.{placed, value_of}

@@ -10,7 +10,7 @@ use Rattle.rv_model.specs.declared.machine.standing.Standing.TheVariants.{Absent
 use Rattle.rv_model.specs.declared.machine.stats.Stats.{Stats}
 use Rattle.rv_model.specs.commands.Arguments.{number_between}
 use Rattle.rv_model.specs.commands.Reading.{done, in_group, meaning_in, one_argument}
-use Rattle.rv_model.specs.machine.Users.{user_count, users}
+use Rattle.rv_model.specs.machine.Setup.{user_count, users}
 use Rattle.rv_model.specs.text.Words.{words}
 
 -- ---- slices N, with 1 to 1,000 slices; run U, with a user's number

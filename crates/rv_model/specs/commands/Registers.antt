@@ -11,11 +11,10 @@ use Rattle.rv_model.specs.declared.vector.state.VState.{VState}
 use Rattle.rv_model.specs.commands.Arguments.{address, instruction_address, scalar_register, vector_register, register_bytes, policy_word, sew_argument}
 use Rattle.rv_model.specs.commands.Printing.{hex16}
 use Rattle.rv_model.specs.commands.Reading.{done, meaning_in, one_argument, two_arguments}
-use Rattle.rv_model.specs.instructions.BitFields.{flag_bit}
+use Rattle.rv_model.specs.instructions.FixedBits.{flag_bit}
 use Rattle.rv_model.specs.machine.UserMachine.{Present, Outcome, Writes, replies}
 use Rattle.rv_model.specs.scalar.Registers.{with_register}
-use Rattle.rv_model.specs.vector.Configuration.{sew_bits}
-use Rattle.rv_model.specs.vector.Registers.{register_of, with_register_bytes}
+use Rattle.rv_model.specs.vector.Groups.{sew_bits, register_of, with_register_bytes}
 use Rattle.rv_model.specs.vector.RoundingModes.{rounding_number}
 use Rattle.rv_model.specs.vector.TypeRules.{vtype_number}
 

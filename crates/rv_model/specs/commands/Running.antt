@@ -9,8 +9,7 @@ use Rattle.rv_model.specs.declared.step.step_end.Stop.{Stop}
 use Rattle.rv_model.specs.commands.Arguments.{number_between}
 use Rattle.rv_model.specs.commands.Printing.{hex16, listed, stop_line}
 use Rattle.rv_model.specs.commands.Reading.{done, meaning_in, one_argument}
-use Rattle.rv_model.specs.machine.Runs.{steps}
-use Rattle.rv_model.specs.machine.UserMachine.{Present, Outcome, refuses, replies}
+use Rattle.rv_model.specs.machine.UserMachine.{steps, Present, Outcome, refuses, replies}
 
 -- ---- step N, with 1 to 256 instructions
 

@@ -9,12 +9,9 @@ use Rattle.rv_model.specs.declared.vector.state.VState.{VState}
 use Rattle.rv_model.specs.declared.vector.policy.Policy.TheVariants.{Keep, Ones}
 use Rattle.rv_model.specs.declared.scalar.Scalar.{Scalar}
 use Rattle.rv_model.specs.declared.instructions.source.Source.TheVariants as source
-use Rattle.rv_model.specs.elements.Elements.{Body, element, is_active, is_changed, mask_bit, result_or_ones}
-use Rattle.rv_model.specs.elements.Writes.{written, written_bits}
-use Rattle.rv_model.specs.vector.Registers.{group_of, with_group, register_of}
+use Rattle.rv_model.specs.elements.Elements.{Body, element, is_active, is_changed, mask_bit, result_or_ones, written, written_bits}
+use Rattle.rv_model.specs.vector.Groups.{group_of, with_group, register_of, GroupType, width_bytes, single_type}
 use Rattle.rv_model.specs.scalar.Registers.{read_register}
-use Rattle.rv_model.specs.vector.Configuration.{GroupType, width_bytes}
-use Rattle.rv_model.specs.vector.Groups.{single_type}
 use Rattle.rv_model.specs.elements.Formulas.{carry_formula, carry_out_formula, compare_formula, extend_formula, formula, has_unsigned_immediate, immediate_value, multiply_add_formula, narrow_shift_formula, ones, wide_source_formula, widen_formula, widen_multiply_add_formula, wrap}
 use Rattle.rv_model.specs.elements.FixedPoint.{clip_formula, clip_saturates, fixed_point_formula, has_unsigned_shift, saturates}
 use Rattle.rv_model.specs.elements.Masks.{mask_logic_formula, set_count}

@@ -1,7 +1,8 @@
--- Elements and mask bits of vector registers, and the sets of elements that an instruction changes ("V" Vector Extension
--- 1.0, sections 3.4.3, 4.1, 4.5, 5.3 and 5.4). A list of bytes holds element 0 first, each with its least byte first.
-use Rattle.std.specs.Prelude.{ℕ, ◌+◌, ◌*◌, ◌/◌, ◌%◌, ◌^◌, ◌==◌, ◌&&◌, ◌||◌, nat_le, nat_lt, not, Bool, List, slice_index, if◌then◌else◌}
-use Rattle.std.specs.Int.{from_bool}
+-- Elements and mask bits of vector registers, the sets of elements that an instruction changes, and lists of bytes of which some
+-- elements or some bits are replaced ("V" Vector Extension 1.0, sections 3.4.3, 4.1, 4.5, 5.3 and 5.4). A list of bytes holds element 0
+-- first, each with its least byte first.
+use Rattle.std.specs.Prelude.{ℕ, ◌+◌, ◌*◌, ◌/◌, ◌%◌, ◌^◌, ◌==◌, ◌&&◌, ◌||◌, nat_le, nat_lt, not, Bool, List, slice_index, if◌then◌else◌, length, map}
+use Rattle.std.specs.Int.{from_bool, byte_at}
 use Rattle.std.specs.List.{list_any, range_with_len}
 use Rattle.std.specs.Simd.Lanes.{chunk}
 use lib.Lanes.{number_l}
@@ -58,3 +59,23 @@ is_changed body fill_masked_off fill_tail i =
 -- what they become: active ones the result, the others all ones
 abbrev pub result_or_ones : Body → (ℕ → ℕ) → ℕ → ℕ → ℕ
 result_or_ones body result ones i = if is_active body i then result i else ones
+
+-- byte m of element e, where the elements have k bytes: of the number, if the element is one of these, else as it was
+abbrev pub byte_or : (ℕ → Bool) → (ℕ → ℕ) → List ℕ → ℕ → ℕ → ℕ → ℕ
+byte_or changed number old k e m = if changed e then byte_at m (number e) else slice_index old (k * e + m)
+
+-- the bytes with these elements of k bytes replaced by these numbers, modulo 2 to the width
+unfoldable pub written : ℕ → (ℕ → Bool) → (ℕ → ℕ) → List ℕ → List ℕ
+written k changed number old = map (λ at. byte_or changed number old k (at / k) (at % k)) (range_with_len 0 (length old))
+
+-- bit i: replaced, if it is one of these, else as it was
+abbrev pub bit_or : (ℕ → Bool) → (ℕ → Bool) → List ℕ → ℕ → Bool
+bit_or changed bit old i = if changed i then bit i else mask_bit old i
+
+-- the byte q with these bits replaced
+abbrev pub byte_with_bits : (ℕ → Bool) → (ℕ → Bool) → List ℕ → ℕ → ℕ
+byte_with_bits changed bit old q = byte_of_bits (λ j. bit_or changed bit old (8 * q + j))
+
+-- the bytes with these bits replaced
+unfoldable pub written_bits : (ℕ → Bool) → (ℕ → Bool) → List ℕ → List ℕ
+written_bits changed bit old = map (byte_with_bits changed bit old) (range_with_len 0 (length old))

@@ -9,14 +9,11 @@ use Rattle.rv_model.specs.declared.instructions.source.Source.TheVariants as sou
 use Rattle.rv_model.specs.declared.scalar.Scalar.{Scalar}
 use Rattle.rv_model.specs.vector.Types.{VType}
 use Rattle.rv_model.specs.elements.Arithmetic.{group_element}
-use Rattle.rv_model.specs.elements.Elements.{Body, mask_bit}
+use Rattle.rv_model.specs.elements.Elements.{Body, mask_bit, written}
 use Rattle.rv_model.specs.elements.Formulas.{ones}
-use Rattle.rv_model.specs.elements.Writes.{written}
-use Rattle.rv_model.specs.vector.Groups.{single_type, with_width}
+use Rattle.rv_model.specs.vector.Groups.{single_type, with_width, GroupType, element_count, sew_bits, sew_width, width_bytes, group_of, with_group}
 use Rattle.rv_model.specs.instructions.Immediates.{sign_extended}
 use Rattle.rv_model.specs.scalar.Registers.{read_register}
-use Rattle.rv_model.specs.vector.Configuration.{GroupType, element_count, sew_bits, sew_width, width_bytes}
-use Rattle.rv_model.specs.vector.Registers.{group_of, with_group}
 use Rattle.std.specs.List.{filter, range_with_len}
 
 -- gathers, and vslidedown: the element at an index, and 0 from the limit of the source on, which is VLMAX and not vl (sections

@@ -1,7 +1,7 @@
 -- Immediates: where their bits stand in a word, and the 64-bit words that they mean (Unprivileged ISA, RV32I, "Immediate
 -- Encoding Variants"; RV64I: immediates are sign-extended to 64 bits)
 use Rattle.std.specs.Prelude.{ℕ, ◌+◌, ◌-◌, ◌*◌, ◌^◌, nat_lt, if◌then◌else◌}
-use Rattle.rv_model.specs.instructions.BitFields.{field}
+use Rattle.rv_model.specs.instructions.FixedBits.{field}
 
 -- S: bits 4 to 0 of the immediate stand at 11 to 7, bits 11 to 5 at 31 to 25
 abbrev pub store_immediate : ℕ → ℕ

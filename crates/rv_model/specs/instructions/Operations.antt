@@ -1,11 +1,13 @@
 -- The lines of the manual's table of vector operations (V extension, "Vector Instruction Listing"): the name, the half of the
--- opcode map, funct6 and the forms, each operation once
+-- opcode map, funct6 and the forms, each operation once; and the second operand: its form, and the five bits 19 to 15 that hold it (V
+-- extension, "Vector Arithmetic Instruction encoding")
 use Rattle.std.specs.Prelude.{ℕ, ◌+◌, ◌*◌, ◌^◌, Bool, true, false, List, [], ◌∷◌, map, ◌++◌, codes}
-use Rattle.rv_model.specs.instructions.Types.{Line, Major, Forms, Form, VectorOp, CarryOp}
+use Rattle.rv_model.specs.instructions.Types.{Form, Source, Line, Major, Forms, VectorOp, CarryOp}
+use Rattle.rv_model.specs.declared.instructions.operations.Form.TheVariants as form
+use Rattle.rv_model.specs.declared.instructions.source.Source.TheVariants as source
 use Rattle.rv_model.specs.declared.instructions.operations.Major.TheVariants.{Opi, Opm}
 use Rattle.rv_model.specs.declared.instructions.operations.Forms.TheVariants.{V, X, Vx, Xi, Vxi}
 use Rattle.rv_model.specs.instructions.FixedBits.{coded}
-use Rattle.rv_model.specs.declared.instructions.operations.Form.TheVariants as form
 use Rattle.rv_model.specs.declared.instructions.operations.VectorOp.TheVariants.{Binary, CarryOut, Compare, FixedPoint, NarrowShift, Clip, Widen, WideSource, MultiplyAdd, WidenMultiplyAdd, Reduce, WidenReduce, Permute}
 use Rattle.rv_model.specs.declared.instructions.operations.BinaryOp.TheVariants.{Vadd, Vsub, Vrsub, Vminu, Vmin, Vmaxu, Vmax, Vand, Vor, Vxor, Vsll, Vsrl, Vsra, Vdivu, Vdiv, Vremu, Vrem, Vmulhu, Vmul, Vmulhsu, Vmulh}
 use Rattle.rv_model.specs.declared.instructions.operations.CarryOutOp.TheVariants.{Vmadc, Vmsbc}
@@ -21,6 +23,24 @@ use Rattle.rv_model.specs.declared.instructions.operations.ReduceOp.TheVariants.
 use Rattle.rv_model.specs.declared.instructions.operations.WidenReduceOp.TheVariants.{Vwredsumu, Vwredsum}
 use Rattle.rv_model.specs.declared.instructions.operations.PermuteOp.TheVariants.{Vrgather, Vrgatherei16, Vslideup, Vslidedown, Vslide1up, Vslide1down}
 use Rattle.rv_model.specs.declared.instructions.operations.CarryOp.TheVariants.{Vadc, Vsbc, Vmerge}
+
+-- where the operand comes from
+abbrev pub form_of : Source → Form
+form_of (source.V r) = form.V
+form_of (source.X r) = form.X
+form_of (source.I n) = form.I
+
+-- the five bits: a register's number, or an immediate without its sign
+abbrev pub source_number : Source → ℕ
+source_number (source.V r) = r
+source_number (source.X r) = r
+source_number (source.I n) = n
+
+-- the operand of a form with these five bits
+abbrev pub source_of : Form → ℕ → Source
+source_of form.V n = source.V n
+source_of form.X n = source.X n
+source_of form.I n = source.I n
 
 -- a line of OPIVV, OPIVX and OPIVI, and the name without what stands behind the dot
 abbrev pub opi : List ℕ → ℕ → Forms → List ℕ × Line

@@ -17,8 +17,7 @@ use Rattle.rv_model.specs.declared.legality.Shape.TheVariants.{Single}
 use Rattle.rv_model.specs.vector.Types.{VType}
 use Rattle.rv_model.specs.legality.OperandShapes.{shape_of, destination, second_source, shape_operands, field_groups, group, mask, v0}
 use Rattle.rv_model.specs.legality.RegisterOperands.{AreLegal, are_legal}
-use Rattle.rv_model.specs.vector.Configuration.{element_width, group_type, sew_bits, sew_width}
-use Rattle.rv_model.specs.vector.Groups.{access_type, extension_divisor, part_type, registers_type, single_type, whole_type}
+use Rattle.rv_model.specs.vector.Groups.{element_width, group_type, sew_bits, sew_width, access_type, extension_divisor, part_type, registers_type, single_type, whole_type}
 
 -- ---- the operands of an instruction
 

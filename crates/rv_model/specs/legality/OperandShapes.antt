@@ -10,8 +10,7 @@ use Rattle.rv_model.specs.legality.Types.{Operand, Mask, Elements, Role, Read, C
 use Rattle.rv_model.specs.declared.legality.Shape.TheVariants.{Single, Widening, WideSource, Narrowing, Compare, Gather, GatherIndices16, Reduction, WideReduction}
 use Rattle.rv_model.specs.declared.instructions.source.Source.TheVariants as source
 use Rattle.rv_model.specs.vector.Types.{VType}
-use Rattle.rv_model.specs.vector.Configuration.{GroupType, group_type, sew_width}
-use Rattle.rv_model.specs.vector.Groups.{single_type, wide_type, with_width}
+use Rattle.rv_model.specs.vector.Groups.{GroupType, group_type, sew_width, single_type, wide_type, with_width}
 
 -- ---- operands
 

@@ -5,7 +5,7 @@ use Rattle.std.specs.Prelude.{ℕ, ◌+◌, ◌*◌, ◌%◌, ◌<◌, ◌≤◌
 use Rattle.std.specs.List.{list_all}
 use Rattle.rv_model.specs.legality.Types.{Operand, Content, Mask, Elements, Role, Read, Control, Write, Apart}
 use Rattle.rv_model.specs.vector.Types.{VECTOR_REGISTERS}
-use Rattle.rv_model.specs.vector.Registers.{registers}
+use Rattle.rv_model.specs.vector.Groups.{registers}
 
 -- the effective element width in bits; a mask's is 1
 abbrev pub eew : Content → ℕ

@@ -1,12 +1,10 @@
 -- The rows of the instruction table by families, in which the functions of a decoder find them: each by an instruction with zeros for
 -- operands, with lists of the operations. `proofs/instruction_lemmas/Rows` says that they are the table's
 use Rattle.std.specs.Prelude.{ℕ, List, [], ◌∷◌, ◌++◌, map, true}
-use Rattle.rv_model.specs.instructions.BitFields.{field, flag, fixed}
+use Rattle.rv_model.specs.instructions.FixedBits.{field, flag, fixed}
 use Rattle.rv_model.specs.instructions.Immediates.{store_immediate, branch_offset, jump_offset}
-use Rattle.rv_model.specs.instructions.Sources.{form_of, source_of}
-use Rattle.rv_model.specs.instructions.Operations.{line, vector_ops, carry_line}
-use Rattle.rv_model.specs.instructions.Layout.{parts, bits}
-use Rattle.rv_model.specs.instructions.Table.{Row, counts, directions, widths}
+use Rattle.rv_model.specs.instructions.Operations.{form_of, source_of, line, vector_ops, carry_line}
+use Rattle.rv_model.specs.instructions.Table.{parts, bits, Row, counts, directions, widths}
 use Rattle.rv_model.specs.lending.Search.{those}
 use Rattle.rv_model.specs.instructions.Types.{UpperOp, BranchOp, LoadOp, StoreOp, ImmediateOp, ShiftImmediateOp, ShiftImmediateWordOp, RegisterOp, SystemOp, CsrOp, CsrImmediateOp, CarryOp, MaskLogicOp, MaskToScalarOp, ExtendOp, MaskUnaryOp, Eew, UnitOp, Direction, Order, RegisterCount, Form, Major}
 use Rattle.rv_model.specs.instructions.Variants.{Instr, Upper, Jump, JumpRegister, Branch, Load, Store, RegisterImmediate, ShiftImmediate, ShiftImmediateWord, RegisterRegister, Fence, System, Register, Immediate, SetVli, SetIvli, SetVl, Arith, Carry, Move, WholeMove, MaskLogic, Compress, MaskToScalar, Extend, MaskUnary, ElementIndex, MoveToScalar, MoveToVector, UnitStride, Strided, Indexed, WholeLoad, WholeStore, MaskAccess}

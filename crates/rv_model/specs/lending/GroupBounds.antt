@@ -4,8 +4,7 @@ use Rattle.std.specs.Int.{Width}
 use Rattle.rv_model.specs.instructions.Types.{Source}
 use Rattle.rv_model.specs.declared.instructions.source.Source.TheVariants as source
 use Rattle.rv_model.specs.vector.Types.{GROUP_BYTES, VECTOR_REGISTERS, VLENB, VType}
-use Rattle.rv_model.specs.vector.Configuration.{GroupType, lmul_eighths, sew_bits, width_bytes}
-use Rattle.rv_model.specs.vector.Registers.{registers}
+use Rattle.rv_model.specs.vector.Groups.{GroupType, lmul_eighths, sew_bits, width_bytes, registers}
 
 -- EMUL for elements of so many bits
 abbrev pub emul : ℕ → VType → ℕ

@@ -1,11 +1,9 @@
 -- The bits and the lines of operations by themselves, as the functions of a decoder and of an encoder have them; and what the types
 -- of an instruction's fields say, which an encoder needs.
 use Rattle.std.specs.Prelude.{ℕ, ◌+◌, ◌*◌, ◌^◌, ◌≡◌, ◌<◌, List, [], ◌∷◌, true}
-use Rattle.rv_model.specs.instructions.BitFields.{Part}
-use Rattle.rv_model.specs.instructions.Sources.{form_of}
+use Rattle.rv_model.specs.instructions.FixedBits.{Part, vector_coded, width_bits, direction_bits, unit_bits, order_bits, one_less, count_bits, upper_entry, branch_entry, load_entry, store_entry, immediate_entry, shift_immediate_entry, shift_immediate_word_entry, register_entry, system_entry, csr_entry, csr_immediate_entry, mask_logic_entry, mask_to_scalar_entry, extend_entry, mask_unary_entry}
+use Rattle.rv_model.specs.instructions.Operations.{form_of, has_form, line, carry_line, major_bits}
 use Rattle.rv_model.specs.instructions.Types.{Form, Forms, Major, RegisterCount, Direction, Order, UnitOp, Eew, BinaryOp, BranchOp, CarryOutOp, ClipOp, CompareOp, CsrImmediateOp, CsrOp, ExtendOp, FixedPointOp, ImmediateOp, Line, LoadOp, MaskLogicOp, MaskToScalarOp, MaskUnaryOp, MultiplyAddOp, NarrowShiftOp, PermuteOp, ReduceOp, RegisterOp, ShiftImmediateOp, ShiftImmediateWordOp, StoreOp, SystemOp, UpperOp, WideSourceOp, WidenMultiplyAddOp, WidenOp, WidenReduceOp}
-use Rattle.rv_model.specs.instructions.FixedBits.{vector_coded, width_bits, direction_bits, unit_bits, order_bits, one_less, count_bits, upper_entry, branch_entry, load_entry, store_entry, immediate_entry, shift_immediate_entry, shift_immediate_word_entry, register_entry, system_entry, csr_entry, csr_immediate_entry, mask_logic_entry, mask_to_scalar_entry, extend_entry, mask_unary_entry}
-use Rattle.rv_model.specs.instructions.Operations.{has_form, line, carry_line, major_bits}
 use Rattle.rv_model.specs.instructions.Variants.{Instr, Arith, Carry}
 use Rattle.rv_model.specs.declared.instructions.instruction.Instr.TheVariants as instr
 use Rattle.rv_model.specs.declared.instructions.operations.VectorOp.TheVariants as vector_op

@@ -1,8 +1,7 @@
 -- What a loop over elements has written so far, as a relation between lists of bytes.
 use Rattle.std.specs.Prelude.{ℕ, ◌+◌, ◌*◌, ◌<◌, ◌≤◌, ◌≡◌, Bool, true, nat_lt, List, length, slice_index}
 use Rattle.std.specs.Int.{from_bool}
-use Rattle.rv_model.specs.elements.Elements.{Body}
-use Rattle.rv_model.specs.elements.Writes.{byte_or, byte_with_bits}
+use Rattle.rv_model.specs.elements.Elements.{Body, byte_or, byte_with_bits}
 
 -- a list of bytes goes on to the end of element i
 abbrev pub HasElement : ℕ → List ℕ → ℕ → Type 0

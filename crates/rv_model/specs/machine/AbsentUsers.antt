@@ -2,8 +2,7 @@
 -- nothing to drop, though it is said to drop what is there.
 use Rattle.std.specs.Prelude.{ℕ, ◌≡◌, ◌≤◌, false, List, length, None, IfSome}
 use Rattle.rv_model.specs.machine.Script.{after_script}
-use Rattle.rv_model.specs.machine.Setup.{Setup}
-use Rattle.rv_model.specs.machine.Users.{user_count}
+use Rattle.rv_model.specs.machine.Setup.{Setup, user_count}
 use Rattle.rv_model.specs.machine.VectorUnit.{VectorUnit, is_marked, is_owned_by}
 use Rattle.rv_model.specs.machine.World.{World, Happening, after_one, unit_after, user_machine}
 

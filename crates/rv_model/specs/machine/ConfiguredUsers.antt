@@ -2,7 +2,7 @@
 -- add up after any script.
 use Rattle.std.specs.Prelude.{ℕ, ◌*◌, List, All}
 use Rattle.rv_model.specs.machine.Cuts.{ComeToTheSame, IsConfigured, KeepsWordIfCut, slices}
-use Rattle.rv_model.specs.machine.PrivateMachine.{sliced}
+use Rattle.rv_model.specs.machine.World.{sliced}
 use Rattle.rv_model.specs.machine.Script.{World, Happening, after_all, after_one, after_script, new_world, user_machine}
 use Rattle.rv_model.specs.machine.Setup.{Setup}
 

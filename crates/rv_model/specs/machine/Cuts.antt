@@ -2,11 +2,11 @@
 -- to depends on the sum of their ticks alone.
 use Rattle.std.specs.Prelude.{ℕ, zero, suc, ◌+◌, ◌*◌, ◌≡◌, [], ◌++◌, All, IfSome}
 use Rattle.rv_model.specs.declared.step.step_end.StepEnd.TheVariants.{Cut}
-use Rattle.rv_model.specs.machine.PrivateMachine.{sliced}
+use Rattle.rv_model.specs.machine.World.{sliced}
 use Rattle.rv_model.specs.machine.UserMachine.{Outcome, Private, Use, Tries}
 use Rattle.rv_model.specs.step.Resumes.{KeepsOwnWord}
 use Rattle.rv_model.specs.step.Step.{fetched, step}
-use Rattle.rv_model.specs.vector.Configuration.{IsConfiguration}
+use Rattle.rv_model.specs.vector.Groups.{IsConfiguration}
 
 -- what happens to a machine, and then what happens to the one that is left: where that stands then, the lines of both, and the
 -- uses of both

@@ -7,11 +7,9 @@ use Rattle.rv_model.specs.declared.machine.standing.Standing.{Standing}
 use Rattle.rv_model.specs.declared.machine.standing.Standing.TheVariants.{Absent, Stopped, Running}
 use Rattle.rv_model.specs.commands.Operator.{OperatorParsed, granted_line, list_line, stats_line}
 use Rattle.rv_model.specs.commands.Printing.{refused}
-use Rattle.rv_model.specs.machine.PrivateMachine.{Private, Slice}
-use Rattle.rv_model.specs.machine.Setup.{Setup}
-use Rattle.rv_model.specs.machine.Users.{users}
+use Rattle.rv_model.specs.machine.World.{Private, Slice, World, Happening, after_one, user_machine}
+use Rattle.rv_model.specs.machine.Setup.{Setup, users}
 use Rattle.rv_model.specs.machine.VectorUnit.{stats_of}
-use Rattle.rv_model.specs.machine.World.{World, Happening, after_one, user_machine}
 
 -- ---- whose turn it is
 

@@ -1,9 +1,8 @@
 -- The laws that tie one user's lines of an output to that user's machine alone.
 use Rattle.std.specs.Prelude.{ℕ, ◌≡◌, ◌≤◌, List, [], ◌∷◌, length}
-use Rattle.rv_model.specs.machine.PrivateMachine.{solo_from, solo, end_of}
+use Rattle.rv_model.specs.machine.World.{solo_from, solo, end_of}
 use Rattle.rv_model.specs.machine.Script.{World, Happening, after_one, told_by, whole_from, whole, after_script, own_from, own, lines, user_machine}
-use Rattle.rv_model.specs.machine.Setup.{Setup}
-use Rattle.rv_model.specs.machine.Users.{user_count}
+use Rattle.rv_model.specs.machine.Setup.{Setup, user_count}
 
 -- Whatever the users' machines are and whatever the script, a user's lines of the output are exactly what the user's machine
 -- prints when it alone is given the user's own commands and slices, in their order.

@@ -4,10 +4,9 @@ use Rattle.std.specs.Prelude.{ℕ, ◌≡◌, true, List, drop, map, slice_index
 use Rattle.std.specs.List.{Any}
 use Rattle.rv_model.specs.declared.commands.refusal.Refusal.{Refusal}
 use Rattle.rv_model.specs.commands.Printing.{refused}
-use Rattle.rv_model.specs.machine.PrivateMachine.{Slice}
+use Rattle.rv_model.specs.machine.World.{Slice, World, Happening, after_one, outcome_of}
 use Rattle.rv_model.specs.machine.Script.{told, world_after}
 use Rattle.rv_model.specs.machine.Setup.{Setup}
-use Rattle.rv_model.specs.machine.World.{World, Happening, after_one, outcome_of}
 use Rattle.rv_model.specs.text.Lines.{pieces}
 
 -- an answer is a refusal

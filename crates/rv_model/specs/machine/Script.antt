@@ -3,9 +3,8 @@
 use Rattle.std.specs.Prelude.{ℕ, ◌+◌, ◌-◌, ◌==◌, ◌&&◌, nat_lt, nat_le, false, List, [], ◌∷◌, ◌++◌, length, drop, map, filter, if◌then◌else◌, slice_index, codes}
 use Rattle.rv_model.specs.commands.Operator.{operator_parse}
 use Rattle.rv_model.specs.machine.Grants.{grants_of, operator_line}
-use Rattle.rv_model.specs.machine.PrivateMachine.{Event, Command}
-use Rattle.rv_model.specs.machine.Setup.{Setup}
-use Rattle.rv_model.specs.machine.Users.{user_count}
+use Rattle.rv_model.specs.machine.World.{Event, Command}
+use Rattle.rv_model.specs.machine.Setup.{Setup, user_count}
 unfoldable pub use Rattle.rv_model.specs.machine.World.{new_world}
 pub use Rattle.rv_model.specs.machine.World.{World, with_unit, Happening, outcome_of, unit_after, after_one, after_events, told_by, user_machine, with_user_machine}
 use Rattle.rv_model.specs.text.Lines.{text, pieces}

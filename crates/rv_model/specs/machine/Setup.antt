@@ -1,5 +1,14 @@
--- What stays the same for all users and the whole of a run.
+-- What stays the same for the whole of a run: the users, who are numbered from 1 on, the images, and the ticks of a slice.
 use Rattle.std.specs.Prelude.{ℕ, List}
+use Rattle.std.specs.List.{range_with_len}
+
+-- how many users there are
+abbrev pub user_count : ℕ
+user_count = 8
+
+-- the users in their order
+abbrev pub users : List ℕ
+users = range_with_len 1 user_count
 
 -- a named file that users can load
 pub record Image : Type 0 where

@@ -2,11 +2,9 @@
 use Rattle.std.specs.Prelude.{ℕ, ◌≡◌, ◌≤◌, ◌==◌, ◌&&◌, true, List, [], ◌∷◌, ◌++◌, length, filter, Some}
 use Rattle.rv_model.specs.commands.Operator.{OperatorParsed}
 use Rattle.rv_model.specs.machine.Grants.{runs, next_running, slice_of, grants_of}
-use Rattle.rv_model.specs.machine.PrivateMachine.{Slice}
+use Rattle.rv_model.specs.machine.World.{Slice, World, Happening, after_one, after_events, user_machine}
 use Rattle.rv_model.specs.machine.Script.{schedule}
-use Rattle.rv_model.specs.machine.Setup.{Setup}
-use Rattle.rv_model.specs.machine.Users.{user_count}
-use Rattle.rv_model.specs.machine.World.{World, Happening, after_one, after_events, user_machine}
+use Rattle.rv_model.specs.machine.Setup.{Setup, user_count}
 use Rattle.rv_model.specs.text.Lines.{pieces}
 
 -- ---- turns

@@ -4,7 +4,7 @@
 use Rattle.std.specs.Prelude.{ℕ, ◌+◌, ◌-◌, ◌^◌, ◌==◌, Bool, true, false, List, [], ◌∷◌, Option, Some, None, if◌then◌else◌, min, replicate, slice_index_or, slice_set}
 use Rattle.rv_model.specs.declared.machine.stats.Stats.{Stats}
 use Rattle.rv_model.specs.machine.UserMachine.{Use, Tries, Writes, Drops}
-use Rattle.rv_model.specs.machine.Users.{user_count}
+use Rattle.rv_model.specs.machine.Setup.{user_count}
 use Rattle.rv_model.specs.step.Step.{dirties, fetched, touches}
 
 pub record VectorUnit : Type 0 where

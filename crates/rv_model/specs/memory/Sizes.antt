@@ -1,7 +1,7 @@
 -- How memory is divided, and how much of it there is. A page has 4,096 bytes (Privileged Architecture, section 4.3.1); the
 -- other numbers are this machine's own.
 use Rattle.std.specs.Prelude.{ℕ, ◌*◌, ◌/◌, ◌^◌}
-use Rattle.rv_model.specs.machine.Users.{user_count}
+use Rattle.rv_model.specs.machine.Setup.{user_count}
 
 -- the bytes of a page, and of the frame that holds one
 abbrev pub page_size : ℕ

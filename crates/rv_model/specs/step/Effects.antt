@@ -5,7 +5,7 @@ use Rattle.rv_model.specs.declared.step.step_end.StepEnd.TheVariants.{Fault}
 use Rattle.rv_model.specs.declared.memory.Access.{Access}
 use Rattle.rv_model.specs.memory.Memory.{can_access_byte}
 use Rattle.rv_model.specs.step.Hart.{HartState}
-use Rattle.rv_model.specs.vector.Configuration.{IsConfiguration}
+use Rattle.rv_model.specs.vector.Groups.{IsConfiguration}
 use Rattle.rv_model.specs.scalar.Registers.{read_register}
 use Rattle.rv_model.specs.step.Step.{step}
 use Rattle.rv_model.specs.step.WriteCall.{output_room}

@@ -8,13 +8,11 @@ use Rattle.rv_model.specs.declared.step.vector_end.VEnd.{VEnd}
 use Rattle.rv_model.specs.declared.step.vector_end.VEnd.TheVariants.{Done, Fault, Cut}
 use Rattle.rv_model.specs.accesses.AccessRuns.{AccessInstr, AccessRun, Direction, MemEnd, VectorAccess}
 use Rattle.rv_model.specs.accesses.VectorAccess.{GroupType, VType, group_type}
-use Rattle.rv_model.specs.vector.Groups.{access_type}
+use Rattle.rv_model.specs.vector.Groups.{access_type, width_bytes, group_of, registers, with_group}
 use Rattle.rv_model.specs.elements.Arithmetic.{fills_masked_off, fills_tail}
 use Rattle.rv_model.specs.elements.Formulas.{ones}
-use Rattle.rv_model.specs.elements.Writes.{written}
+use Rattle.rv_model.specs.elements.Elements.{written}
 use Rattle.rv_model.specs.step.Hart.{HartState}
-use Rattle.rv_model.specs.vector.Configuration.{width_bytes}
-use Rattle.rv_model.specs.vector.Registers.{group_of, registers, with_group}
 
 -- whether memory is read
 abbrev pub reads_memory : Direction → Bool

@@ -11,8 +11,8 @@ use Rattle.rv_model.specs.accesses.Restarts.{EndsWhole, Extends, GoesOn, IsStopp
 use Rattle.rv_model.specs.accesses.Transfers.{Moved, Ones, TransferKind}
 use Rattle.rv_model.specs.accesses.VectorAccess.{VectorAccess, index_count, plan, vector_access}
 use Rattle.rv_model.specs.step.Hart.{HartState, Memory, StepEnd, Stepped}
-use Rattle.rv_model.specs.step.VectorStep.{VectorStepped, vector_executed}
-use Rattle.rv_model.specs.vector.Configuration.{IsConfiguration}
+use Rattle.rv_model.specs.step.Step.{VectorStepped, vector_executed}
+use Rattle.rv_model.specs.vector.Groups.{IsConfiguration}
 
 -- a vector instruction is cut or faults
 pub record StopsShort (end : VEnd) : Type 0 where

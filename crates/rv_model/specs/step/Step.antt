@@ -1,22 +1,243 @@
--- One instruction of one machine (Unprivileged ISA 20191213; the choices that the standard leaves stand in docs/DECISIONS.md).
--- Nothing here knows of other users.
-use Rattle.std.specs.Prelude.{ℕ, ◌&&◌, not, Bool, false, Option, Some, None, if◌then◌else◌}
-use Rattle.std.specs.Int.{from_le_bytes, w32}
+-- One vector instruction, carried out ("V" Vector Extension 1.0), and one instruction of one machine (Unprivileged ISA 20191213; the
+-- choices that the standard leaves stand in docs/DECISIONS.md). Nothing here knows of other users.
+use Rattle.std.specs.Prelude.{ℕ, ◌-◌, ◌%◌, ◌^◌, ◌==◌, ◌||◌, Bool, true, false, List, Option, Some, None, if◌then◌else◌, ◌&&◌, not}
 use Rattle.std.specs.Option.{option_map_or}
-use Rattle.rv_model.specs.declared.vector.control_register.ControlRegister.{ControlRegister}
-use Rattle.rv_model.specs.declared.memory.Access.TheVariants.{Fetch}
 use Rattle.rv_model.specs.declared.instructions.instruction.Instr.{Instr}
 use Rattle.rv_model.specs.declared.instructions.instruction.Instr.TheVariants as instr
+use Rattle.rv_model.specs.declared.instructions.access.AccessInstr.{AccessInstr}
+use Rattle.rv_model.specs.declared.instructions.vector.VectorInstr.{VectorInstr}
+use Rattle.rv_model.specs.declared.instructions.vector.VectorInstr.TheVariants.{SetVli, SetIvli, SetVl, Arith, Carry, Move, WholeMove, MaskLogic, Compress, MaskToScalar, Extend, MaskUnary, ElementIndex, MoveToScalar, MoveToVector}
+use Rattle.rv_model.specs.declared.instructions.operations.MaskUnaryOp.TheVariants.{Scan, Viota}
+use Rattle.rv_model.specs.declared.instructions.operations.VectorOp.{VectorOp}
+use Rattle.rv_model.specs.declared.instructions.operations.VectorOp.TheVariants.{Binary, CarryOut, Compare, FixedPoint, NarrowShift, Clip, Widen, WideSource, MultiplyAdd, WidenMultiplyAdd, Reduce, WidenReduce, Permute}
+use Rattle.rv_model.specs.declared.instructions.source.Source.{Source}
+use Rattle.rv_model.specs.declared.step.step_end.Cause.TheVariants.{IllegalInstruction, LoadAccess, StoreAccess, FetchAccess}
+use Rattle.rv_model.specs.declared.step.step_end.StepEnd.TheVariants.{Ran, Fault, Cut}
+use Rattle.rv_model.specs.declared.step.vector_end.VEnd.{VEnd}
+use Rattle.rv_model.specs.declared.step.vector_end.VEnd.TheVariants as vector_end
+use Rattle.rv_model.specs.declared.vector.request.RequestedLength.{RequestedLength}
+use Rattle.rv_model.specs.declared.vector.request.RequestedLength.TheVariants.{Elements, Maximum, Keep}
+use Rattle.rv_model.specs.declared.vector.types.VType.{VType}
+use Rattle.rv_model.specs.accesses.AccessRuns.{AccessRun, directed_run}
+use Rattle.rv_model.specs.accesses.VectorAccess.{VectorAccess, access_of, vector_access}
+use Rattle.rv_model.specs.step.MemoryStep.{access_end, after_access, filled_type, load_fills_masked_off}
+use Rattle.rv_model.specs.step.Hart.{Cause, HartState, Scalar, Stepped, VState, ends_after, faults}
+use Rattle.rv_model.specs.legality.Legality.{is_legal}
+use Rattle.rv_model.specs.scalar.Registers.{advanced, read_register, with_register}
+use Rattle.rv_model.specs.elements.Arithmetic.{binary_result, body_of, carry_out_result, carry_result, clip_result, clip_saturates_at, compare_result, extend_result, fills_masked_off, fills_tail, fixed_point_result, index_result, iota_result, mask_logic_result, multiply_add_result, narrow_shift_result, reduce_result, saturates_at, second_element, wide_source_result, widen_multiply_add_result, widen_reduce_result, widen_result, with_first_result, with_mask_results, with_results, group_element}
+use Rattle.rv_model.specs.vector.Groups.{GroupType, group_type, sew_bits, element_count, register_of, part_type, wide_type, whole_type}
+use Rattle.rv_model.specs.elements.Elements.{some_active, Body}
+use Rattle.rv_model.specs.elements.PermutationResults.{moved_to_scalar, permute_body, permute_result, with_packed, packed}
+use Rattle.rv_model.specs.elements.Masks.{first_set, mask_scan_formula, mask_to_scalar_formula}
+use Rattle.rv_model.specs.vector.TypeRules.{requested}
+use Rattle.rv_model.specs.declared.instructions.operations.PermuteOp.{PermuteOp}
+use Rattle.rv_model.specs.declared.instructions.operations.RegisterCount.{RegisterCount}
+use Rattle.std.specs.Int.{from_le_bytes, w32}
+use Rattle.rv_model.specs.declared.vector.control_register.ControlRegister.{ControlRegister}
+use Rattle.rv_model.specs.declared.memory.Access.TheVariants.{Fetch}
 use Rattle.rv_model.specs.declared.instructions.csr.CsrInstr.TheVariants.{Register, Immediate}
 use Rattle.rv_model.specs.declared.instructions.operations.CsrOp.{CsrOp}
-use Rattle.rv_model.specs.declared.step.step_end.Cause.TheVariants.{FetchAccess, IllegalInstruction}
 use Rattle.rv_model.specs.vector.ControlRegisters.{control_register, is_read_only}
 use Rattle.rv_model.specs.instructions.Table.{scan, table}
 use Rattle.rv_model.specs.memory.Memory.{Memory, bytes_at, can_access}
 use Rattle.rv_model.specs.step.ScalarStep.{csr_executed, scalar_step}
 use Rattle.rv_model.specs.vector.Control.{is_write, csr_form}
-use Rattle.rv_model.specs.step.VectorStep.{is_vector, is_legal_end, vector_executed, vector_step}
 pub use Rattle.rv_model.specs.step.Hart.{HartState, Stepped, ends, faults, retires, gives}
+
+-- slides and gathers. The tail is filled as of any instruction, also where a slide's offset is past the body.
+abbrev pub permuted : VType → PermuteOp → Source → ℕ → ℕ → Bool → HartState → List ℕ
+permuted t op source vd vs2 unmasked s =
+    let body = body_of unmasked s.vector in
+    with_results (group_type t) vd (permute_body op source s.scalar body) (fills_masked_off s.policy t body)
+    (fills_tail s.policy t body) (permute_result (group_type t) op body.end vs2 source s.vector.file s.scalar) s.vector.file
+
+-- vcompress; the bits of vs1 say which elements are packed
+abbrev pub compressed : VType → ℕ → ℕ → ℕ → HartState → List ℕ
+compressed t vd vs1 vs2 s =
+    let body = body_of true s.vector in
+    let file = s.vector.file in
+    with_packed (group_type t) vd body.end (fills_tail s.policy t body)
+    (packed (register_of file vs1) (group_element (group_type t) file vs2) body.end) file
+
+-- the elements of whole registers from vstart on, whatever vl is
+abbrev pub whole_body : GroupType → VState → Body
+whole_body g v = record (body_of true v) { end = element_count g }
+
+-- vmv1r.v and the like, which have no tail (section 16.6)
+abbrev pub whole_moved : VType → RegisterCount → ℕ → ℕ → HartState → List ℕ
+whole_moved t count vd vs2 s =
+    let g = whole_type t count in
+    with_results g vd (whole_body g s.vector) false false (group_element g s.vector.file vs2) s.vector.file
+
+-- whether an instruction is one of the vector extension; those of control registers are not
+abbrev pub is_vector : Instr → Bool
+is_vector (instr.Vector i) = true
+is_vector (instr.Access i) = true
+is_vector _ = false
+
+-- how a vector instruction ends, and the state that it leaves, with the program counter still on it
+pub record VectorStepped : Type 0 where
+  pub state : HartState
+  pub end : VEnd
+
+abbrev pub vector_ends : VEnd → HartState → VectorStepped
+vector_ends end s = record { state = s; end = end }
+
+-- it is done and leaves these registers and this vector state, and the next instruction begins with the first element
+abbrev pub leaves : Scalar → VState → HartState → VectorStepped
+leaves x v s = vector_ends vector_end.Done (record s { scalar = x; vector = record v { vstart = 0 } })
+
+-- ---- the length and the type
+
+-- the length that is asked for by the registers that are named: of rs1, unless that is x0
+abbrev pub requested_length : ℕ → ℕ → Scalar → RequestedLength
+requested_length rd rs1 s = if rs1 == 0 then (if rd == 0 then Keep else Maximum) else Elements (read_register s rs1)
+
+-- a vset instruction: the length and the type become what it asks for, and a register takes the length
+abbrev pub vset_step : ℕ → ℕ → RequestedLength → HartState → VectorStepped
+vset_step rd vtype length s =
+    let new = requested s.vector.conf (record { vtype = vtype; length = length }) in
+    leaves (with_register rd new.vl s.scalar) (record s.vector { conf = new }) s
+
+-- ---- results
+
+-- a scalar register takes a number
+abbrev pub writes_scalar : ℕ → ℕ → HartState → VectorStepped
+writes_scalar rd number s = leaves (with_register rd number s.scalar) s.vector s
+
+-- the vector registers become these
+abbrev pub writes_registers : List ℕ → HartState → VectorStepped
+writes_registers file s = leaves s.scalar (record s.vector { file = file }) s
+
+-- an instruction whose results, by the registers that it finds, stand in a group of elements
+abbrev pub element_wise : VType → GroupType → ℕ → Bool → (List ℕ → Scalar → ℕ → ℕ) → HartState → VectorStepped
+element_wise t g vd unmasked result s =
+    let body = body_of unmasked s.vector in
+    let numbers = result s.vector.file s.scalar in
+    writes_registers (with_results g vd body (fills_masked_off s.policy t body) (fills_tail s.policy t body) numbers s.vector.file) s
+
+-- the same, of an instruction that sets vxsat where one of the results isn't the exact number; it never clears it
+abbrev pub saturating : VType → GroupType → ℕ → Bool → (List ℕ → Scalar → ℕ → ℕ) → (List ℕ → Scalar → ℕ → Bool) → HartState → VectorStepped
+saturating t g vd unmasked result saturates s =
+    let v = (element_wise t g vd unmasked result s).state.vector in
+    let saturated = some_active (body_of unmasked s.vector) (saturates s.vector.file s.scalar) in
+    leaves s.scalar (record v { vxsat = v.vxsat || saturated }) s
+
+-- an instruction whose results stand in a mask; whatever the policy is, no other bit of it changes
+abbrev pub mask_wise : ℕ → Bool → (List ℕ → Scalar → ℕ → Bool) → HartState → VectorStepped
+mask_wise vd unmasked bit s =
+    writes_registers (with_mask_results vd (body_of unmasked s.vector) (bit s.vector.file s.scalar) s.vector.file) s
+
+-- an instruction whose one result stands in element 0 of a register, whatever LMUL is; the tail begins with element 1, and no
+-- element is masked off
+abbrev pub writes_first : VType → GroupType → ℕ → Bool → (List ℕ → Scalar → ℕ) → HartState → VectorStepped
+writes_first t g vd unmasked result s =
+    let body = body_of unmasked s.vector in
+    writes_registers (with_first_result g.width vd body (fills_tail s.policy t body) (result s.vector.file s.scalar) s.vector.file) s
+
+-- ---- each instruction
+
+-- an operation with a line of its own in the manual's table: g is the type of the groups, w that of groups of twice the width.
+-- Carries and borrows are written for the whole body. A reduction's result is of the active elements.
+abbrev pub arith_step : VType → GroupType → GroupType → VectorOp → Source → ℕ → ℕ → Bool → HartState → VectorStepped
+arith_step t g w (Binary op) source vd vs2 vm s = element_wise t g vd vm (binary_result g op vs2 source) s
+arith_step t g w (MultiplyAdd op) source vd vs2 vm s = element_wise t g vd vm (multiply_add_result g op vd vs2 source) s
+arith_step t g w (Compare op) source vd vs2 vm s = mask_wise vd vm (compare_result g op vs2 source) s
+arith_step t g w (CarryOut op) source vd vs2 vm s = mask_wise vd true (carry_out_result g op vm vs2 source) s
+arith_step t g w (Widen op) source vd vs2 vm s = element_wise t w vd vm (widen_result g w op vs2 source) s
+arith_step t g w (WideSource op) source vd vs2 vm s = element_wise t w vd vm (wide_source_result g w op vs2 source) s
+arith_step t g w (WidenMultiplyAdd op) source vd vs2 vm s = element_wise t w vd vm (widen_multiply_add_result g w op vd vs2 source) s
+arith_step t g w (NarrowShift op) source vd vs2 vm s = element_wise t g vd vm (narrow_shift_result g w op vs2 source) s
+arith_step t g w (FixedPoint op) source vd vs2 vm s =
+    saturating t g vd vm (fixed_point_result g s.vector.vxrm op vs2 source) (saturates_at g s.vector.vxrm op vs2 source) s
+arith_step t g w (Clip op) source vd vs2 vm s =
+    saturating t g vd vm (clip_result g w s.vector.vxrm op vs2 source) (clip_saturates_at g w s.vector.vxrm op vs2 source) s
+arith_step t g w (Reduce op) source vd vs2 vm s = writes_first t g vd vm (reduce_result g op (body_of vm s.vector) vs2 source) s
+arith_step t g w (WidenReduce op) source vd vs2 vm s =
+    writes_first t w vd vm (widen_reduce_result g w op (body_of vm s.vector) vs2 source) s
+arith_step t g w (Permute op) source vd vs2 vm s = writes_registers (permuted t op source vd vs2 vm s) s
+
+-- a legal instruction that needs a vector type and neither loads nor stores. Operations with v0 as an operand are of the whole
+-- body. Excluded: the others.
+abbrev pub typed_step : VectorInstr → VType → HartState → VectorStepped
+typed_step (Arith arith vd vs2 vm) t s = arith_step t (group_type t) (wide_type t) arith.0 arith.1 vd vs2 vm s
+typed_step (Carry carry vd vs2) t s = element_wise t (group_type t) vd true (carry_result (group_type t) carry.0 vs2 carry.1) s
+typed_step (Move source vd) t s = element_wise t (group_type t) vd true (second_element (group_type t) false source) s
+typed_step (Extend op vd vs2 vm) t s =
+    element_wise t (group_type t) vd vm (λ file x. extend_result (part_type op t) (group_type t) op vs2 file) s
+typed_step (MaskLogic op vd vs1 vs2) t s = mask_wise vd true (λ file x. mask_logic_result op vs1 vs2 file) s
+typed_step (MaskToScalar op rd vs2 vm) t s =
+    writes_scalar rd (mask_to_scalar_formula op (body_of vm s.vector) (register_of s.vector.file vs2)) s
+typed_step (MaskUnary (Scan op) vd vs2 vm) t s =
+    mask_wise vd vm (λ file x. mask_scan_formula op (first_set (body_of vm s.vector) (register_of file vs2))) s
+typed_step (MaskUnary Viota vd vs2 vm) t s =
+    element_wise t (group_type t) vd vm (λ file x. iota_result (group_type t) (body_of vm s.vector) vs2 file) s
+typed_step (ElementIndex vd vm) t s = element_wise t (group_type t) vd vm (λ file x. index_result (group_type t)) s
+typed_step (Compress vd vs1 vs2) t s = writes_registers (compressed t vd vs1 vs2 s) s
+typed_step (MoveToScalar rd vs2) t s = writes_scalar rd (moved_to_scalar t vs2 s.vector.file) s
+typed_step (MoveToVector vd rs1) t s = writes_first t (group_type t) vd true (λ file x. read_register x rs1 % 2 ^ sew_bits t.sew) s
+typed_step (WholeMove count vd vs2) t s = writes_registers (whole_moved t count vd vs2 s) s
+typed_step _ t s = vector_ends vector_end.Illegal s
+
+-- an instruction that needs a vector type. Excluded by legality: there is none.
+abbrev pub typed : Option VType → (VType → HartState → VectorStepped) → HartState → VectorStepped
+typed None step s = vector_ends vector_end.Illegal s
+typed (Some t) step s = step t s
+
+-- a legal vector instruction that neither loads nor stores
+unfoldable pub operation_step : VectorInstr → HartState → VectorStepped
+operation_step (SetVli rd rs1 vtype) s = vset_step rd vtype (requested_length rd rs1 s.scalar) s
+operation_step (SetIvli rd avl vtype) s = vset_step rd vtype (Elements avl) s
+operation_step (SetVl rd rs1 rs2) s = vset_step rd (read_register s.scalar rs2) (requested_length rd rs1 s.scalar) s
+operation_step i s = typed s.vector.conf.vtype (typed_step i) s
+
+-- the run of a load or store of at most `limit` indices
+abbrev pub accessed : ℕ → VectorAccess → HartState → AccessRun
+accessed limit a s = directed_run a.direction limit (load_fills_masked_off a s) a s.vector s.memory
+
+-- a load or store, by its access. Excluded by legality: that needs a vector type, and there is none.
+abbrev pub access_step : ℕ → AccessInstr → Option VectorAccess → HartState → VectorStepped
+access_step limit i None s = vector_ends vector_end.Illegal s
+access_step limit i (Some a) s =
+    let run = accessed limit a s in
+    vector_ends (access_end a.direction run.end) (after_access (filled_type i a s) a run s)
+
+-- a legal vector instruction, by the ticks that are left. Excluded by legality: all other instructions.
+unfoldable pub performed : ℕ → Instr → HartState → VectorStepped
+performed limit (instr.Vector i) s = operation_step i s
+performed limit (instr.Access i) s = access_step limit i (access_of i s.vector s.scalar) s
+performed limit _ s = vector_ends vector_end.Illegal s
+
+-- a vector instruction, by the ticks that are left: an illegal one changes nothing
+unfoldable pub vector_executed : ℕ → Instr → HartState → VectorStepped
+vector_executed limit i s =
+    if is_legal i s.vector.conf.vtype s.vector.vstart then performed limit i s else vector_ends vector_end.Illegal s
+
+-- why an access is refused
+abbrev pub access_cause : Bool → Cause
+access_cause store = if store then StoreAccess else LoadAccess
+
+-- the ticks that a vector instruction takes: one; or, if it is a load or store, one for each index that it comes to
+abbrev pub vector_ticks : ℕ → Instr → HartState → ℕ
+vector_ticks limit i s =
+    option_map_or (λ a. (accessed limit a s).reached - s.vector.vstart) (vector_access i s.vector s.scalar) 1
+
+-- the step that a vector instruction of so many ticks makes, by the word that it is; an illegal one takes one
+abbrev pub after_vector : ℕ → VEnd → ℕ → HartState → Stepped
+after_vector ticks vector_end.Done word s = ends_after ticks Ran (record s { scalar = advanced s.scalar })
+after_vector ticks vector_end.Illegal word s = faults IllegalInstruction word s
+after_vector ticks (vector_end.Fault store addr) word s = ends_after ticks (Fault (access_cause store) s.scalar.pc addr) s
+after_vector ticks (vector_end.Cut index) word s = ends_after ticks Cut s
+
+abbrev pub vector_step : ℕ → Instr → ℕ → HartState → Stepped
+vector_step limit i word s =
+    let done = vector_executed limit i s in
+    after_vector (vector_ticks limit i s) done.end word done.state
+
+-- whether a vector instruction changes the vector state: unless it is illegal, also where it then faults or is cut
+abbrev pub is_legal_end : VEnd → Bool
+is_legal_end vector_end.Illegal = false
+is_legal_end _ = true
 
 -- the word at an address, least byte first
 abbrev pub word_at : Memory → ℕ → ℕ

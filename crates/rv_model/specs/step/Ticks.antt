@@ -4,8 +4,7 @@ use Rattle.std.specs.Prelude.{ℕ, ◌≡◌, ◌≢◌, ◌≤◌, not, Bool, t
 use Rattle.rv_model.specs.declared.instructions.instruction.Instr.{Instr}
 use Rattle.rv_model.specs.declared.step.step_end.StepEnd.TheVariants.{Cut}
 use Rattle.rv_model.specs.step.Hart.{HartState, Stepped}
-use Rattle.rv_model.specs.step.Step.{fetched, step}
-use Rattle.rv_model.specs.step.VectorStep.{is_vector}
+use Rattle.rv_model.specs.step.Step.{fetched, step, is_vector}
 
 -- A step that is made so takes a tick, and no more than are left. One that is cut takes all ticks that are left, and leaves the
 -- program counter and all other scalar registers; one that isn't is the same however many ticks are left beyond.

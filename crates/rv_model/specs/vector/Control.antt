@@ -8,7 +8,7 @@ use Rattle.rv_model.specs.declared.vector.control_register.ControlRegister.TheVa
 use Rattle.rv_model.specs.instructions.Types.{CsrOp, CsrImmediateOp}
 use Rattle.rv_model.specs.declared.instructions.operations.CsrOp.TheVariants.{Csrrw, Csrrs, Csrrc}
 use Rattle.rv_model.specs.declared.instructions.operations.CsrImmediateOp.TheVariants.{Csrrwi, Csrrsi, Csrrci}
-use Rattle.rv_model.specs.instructions.BitFields.{flag_bit}
+use Rattle.rv_model.specs.instructions.FixedBits.{flag_bit}
 use Rattle.rv_model.specs.vector.RoundingModes.{rounding_number, rounding_mode}
 use Rattle.rv_model.specs.vector.TypeRules.{vtype_number}
 

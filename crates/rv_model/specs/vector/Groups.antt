@@ -1,13 +1,105 @@
--- The groups of registers that instructions use beside those of the vector type ("V" Vector Extension 1.0, sections 5.2, 7.3, 7.9, 10.2,
--- 11.3, 16.4 and 16.6). Which instructions are legal and what they leave are both said of these.
-use Rattle.std.specs.Prelude.{ℕ, ◌*◌, ◌/◌}
+-- Element widths, groups, the vector length and the vector type for VLEN 256 and ELEN 64; the registers of a group as parts of the list of all
+-- registers' bytes; and the groups that instructions use beside those of the vector type ("V" Vector Extension 1.0, sections 3.1, 3.4, 3.4.2,
+-- 3.5, 5.2, 7.3, 7.9, 10.2, 11.3, 16.4 and 16.6). Which instructions are legal and what they leave are both said of these.
+use Rattle.std.specs.Prelude.{ℕ, ◌*◌, ◌/◌, ◌≡◌, ◌≤◌, Option, None, MatchOption, List, max}
 use Rattle.std.specs.Int.{Width, w8, w16, w32, w64, w128}
 use mir.Val.{bits}
-use Rattle.rv_model.specs.instructions.Types.{ExtendOp, RegisterCount, Eew}
+use Rattle.rv_model.specs.instructions.Types.{Eew, ExtendOp, RegisterCount}
+use Rattle.rv_model.specs.declared.instructions.operations.Eew.TheVariants as width
+use Rattle.rv_model.specs.vector.Types.{VLEN, Sew, E8, E16, E32, E64, Lmul, Mf8, Mf4, Mf2, M1, M2, M4, M8, VType, VLENB}
+use Rattle.std.specs.Simd.Lanes.{chunk, put_chunk}
 use Rattle.rv_model.specs.declared.instructions.operations.ExtendOp.TheVariants.{VzextVf8, VsextVf8, VzextVf4, VsextVf4}
 use Rattle.rv_model.specs.declared.instructions.operations.RegisterCount.TheVariants.{One, Two, Four, Eight}
-use Rattle.rv_model.specs.vector.Types.{VType}
-use Rattle.rv_model.specs.vector.Configuration.{GroupType, element_width, group_type, sew_width}
+
+-- ---- element widths
+
+-- the width of an element
+abbrev pub sew_width : Sew → Width
+sew_width E8 = w8
+sew_width E16 = w16
+sew_width E32 = w32
+sew_width E64 = w64
+
+-- in bits
+abbrev pub sew_bits : Sew → ℕ
+sew_bits sew = bits (sew_width sew)
+
+-- the bytes of an element of a width
+abbrev pub width_bytes : Width → ℕ
+width_bytes w = bits w / 8
+
+-- the element width that a load or store names
+abbrev pub element_width : Eew → Sew
+element_width width.E8 = E8
+element_width width.E16 = E16
+element_width width.E32 = E32
+element_width width.E64 = E64
+
+-- ---- groups, length and type
+
+-- the group multiplier in eighths of a register
+abbrev pub lmul_eighths : Lmul → ℕ
+lmul_eighths Mf8 = 1
+lmul_eighths Mf4 = 2
+lmul_eighths Mf2 = 4
+lmul_eighths M1 = 8
+lmul_eighths M2 = 16
+lmul_eighths M4 = 32
+lmul_eighths M8 = 64
+
+-- what a group of registers holds: elements of a width, EEW; and its multiplier, EMUL, in eighths of a register
+pub record GroupType : Type 0 where
+  pub width : Width
+  pub emul : ℕ
+
+-- groups of the vector type: SEW and LMUL
+abbrev pub group_type : VType → GroupType
+group_type t = record { width = sew_width t.sew; emul = lmul_eighths t.lmul }
+
+-- how many elements a group has: EMUL x VLEN / EEW, bits divided by bits
+abbrev pub element_count : GroupType → ℕ
+element_count g = g.emul * VLEN / (8 * bits g.width)
+
+-- VLMAX
+abbrev pub vlmax : VType → ℕ
+vlmax t = element_count (group_type t)
+
+-- SEW is at most LMUL x ELEN; `supported_type` of `TypeRules` is the same as a test
+abbrev pub IsSupported : VType → Type 0
+IsSupported t = sew_bits t.sew ≤ lmul_eighths t.lmul * 8
+
+-- vl and vtype; no vector type is vill alone
+pub record Configuration : Type 0 where
+  pub vl : ℕ
+  pub vtype : Option VType
+
+-- where vill is set the length is 0; else the type is supported, and the length at most VLMAX
+abbrev pub IsConfiguration : Configuration → Type 0
+IsConfiguration c = MatchOption c.vtype (c.vl ≡ 0) (λ t. IsSupported t × (c.vl ≤ vlmax t))
+
+-- before any vector instruction: vill, and no elements
+abbrev pub initial_configuration : Configuration
+initial_configuration = record { vl = 0; vtype = None }
+
+-- how many registers a group of this multiplier takes, in eighths of a register; one below 1 takes a register
+abbrev pub registers : ℕ → ℕ
+registers emul = max 1 (emul / 8)
+
+-- the bytes of the registers of a group
+abbrev pub group_of : List ℕ → ℕ → ℕ → List ℕ
+group_of file first emul = chunk (VLENB * first) (VLENB * registers emul) file
+
+-- all registers, with the bytes from register `first` on replaced
+abbrev pub with_group : List ℕ → ℕ → List ℕ → List ℕ
+with_group file first bytes = put_chunk (VLENB * first) file bytes
+
+-- the bytes of one register: a group of multiplier 1
+unfoldable pub register_of : List ℕ → ℕ → List ℕ
+register_of file r = group_of file r 8
+
+-- all registers, with the bytes of one replaced
+unfoldable pub with_register_bytes : ℕ → List ℕ → List ℕ → List ℕ
+with_register_bytes r bytes file = with_group file r bytes
 
 -- groups of as many elements of another width: EMUL = EEW / SEW x LMUL
 abbrev pub with_width : Width → GroupType → GroupType

@@ -2,7 +2,7 @@
 use Rattle.std.specs.Prelude.{ℕ, List, replicate, false}
 use Rattle.rv_model.specs.vector.Types.{NearestUp, FILE_BYTES}
 use Rattle.rv_model.specs.declared.vector.state.VState.{VState}
-use Rattle.rv_model.specs.vector.Configuration.{initial_configuration}
+use Rattle.rv_model.specs.vector.Groups.{initial_configuration}
 
 -- all registers, in order, all zero
 unfoldable pub zero_file : List ℕ

@@ -8,8 +8,8 @@ use Rattle.rv_model.specs.vector.Types.{Sew, E8, E16, E32, E64, Lmul, Mf8, Mf4, 
 use Rattle.rv_model.specs.declared.vector.request.RequestedLength.{RequestedLength}
 use Rattle.rv_model.specs.declared.vector.request.RequestedLength.TheVariants.{Elements, Maximum, Keep}
 use Rattle.rv_model.specs.declared.vector.request.VectorRequest.{VectorRequest}
-use Rattle.rv_model.specs.instructions.BitFields.{field, flag_bit}
-use Rattle.rv_model.specs.vector.Configuration.{sew_bits, lmul_eighths, vlmax, Configuration, initial_configuration}
+use Rattle.rv_model.specs.instructions.FixedBits.{field, flag_bit}
+use Rattle.rv_model.specs.vector.Groups.{sew_bits, lmul_eighths, vlmax, Configuration, initial_configuration}
 
 -- vsew, bits 5 to 3
 abbrev pub sew_number : Sew → ℕ

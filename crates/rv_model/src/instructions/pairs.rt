@@ -1,7 +1,6 @@
 //! Vector operations with a second operand of a form that the manual's table allows them.
 ghost use Rattle.std.specs.Prelude.{◌≡◌, true};
-ghost use Rattle.rv_model.specs.instructions.Operations.{has_form, line, carry_line};
-ghost use Rattle.rv_model.specs.instructions.Sources.{form_of};
+ghost use Rattle.rv_model.specs.instructions.Operations.{has_form, line, carry_line, form_of};
 
 use crate::instructions::operations::{CarryOp, VectorOp};
 use crate::instructions::source::Source;
@@ -18,8 +17,7 @@ impl Model for Arith {
     ghost use Rattle.std.specs.Prelude.{◌≡◌, true};
     ghost use Rattle.rv_model.specs.declared.instructions.operations.VectorOp.{VectorOp};
     ghost use Rattle.rv_model.specs.declared.instructions.source.Source.{Source};
-    ghost use Rattle.rv_model.specs.instructions.Operations.{has_form, line};
-    ghost use Rattle.rv_model.specs.instructions.Sources.{form_of};
+    ghost use Rattle.rv_model.specs.instructions.Operations.{has_form, line, form_of, carry_line};
 
     ghost Value = { VectorOp × Source };
 
@@ -59,8 +57,6 @@ impl Model for Carry {
     ghost use Rattle.std.specs.Prelude.{◌≡◌, true};
     ghost use Rattle.rv_model.specs.declared.instructions.operations.CarryOp.{CarryOp};
     ghost use Rattle.rv_model.specs.declared.instructions.source.Source.{Source};
-    ghost use Rattle.rv_model.specs.instructions.Operations.{has_form, carry_line};
-    ghost use Rattle.rv_model.specs.instructions.Sources.{form_of};
 
     ghost Value = { CarryOp × Source };
 

@@ -1,6 +1,6 @@
 //! The bits of a word.
 ghost use Rattle.std.specs.Prelude.{◌≡◌, ◌<◌, ◌^◌};
-ghost use Rattle.rv_model.specs.instructions.BitFields.{field};
+ghost use Rattle.rv_model.specs.instructions.FixedBits.{field};
 
 /// The `len` bits of a word from bit `low` up.
 pub fn bits(word: u32, low: u32, len: u32) -> u32

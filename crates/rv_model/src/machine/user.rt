@@ -1,6 +1,6 @@
 //! The users of the monitor.
 ghost use Rattle.std.specs.Prelude.{◌≡◌, ◌≤◌, ◌+◌, ◌-◌, ◌<◌, IfSome, IsSome, ◌↔◌};
-ghost use Rattle.rv_model.specs.machine.Users.{user_count};
+ghost use Rattle.rv_model.specs.machine.Setup.{user_count};
 
 use std::marker::Model;
 
@@ -15,7 +15,7 @@ pub struct User {
 
 impl Model for User {
     ghost use Rattle.std.specs.Prelude.{ℕ, ◌≤◌};
-    ghost use Rattle.rv_model.specs.machine.Users.{user_count};
+    ghost use Rattle.rv_model.specs.machine.Setup.{user_count};
 
     ghost Value = { ℕ };
 

@@ -7,9 +7,8 @@ ghost use Rattle.rv_model.specs.declared.vector.state.VState.{VState};
 ghost use Rattle.rv_model.specs.accesses.Restarts.{AccessLeavesOff, AccessesGoOn, LargerLimitIsSame, LaterIndicesStay};
 ghost use Rattle.rv_model.specs.accesses.Restarts.{OverlayIsEither, OverlayOfGrown, access_from};
 ghost use Rattle.rv_model.specs.step.Resumes.{InstructionsGoOn, StepsGoOn};
-ghost use Rattle.rv_model.specs.step.Step.{fetched, step};
+ghost use Rattle.rv_model.specs.step.Step.{fetched, step, vector_step};
 ghost use Rattle.rv_model.specs.step.Ticks.{ScalarStepsTakeOneTick, TakesTicks};
-ghost use Rattle.rv_model.specs.step.VectorStep.{vector_step};
 
 /// A legal vector load or store that is cut or faults, and is run again, any number of times, while
 /// pages may be mapped and filled in between, does what the whole one would with these pages there

@@ -27,7 +27,7 @@ impl Model for VFile {
 
 impl VFile {
     ghost use Rattle.rv_model.specs.lending.Files.{LendsFilePart};
-    ghost use Rattle.rv_model.specs.vector.Registers.{register_of, with_register_bytes};
+    ghost use Rattle.rv_model.specs.vector.Groups.{register_of, with_register_bytes};
     ghost use Rattle.rv_model.specs.vector.State.{zero_file};
 
     /// All registers zero.

@@ -13,7 +13,7 @@ pub struct VConf {
 }
 
 impl Model for VConf {
-    ghost use Rattle.rv_model.specs.vector.Configuration.{Configuration, IsConfiguration};
+    ghost use Rattle.rv_model.specs.vector.Groups.{Configuration, IsConfiguration};
 
     ghost Value = { Configuration };
 
@@ -26,7 +26,7 @@ impl Model for VConf {
 
 impl VConf {
     ghost use Rattle.std.specs.Prelude.{◌≡◌, ◌≤◌, IfSome};
-    ghost use Rattle.rv_model.specs.vector.Configuration.{initial_configuration, IsConfiguration, IsSupported, vlmax};
+    ghost use Rattle.rv_model.specs.vector.Groups.{initial_configuration, IsConfiguration, IsSupported, vlmax};
 
     /// `vill` alone, with a length of 0.
     pub fn vill() -> VConf

@@ -1,7 +1,7 @@
 use Rattle.std.proofs.Common.{◌≡◌, true, ◌≤◌, ◌/◌, ◌%◌, ◌^◌, ap, ◌∙◌, refl, arith}
 use Rattle.std.proofs.lemmas.Nat.Bits.{bit_at-zero, bit_at_ones}
 use Rattle.std.specs.Int.{byte_at}
-use Rattle.rv_model.specs.vector.Configuration.{width_bytes}
+use Rattle.rv_model.specs.vector.Groups.{width_bytes}
 use Rattle.rv_model.proofs.element_lemmas.Widths.{bytes_positive}
 use Rattle.lane_arith.proofs.ChunkWrites.{few_in_chunk, merged_byte}
 use Rattle.lane_arith.proofs.chunk.merged.Goals as goal

@@ -1,6 +1,6 @@
 use Rattle.std.proofs.Common.{ℕ, ◌+◌, ◌*◌, ◌%◌, ◌^◌, ◌<◌, ◌≤◌, ◌≡◌, ◌==◌, ◌/◌, Bool, not, sym, ap, ◌∙◌, subst, arith, mod-eq_of_lt}
 use Rattle.std.proofs.Math.Nat.{mul-suc, pow-le-pow_right}
-use Rattle.rv_model.specs.vector.Configuration.{width_bytes}
+use Rattle.rv_model.specs.vector.Groups.{width_bytes}
 use Rattle.lane_arith.proofs.MaskBits.{TellsTo, chunk_ends, place_in_word, shifted_fits, tells_more, word_chunks}
 use Rattle.lane_arith.proofs.mask_results.word_results.Goals as goal
 

@@ -2,7 +2,7 @@ use Rattle.std.proofs.Common.{ℕ, ◌*◌, ◌+◌, ◌<◌, ◌≤◌, arith, 
 use Rattle.std.specs.Int.{bytes_low_first}
 use lib.Lanes.{put_chunk}
 use Rattle.rv_model.specs.elements.Elements.{Body}
-use Rattle.rv_model.specs.vector.Configuration.{width_bytes}
+use Rattle.rv_model.specs.vector.Groups.{width_bytes}
 use Rattle.rv_model.proofs.element_lemmas.Sets.{step_result, step_ones, step_off, body_ends, room_for}
 use Rattle.lane_arith.proofs.results.write_each.Goals as goal
 use Rattle.lane_arith.proofs.results.write_each.Goals.{then-is_enabled, else-is_enabled+then-fill_masked_off, else-is_enabled+else-fill_masked_off}

@@ -2,7 +2,7 @@ use Rattle.std.proofs.Common.{nat_lt, false}
 use mathlib.Core.Bool.{◌&&◌}
 use Rattle.rv_model.specs.elements.Elements.{is_changed, result_or_ones}
 use Rattle.rv_model.specs.lending.Writes.{Writes}
-use Rattle.rv_model.specs.vector.Configuration.{width_bytes}
+use Rattle.rv_model.specs.vector.Groups.{width_bytes}
 use Rattle.rv_model.specs.elements.Formulas.{ones}
 use Rattle.lane_arith.proofs.results.write_each.Given as goal
 

@@ -1,7 +1,7 @@
 use Rattle.std.proofs.Common.{ℕ, Bool, ◌+◌, ◌*◌, ◌≤◌, ◌≡◌, length, sym, arith}
 use Rattle.rv_model.specs.elements.Elements.{Body}
 use Rattle.rv_model.specs.elements.Formulas.{ones}
-use Rattle.rv_model.specs.vector.Configuration.{width_bytes}
+use Rattle.rv_model.specs.vector.Groups.{width_bytes}
 use Rattle.lane_arith.proofs.ChunkWrites.{chunk_more, step_chunk}
 use Rattle.lane_fixed.proofs.SomeActive.{chunk_tells}
 use Rattle.lane_fixed.proofs.saturating_results.write_chunks.Goals as goal

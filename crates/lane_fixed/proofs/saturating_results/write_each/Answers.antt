@@ -2,7 +2,7 @@ use Rattle.std.proofs.Common.{ℕ, Bool, ◌*◌, ◌+◌, ◌<◌, ◌≤◌, �
 use Rattle.std.specs.Int.{bytes_low_first}
 use lib.Lanes.{put_chunk}
 use Rattle.rv_model.specs.elements.Elements.{Body}
-use Rattle.rv_model.specs.vector.Configuration.{width_bytes}
+use Rattle.rv_model.specs.vector.Groups.{width_bytes}
 use Rattle.rv_model.proofs.element_lemmas.Actives.{some_begins, some_ends, some_off, some_step}
 use Rattle.rv_model.proofs.element_lemmas.Sets.{step_result, step_ones, step_off, body_begins, body_ends, room_for}
 use Rattle.lane_fixed.proofs.saturating_results.write_each.Goals as goal

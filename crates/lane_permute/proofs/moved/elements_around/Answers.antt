@@ -1,5 +1,5 @@
 use Rattle.std.proofs.Common.{ℕ, ◌+◌, ◌-◌, ◌*◌, ◌/◌, ◌≤◌, ◌≡◌, get_or, ap, ◌∙◌, arith}
-use Rattle.rv_model.specs.vector.Configuration.{width_bytes}
+use Rattle.rv_model.specs.vector.Groups.{width_bytes}
 use Rattle.rv_model.proofs.element_lemmas.Widths.{whole_bytes}
 use Rattle.lane_permute.proofs.MovedElements.{element_around}
 use Rattle.lane_permute.proofs.moved.elements_around.Goals as goal

@@ -1,6 +1,6 @@
 use Rattle.std.proofs.Common.{ℕ, ◌+◌, ◌-◌, ◌*◌, ◌≤◌, ◌≡◌, min, ap, ◌∙◌, arith}
 use Rattle.rv_model.specs.elements.Elements.{element}
-use Rattle.rv_model.specs.vector.Configuration.{width_bytes}
+use Rattle.rv_model.specs.vector.Groups.{width_bytes}
 use Rattle.lane_permute.proofs.MovedElements.{moved_up_lane}
 use Rattle.lane_permute.proofs.moved.moved_up.Goals as goal
 

@@ -1,6 +1,6 @@
 use Rattle.std.proofs.Common.{◌*◌, min}
 use Rattle.rv_model.specs.elements.Elements.{element}
-use Rattle.rv_model.specs.vector.Configuration.{width_bytes}
+use Rattle.rv_model.specs.vector.Groups.{width_bytes}
 use Rattle.rv_model.proofs.element_lemmas.Packed.{PackedTo}
 use Rattle.lane_permute.proofs.packing.compress.Given as goal
 

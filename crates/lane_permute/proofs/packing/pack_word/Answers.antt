@@ -3,7 +3,7 @@ use Rattle.std.proofs.lemmas.Simd.{length-put_chunk}
 use Rattle.std.specs.Int.{bytes_low_first, trailing_zeros}
 use lib.Lanes.{put_chunk}
 use Rattle.rv_model.specs.elements.Elements.{element}
-use Rattle.rv_model.specs.vector.Configuration.{width_bytes}
+use Rattle.rv_model.specs.vector.Groups.{width_bytes}
 use Rattle.rv_model.proofs.element_lemmas.Packed.{PackedTo, pack_taken, packed_few}
 use Rattle.rv_model.proofs.element_lemmas.Sets.{room_for}
 use Rattle.lane_permute.proofs.PackedBits.{lowest, none_left, passed_many, tells_next}

@@ -2,7 +2,7 @@ use Rattle.std.proofs.Common.{ℕ, List, ◌≤◌, ◌≡◌, length, nat_lt, s
 use Rattle.rv_model.specs.elements.Elements.{element}
 use Rattle.rv_model.specs.elements.PermutationResults.{packed}
 use Rattle.rv_model.specs.lending.Writes.{Writes}
-use Rattle.rv_model.specs.vector.Configuration.{width_bytes}
+use Rattle.rv_model.specs.vector.Groups.{width_bytes}
 use Rattle.rv_model.proofs.element_lemmas.Packed.{PackedTo}
 use Rattle.lane_permute.proofs.PackedBits.{Tells}
 use Rattle.lane_permute.proofs.packing.pack_word.Given as goal

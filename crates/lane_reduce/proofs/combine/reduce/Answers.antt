@@ -1,6 +1,6 @@
 use Rattle.std.proofs.Common.{ℕ, ◌+◌, ◌-◌, ◌≡◌, ◌∙◌, arith, sym}
 use Rattle.rv_model.specs.elements.Elements.{element, is_active}
-use Rattle.rv_model.specs.vector.Configuration.{width_bytes}
+use Rattle.rv_model.specs.vector.Groups.{width_bytes}
 use Rattle.rv_model.proofs.element_lemmas.Ranges.{combined_more, combined_same}
 use Rattle.lane_reduce.proofs.Folds.{fold_beyond}
 use Rattle.lane_reduce.proofs.combine.reduce.Goals as goal

@@ -1,7 +1,7 @@
 use Rattle.std.proofs.Common.{◌≡◌, map}
 use Rattle.std.specs.List.{filter, fold, range_with_len}
 use Rattle.rv_model.specs.elements.Elements.{element, is_active}
-use Rattle.rv_model.specs.vector.Configuration.{width_bytes}
+use Rattle.rv_model.specs.vector.Groups.{width_bytes}
 use Rattle.lane_reduce.proofs.combine.reduce.Given as goal
 
 abbrev pub invariant-loop-i : goal.invariant-loop-i

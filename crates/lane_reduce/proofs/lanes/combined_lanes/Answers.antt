@@ -1,6 +1,6 @@
 use Rattle.std.proofs.Common.{ℕ, ◌+◌, ◌/◌, ◌^◌, ◌<◌, ◌≡◌, sym, ap, ◌∙◌, arith}
 use mir.Val.{bits}
-use Rattle.rv_model.specs.vector.Configuration.{width_bytes}
+use Rattle.rv_model.specs.vector.Groups.{width_bytes}
 use Rattle.lane_arith.proofs.MaskBits.{count_positive}
 use Rattle.lane_reduce.specs.AnyOrder.{AnyOrder, combination, neutral_number, total}
 use Rattle.lane_reduce.proofs.Folds.{halves_combined, total_one}

@@ -1,5 +1,5 @@
 use Rattle.std.proofs.Common.{ℕ, ◌≤◌, ◌≡◌, List, length, replicate, ◌∙◌, arith}
-use Rattle.rv_model.specs.vector.Configuration.{width_bytes}
+use Rattle.rv_model.specs.vector.Groups.{width_bytes}
 use Rattle.lane_arith.proofs.MaskBits.{count_positive}
 use Rattle.lane_reduce.proofs.MovedLanes.{stored_element}
 use Rattle.lane_reduce.proofs.lanes.first_lane.Goals as goal

@@ -2,7 +2,7 @@ use Rattle.std.proofs.Common.{ℕ, ◌+◌, ◌*◌, ◌^◌, ◌<◌, ◌≡◌
 use Rattle.std.proofs.Math.Nat.{mul-suc, mul-zero}
 use mir.Val.{bits}
 use Rattle.rv_model.specs.elements.Elements.{Body, element, is_active}
-use Rattle.rv_model.specs.vector.Configuration.{width_bytes}
+use Rattle.rv_model.specs.vector.Groups.{width_bytes}
 use Rattle.lane_reduce.specs.AnyOrder.{AnyOrder, combination, neutral_number, total}
 use Rattle.lane_reduce.proofs.Folds.{chunk_combined, total_neutral}
 use Rattle.lane_reduce.proofs.Laws.{any_order}

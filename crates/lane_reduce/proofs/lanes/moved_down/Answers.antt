@@ -1,6 +1,6 @@
 use Rattle.std.proofs.Common.{ℕ, ◌+◌, ◌*◌, ◌/◌, ◌<◌, ◌≤◌, ◌≡◌, List, length, replicate, ap, ◌∙◌, arith}
 use Rattle.rv_model.specs.elements.Elements.{element}
-use Rattle.rv_model.specs.vector.Configuration.{width_bytes}
+use Rattle.rv_model.specs.vector.Groups.{width_bytes}
 use lib.Lanes.{chunk, put_chunk}
 use Rattle.lane_reduce.proofs.MovedLanes.{bytes_in_chunk, moved_element}
 use Rattle.lane_reduce.proofs.lanes.moved_down.Goals as goal

@@ -2,7 +2,7 @@ use Rattle.std.proofs.Common.{ℕ, ◌*◌, ◌%◌, ◌^◌, ◌<◌, ◌≡◌
 use mir.Val.{bits}
 use Rattle.rv_model.specs.elements.Elements.{element, is_active}
 use Rattle.rv_model.specs.elements.Formulas.{formula, wrap}
-use Rattle.rv_model.specs.vector.Configuration.{width_bytes}
+use Rattle.rv_model.specs.vector.Groups.{width_bytes}
 use Rattle.lane_reduce.specs.AnyOrder.{combination, neutral_number, total}
 use Rattle.lane_reduce.proofs.Folds.{fold_total}
 use Rattle.lane_reduce.proofs.Laws.{any_order}

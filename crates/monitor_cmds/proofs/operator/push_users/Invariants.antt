@@ -2,7 +2,7 @@ use Rattle.std.proofs.Common.{◌≡◌, ◌++◌, ◌+◌, ◌-◌, ◌*◌, �
 use Rattle.std.specs.Prelude.{flat_map}
 use Rattle.std.specs.List.{range_with_len}
 use Rattle.rv_model.specs.commands.Operator.{listed_user}
-use Rattle.rv_model.specs.machine.Users.{users}
+use Rattle.rv_model.specs.machine.Setup.{users}
 use Rattle.monitor_cmds.proofs.operator.push_users.Given as goal
 
 abbrev pub invariant-loop-index : goal.invariant-loop-index

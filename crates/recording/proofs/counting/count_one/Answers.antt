@@ -1,6 +1,6 @@
 use Rattle.std.proofs.Common.{ℕ, ap, ◌∙◌, sym, Bool, List}
 use Rattle.rv_model.specs.step.Hart.{HartState}
-use Rattle.rv_model.specs.vector.Configuration.{Configuration}
+use Rattle.rv_model.specs.vector.Groups.{Configuration}
 use Rattle.recording.specs.Classes.{Class, body, is_unmasked, tail_end}
 use Rattle.recording.specs.Machines.{state_of}
 use Rattle.recording.specs.Runs.{carried_out, counted, key_beside}

@@ -1,7 +1,7 @@
 use Rattle.std.proofs.Common.{◌≡◌, ◌<◌, ◌++◌, ℕ, List, length, ap, ◌∙◌, sym, arith, length-append}
 use Rattle.std.proofs.lemmas.Result.{on_ok_weaker}
 use Rattle.rv_model.specs.machine.Script.{whole_from, after_script, after_all, own}
-use Rattle.rv_model.specs.machine.PrivateMachine.{solo}
+use Rattle.rv_model.specs.machine.World.{solo}
 use Rattle.vec_monitor.specs.EndedLines.{ended_lines}
 use Rattle.vec_monitor.specs.MachineState.{MachineState}
 use Rattle.vec_monitor.proofs.Moves.{moved}

@@ -3,7 +3,7 @@ use Rattle.rv_model.specs.elements.Elements.{element, in_range}
 use Rattle.rv_model.specs.elements.Formulas.{ones}
 use Rattle.rv_model.specs.elements.PermutationResults.{packed}
 use Rattle.rv_model.specs.lending.Writes.{Writes}
-use Rattle.rv_model.specs.vector.Configuration.{width_bytes}
+use Rattle.rv_model.specs.vector.Groups.{width_bytes}
 use Rattle.rv_model.proofs.element_lemmas.Packed.{packed_few, packed_then_filled}
 use Rattle.rv_model.proofs.element_lemmas.Widths.{bytes_positive}
 use Rattle.vec_unit.proofs.compress.compress_filled.Goals as goal

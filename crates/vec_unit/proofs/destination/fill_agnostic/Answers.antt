@@ -1,7 +1,6 @@
 use Rattle.std.proofs.Common.{arith, refl}
 use Rattle.rv_model.specs.elements.Formulas.{ones}
-use Rattle.rv_model.specs.vector.Configuration.{width_bytes}
-use Rattle.rv_model.specs.vector.Registers.{registers}
+use Rattle.rv_model.specs.vector.Groups.{width_bytes, registers}
 use Rattle.vec_unit.proofs.MadeResults.{agnostic_filled}
 use Rattle.vec_unit.proofs.destination.fill_agnostic.Goals as goal
 

@@ -1,5 +1,5 @@
 use Rattle.rv_model.specs.step.Hart.{hart_state}
-use Rattle.rv_model.specs.step.VectorStep.{vector_ends}
+use Rattle.rv_model.specs.step.Step.{vector_ends}
 use Rattle.rv_model.proofs.step_lemmas.GoesOn.{instruction_goes_on}
 use Rattle.vec_unit.proofs.execution.exec.Goals as goal
 

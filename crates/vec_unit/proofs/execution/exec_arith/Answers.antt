@@ -1,7 +1,7 @@
 use Rattle.std.proofs.Common.{◌≡◌, true, sym, ◌∙◌}
 use Rattle.rv_model.specs.declared.instructions.instruction.Instr.TheVariants as instr
 use Rattle.rv_model.specs.declared.instructions.vector.VectorInstr.TheVariants.{Arith}
-use Rattle.rv_model.specs.step.VectorStep.{operation_step, performed, vector_executed}
+use Rattle.rv_model.specs.step.Step.{operation_step, performed, vector_executed}
 use Rattle.rv_model.specs.legality.Legality.{is_legal}
 use Rattle.vec_unit.proofs.execution.exec_arith.Goals as goal
 

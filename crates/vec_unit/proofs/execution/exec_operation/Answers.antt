@@ -1,7 +1,7 @@
 use Rattle.std.proofs.Common.{◌≡◌, true, sym, ◌∙◌}
 use Rattle.rv_model.specs.declared.instructions.instruction.Instr.TheVariants as instr
 use Rattle.rv_model.specs.legality.Legality.{is_legal}
-use Rattle.rv_model.specs.step.VectorStep.{performed, vector_executed}
+use Rattle.rv_model.specs.step.Step.{performed, vector_executed}
 use Rattle.vec_unit.proofs.execution.exec_operation.Goals as goal
 
 pub returns-clause-model : goal.returns-clause-model

@@ -1,4 +1,4 @@
-use Rattle.rv_model.specs.step.VectorStep.{operation_step}
+use Rattle.rv_model.specs.step.Step.{operation_step}
 use Rattle.vec_unit.proofs.execution.perform_irregular.Goals as goal
 
 pub returns-in-Extend-clause-model : goal.returns-in-Extend-clause-model

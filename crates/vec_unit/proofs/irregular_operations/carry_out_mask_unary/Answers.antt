@@ -1,7 +1,7 @@
 use Rattle.std.proofs.Common.{ℕ, ◌%◌, ◌^◌, ap, refl, slice_index}
 use mir.Val.{bits}
 use Rattle.rv_model.specs.elements.Arithmetic.{body_of, fills_masked_off, fills_tail, iota_result}
-use Rattle.rv_model.specs.vector.Configuration.{GroupType, group_type}
+use Rattle.rv_model.specs.vector.Groups.{GroupType, group_type}
 use Rattle.rv_model.specs.elements.Elements.{Body}
 use Rattle.rv_model.proofs.element_lemmas.Arithmetic.{results_same}
 use Rattle.vec_unit.proofs.irregular_operations.carry_out_mask_unary.Goals as goal

@@ -1,5 +1,5 @@
 use Rattle.std.proofs.Common.{◌∙◌, List, ap, refl, ℕ}
-use Rattle.rv_model.specs.vector.Registers.{register_of, with_group}
+use Rattle.rv_model.specs.vector.Groups.{register_of, with_group}
 use Rattle.rv_model.proofs.element_lemmas.Arithmetic.{mask_results_are}
 use Rattle.vec_unit.proofs.mask_wise.set_mask.Goals as goal
 

@@ -2,7 +2,7 @@ use Rattle.std.proofs.Common.{◌≡◌, true, sym, ◌∙◌}
 use Rattle.rv_model.specs.declared.instructions.instruction.Instr.TheVariants as instr
 use Rattle.rv_model.specs.declared.vector.policy.Policy.TheVariants.{Keep}
 use Rattle.rv_model.specs.legality.Legality.{is_legal}
-use Rattle.rv_model.specs.step.VectorStep.{vector_executed}
+use Rattle.rv_model.specs.step.Step.{vector_executed}
 use Rattle.vec_unit.proofs.AccessSteps.{keeps}
 use Rattle.vec_unit.proofs.memory_instructions.exec_access.Goals as goal
 

@@ -1,7 +1,7 @@
 use Rattle.std.proofs.Common.{◌≡◌, true, sym, ap, ◌∙◌, inl, inr}
 use Rattle.rv_model.specs.declared.instructions.instruction.Instr.TheVariants as instr
 use Rattle.rv_model.specs.legality.Legality.{is_legal}
-use Rattle.rv_model.specs.step.VectorStep.{vector_executed}
+use Rattle.rv_model.specs.step.Step.{vector_executed}
 use Rattle.vec_unit.specs.MemoryInstructions.{filled_by, is_unmasked, nothing, tail_fields}
 use Rattle.vec_unit.proofs.AccessSteps.{fills_nothing}
 use Rattle.vec_unit.proofs.memory_instructions.exec_other_access.Goals as goal

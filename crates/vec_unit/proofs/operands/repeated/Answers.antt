@@ -1,6 +1,6 @@
 use Rattle.std.proofs.Common.{ℕ, ◌*◌, ◌+◌, ◌^◌, ◌%◌, ◌≤◌, ◌∙◌, ap, arith}
 use Rattle.rv_model.specs.elements.Elements.{in_range}
-use Rattle.rv_model.specs.vector.Configuration.{width_bytes}
+use Rattle.rv_model.specs.vector.Groups.{width_bytes}
 use Rattle.rv_model.proofs.element_lemmas.Reads.{low_bits_fit}
 use Rattle.rv_model.proofs.element_lemmas.Sets.{inside_range, room_for}
 use Rattle.rv_model.proofs.element_lemmas.Writes.{written_element}

@@ -1,7 +1,7 @@
 use Rattle.std.proofs.Common.{◌∙◌, ◌≡◌, ◌||◌, ℕ, Bool, List, ap}
 use Rattle.rv_model.specs.elements.Arithmetic.{body_of, fills_masked_off, fills_tail, with_results}
 use Rattle.rv_model.specs.elements.Elements.{Body, some_active}
-use Rattle.rv_model.specs.vector.Configuration.{GroupType}
+use Rattle.rv_model.specs.vector.Groups.{GroupType}
 use Rattle.vec_unit.proofs.MadeResults.{made_results}
 use Rattle.vec_unit.specs.declared.destination.Agnostic.{Agnostic}
 use Rattle.vec_unit.proofs.saturating.carry_out.Goals.{then-state, else-state}

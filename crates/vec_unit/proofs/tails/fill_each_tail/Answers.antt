@@ -1,6 +1,5 @@
 use Rattle.std.proofs.Common.{◌≡◌, ◌+◌, ◌*◌, arith, sym}
-use Rattle.rv_model.specs.vector.Configuration.{GroupType}
-use Rattle.rv_model.specs.vector.Registers.{registers}
+use Rattle.rv_model.specs.vector.Groups.{GroupType, registers}
 use Rattle.rv_model.proofs.element_lemmas.Tails.{no_tail_filled, one_tail_more}
 use Rattle.vec_unit.proofs.tails.fill_each_tail.Goals as goal
 

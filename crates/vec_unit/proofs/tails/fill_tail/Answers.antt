@@ -1,8 +1,7 @@
 use Rattle.std.proofs.Common.{ℕ, ◌≡◌, ◌*◌, length, subst, ap, sym, ◌∙◌}
 use Rattle.rv_model.specs.elements.Elements.{in_range}
 use Rattle.rv_model.specs.lending.Writes.{Writes}
-use Rattle.rv_model.specs.vector.Configuration.{width_bytes}
-use Rattle.rv_model.specs.vector.Registers.{group_of}
+use Rattle.rv_model.specs.vector.Groups.{width_bytes, group_of}
 use Rattle.rv_model.proofs.element_lemmas.Tails.{tail_is_filled}
 use Rattle.vec_unit.proofs.tails.fill_tail.Goals as goal
 

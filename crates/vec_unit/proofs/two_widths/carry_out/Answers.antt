@@ -1,7 +1,7 @@
 use Rattle.std.proofs.Common.{◌∙◌, ℕ, List, ap}
 use Rattle.rv_model.specs.elements.Arithmetic.{fills_masked_off, fills_tail, with_results}
 use Rattle.rv_model.specs.elements.Elements.{Body}
-use Rattle.rv_model.specs.vector.Configuration.{GroupType}
+use Rattle.rv_model.specs.vector.Groups.{GroupType}
 use Rattle.vec_unit.proofs.MadeResults.{made_results}
 use Rattle.vec_unit.specs.declared.destination.Agnostic.{Agnostic}
 use Rattle.vec_unit.proofs.two_widths.carry_out.Goals as goal

@@ -3,7 +3,7 @@ use Rattle.rv_model.specs.declared.instructions.operations.WidenOp.{WidenOp}
 use Rattle.rv_model.specs.declared.instructions.operations.WidenOp.TheVariants.{Vwaddu}
 use Rattle.rv_model.specs.elements.Arithmetic.{second_element, widen_result}
 use Rattle.rv_model.specs.elements.Elements.{Body}
-use Rattle.rv_model.specs.vector.Configuration.{GroupType, width_bytes}
+use Rattle.rv_model.specs.vector.Groups.{GroupType, width_bytes}
 use Rattle.rv_model.specs.elements.Formulas.{ones, widen_formula, wrap}
 use Rattle.vec_unit.proofs.CopiedOperands.{told_second}
 use Rattle.vec_unit.proofs.MadeResults.{active_written}

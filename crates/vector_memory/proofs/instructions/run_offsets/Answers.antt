@@ -1,5 +1,5 @@
 use Rattle.std.proofs.Common.{sym}
-use Rattle.rv_model.specs.vector.Configuration.{group_type}
+use Rattle.rv_model.specs.vector.Groups.{group_type}
 use Rattle.rv_model.proofs.legality_lemmas.Accesses.{indexed_inside}
 use Rattle.vector_memory.proofs.Room.{element_most, segments_room}
 use Rattle.vector_memory.proofs.instructions.run_offsets.Goals as goal

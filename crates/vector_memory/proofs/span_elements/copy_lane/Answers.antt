@@ -3,7 +3,7 @@ use Rattle.std.specs.Int.{bytes_low_first, w8}
 use Rattle.std.specs.Simd.Lanes.{chunk, put_chunk}
 use Rattle.std.proofs.lemmas.List.{take_all}
 use Rattle.std.proofs.lemmas.Simd.{below_from_Fits, chunk-fits, put_chunk_whole}
-use Rattle.rv_model.specs.vector.Configuration.{width_bytes}
+use Rattle.rv_model.specs.vector.Groups.{width_bytes}
 use lib.Lanes.{number_l}
 use Rattle.vector_memory.proofs.Blends.{number_back}
 use Rattle.vector_memory.proofs.span_elements.copy_lane.Goals as goal

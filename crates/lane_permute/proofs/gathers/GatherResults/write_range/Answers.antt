@@ -3,7 +3,7 @@ use Rattle.std.specs.Int.{bytes_low_first}
 use lib.Lanes.{put_chunk}
 use Rattle.rv_model.specs.elements.Elements.{element}
 use Rattle.rv_model.specs.elements.PermutationResults.{gathered}
-use Rattle.rv_model.specs.vector.Configuration.{width_bytes}
+use Rattle.rv_model.specs.vector.Groups.{width_bytes}
 use Rattle.rv_model.proofs.element_lemmas.Sets.{range_step, room_for}
 use Rattle.lane_permute.proofs.gathers.GatherResults.write_range.Goals as goal
 

@@ -3,7 +3,7 @@ use mathlib.Core.Bool.{◌&&◌}
 use Rattle.rv_model.specs.elements.Elements.{element, in_range}
 use Rattle.rv_model.specs.elements.PermutationResults.{gathered}
 use Rattle.rv_model.specs.lending.Writes.{Writes}
-use Rattle.rv_model.specs.vector.Configuration.{width_bytes}
+use Rattle.rv_model.specs.vector.Groups.{width_bytes}
 use Rattle.lane_permute.proofs.gathers.GatherResults.write_range.Given as goal
 
 abbrev pub invariant-loop-i : goal.invariant-loop-i

@@ -1,6 +1,6 @@
 use Rattle.std.proofs.Common.{ℕ, ◌*◌, ◌^◌, ◌-◌, ◌/◌, ◌≤◌, ◌≡◌, List, length, ◌∙◌, arith}
 use Rattle.std.proofs.Math.Nat.{mul-div-le, mul-le-mul_left}
-use Rattle.rv_model.specs.vector.Configuration.{width_bytes}
+use Rattle.rv_model.specs.vector.Groups.{width_bytes}
 use Rattle.rv_model.proofs.element_lemmas.Widths.{whole_bytes}
 use Rattle.lane_permute.proofs.MovedElements.{moved_down_lane}
 use Rattle.lane_permute.proofs.slides.SlideDownResults.chunk_results.Goals as goal

@@ -2,7 +2,7 @@ use Rattle.std.proofs.Common.{ℕ, List, ◌+◌, ◌-◌, ◌^◌, ◌<◌, ◌
 use Rattle.std.proofs.Math.Nat.{zero-mod}
 use Rattle.rv_model.specs.elements.Elements.{element}
 use Rattle.rv_model.specs.elements.PermutationResults.{gathered}
-use Rattle.rv_model.specs.vector.Configuration.{width_bytes}
+use Rattle.rv_model.specs.vector.Groups.{width_bytes}
 use Rattle.lane_permute.proofs.Blocks.{then_filled}
 use Rattle.lane_permute.proofs.slides.SlideDownResults.write_range.Goals as goal
 

@@ -1,6 +1,6 @@
 use Rattle.std.proofs.Common.{ℕ, ◌+◌, ◌-◌, ◌*◌, cond, ap, ◌∙◌}
 use Rattle.rv_model.specs.elements.Elements.{element}
-use Rattle.rv_model.specs.vector.Configuration.{width_bytes}
+use Rattle.rv_model.specs.vector.Groups.{width_bytes}
 use Rattle.lane_permute.proofs.MovedElements.{is_first}
 use Rattle.lane_permute.proofs.slides.SlideOneUpResults.chunk_results.Goals as goal
 

@@ -1,6 +1,6 @@
 use Rattle.std.proofs.Common.{ℕ, ◌+◌, ◌*◌, ◌∙◌}
 use Rattle.rv_model.specs.elements.Elements.{element}
-use Rattle.rv_model.specs.vector.Configuration.{width_bytes}
+use Rattle.rv_model.specs.vector.Groups.{width_bytes}
 use Rattle.lane_permute.proofs.MovedElements.{first_before}
 use Rattle.lane_permute.proofs.slides.SlideUpResults.chunk_results.Goals as goal
 

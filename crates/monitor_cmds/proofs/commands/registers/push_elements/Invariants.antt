@@ -2,7 +2,7 @@ use Rattle.std.proofs.Common.{◌≡◌, ◌++◌, ◌+◌, ◌-◌, ◌*◌, �
 use Rattle.std.specs.Prelude.{flat_map}
 use Rattle.std.specs.List.{range_with_len}
 use Rattle.rv_model.specs.commands.Registers.{element_text}
-use Rattle.rv_model.specs.vector.Configuration.{sew_bits}
+use Rattle.rv_model.specs.vector.Groups.{sew_bits}
 use Rattle.monitor_cmds.proofs.commands.registers.push_elements.Given as goal
 
 abbrev pub invariant-loop-index : goal.invariant-loop-index

@@ -1,6 +1,6 @@
 use Rattle.std.proofs.Common.{◌≡◌, ℕ, suc, ◌+◌, ◌-◌, List, ◌++◌, length, length-set, ap, ◌∙◌, sym, arith, append-nil}
 use Rattle.rv_model.specs.machine.Grants.{granted}
-use Rattle.rv_model.specs.machine.PrivateMachine.{sliced}
+use Rattle.rv_model.specs.machine.World.{sliced}
 use Rattle.rv_model.specs.machine.Script.{World, Happening, after_events, told_by, user_machine}
 use Rattle.rv_model.specs.machine.Setup.{Setup}
 use Rattle.rv_model.specs.text.Lines.{text}

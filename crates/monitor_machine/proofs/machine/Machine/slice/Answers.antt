@@ -1,5 +1,5 @@
 use Rattle.std.proofs.Common.{◌+◌, ◌++◌, List, [], ℕ, ap, subst, ◌∙◌, sym}
-use Rattle.rv_model.specs.machine.PrivateMachine.{Outcome, sliced}
+use Rattle.rv_model.specs.machine.World.{Outcome, sliced}
 use Rattle.rv_model.specs.machine.Script.{World, user_machine}
 use Rattle.rv_model.specs.text.Lines.{text}
 use Rattle.monitor_machine.specs.MachineState.{MachineState, SliceGoesOn}

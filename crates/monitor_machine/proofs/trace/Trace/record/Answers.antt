@@ -1,6 +1,6 @@
 use Rattle.std.proofs.Common.{subst, ℕ, ap, ◌∙◌, ◌≡◌, ◌++◌}
 use Rattle.circular_buffer.specs.Buffer.{keep_last}
-use Rattle.rv_model.specs.machine.Runs.{recorded}
+use Rattle.rv_model.specs.machine.UserMachine.{recorded}
 use Rattle.monitor_machine.proofs.TraceLaws.{recorded_last}
 use Rattle.monitor_machine.proofs.trace.Trace.record.Goals as goal
 

@@ -1,7 +1,7 @@
 use Rattle.std.proofs.Common.{◌+◌, ◌-◌, ◌≤◌, ℕ, length, get_or-set_same, ap, refl, subst, ◌++◌, ◌∙◌, sym, arith, None}
 use Rattle.rv_model.specs.machine.Cuts.{IsConfigured}
 use Rattle.rv_model.specs.machine.Grants.{runs}
-use Rattle.rv_model.specs.machine.PrivateMachine.{sliced}
+use Rattle.rv_model.specs.machine.World.{sliced}
 use Rattle.rv_model.specs.machine.UserMachine.{Private}
 use Rattle.rv_model.specs.machine.Script.{World, user_machine}
 use Rattle.rv_model.specs.machine.VectorUnit.{unit_after_uses}

@@ -13,7 +13,7 @@ use Rattle.rv_model.specs.commands.Reading.{one_argument, two_arguments}
 use Rattle.rv_model.specs.commands.Registers.{vcsr_line, register_command}
 use Rattle.rv_model.specs.commands.Running.{running_line, stopped_line, state_line, trace_line, running_command}
 use Rattle.rv_model.specs.machine.Grants.{next_user, granted}
-use Rattle.rv_model.specs.machine.PrivateMachine.{event, sliced}
+use Rattle.rv_model.specs.machine.World.{event, sliced}
 use Rattle.rv_model.specs.machine.Script.{common, kind_of, new_world, told, whole_from, world_after}
 use Rattle.rv_model.specs.scalar.Registers.{initial_scalar}
 use Rattle.rv_model.specs.vector.State.{initial_vector}

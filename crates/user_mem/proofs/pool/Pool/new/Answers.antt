@@ -1,6 +1,6 @@
 use Rattle.std.proofs.Common.{map, sym, subst}
 use Rattle.std.proofs.lemmas.List.{get_or-replicate}
-use Rattle.rv_model.specs.machine.Users.{user_count}
+use Rattle.rv_model.specs.machine.Setup.{user_count}
 use Rattle.user_mem.specs.Pool.{table_at}
 use Rattle.user_mem.specs.Translations.{Translates}
 use Rattle.user_mem.proofs.ViewLaws.{fresh_pool, fresh_memories}

@@ -1,6 +1,6 @@
 use Rattle.std.proofs.Common.{◌∙◌, ap, arith}
 use Rattle.rv_model.specs.elements.Arithmetic.{binary_result, second_element}
-use Rattle.rv_model.specs.vector.Configuration.{GroupType}
+use Rattle.rv_model.specs.vector.Groups.{GroupType}
 use Rattle.rv_model.specs.elements.Formulas.{formula, has_unsigned_immediate, wrap}
 use Rattle.rv_model.proofs.element_lemmas.Arithmetic.{results_same}
 use Rattle.vec_unit.proofs.CopiedOperands.{two_operands}

@@ -1,9 +1,8 @@
 use Rattle.std.proofs.Common.{ℕ, ◌≡◌, ◌*◌, ◌<◌, List, length, false, arith}
-use Rattle.rv_model.specs.vector.Configuration.{GroupType, width_bytes}
+use Rattle.rv_model.specs.vector.Groups.{GroupType, width_bytes, registers}
 use Rattle.rv_model.specs.elements.Elements.{is_changed, result_or_ones}
 use Rattle.rv_model.specs.elements.Formulas.{ones}
 use Rattle.rv_model.specs.lending.Writes.{Writes}
-use Rattle.rv_model.specs.vector.Registers.{registers}
 use Rattle.rv_model.proofs.element_lemmas.Widths.{bytes_positive}
 use Rattle.vec_unit.proofs.WrittenGroups.{all_bytes, all_covered, all_put, covered, few_elements, turned_results, within}
 use Rattle.vec_unit.specs.InTurn.{number_from, test_from, turn_result}

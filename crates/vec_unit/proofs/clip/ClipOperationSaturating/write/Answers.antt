@@ -1,6 +1,6 @@
 use Rattle.std.proofs.Common.{◌∙◌, arith, true}
 use Rattle.rv_model.specs.elements.Arithmetic.{clip_result, clip_saturates_at, second_element}
-use Rattle.rv_model.specs.vector.Configuration.{GroupType, width_bytes}
+use Rattle.rv_model.specs.vector.Groups.{GroupType, width_bytes}
 use Rattle.rv_model.specs.elements.FixedPoint.{clip_formula, clip_saturates}
 use Rattle.rv_model.specs.elements.Formulas.{ones, wrap}
 use Rattle.rv_model.proofs.element_lemmas.Actives.{some_same}

@@ -3,8 +3,7 @@ use Rattle.std.specs.Prelude.{◌&&◌, not}
 use Rattle.rv_model.specs.elements.Arithmetic.{carry_out_result, second_element}
 use Rattle.rv_model.specs.elements.Elements.{is_active, mask_bit}
 use Rattle.rv_model.specs.elements.Formulas.{carry_out_formula}
-use Rattle.rv_model.specs.vector.Configuration.{GroupType}
-use Rattle.rv_model.specs.vector.Registers.{register_of}
+use Rattle.rv_model.specs.vector.Groups.{GroupType, register_of}
 use Rattle.rv_model.proofs.element_lemmas.Bits.{same_bits}
 use Rattle.rv_model.proofs.element_lemmas.Sets.{active_end}
 use Rattle.vec_unit.proofs.CopiedOperands.{three_operands}

@@ -2,7 +2,7 @@ use Rattle.std.proofs.Common.{false, ◌∙◌, ap}
 use Rattle.rv_model.specs.elements.Arithmetic.{compare_result, second_element}
 use Rattle.rv_model.specs.elements.Elements.{is_active}
 use Rattle.rv_model.specs.elements.Formulas.{compare_formula}
-use Rattle.rv_model.specs.vector.Configuration.{GroupType}
+use Rattle.rv_model.specs.vector.Groups.{GroupType}
 use Rattle.rv_model.proofs.element_lemmas.Bits.{same_bits}
 use Rattle.vec_unit.proofs.CopiedOperands.{told_second}
 use Rattle.vec_unit.specs.declared.operands.SecondOperand.{SecondOperand}

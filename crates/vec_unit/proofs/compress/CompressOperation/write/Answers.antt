@@ -1,9 +1,8 @@
 use Rattle.std.proofs.Common.{ℕ, List, ◌≡◌, ◌∙◌, ap, Bool}
 use Rattle.rv_model.specs.elements.Arithmetic.{group_element}
-use Rattle.rv_model.specs.vector.Configuration.{GroupType, width_bytes}
+use Rattle.rv_model.specs.vector.Groups.{GroupType, width_bytes, register_of}
 use Rattle.rv_model.specs.elements.Elements.{element}
 use Rattle.rv_model.specs.elements.PermutationResults.{with_packed, packed}
-use Rattle.rv_model.specs.vector.Registers.{register_of}
 use Rattle.rv_model.proofs.element_lemmas.Packed.{packed_are}
 use Rattle.vec_unit.proofs.compress.CompressOperation.write.Goals as goal
 

@@ -1,6 +1,6 @@
 use Rattle.std.proofs.Common.{ℕ, ◌≡◌, ap}
 use Rattle.rv_model.specs.elements.Arithmetic.{extend_result, group_element}
-use Rattle.rv_model.specs.vector.Configuration.{GroupType, width_bytes}
+use Rattle.rv_model.specs.vector.Groups.{GroupType, width_bytes}
 use Rattle.rv_model.specs.elements.Elements.{element}
 use Rattle.rv_model.specs.elements.Formulas.{ones, extend_formula, wrap}
 use Rattle.vec_unit.proofs.MadeResults.{active_written}

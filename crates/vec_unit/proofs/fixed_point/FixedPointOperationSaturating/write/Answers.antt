@@ -1,6 +1,6 @@
 use Rattle.std.proofs.Common.{◌∙◌, ap, arith}
 use Rattle.rv_model.specs.elements.Arithmetic.{fixed_point_result, saturates_at, second_element}
-use Rattle.rv_model.specs.vector.Configuration.{GroupType, width_bytes}
+use Rattle.rv_model.specs.vector.Groups.{GroupType, width_bytes}
 use Rattle.rv_model.specs.elements.FixedPoint.{fixed_point_formula, has_unsigned_shift, saturates}
 use Rattle.rv_model.specs.elements.Formulas.{ones, wrap}
 use Rattle.rv_model.proofs.element_lemmas.Actives.{some_same}

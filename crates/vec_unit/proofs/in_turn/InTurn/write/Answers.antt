@@ -2,7 +2,7 @@ use Rattle.std.proofs.Common.{ℕ, suc, ◌≡◌, ◌+◌, ◌*◌, ◌%◌, �
 use Rattle.std.proofs.Math.Nat.{mul-le-mul_left, mul-suc}
 use Rattle.rv_model.specs.elements.Elements.{Body, element}
 use Rattle.rv_model.specs.elements.Formulas.{ones}
-use Rattle.rv_model.specs.vector.Configuration.{width_bytes}
+use Rattle.rv_model.specs.vector.Groups.{width_bytes}
 use Rattle.vec_unit.proofs.Turns.{all_done, at_register, one_more, operand, second_operand}
 use Rattle.vec_unit.specs.InTurn.{IsReadFirst, SourceIsReadFirst, second_in, turn_result}
 use mir.Val.{bits}

@@ -1,9 +1,8 @@
 use Rattle.std.proofs.Common.{◌∙◌, ap, arith, false}
 use Rattle.rv_model.specs.elements.Arithmetic.{carry_result, second_element}
-use Rattle.rv_model.specs.vector.Configuration.{GroupType}
+use Rattle.rv_model.specs.vector.Groups.{GroupType, register_of}
 use Rattle.rv_model.specs.elements.Elements.{mask_bit}
 use Rattle.rv_model.specs.elements.Formulas.{carry_formula, wrap}
-use Rattle.rv_model.specs.vector.Registers.{register_of}
 use Rattle.rv_model.proofs.element_lemmas.Arithmetic.{results_same}
 use Rattle.vec_unit.proofs.CopiedOperands.{three_operands}
 use Rattle.vec_unit.specs.declared.operands.SecondOperand.{SecondOperand}

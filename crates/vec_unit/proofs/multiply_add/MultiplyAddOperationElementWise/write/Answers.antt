@@ -1,6 +1,6 @@
 use Rattle.std.proofs.Common.{◌∙◌, ap, arith, false}
 use Rattle.rv_model.specs.elements.Arithmetic.{group_element, multiply_add_result, second_element}
-use Rattle.rv_model.specs.vector.Configuration.{GroupType, width_bytes}
+use Rattle.rv_model.specs.vector.Groups.{GroupType, width_bytes}
 use Rattle.rv_model.specs.elements.Elements.{element}
 use Rattle.rv_model.specs.elements.Formulas.{multiply_add_formula, wrap}
 use Rattle.rv_model.proofs.element_lemmas.Arithmetic.{results_same}

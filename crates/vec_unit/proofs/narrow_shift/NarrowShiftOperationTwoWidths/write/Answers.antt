@@ -1,6 +1,6 @@
 use Rattle.std.proofs.Common.{true}
 use Rattle.rv_model.specs.elements.Arithmetic.{narrow_shift_result, second_element}
-use Rattle.rv_model.specs.vector.Configuration.{GroupType, width_bytes}
+use Rattle.rv_model.specs.vector.Groups.{GroupType, width_bytes}
 use Rattle.rv_model.specs.elements.Formulas.{ones, narrow_shift_formula, wrap}
 use Rattle.vec_unit.proofs.CopiedOperands.{told_second}
 use Rattle.vec_unit.proofs.MadeResults.{active_written}

@@ -1,6 +1,6 @@
 use Rattle.std.proofs.Common.{arith, false, ◌∙◌, ap}
 use Rattle.rv_model.specs.elements.Arithmetic.{second_element, wide_source_result}
-use Rattle.rv_model.specs.vector.Configuration.{GroupType, width_bytes}
+use Rattle.rv_model.specs.vector.Groups.{GroupType, width_bytes}
 use Rattle.rv_model.specs.elements.Formulas.{ones, wide_source_formula, wrap}
 use Rattle.vec_unit.proofs.CopiedOperands.{two_operands}
 use Rattle.vec_unit.proofs.MadeResults.{active_written}

@@ -1,6 +1,6 @@
 use Rattle.std.proofs.Common.{◌∙◌, ap, arith, false}
 use Rattle.rv_model.specs.elements.Arithmetic.{group_element, second_element, widen_multiply_add_result}
-use Rattle.rv_model.specs.vector.Configuration.{GroupType, width_bytes}
+use Rattle.rv_model.specs.vector.Groups.{GroupType, width_bytes}
 use Rattle.rv_model.specs.elements.Elements.{element}
 use Rattle.rv_model.specs.elements.Formulas.{ones, widen_multiply_add_formula, wrap}
 use Rattle.vec_unit.proofs.CopiedOperands.{three_operands}

@@ -7,7 +7,7 @@ use Rattle.rv_model.specs.declared.vector.sizes.TheConstants.{VLENB}
 use Rattle.rv_model.specs.elements.Elements.{Body, element, is_changed, result_or_ones}
 use Rattle.rv_model.specs.elements.Formulas.{ones}
 use Rattle.rv_model.specs.lending.Writes.{Writes}
-use Rattle.rv_model.specs.vector.Configuration.{width_bytes}
+use Rattle.rv_model.specs.vector.Groups.{width_bytes}
 use Rattle.vector_memory.proofs.Blends.{blend_stored, span_length}
 use Rattle.vector_memory.proofs.SpanMoves.{part_at}
 use Rattle.vector_memory.proofs.spans.Span.write_blend.Goals as goal

@@ -2,7 +2,7 @@ use Rattle.std.proofs.Common.{subst, sym}
 use Rattle.rv_model.specs.declared.instructions.operations.UnitOp.{UnitOp}
 use Rattle.rv_model.specs.declared.instructions.operations.UnitOp.TheVariants as unit
 use Rattle.rv_model.specs.declared.step.memory_end.MemEnd.TheVariants.{Done}
-use Rattle.rv_model.specs.vector.Registers.{register_of}
+use Rattle.rv_model.specs.vector.Groups.{register_of}
 use Rattle.vector_memory.specs.Distances.{moved_by, transfer_run}
 use Rattle.vector_memory.specs.Runs.{RunLeaves}
 use Rattle.vector_memory.proofs.MovedRuns.{load_done, store_done}
