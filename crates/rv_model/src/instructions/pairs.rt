@@ -17,7 +17,7 @@ impl Model for Arith {
     ghost use Rattle.std.specs.Prelude.{◌≡◌, true};
     ghost use Rattle.rv_model.specs.declared.instructions.operations.VectorOp.{VectorOp};
     ghost use Rattle.rv_model.specs.declared.instructions.source.Source.{Source};
-    ghost use Rattle.rv_model.specs.instructions.Operations.{has_form, line, form_of, carry_line};
+    ghost use Rattle.rv_model.specs.instructions.Operations.{has_form, line, form_of};
 
     ghost Value = { VectorOp × Source };
 
@@ -57,6 +57,7 @@ impl Model for Carry {
     ghost use Rattle.std.specs.Prelude.{◌≡◌, true};
     ghost use Rattle.rv_model.specs.declared.instructions.operations.CarryOp.{CarryOp};
     ghost use Rattle.rv_model.specs.declared.instructions.source.Source.{Source};
+    ghost use Rattle.rv_model.specs.instructions.Operations.{has_form, carry_line, form_of};
 
     ghost Value = { CarryOp × Source };
 

@@ -43,7 +43,7 @@ impl VFile {
     }
 
     /// The 32 bytes of a register.
-    #[tactic(auto, unfolding(crate::specs::vector::Registers::register_of))]
+    #[tactic(auto, unfolding(crate::specs::vector::Groups::register_of))]
     pub fn register(&self, register: VReg) -> &[u8]
         ensures value { result.now ≡ register_of self.now register }
         ensures size { length result.now ≡ VLENB }
@@ -53,7 +53,7 @@ impl VFile {
     }
 
     /// Writes the 32 bytes of a register; all others stay.
-    #[tactic(auto, unfolding(crate::specs::vector::Registers::with_register_bytes))]
+    #[tactic(auto, unfolding(crate::specs::vector::Groups::with_register_bytes))]
     pub fn set_register(&mut self, register: VReg, bytes: &RegisterBytes)
         ensures { self.new ≡ with_register_bytes register bytes.now self.old }
     {

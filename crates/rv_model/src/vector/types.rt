@@ -16,7 +16,7 @@ static SEWS: [Sew; 4] = [Sew::E8, Sew::E16, Sew::E32, Sew::E64];
 
 impl Sew {
     ghost use Rattle.std.specs.Prelude.{◌≡◌, ◌<◌, ◌≤◌, IfSome, length};
-    ghost use Rattle.rv_model.specs.vector.Groups.{element_width, sew_bits, lmul_eighths, vlmax, IsSupported};
+    ghost use Rattle.rv_model.specs.vector.Groups.{element_width, sew_bits};
     ghost use Rattle.rv_model.specs.vector.TypeNames.{sew_name, with_name, sews};
     ghost use Rattle.rv_model.specs.vector.TypeRules.{sew_number, sew_with_number};
 
@@ -120,6 +120,7 @@ static LMULS: [Lmul; 7] = [
 
 impl Lmul {
     ghost use Rattle.std.specs.Prelude.{◌≡◌, ◌<◌, ◌≤◌, IfSome, length};
+    ghost use Rattle.rv_model.specs.vector.Groups.{lmul_eighths};
     ghost use Rattle.rv_model.specs.vector.TypeNames.{lmul_name, with_name, lmuls};
     ghost use Rattle.rv_model.specs.vector.TypeRules.{lmul_number, lmul_with_number};
 
@@ -209,6 +210,7 @@ pub struct VType {
 
 impl VType {
     ghost use Rattle.std.specs.Prelude.{◌≡◌, ◌≤◌, ◌↔◌, IsTrue, length};
+    ghost use Rattle.rv_model.specs.vector.Groups.{vlmax, IsSupported};
     ghost use Rattle.rv_model.specs.vector.TypeNames.{mask_name, with_name, policies, tail_name};
 
     /// VLMAX: how many elements a group has, at most 256 (section 3.4.2).
