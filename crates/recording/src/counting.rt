@@ -5,7 +5,8 @@ ghost use Rattle.rv_model.specs.memory.Memory.{can_access};
 ghost use Rattle.rv_model.specs.step.Step.{word_at as word_at_spec};
 ghost use Rattle.recording.specs.Classes.{body, tail_end};
 ghost use Rattle.recording.specs.Machines.{LeadsTo, state_of};
-ghost use Rattle.recording.specs.Runs.{carried_out as carried_out_spec, counted, is_counted, key_beside, once_more, share};
+ghost use Rattle.recording.specs.Runs.{carried_out as carried_out_spec, counted, is_counted};
+ghost use Rattle.recording.specs.Runs.{key_beside, once_more, share};
 ghost use Rattle.recording.specs.Sums.{HasMore, IsRowOf};
 ghost use Rattle.recording.specs.declared.key.Key.{Key};
 

@@ -108,7 +108,8 @@ fn tail_end(class: Class, conf: VConf) -> usize
 #[tactic(auto, using(crate::proofs::Actives::set_are_active))]
 fn active_under(found: &Found, end: usize) -> usize
     requires { end ≤ GROUP_BYTES }
-    ensures { result ≡ active_count (record { unmasked = false; mask = found.now.mask; start = found.now.start; end = end }) }
+    ensures { result
+        ≡ active_count (record { unmasked = false; mask = found.now.mask; start = found.now.start; end = end }) }
 {
     count(
         &Body::new(false, &found.mask, found.start, end),
@@ -119,7 +120,8 @@ fn active_under(found: &Found, end: usize) -> usize
 /// The same without a mask.
 #[tactic(auto, using(crate::proofs::Actives::all_are_active))]
 fn active_of_all(found: &Found, end: usize) -> usize
-    ensures { result ≡ active_count (record { unmasked = true; mask = found.now.mask; start = found.now.start; end = end }) }
+    ensures { result
+        ≡ active_count (record { unmasked = true; mask = found.now.mask; start = found.now.start; end = end }) }
 {
     end.saturating_sub(found.start)
 }
@@ -139,7 +141,8 @@ fn active(found: &Found, conf: VConf) -> usize
     }
 }
 
-/// What is counted of an instruction of so many ticks that found this and left this length and type, if it has elements.
+/// What is counted of an instruction of so many ticks that found this and left this length and type, if it has
+/// elements.
 fn with_elements(found: &Found, conf: VConf, ticks: usize) -> Sums
     ensures { result ≡ carried_out ticks (body found.now.class found.now.mask found.now.start conf)
         (tail_end found.now.class conf) }

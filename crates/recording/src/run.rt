@@ -42,7 +42,8 @@ fn advance<M: UserBytes, K: Sink>(
     rows: &mut [Row],
     sink: &mut K,
 ) -> Result<(StepEnd, usize), CountFault>
-    ensures machine { IfOk result (λ end. Advances (state_of M.memory alone.old) (state_of M.memory alone.new) end.0 end.1) }
+    ensures machine { IfOk result
+        (λ end. Advances (state_of M.memory alone.old) (state_of M.memory alone.new) end.0 end.1) }
     ensures rows { OnOk result (HasMore (share (state_of M.memory alone.old)) rows.old rows.new) }
     ensures output { OnOk result (K.took sink.old (put_out (state_of M.memory alone.old)) sink.new) }
     ensures memory { alone.new.memory ≡ M.with_memory alone.old.memory (M.memory alone.new.memory) }

@@ -4,7 +4,8 @@ ghost use Rattle.std.specs.Prelude.{unwrap_or, nat_eq, bit_and, slice_index};
 ghost use Rattle.std.specs.Str.{bytes_eq};
 ghost use Rattle.rv_model.specs.declared.assembler.mnemonics.TheConstants.{ROW_COUNT};
 ghost use Rattle.rv_asm.specs.Spans.{spans};
-ghost use Rattle.rv_model.specs.lending.NameTable.{fixed_mask, slots_of, row_named, row_of_word, row_at, slots_at, bits_at};
+ghost use Rattle.rv_model.specs.lending.NameTable.{fixed_mask, slots_of, row_named, row_of_word, row_at};
+ghost use Rattle.rv_model.specs.lending.NameTable.{slots_at, bits_at};
 
 use rv_model::assembler::forms::{
     BRANCH, CARRY_IMMEDIATE, CARRY_SCALAR, CARRY_VECTOR, CSR, CSR_IMMEDIATE, ELEMENT_INDEX, Form,
