@@ -1,11 +1,11 @@
 -- A run beside the monitor's steps.
-use Rattle.std.proofs.Common.{◌≡◌, ◌≤◌, ◌-◌, refl, ℕ, suc, zero, Bool, true, false, List, [], ◌++◌, Option, Some, is_none, length, if◌then◌else◌, ap, ◌∙◌, sym, subst, append-nil, append_assoc, flat_map, length-append, arith}
+use Rattle.std.proofs.Common.{◌≡◌, ◌≤◌, ◌-◌, refl, ℕ, suc, zero, Bool, true, false, List, [], ◌∷◌, ◌++◌, Option, Some, is_none, length, if◌then◌else◌, ap, ◌∙◌, sym, subst, append-nil, append_assoc, flat_map, length-append, arith}
 use Rattle.std.specs.Prelude.{not, ◌&&◌}
 use Rattle.rv_model.specs.declared.step.step_end.StepEnd.{StepEnd}
 use Rattle.rv_model.specs.declared.step.step_end.StepEnd.TheVariants.{Ran, Cut}
 use Rattle.rv_model.specs.declared.step.step_end.Stop.{Stop}
 use Rattle.rv_model.specs.declared.step.step_end.Stop.TheVariants as stop
-use Rattle.rv_model.specs.machine.UserMachine.{Halted, after, at_breakpoint, halted, runs_on, steps, stop_of, Present}
+use Rattle.rv_model.specs.machine.UserMachine.{Halted, Tries, after, at_breakpoint, halted, steps, stop_of, Present}
 use Rattle.rv_model.specs.step.Hart.{HartState, Stepped}
 use Rattle.rv_model.specs.step.Step.{step}
 use Rattle.recording.specs.Laws.{RunsAsSteps}
@@ -30,12 +30,23 @@ never_held : (exempt held : Bool) → held ≡ false → (not exempt && held) �
 never_held true held e = refl
 never_held false held e = e
 
+-- what an instruction comes to, after it was tried
+abbrev tried : Present → Halted → Halted
+tried p rest = record rest { uses = Tries 256 p.hart ∷ rest.uses }
+
+-- what one instruction that ended so comes to, before which a breakpoint holds or not, and then the others
+abbrev runs_by : Bool → Present → (Present → Halted) → Stepped → Halted
+runs_by held p others one =
+    let next : Present = after one.end one.state p in
+    if held then halted p (Some stop.Breakpoint)
+    else tried p (if is_none (stop_of one.end) then others next else halted next (stop_of one.end))
+
 -- one instruction with what it comes to, by whether it is held and whether the program goes on
 abbrev hart_by : Bool → Bool → Halted → HartState → HartState → HartState
 hart_by held goes others here next = if held then here else if goes then others.state.hart else next
 
-by_choice : (held goes : Bool) (p next : Present) (others : Present → Halted) (why : Option Stop)
-    → (if held then halted p (Some stop.Breakpoint) else if goes then others next else halted next why).state.hart ≡ hart_by held goes (others next) p.hart next.hart
+by_choice : (held goes : Bool) (p next : Present) (others : Halted) (why : Option Stop)
+    → (if held then halted p (Some stop.Breakpoint) else tried p (if goes then others else halted next why)).state.hart ≡ hart_by held goes others p.hart next.hart
 by_choice true goes p next others why = refl
 by_choice false true p next others why = refl
 by_choice false false p next others why = refl
@@ -48,8 +59,8 @@ module _ (x : HartState) (o : List ℕ) (exempt : Bool) (p : Present) (rest : Ru
   first_is m goes few whether =
       let one : Stepped = step 256 (taken x) in
       let next : Present = after one.end (joined o one).state p in
-      ap (λ (j : Stepped). (runs_on exempt j p (λ q. steps m false q)).state.hart) (ap (λ (h : HartState). step 256 h) at ∙ step_joins o x few)
-      ∙ by_choice (not exempt && at_breakpoint p) (is_none (stop_of one.end)) p next (λ q. steps m false q) (stop_of one.end)
+      ap (λ (j : Stepped). (runs_by (not exempt && at_breakpoint p) p (λ q. steps m false q) j).state.hart) (ap (λ (h : HartState). step 256 h) at ∙ step_joins o x few)
+      ∙ by_choice (not exempt && at_breakpoint p) (is_none (stop_of one.end)) p next (steps m false next) (stop_of one.end)
       ∙ ap (λ (b : Bool). hart_by b (is_none (stop_of one.end)) (steps m false next) p.hart next.hart) (never_held exempt (at_breakpoint p) (none_holds p none))
       ∙ ap (λ (b : Bool). if b then (steps m false next).state.hart else next.hart) whether
       ∙ ap (λ (h : HartState). if goes then (steps m false next).state.hart else h) (after_hart one.end (joined o one).state p)
