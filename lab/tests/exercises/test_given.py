@@ -17,7 +17,7 @@ from vecmon_lab.machine.answers import ScalarRegisters
 from vecmon_lab.tables.table import read_table
 
 COURSE = [name for name, _ in read_table("course")]
-DRAWN, BEGIN = 1000, 0x10000  # inputs of each exercise; where a source begins
+DRAWN, BEGIN = 250, 0x10000  # inputs of each exercise; where a source begins
 
 
 def test_the_course_has_all_exercises_of_the_lab() -> None:
