@@ -28,6 +28,7 @@ WRITTEN = [
     "v10 31:24:19",
     "x11 8",
 ]  # by hand; elements of 32 bits, element 0 last
+BEFORE = "it was left otherwise before:"
 ONES = ":".join(["ffffffff"] * 5)
 
 
@@ -88,22 +89,86 @@ def test_planted_differences(lab: Lab, image: pathlib.Path) -> None:
 
 def test_where_a_log_goes_elsewhere(lab: Lab, image: pathlib.Path) -> None:
     lines = spike_log(image, WRITTEN)
-    odd = "after 2 instructions: the log goes on at 1000c, the machine at 10008"
-    assert told(lab, image, [*lines[:4], *lines[5:]]) == (1, [odd])
+    status, printed = told(lab, image, [*lines[:4], *lines[5:]])
+    assert (
+        status == 1
+        and printed[0] == "instruction 3: 10008: vid.v v8"
+        and printed[2:]
+        == [
+            "carried out here, and the log goes on at 1000c",
+            "not allowed: the standard leaves nothing open here",
+        ]
+    )
+    stopped = told(lab, image, [*lines, "core   0: 3 0x0000000000010018 (0x00100073)"])
+    assert stopped[0] == 1 and stopped[1][2] == "ebreak here, carried out in the log"
     path = image.with_name("log")
     assert told(lab, image, lines[:1]) == (2, [f"vecmon-lab: {path} has no instruction where {image} begins"])
 
 
+def qemu_log(image: pathlib.Path, *properties: str) -> pathlib.Path:
+    """QEMU's log of an image, with more properties of its processor."""
+    log = image.with_name("log")
+    image.chmod(0o755)
+    command: list[object] = [*QEMU[:-1], ",".join([QEMU[-1], *properties]), "-singlestep", "-d", "nochain,cpu", "-D", log, image]
+    subprocess.run([str(word) for word in command], stdout=subprocess.DEVNULL)
+    return log
+
+
 @pytest.mark.usefixtures("qemu")
 def test_a_log_of_qemus(lab: Lab, tmp_path: pathlib.Path) -> None:
-    image, log = tmp_path / "sum", tmp_path / "log"
+    image = tmp_path / "sum"
     shutil.copyfile(SUM, image)
-    image.chmod(0o755)
-    subprocess.run([*QEMU, "-singlestep", "-d", "nochain,cpu", "-D", log, image], check=True, stdout=subprocess.DEVNULL)
-    agreed = b"249 instructions agree, and the log ends\n"
-    assert lab("lockstep", image, log) == (0, agreed, "")
+    log = qemu_log(image)
+    status, output, _ = lab("lockstep", image, log)
+    assert status == 0 and output.startswith(b"250 instructions agree; 112dc _start+0x14c: ecall")
     before, name, after = log.read_text("ascii").partition(" x11/a1   000000000000001a")
     log.write_text(f"{before} x11/a1   000000000000001b{after}", "ascii")
     told = b"instruction 4: 1119c _start+0xc: addi x11, x0, 26\n"
     status, output, _ = lab("lockstep", image, log)
     assert name and status == 1 and output.startswith(told) and b"\nx11: 1a here, 1b in the log\n" in output
+
+
+@pytest.mark.usefixtures("qemu")
+def test_what_a_call_answers_is_the_logs(lab: Lab, program: pathlib.Path, tmp_path: pathlib.Path) -> None:
+    """The number of the process, which the machine doesn't tell."""
+    make_image(program, tmp_path / "image", "li a7, 172\necall\nmv a1, a0\nli a0, 0\nli a7, 93\necall\n")
+    log = qemu_log(tmp_path / "image")
+    status, output, _ = lab("lockstep", tmp_path / "image", log)
+    assert status == 0 and output.startswith(b"6 instructions agree; ")
+
+
+BEGIN = "addi a1, sp, -64\nli t0, 7\nsb t0, 0(a1)\nvsetivli x0, 2, e8, m1, ta, mu\n"
+VSTART = "csrwi vstart, 5\nvadd.vv v8, v8, v8\n"  # QEMU leaves a vstart past the length
+REFUSED = "perhaps allowed: a device may refuse a vstart that it never leaves; here each is taken, and is 0 after the instruction"
+TAIL = "allowed: these elements are tail, and agnostic: each stays or becomes ones"
+
+
+@pytest.mark.usefixtures("qemu")
+@pytest.mark.parametrize(
+    ("source", "differs", "line", "cause", "sentence"),
+    [
+        (f"{VSTART}csrr a2, vstart", 7, "x12: 0 here, 5 in the log", 6, REFUSED),
+        (f"{VSTART}vse8.v v8, (a1)\nlb a2, 0(a1)", 8, "x12: 0 here, 7 in the log", 6, REFUSED),
+        (f"{VSTART}nop\nvmsbf.m v1, v2", 8, "carried out here, the end of the log", 6, REFUSED),
+        ("vid.v v8\nvs1r.v v8, (a1)\nlh a2, 1(a1)", 7, "x12: 1 here, ffffffffffffff01 in the log", 5, TAIL),
+        ("vid.v v8\nvmv1r.v v9, v8\nvsetivli x0, 4, e8, m1, ta, mu\nvredsum.vs v1, v9, v9\nvmv.x.s a2, v1",
+         9, "x12: 1 here, ffffffffffffffff in the log", 5, f"perhaps {TAIL.replace(':', ': some of', 1)}"),
+    ],
+)  # fmt: skip
+def test_what_was_left_otherwise_before(
+    lab: Lab,
+    program: pathlib.Path,
+    tmp_path: pathlib.Path,
+    source: str,
+    differs: int,
+    line: str,
+    cause: int,
+    sentence: str,
+) -> None:
+    """Differences from QEMU, with agnostic elements that become ones: where they are seen, and what left them."""
+    make_image(program, tmp_path / "image", f"{BEGIN}{source}\nebreak\n")
+    log = qemu_log(tmp_path / "image", "rvv_ta_all_1s=true")
+    status, output, _ = lab("lockstep", tmp_path / "image", log)
+    printed = output.decode().splitlines()
+    assert status == 1 and printed[0].startswith(f"instruction {differs}: ") and printed[2:4] == [line, BEFORE]
+    assert printed[4].startswith(f"instruction {cause}: ") and printed[6:] == [sentence]

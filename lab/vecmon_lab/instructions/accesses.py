@@ -31,28 +31,30 @@ def stored_spans(word: int, x: Sequence[int], control: ControlRegisters, v: byte
     x, control, v: the scalar and control registers, and the bytes of all vector registers, before it.
     Elements that are masked off count, and those after one that faults.
     """
-    opcode, base = word & 0x7F, x[word >> 15 & 31]
-    if opcode == STORE:
-        offset = (word >> 25 << 5 | word >> 7 & 31) ^ 0x800
-        return _joined([(base + offset - 0x800, 1 << (word >> 12 & 3))])
-    instruction = vector_instruction(word, control.vtype) if opcode == STORE_FP else None
-    spans = _vector_spans(word, base, x[word >> 20 & 31], control, v, instruction.operands) if instruction else ()
-    return _joined(spans)
+    if word & 0x7F == STORE:
+        return _joined([scalar_span(word, x)])
+    instruction = vector_instruction(word, control.vtype) if word & 0x7F == STORE_FP else None
+    return _joined(vector_spans(word, x, control, v, instruction.operands) if instruction else ())
 
 
-def _vector_spans(
-    word: int, base: int, stride: int, control: ControlRegisters, v: bytes, operands: Sequence[Operand]
+def scalar_span(word: int, x: Sequence[int]) -> Span:
+    """The span that a scalar load or store accesses, by the scalar registers before it."""
+    offset = (word >> 25 << 5 | word >> (7 if word & 0x7F == STORE else 20) & 31) ^ 0x800
+    return (x[word >> 15 & 31] + offset - 0x800) % (1 << 64), 1 << (word >> 12 & 3)
+
+
+def vector_spans(
+    word: int, x: Sequence[int], control: ControlRegisters, v: bytes, operands: Sequence[Operand]
 ) -> Iterator[Span]:
-    """The spans of the elements of a vector store, or of its segments."""
+    """The spans of the elements of a vector load or store, or of its segments, in their order from vstart on."""
+    base, stride = x[word >> 15 & 31], x[word >> 20 & 31]
     data, kind, mode = operands[0], word >> 26 & 3, word >> 20 & 31
+    length, count = data.eew // 8 * ((word >> 29) + 1), control.vl
     if kind == UNIT_STRIDE and mode == WHOLE_REGISTERS:
-        yield base, len(data.registers) * REGISTER_BYTES
-        return
-    if kind == UNIT_STRIDE and mode == MASK:
-        yield base, -(-control.vl // 8)
-        return
-    length = data.eew // 8 * ((word >> 29) + 1)
-    for element in range(control.vstart, control.vl):
+        length, count = data.eew // 8, len(data.registers) * REGISTER_BYTES * 8 // data.eew
+    elif kind == UNIT_STRIDE and mode == MASK:
+        length, count = 1, -(-control.vl // 8)
+    for element in range(control.vstart, count):
         if kind == UNIT_STRIDE:
             yield base + element * length, length
         elif kind == STRIDED:

@@ -4,47 +4,20 @@ import argparse
 import itertools
 import pathlib
 import re
-from collections.abc import Iterable, Iterator
-from dataclasses import dataclass, field
+from collections import deque
+from collections.abc import Iterator, Sequence
 
 from .. import LabError
-from ..guest.changes import Carried, Registers, Stepper, vtype_text
+from ..guest.changes import ECALL, Carried, Stepper, vtype_text
 from ..guest.guest import started
 from ..guest.symbols import Symbols
 from ..instructions.accesses import REGISTER_BYTES, vector_instruction
 from ..machine.answers import elements_in
-from ..runs.counts import elements_of
-from ..tables.table import read_table
+from .logs import Commit, commits
+from .origins import LOOKS_BACK, TELLING, Place, Step, origin
+from .registers import REGISTER_BITS
 
-_COMMIT = re.compile(r"core +\d+: (?:\d+ )?0x([0-9a-f]+) \(0x([0-9a-f]+)\)(.*)")
-_WRITTEN = re.compile(r"\b([xv])(\d+) +0x([0-9a-f]+)")
-_PLACE, _HELD = re.compile(r" pc +([0-9a-f]{16})"), re.compile(r"x(\d+)/\w+ +([0-9a-f]{16})")
 _NUMBER = re.compile(r"\b([xv])(\d+)\b")
-
-
-@dataclass
-class Commit:
-    """An instruction of a log: its address, the registers that it changed or wrote, by their numbers, and its word.
-
-    QEMU tells no word, and then nothing of vector registers either; it tells the stack pointer before each instruction.
-    """
-
-    pc: int
-    word: int | None = None
-    stack: int | None = None
-    x: dict[int, int] = field(default_factory=dict)
-    v: dict[int, bytes] = field(default_factory=dict)
-
-
-@dataclass(frozen=True)
-class Step:
-    """An instruction of the log, the machine's, its registers before and after it, and how far the log's stack lies off."""
-
-    commit: Commit
-    carried: Carried
-    before: Registers
-    after: Registers
-    shift: int
 
 
 def add_arguments(parser: argparse.ArgumentParser) -> None:
@@ -56,22 +29,27 @@ def add_arguments(parser: argparse.ArgumentParser) -> None:
 
 def run(arguments: argparse.Namespace) -> int:
     """Prints the first difference, with status 1; or how many instructions agree. Raises LabError and OSError."""
-    image, symbols, number, shift = arguments.image, Symbols.read(arguments.image), 0, 0
+    image, symbols, steps = arguments.image, Symbols.read(arguments.image), deque[Step](maxlen=LOOKS_BACK)
+    number = shift = 0
     with arguments.log.open(errors="replace") as log, started(image, policy=arguments.policy) as guest:
         stepper = Stepper(guest)
-        for commit in itertools.dropwhile(lambda commit: commit.pc != guest.pc, commits(log)):
-            if commit.pc != guest.pc:
-                print(f"after {number:,} instructions: the log goes on at {commit.pc:x}, the machine at {guest.pc:x}")
-                return 1
+        told = itertools.dropwhile(lambda commit: commit.pc != guest.pc, commits(log))
+        for commit, following in itertools.pairwise(itertools.chain(told, [None])):
+            assert commit
+            if commit.pc != guest.pc:  # Spike tells nothing of what it doesn't carry out
+                commit, following = Commit(guest.pc, commit.word, is_done=False), commit
             before, number = stepper.registers.copy(), number + 1
+            if steps and before.v == steps[-1].before.v:
+                before.v = steps[-1].before.v  # once in memory
             if number == 1 and commit.stack is not None:
                 shift = commit.stack - before.x[2]
-            step = Step(commit, stepper.step(), before, stepper.registers, shift)
-            if lines := list(differences(step)):
-                place = f"{commit.pc:x} {symbols.place(commit.pc)}".rstrip()
-                print(f"instruction {number:,}: {place}: {step.carried.text}", _told(step), sep="\n")
-                print(*lines, *allowed(step), sep="\n")
+            step = Step(number, commit, _carried(stepper, commit), before, stepper.registers, shift)
+            trap = _trap(step, following, guest.pc)
+            if lines := {trap: set[Place]()} if trap else dict(differences(step)):
+                print(*_report([*steps, step], lines, trap is not None, symbols), sep="\n")
                 return 1
+            if step.carried.word & 0x7F in TELLING:
+                steps.append(step)
             if step.carried.stop:
                 print(f"{number:,} instructions agree; {guest.tell(step.carried.stop, symbols.place(guest.pc))}")
                 return 0
@@ -81,45 +59,42 @@ def run(arguments: argparse.Namespace) -> int:
     return 0
 
 
-def commits(lines: Iterable[str]) -> Iterator[Commit]:
-    """The instructions of a log of Spike's or QEMU's."""
-    states: list[Commit] = []  # QEMU's, before an instruction each: the last one and this one
-    for line in lines:
-        if written := _COMMIT.match(line):
-            commit = Commit(int(written[1], 16), int(written[2], 16))
-            for kind, number, digits in _WRITTEN.findall(written[3]):
-                if kind == "x":
-                    commit.x[int(number)] = int(digits, 16)
-                else:
-                    commit.v[int(number)] = int(digits, 16).to_bytes(REGISTER_BYTES, "little")
-            yield commit
-        elif place := _PLACE.match(line):
-            if len(states) == 2:
-                yield _changed(*states)
-            states = [*states[-1:], Commit(int(place[1], 16))]
-        elif states:
-            states[-1].x.update({int(number): int(digits, 16) for number, digits in _HELD.findall(line)})
-    if len(states) == 2:
-        yield _changed(*states)
+def _carried(stepper: Stepper, commit: Commit) -> Carried:
+    """Carries out an instruction. What a call answers is the log's: it is the business of the other device's system."""
+    before, carried = stepper.registers.x[10], stepper.step()
+    if carried.word == ECALL and commit.is_done:
+        stepper.guest.ask(f"set x10 {commit.x.get(10, before):x}")
+        stepper.look()
+    return carried
 
 
-def _changed(before: Commit, after: Commit) -> Commit:
-    """What an instruction changed, by the registers before it and after it."""
-    changed = {number: value for number, value in after.x.items() if value != before.x.get(number)}
-    return Commit(before.pc, stack=before.x.get(2), x=changed)
+def _trap(step: Step, following: Commit | None, pc: int) -> str | None:
+    """How one device refused what the other carried out, if it did: by what the log tells next, and where the machine is then."""
+    commit, stop = step.commit, step.carried.stop
+    if stop:
+        has_gone_on = commit.is_done and (commit.word is not None or following and following.pc == commit.pc + 4)
+        return f"{stop.kind} here, carried out in the log" if has_gone_on and stop.kind != "exit" else None
+    if following is None:
+        return None if commit.is_done else "carried out here, the end of the log"
+    if commit.is_done and (commit.word is not None or following.pc == pc):
+        return None
+    return f"carried out here, and the log goes on at {following.pc:x}"
 
 
-def differences(step: Step) -> Iterator[str]:
-    """What the log tells otherwise than the machine, a line each."""
+def differences(step: Step) -> Iterator[tuple[str, set[Place]]]:
+    """What the log tells otherwise than the machine, a line each, and where it is."""
     commit, before, after = step.commit, step.before, step.after
     if commit.word not in (None, step.carried.word):
-        yield f"word: {step.carried.word:08x} here, {commit.word:08x} in the log"
+        yield f"word: {step.carried.word:08x} here, {commit.word:08x} in the log", set()
     for number in range(1, 32):
         told = commit.x.get(number, before.x[number])
         if told not in (after.x[number], after.x[number] + step.shift):
-            yield f"x{number}: {after.x[number]:x} here, {told:x} in the log"
+            bits = {("x", bit) for bit in range(64) if (told ^ after.x[number]) >> bit & 1}
+            yield f"x{number}: {after.x[number]:x} here, {told:x} in the log", bits
     for number, width, element, here, there in _elements(step):
-        yield f"v{number}.e{width}[{element}]: {here:x} here, {there:x} in the log"
+        first = REGISTER_BITS * number + width * element
+        line = f"v{number}.e{width}[{element}]: {here:x} here, {there:x} in the log"
+        yield line, {("v", bit) for bit in range(first, first + width)}
 
 
 def _elements(step: Step) -> Iterator[tuple[int, int, int, int, int]]:
@@ -133,33 +108,24 @@ def _elements(step: Step) -> Iterator[tuple[int, int, int, int, int]]:
         yield from ((number, width, element, *pair) for element, pair in enumerate(pairs) if pair[0] != pair[1])
 
 
-def allowed(step: Step) -> Iterator[str]:
-    """What the standard allows where a log differs: agnostic elements, or a choice of docs/DECISIONS.md."""
-    word, control = step.carried.word, step.before.control
-    found = elements_of(word, control, bytes(step.before.v[:REGISTER_BYTES]))
-    instruction = vector_instruction(word, control.vtype)
-    kinds, odd = set[str](), list(_elements(step))
-    if found and instruction:
-        target = instruction.operands[0]
-        for number, width, element, _, _ in odd:
-            element += (number - target.registers.start) % target.group * (8 * REGISTER_BYTES // width)
-            kinds.add("active" if element in found.active else "tail" if element >= control.vl else "masked off")
-        agnostic = {"tail": control.vtype >> 6 & 1 or target.eew == 1, "masked off": control.vtype >> 7 & 1}
-        if kinds and all(agnostic.get(kind) for kind in kinds):
-            yield f"allowed: these elements are {' and '.join(sorted(kinds))}, and agnostic: each stays or becomes ones"
-            return
-    for beginning, sentence in read_table("left_open"):
-        if re.match(beginning, step.carried.text):
-            yield f"perhaps allowed: {sentence}"
-            return
-    yield "not allowed: the standard leaves nothing open here"
+def _report(steps: Sequence[Step], lines: dict[str, set[Place]], is_trap: bool, symbols: Symbols) -> Iterator[str]:
+    """The lines of a difference: the instruction, what differs, and where the standard leaves it open, there or before."""
+    yield from _shown(steps[-1], symbols)
+    yield from lines
+    places = set[Place]().union(*lines.values())
+    found = origin(steps, places, is_trap) or origin(steps, places, is_trap, is_part=True)
+    if found and found[0] is not steps[-1]:
+        yield "it was left otherwise before:"
+        yield from _shown(found[0], symbols)
+    yield found[1] if found else "not allowed: the standard leaves nothing open here"
 
 
-def _told(step: Step) -> str:
-    """The control registers before an instruction, and the registers that it names."""
-    control, told = step.before.control, []
+def _shown(step: Step, symbols: Symbols) -> Iterator[str]:
+    """An instruction, and before it the control registers and the registers that it names."""
+    pc, control, told = step.carried.pc, step.before.control, []
+    yield f"instruction {step.number:,}: {f'{pc:x} {symbols.place(pc)}'.rstrip()}: {step.carried.text}"
     for kind, number in dict.fromkeys((kind, int(digits)) for kind, digits in _NUMBER.findall(step.carried.text)):
         data = step.before.v[REGISTER_BYTES * number : REGISTER_BYTES * (number + 1)]
         told.append(f"x{number}={step.before.x[number]:x}" if kind == "x" else f"v{number}={data.hex()}")
     state = f"vl={control.vl} vtype={vtype_text(control.vtype)} vstart={control.vstart} vxrm={control.vxrm}"
-    return " ".join(["before:", state, *told])
+    yield " ".join(["before:", state, *told])

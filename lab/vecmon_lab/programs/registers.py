@@ -15,7 +15,7 @@ SCALARS = range(1, 29)
 
 _TEMPLATE = {8: "vd", 16: "vs2", 24: "vs1"}  # where operands stand while a row is read
 _ACCUMULATES = ("vmacc", "vnmsac", "vmadd", "vnmsub", "vwmacc", "vslideup", "vcompress")  # which read their destination
-_FIRST_ELEMENT = ("vred", "vwred", "vmv.s.x")  # which write element 0 alone
+FIRST_ELEMENT = ("vred", "vwred", "vmv.s.x")  # which write element 0 alone
 _GATHERS = ("vrgather", "vslide")  # which read their source up to VLMAX
 
 
@@ -84,7 +84,7 @@ class Registers:
 
     def write(self, name: str, operand: Operand, control: ControlRegisters, is_masked: bool) -> bool:
         """An instruction writes its destination, which has its registers; whether the standard fixes all of these then."""
-        is_first = name.startswith(_FIRST_ELEMENT)
+        is_first = name.startswith(FIRST_ELEMENT)
         keeps_tail, keeps_masked = not control.vtype >> 6 & 1 and operand.eew > 1, not control.vtype >> 7 & 1
         is_masked = is_masked and not is_first
         if name.startswith("vcompress"):
