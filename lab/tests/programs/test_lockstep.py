@@ -109,7 +109,16 @@ def qemu_log(image: pathlib.Path, *properties: str) -> pathlib.Path:
     """QEMU's log of an image, with more properties of its processor."""
     log = image.with_name("log")
     image.chmod(0o755)
-    command: list[object] = [*QEMU[:-1], ",".join([QEMU[-1], *properties]), "-singlestep", "-d", "nochain,cpu", "-D", log, image]
+    command: list[object] = [
+        *QEMU[:-1],
+        ",".join([QEMU[-1], *properties]),
+        "-singlestep",
+        "-d",
+        "nochain,cpu",
+        "-D",
+        log,
+        image,
+    ]
     subprocess.run([str(word) for word in command], stdout=subprocess.DEVNULL)
     return log
 

@@ -45,7 +45,7 @@ def run(arguments: argparse.Namespace) -> int:
                 shift = commit.stack - before.x[2]
             step = Step(number, commit, _carried(stepper, commit), before, stepper.registers, shift)
             trap = _trap(step, following, guest.pc)
-            if lines := {trap: set[Place]()} if trap else dict(differences(step)):
+            if lines := {trap: {("vstart", 0)}} if trap else dict(differences(step)):
                 print(*_report([*steps, step], lines, trap is not None, symbols), sep="\n")
                 return 1
             if step.carried.word & 0x7F in TELLING:

@@ -14,7 +14,7 @@ SCALARS = range(1, 29)
 """The scalar registers of programs: x29 has the middle of memory, and x30 and x31 are those of the code around them."""
 
 _TEMPLATE = {8: "vd", 16: "vs2", 24: "vs1"}  # where operands stand while a row is read
-_ACCUMULATES = ("vmacc", "vnmsac", "vmadd", "vnmsub", "vwmacc", "vslideup", "vcompress")  # which read their destination
+ACCUMULATES = ("vmacc", "vnmsac", "vmadd", "vnmsub", "vwmacc", "vslideup", "vcompress")  # which read their destination
 FIRST_ELEMENT = ("vred", "vwred", "vmv.s.x")  # which write element 0 alone
 _GATHERS = ("vrgather", "vslide")  # which read their source up to VLMAX
 
@@ -68,7 +68,7 @@ class Registers:
     def target(self, name: str, operand: Operand, vl: int, read: Iterable[int]) -> int | None:
         """The first register of a destination: nothing is lost there, where the instruction reads some registers as well."""
         lost, size = self.v - set(read), len(operand.registers)
-        accumulates = name.startswith(_ACCUMULATES)
+        accumulates = name.startswith(ACCUMULATES)
         wanted = list(bits_of(operand, vl)) if accumulates else []
         fits = [
             first
