@@ -8,14 +8,13 @@ from collections import deque
 from collections.abc import Iterator, Sequence
 
 from .. import LabError
-from ..guest.changes import ECALL, Carried, Stepper, vtype_text
+from ..guest.changes import ECALL, Carried, Registers, Stepper, vtype_text
 from ..guest.guest import started
 from ..guest.symbols import Symbols
 from ..instructions.accesses import REGISTER_BYTES, vector_instruction
 from ..machine.answers import elements_in
 from .logs import Commit, commits
-from .origins import LOOKS_BACK, TELLING, Place, Step, origin
-from .registers import REGISTER_BITS
+from .origins import LOOKS_BACK, Place, Step, bits_of_registers, origin
 
 _NUMBER = re.compile(r"\b([xv])(\d+)\b")
 
@@ -39,17 +38,14 @@ def run(arguments: argparse.Namespace) -> int:
             if commit.pc != guest.pc:  # Spike tells nothing of what it doesn't carry out
                 commit, following = Commit(guest.pc, commit.word, is_done=False), commit
             before, number = stepper.registers.copy(), number + 1
-            if steps and before.v == steps[-1].before.v:
-                before.v = steps[-1].before.v  # once in memory
             if number == 1 and commit.stack is not None:
                 shift = commit.stack - before.x[2]
-            step = Step(number, commit, _carried(stepper, commit), before, stepper.registers, shift)
+            step = Step(number, commit, _carried(stepper, commit), before)
+            steps.append(step)
             trap = _trap(step, following, guest.pc)
-            if lines := {trap: {("vstart", 0)}} if trap else dict(differences(step)):
-                print(*_report([*steps, step], lines, trap is not None, symbols), sep="\n")
+            if lines := {trap: {("vstart", 0)}} if trap else dict(differences(step, stepper.registers, shift)):
+                print(*_report(steps, lines, trap is not None, symbols), sep="\n")
                 return 1
-            if step.carried.word & 0x7F in TELLING:
-                steps.append(step)
             if step.carried.stop:
                 print(f"{number:,} instructions agree; {guest.tell(step.carried.stop, symbols.place(guest.pc))}")
                 return 0
@@ -81,31 +77,28 @@ def _trap(step: Step, following: Commit | None, pc: int) -> str | None:
     return f"carried out here, and the log goes on at {following.pc:x}"
 
 
-def differences(step: Step) -> Iterator[tuple[str, set[Place]]]:
-    """What the log tells otherwise than the machine, a line each, and where it is."""
-    commit, before, after = step.commit, step.before, step.after
+def differences(step: Step, after: Registers, shift: int) -> Iterator[tuple[str, set[Place]]]:
+    """What the log tells otherwise than the machine, a line each, and where it is: by the machine's registers after it.
+
+    shift: how far the log's stack lies off
+    """
+    commit, before = step.commit, step.before
     if commit.word not in (None, step.carried.word):
         yield f"word: {step.carried.word:08x} here, {commit.word:08x} in the log", set()
     for number in range(1, 32):
         told = commit.x.get(number, before.x[number])
-        if told not in (after.x[number], after.x[number] + step.shift):
+        if told not in (after.x[number], after.x[number] + shift):
             bits = {("x", bit) for bit in range(64) if (told ^ after.x[number]) >> bit & 1}
             yield f"x{number}: {after.x[number]:x} here, {told:x} in the log", bits
-    for number, width, element, here, there in _elements(step):
-        first = REGISTER_BITS * number + width * element
-        line = f"v{number}.e{width}[{element}]: {here:x} here, {there:x} in the log"
-        yield line, {("v", bit) for bit in range(first, first + width)}
-
-
-def _elements(step: Step) -> Iterator[tuple[int, int, int, int, int]]:
-    """The elements of vector registers that differ: the register, the width, the element in it, here, and in the log."""
-    instruction = vector_instruction(step.carried.word, step.before.control.vtype)
+    instruction = vector_instruction(step.carried.word, before.control.vtype)
     width = instruction.operands[0].eew if instruction and instruction.operands else 8
-    for number in range(32 if step.commit.word is not None else 0):
-        register = slice(REGISTER_BYTES * number, REGISTER_BYTES * (number + 1))
-        told = step.commit.v.get(number, bytes(step.before.v[register]))
-        pairs = zip(elements_in(step.after.v[register], width), elements_in(told, width))
-        yield from ((number, width, element, *pair) for element, pair in enumerate(pairs) if pair[0] != pair[1])
+    for at in range(0, 32 * REGISTER_BYTES if commit.word is not None else 0, REGISTER_BYTES):
+        register, number = slice(at, at + REGISTER_BYTES), at // REGISTER_BYTES
+        held = commit.v.get(number, bytes(before.v[register]))
+        for element, (here, there) in enumerate(zip(elements_in(after.v[register], width), elements_in(held, width))):
+            if here != there:
+                line = f"v{number}.e{width}[{element}]: {here:x} here, {there:x} in the log"
+                yield line, bits_of_registers(8 * at + width * element, width)
 
 
 def _report(steps: Sequence[Step], lines: dict[str, set[Place]], is_trap: bool, symbols: Symbols) -> Iterator[str]:

@@ -6,7 +6,7 @@ from dataclasses import dataclass
 
 from ..guest.changes import Carried, Registers
 from ..instructions.accesses import REGISTER_BYTES, scalar_span, vector_instruction, vector_spans
-from ..instructions.words import LOAD, OP_V, STORE, SYSTEM, VECTOR_ACCESSES, VectorInstruction
+from ..instructions.words import LOAD, OP_V, STORE, VECTOR_ACCESSES, VectorInstruction
 from ..machine.answers import CONTROL
 from ..runs.counts import elements_of
 from ..tables.table import read_table
@@ -16,13 +16,10 @@ from .registers import ACCUMULATES, FIRST_ELEMENT, REGISTER_BITS, needed
 Place = tuple[str, int]
 """A bit of the vector registers (`v`, 0 to 8,191) or of a scalar one (`x`), a byte of memory (`memory`), or a control register and 0."""
 
-TELLING = (LOAD, STORE, OP_V, SYSTEM, *VECTOR_ACCESSES)
-"""The opcodes of what writes vector registers, control registers or memory, or tells of them."""
-
 _Part = tuple[set[Place], set[Place], str]
 """What an instruction wrote, or told of, together: the places, what they are made of, and of elements their kind."""
 
-LOOKS_BACK = 65_536  # so many of these before a difference are looked at
+LOOKS_BACK = 20_000  # so many instructions before a difference are looked at
 _VSTART, _SCALAR = {("vstart", 0)}, {("x", bit) for bit in range(64)}
 _ACROSS = re.compile(
     "vw?red|vrgather|vslide|vcompress|viota|vms[bio]f"
@@ -31,19 +28,15 @@ _ACROSS = re.compile(
 
 @dataclass(frozen=True)
 class Step:
-    """An instruction of the log, its number there, the machine's, its registers before and after it, and how far the log's
-    stack lies off.
-    """
+    """An instruction of the log, its number there, the machine's, and its registers before it."""
 
     number: int
     commit: Commit
     carried: Carried
     before: Registers
-    after: Registers
-    shift: int
 
 
-def _bits(first: int, width: int) -> set[Place]:
+def bits_of_registers(first: int, width: int) -> set[Place]:
     """Bits of the vector registers, from one on."""
     return {("v", bit) for bit in range(first, first + width)}
 
@@ -78,7 +71,7 @@ def _moved(step: Step, instruction: VectorInstruction, active: set[int]) -> Iter
         for at in range(length if element in active else 0):
             memory = {("memory", (address + at) % (1 << 64))}
             register = data.registers.start + at // width * data.group
-            bits = _bits(REGISTER_BITS * register + 8 * (element * width + at % width), 8)
+            bits = bits_of_registers(REGISTER_BITS * register + 8 * (element * width + at % width), 8)
             pair = (bits, memory) if data.noun == "destination" else (memory, bits)
             yield pair[0], pair[1] | _VSTART, "active"
 
@@ -89,20 +82,20 @@ def _made(step: Step, instruction: VectorInstruction, active: set[int]) -> Itera
     read = [operand for operand in instruction.operands if operand.noun == "source" or text.startswith(ACCUMULATES)]
     sources = [(256 * it.registers.start, it.eew, sum(needed(text, "vs2", it, control.vl))) for it in read]
     sources += [(0, 1, control.vl)] if instruction.is_masked else []
-    whole = _VSTART.union(*(_bits(first, length) for first, _, length in sources))
+    whole = _VSTART.union(*(bits_of_registers(first, length) for first, _, length in sources))
     if target.noun == "source":
         first, width, _ = sources[0]
-        yield _SCALAR, _bits(first, width) | _VSTART if text.startswith("vmv.x.s") else whole, "active"
+        yield _SCALAR, bits_of_registers(first, width) | _VSTART if text.startswith("vmv.x.s") else whole, "active"
     most = REGISTER_BITS * target.group // target.eew if target.noun == "destination" else 0
     agnostic = {"tail": control.vtype & 0x40 or target.eew == 1, "masked off": control.vtype & 0x80}
     agnostic |= {"active": step.carried.word & 0x7F == OP_V}
     for element in range(control.vstart, most):
         is_tail = element >= (1 if text.startswith(FIRST_ELEMENT) else control.vl)
         kind = "active" if element in active else "tail" if is_tail else "masked off"
-        same = (_bits(first + element * width, width) for first, width, _ in sources)
+        same = (bits_of_registers(first + element * width, width) for first, width, _ in sources)
         made_of = whole if _ACROSS.match(text) else _VSTART.union(*same)
         for number in target.registers[:: target.group] if agnostic[kind] else ():
-            bits = _bits(REGISTER_BITS * number + element * target.eew, target.eew)
+            bits = bits_of_registers(REGISTER_BITS * number + element * target.eew, target.eew)
             yield bits, made_of if kind == "active" else set(), kind
 
 
@@ -132,8 +125,9 @@ def _left_open(step: Step, met: Sequence[_Part], is_trap: bool, is_part: bool, l
     if agnostic and (is_part or len(agnostic) == len(kinds)):
         allowed = "perhaps allowed: some of" if is_part else "allowed:"
         return f"{allowed} these elements are {' and '.join(agnostic)}, and agnostic: each stays or becomes ones"
-    names, stored = {name for places, _, _ in met for name, _ in places}, [str(places) for places, _, _ in met]
-    holds = {"trap": is_trap, "value": "v" in names, "vl": "vl" in names, "order": len(stored) > len(set(stored))}
+    written = [place for places, _, _ in met for place in places]
+    names = {name for name, _ in written}
+    holds = {"trap": is_trap, "value": "v" in names, "vl": "vl" in names, "order": len(written) > len(set(written))}
     holds |= {"vstart": text.startswith("v") and step.before.control.vstart > 0}
     holds |= {"control": last.carried.text.startswith("csr") and not names.isdisjoint(CONTROL)}
     rows = read_table("left_open")
