@@ -21,9 +21,7 @@ _Part = tuple[set[Place], set[Place], str]
 
 LOOKS_BACK = 20_000  # so many instructions before a difference are looked at
 _VSTART, _SCALAR = {("vstart", 0)}, {("x", bit) for bit in range(64)}
-_ACROSS = re.compile(
-    "vw?red|vrgather|vslide|vcompress|viota|vms[bio]f"
-)  # which make elements of those of other numbers
+_ACROSS = re.compile("vw?red|vrgather|vslide|vcompress|viota|vms[bio]f")  # which read elements of other numbers
 
 
 @dataclass(frozen=True)
@@ -72,8 +70,7 @@ def _moved(step: Step, instruction: VectorInstruction, active: set[int]) -> Iter
             memory = {("memory", (address + at) % (1 << 64))}
             register = data.registers.start + at // width * data.group
             bits = bits_of_registers(REGISTER_BITS * register + 8 * (element * width + at % width), 8)
-            pair = (bits, memory) if data.noun == "destination" else (memory, bits)
-            yield pair[0], pair[1] | _VSTART, "active"
+            yield (memory, bits | _VSTART, "active") if data.noun == "data" else (bits, memory | _VSTART, "active")
 
 
 def _made(step: Step, instruction: VectorInstruction, active: set[int]) -> Iterator[_Part]:
