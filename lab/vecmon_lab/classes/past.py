@@ -2,14 +2,14 @@
 
 from collections import Counter, deque
 from collections.abc import Sequence
-from itertools import chain
+from itertools import chain, islice
 
 from ..machine.lines import DIGITS, words_of
 from .live import is_servers
 from .seats import LOG_ENTRIES, Seats
 
-Numbered = tuple[int, str, Sequence[str]]
-"""A line with its number and its answer."""
+Numbered = tuple[int, str, str]
+"""A line with its number and its answer, which has newlines between its lines."""
 
 _BEGINNINGS = {"entered", "left", "loaded"}  # first words of answers: nothing is left then of what was before
 _TURNS = {"running", "break", "ebreak", "outfull", "exit", "fault"}  # the last stop is another one then
@@ -23,32 +23,45 @@ class Past:
     show output, since its machine began.
     """
 
-    def __init__(self) -> None:
-        self._count = 0
-        self._used: Counter[str] = Counter()  # bytes of the script, by digit
+    def __init__(self, set_up: int) -> None:
+        """set_up: how many lines at the beginning set the machine up, as an earlier script left it"""
+        self._set_up, self._count = set_up, 0
+        self._lines: Counter[str] = Counter()  # behind those, and how often each was done
         self._last = {digit: deque[Numbered](maxlen=LOG_ENTRIES) for digit in f"{DIGITS}*"}
         self._turns: dict[str, Numbered] = {}
         self._output = {digit: deque[Numbered](maxlen=LOG_ENTRIES) for digit in DIGITS}
         self._places: dict[str, list[Numbered]] = {digit: [] for digit in DIGITS}
 
-    def add(self, line: str, answer: Sequence[str]) -> None:
-        """Takes up the next line and its answer."""
-        self._count, done = self._count + 1, (self._count, line, answer)
-        digit, size = line[0], len(line) + 1
+    def add(self, lines: Sequence[str], answers: Sequence[str]) -> None:
+        """Takes up the next lines and their answers."""
+        first, last = max(0, self._set_up - self._count), self._last
+        block = zip(range(self._count, self._count + len(lines)), lines, answers)
+        for done in islice(block, first):
+            self._add_set_up(done)
+        for done in block:
+            if done[2][1:9] == " stepped":  # as most are
+                last[done[2][0]].append(done)
+            else:
+                self._add(done)
+        self._count += len(lines)
+        self._lines.update(lines[first:])
+
+    def _add(self, done: Numbered) -> None:
+        """Takes up any line."""
+        _, line, answer = done
+        digit = line[0]
         if digit == "*":
-            for stop in answer[:-1]:
+            for stop in answer.split("\n")[:-1]:
                 self._last[stop[0]].append(done)
                 self._turns[stop[0]] = done
             self._last[digit].append(done)
-            self._used["".join(words_of(line)[1:2]) if line.startswith("* run") else digit] += size
             return
         if is_servers(line):
-            if answer[0][2:] != "out 0":
+            if answer[2:] != "out 0":
                 self._output[digit].append(done)
             return
-        self._used[digit] += size
         self._last[digit].append(done)
-        word = answer[0][2:].partition(" ")[0]
+        word = answer[2:].partition(" ")[0]
         if word in _BEGINNINGS:
             self._places[digit] = [done]
             self._output[digit].clear()
@@ -60,21 +73,26 @@ class Past:
         elif line[2:5] in _PLACES or line[2:3] == " ":
             self._places[digit].append(done)
 
-    def set_up(self, line: str, answer: Sequence[str]) -> None:
-        """Takes up a line that sets the machine up, as an earlier script left it: only what a seat watches is known by it."""
-        self._count, digit = self._count + 1, line[0]
-        if answer[0][2:].partition(" ")[0] in _BEGINNINGS:
+    def _add_set_up(self, done: Numbered) -> None:
+        """Takes up a line that sets the machine up: only what a seat watches is known by it."""
+        _, line, answer = done
+        digit = line[0]
+        if answer[2:].partition(" ")[0] in _BEGINNINGS:
             self._places[digit] = []
         if digit in self._places:
-            self._places[digit].append((self._count, line, answer))
+            self._places[digit].append(done)
 
     def tell(self, seats: Seats) -> None:
         """Tells the seats, which know nothing yet."""
         for _, line, answer in chain(*self._places.values()):
-            seats.follow(line, answer)
+            seats.follow(line, answer.split("\n"))
         kept = {done[0]: done for done in chain(self._turns.values(), *self._last.values(), *self._output.values())}
         for number in sorted(kept):
             _, line, answer = kept[number]
-            seats.observe(line, answer, is_told=not line.startswith(("* slices", "* run")))
+            seats.observe(line, answer.split("\n"), is_told=not line.startswith(("* slices", "* run")))
+        used = Counter[str]()
+        for line, times in self._lines.items():
+            payer = "".join(words_of(line)[1:2]) if line.startswith("* run") else line[0]
+            used[payer] += 0 if is_servers(line) else times * (len(line) + 1)
         for seat in seats.users.values():
-            seat.used = self._used[seat.digit]
+            seat.used = used[seat.digit]

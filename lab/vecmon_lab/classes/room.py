@@ -98,9 +98,9 @@ class Room:
         progress: is told how far that is, a sentence at a time
         """
         self.session.progress = lambda percent: progress(rebuilding(self.letter, percent))
-        past, self.scripts = Past(), notes.scripts
-        for number, (line, answer) in enumerate(self.file.replay(self.session, notes)):
-            (past.set_up if number < notes.scripts[-1] else past.add)(line, answer)
+        past, self.scripts = Past(notes.scripts[-1]), notes.scripts
+        for block in self.file.replay(self.session, notes):
+            past.add(*block)
         past.tell(self.seats)
         self.seats.take(self.seats.look(self.session, [], DIGITS))
         self.own_slices = notes.own_slices

@@ -23,7 +23,7 @@ from dataclasses import asdict, dataclass, field, replace
 from typing import TypeVar
 
 from .. import LabError
-from ..machine.session import BadLine, OutOfStep, Session
+from ..machine.session import BadLine, Block, OutOfStep, Session
 from .codes import LETTERS, Codes
 
 
@@ -74,22 +74,22 @@ class ScriptFile:
         self._saved = len(self.kept)
         os.ftruncate(self._file, self._saved)
 
-    def replay(self, session: Session, notes: Notes) -> Iterator[tuple[str, Sequence[str]]]:
-        """Carries out what was kept: each line and its answer. Raises BadFolder where it is answered otherwise.
+    def replay(self, session: Session, notes: Notes) -> Iterator[Block]:
+        """Carries out what was kept: its lines and their answers. Raises BadFolder where it is answered otherwise.
 
         Notes have the digest of its first answers; lines behind them were written shortly before a server was killed.
         """
-        script = self.kept.splitlines(keepends=True)
-        if len(script) < notes.lines:
+        *answered, later = self.kept.split(b"\n", notes.lines)
+        if len(answered) < notes.lines:
             raise BadFolder(f"the script of machine {self._machine} has lost lines: it had {notes.lines}")
         others = f"machine {self._machine} answers the first {notes.lines} lines otherwise than before"
         try:
-            yield from session.do_script(b"".join(script[: notes.lines]))
+            yield from session.do_blocks(self.kept[: len(self.kept) - len(later)])
         except (BadLine, OutOfStep) as error:
             raise BadFolder(others) from error
         if notes.lines and session.digest != notes.answers:
             raise BadFolder(others)
-        yield from session.do_script(b"".join(script[notes.lines :]))
+        yield from session.do_blocks(later)
 
     def successor(self, number: int, script: bytes) -> "ScriptFile":
         """The file of the machine's script of this number, which is on the disk as a whole then. Raises OSError."""

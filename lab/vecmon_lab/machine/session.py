@@ -35,6 +35,9 @@ NEW_MACHINE = Users(dict.fromkeys(DIGITS, "-"))
 _RECORDED = re.compile(rb"(?:[1-8*] [ -~]{0,1022}+\n)*+")
 DIFFERS = "a new process answers the script otherwise than the one before"
 
+Block = tuple[Sequence[str], Sequence[str]]
+"""Lines and their answers, which have newlines between their lines."""
+
 
 class ProgramGone(LabError):
     """The program can't be started, has ended, or says nothing."""
@@ -295,12 +298,18 @@ class Session(contextlib.AbstractContextManager["Session"]):
         Nobody looks whether an answer is one to its line: the digest tells. Raises BadLine, ProgramGone and OutOfStep,
         and then the session is of no use any more, as where it isn't gone through to its end.
         """
+        for lines, answers in self.do_blocks(script):
+            for line, answer in zip(lines, answers):
+                yield line, answer.split("\n")
+
+    def do_blocks(self, script: bytes) -> Iterator[Block]:
+        """As `do_script`, in blocks as they come: for whoever does nothing with most lines."""
         if not _RECORDED.fullmatch(script):
             raise BadLine("a script has lines that no session records")
         began = time.monotonic()
-        for line, answer in self._piped(self._process or self._replay(), script, self._tell):
-            self._take_up(line, answer)
-            yield line, answer
+        for block in self._piped(self._process or self._replay(), script, self._tell):
+            self._take_up(*block)
+            yield block
         self._script += script
         self._spend(began)
 
@@ -450,11 +459,12 @@ class Session(contextlib.AbstractContextManager["Session"]):
         """Carries out what the script has since. No process outlives an error."""
         script = bytes(self._script[copy.size :])
         try:
-            for line, answer in self._piped(copy.process, script, tell):
-                if zlib.crc32(_printed(answer)) != self._marks[copy.number]:
-                    told = f"line {copy.number + 1}, {line[:60]!r}, now with {answer[0][:60]!r}"
-                    raise ReplayDiffers(f"{DIFFERS}: {told}")
-                copy.number += 1
+            for lines, answers in self._piped(copy.process, script, tell):
+                for line, answer, mark in zip(lines, answers, _marks(answers)):
+                    if mark != self._marks[copy.number]:
+                        told = f"line {copy.number + 1}, {line[:60]!r}, now with {answer[:60]!r}"
+                        raise ReplayDiffers(f"{DIFFERS}: {told}")
+                    copy.number += 1
         except BaseException:
             copy.process.close()
             raise
@@ -462,28 +472,33 @@ class Session(contextlib.AbstractContextManager["Session"]):
 
     def _piped(
         self, process: _Process, script: bytes, tell: Callable[[int], object] = lambda percent: None
-    ) -> Iterator[tuple[str, list[str]]]:
-        """Lines that a session recorded, and their answers, as they come; tells how far it is, in percent.
+    ) -> Iterator[Block]:
+        """Lines that a session recorded, and their answers, in blocks as they come; tells how far it is, in percent.
 
         Raises ProgramGone, and OutOfStep where there are more answers than lines, or fewer.
         """
-        lines, line, answer, done = script.decode("ascii").split("\n")[:-1], "", list[str](), 0
-        if lines:
-            tell(0)
+        lines, number, stops = script.decode("ascii").split("\n")[:-1], 0, ""
+        left = iter(lines)
+        line = next(left, "")
         for block in process.pour(script) if lines else ():
             if self._has_ended:
                 raise ProgramGone("the session has ended")
+            tell(min(99, 100 * number // len(lines)))
+            answers = list[str]()
             for part in block.decode("latin-1").split("\n")[:-1]:
-                if done == len(lines):
+                if line[:1] == "*" != part[:1]:  # before an operator's answer stand stops
+                    stops += f"{part}\n"
+                    continue
+                if not line:
                     raise OutOfStep(f"after the answers to a script there came {part[:60]!r}")
-                answer.append(part)
-                if lines[done][0] != "*" or part[:1] == "*":  # before an operator's answer stand stops
-                    yield lines[done], answer
-                    done, answer = done + 1, []
-            tell(min(99, 100 * done // len(lines)))
-        if done < len(lines):
+                answers.append(stops + part if stops else part)
+                line, stops = next(left, ""), ""
+            number += len(answers)
+            yield lines[number - len(answers) : number], answers
+        if line:
             raise OutOfStep("the program hasn't answered all lines of a script")
-        tell(100)
+        if lines:
+            tell(100)
 
     def _tell(self, percent: int) -> None:
         """Tells how much of the script is carried out, where that is another number than before."""
@@ -498,18 +513,19 @@ class Session(contextlib.AbstractContextManager["Session"]):
 
     def _record(self, line: str, answer: Sequence[str]) -> None:
         """Adds a line to the script, and takes up its answer."""
-        self._take_up(line, answer)
+        self._take_up([line], ["\n".join(answer)])
         self._script += line.encode("ascii") + b"\n"  # each line there has its mark, also for a spare's thread
 
-    def _take_up(self, line: str, answer: Sequence[str]) -> None:
-        """Adds a line's answer to the digest; follows the policy of the line's user."""
-        printed = _printed(answer)
-        self._answers.update(printed)
-        self._marks.append(zlib.crc32(printed))
-        self._follow_policy(line, answer)
+    def _take_up(self, lines: Sequence[str], answers: Sequence[str]) -> None:
+        """Adds answers to the digest; follows the policies of their lines' users."""
+        self._answers.update("\n".join([*answers, ""]).encode("latin-1"))
+        self._marks.extend(_marks(answers))
+        for line, answer in zip(lines, answers):
+            if line[2:3] in "elp ":
+                self._follow_policy(line, answer)
 
-    def _follow_policy(self, line: str, answer: Sequence[str]) -> None:
-        if line[2:3] not in "elp " or line[0] == "*" or is_refusal(answer):
+    def _follow_policy(self, line: str, answer: str) -> None:
+        if line[0] == "*" or is_refusal([answer]):
             return
         match words_of(line):
             case ["enter"] | ["load", _]:
@@ -520,6 +536,6 @@ class Session(contextlib.AbstractContextManager["Session"]):
                 del self.policy[int(line[0])]
 
 
-def _printed(answer: Sequence[str]) -> bytes:
-    """An answer as the machine prints it."""
-    return ("\n".join(answer) + "\n").encode("latin-1")
+def _marks(answers: Sequence[str]) -> Iterator[int]:
+    """Numbers of 32 bits that tell answers from others."""
+    return map(zlib.crc32, map(str.encode, answers))
