@@ -9,7 +9,7 @@ from typing import Any
 import pytest
 
 from vecmon_lab.classes.beside import Beside
-from vecmon_lab.classes.requests import Lines
+from vecmon_lab.classes.requests import BadRequest, Lines
 from vecmon_lab.classes.room import Room
 from vecmon_lab.classes.seats import Seat
 from vecmon_lab.classes.store import ScriptFile
@@ -26,7 +26,7 @@ class StandIn:
         self.path = path
         self.order: list[str] = []
         self.go = threading.Semaphore(0)
-        self.size, self.lines, self.digest, self.losses = 0, 0, "", list[str]()
+        self.size, self.lines, self.digest, self.weight, self.losses = 0, 0, "", 0.0, list[str]()
 
     def do_all(self, lines: Sequence[str]) -> list[list[str]]:
         if all(map(is_look, lines)):
@@ -98,6 +98,34 @@ async def test_the_clock_has_its_turn(tmp_path: pathlib.Path) -> None:
     await asyncio.gather(*greedy)
     machine.room.end()
     assert machine.session.order.index("*") <= 4
+
+
+async def test_slices_wait_where_checkpoints_fall_behind(tmp_path: pathlib.Path) -> None:
+    """Who presses on is told so; the clock skips; lines of students go on, and so does all once there is a checkpoint."""
+    machine = Machine(tmp_path)
+    room, session = machine.room, machine.session
+    room.seats.users["8"].state = {"run": "running", "pc": "0"}
+    makes = asyncio.create_task(room.shorten())
+    await asyncio.sleep(0)
+    session.weight = 3.5  # of a script that gets a checkpoint from 1 on
+    for seat, request in (
+        (room.seats.operator, Lines("", ["slices 1000"], 0, [])),
+        (room.seats.users["8"], Lines("", [], 5, [])),
+    ):
+        with pytest.raises(BadRequest, match="slices wait"):
+            await room.lines(seat, request, [])
+    room.set_clock({"on": True, "ms": 10})
+    clock = asyncio.create_task(room.clock.run())
+    await asyncio.sleep(0.1)
+    assert session.order == [] and not room.is_busy()
+    assert await room.lines(room.seats.operator, Lines("", [], 0, ["list"]), []) == [["E05"]]
+    room.seats.users["8"].state = {"run": "running", "pc": "0"}
+    session.weight = 0.5
+    while not room.is_busy():
+        await asyncio.sleep(0.02)
+    makes.cancel()
+    clock.cancel()
+    assert await machine.order(9, machine.ask(room.seats.users["1"], "step 1")) == "*1"
 
 
 async def test_overviews_do_not_wait_for_the_machine(tmp_path: pathlib.Path) -> None:

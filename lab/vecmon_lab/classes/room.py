@@ -6,6 +6,7 @@ The machine blocks in a thread of its own. What was done is told to seats by the
 import asyncio
 import concurrent.futures
 import contextlib
+import math
 import pathlib
 from collections.abc import Callable, Container, Iterable, Mapping, Sequence
 from dataclasses import asdict, dataclass, field, replace
@@ -33,6 +34,7 @@ WATCH_SECONDS = 0.5  # between looks at a program that runs
 FOLLOW_SECONDS, SHORTEN_SECONDS = 0.2, 0.5  # between a spare's parts; and between looks at how long a script has become
 NEXT_SCRIPT_BYTES, NEXT_SCRIPT_SECONDS = 12_000_000, 300.0  # after which another one begins: a server begins with it
 MOST_SET_UP_BYTES = 9_000_000  # of another one's beginning
+MOST_BEHIND = 3.0  # as many scripts that get a checkpoint: then no slices are granted until there is one
 UNSEEN_SECONDS = 60.0  # after which a program that runs is stopped, if nobody looks at it
 
 
@@ -76,6 +78,7 @@ class Room:
         self.keep: Callable[[Notes], bool] = lambda notes: False
         self.watched: Callable[[], Container[str]] = set
         self._has_run = False  # whether slices were granted since programs were looked at
+        self._least = math.inf  # the weight of a script that gets a checkpoint; more where there was none
         self.stopped = self.down = self.rebuilding = ""
         self._lock = asyncio.Lock()
         self._thread = concurrent.futures.ThreadPoolExecutor(1)
@@ -130,6 +133,8 @@ class Room:
         if slices and (seat is self.seats.operator or not self.own_slices):
             raise BadRequest("slices are the teacher's to grant")
         own, seen = ([f"{seat.digit} {text}" for text in texts] for texts in (request.do, request.look))
+        if self._is_behind() and (slices or seat is self.seats.operator and not all(map(is_look, own))):
+            raise BadRequest("programs have run much since the last checkpoint: slices wait for the next, some seconds")
 
         def carry_out(work: _Work) -> None:
             for place in range(0, len(own), TOGETHER):
@@ -236,17 +241,21 @@ class Room:
 
     async def shorten(self) -> None:
         """Makes checkpoints, so that a new process is soon where the last one was; goes for ever."""
-        least = 1.0  # the weight of a script that gets one; more where there was none
+        self._least = max(1.0, self.session.weight)
         while True:
             await asyncio.sleep(SHORTEN_SECONDS)
-            if self.session.weight >= least:
+            if self.session.weight >= self._least:
                 try:
                     await self.make_checkpoint()
-                    least = 1.0
+                    self._least = 1.0
                     if self.session.size > NEXT_SCRIPT_BYTES or self.session.total > NEXT_SCRIPT_SECONDS:
                         await self.begin_script()
                 except (LabError, OSError):
-                    least = max(1.0, 1.5 * self.session.weight)
+                    self._least = max(1.0, 1.5 * self.session.weight)
+
+    def _is_behind(self) -> bool:
+        """Whether a new process would be busy for so long that slices wait for a checkpoint."""
+        return self.session.weight > MOST_BEHIND * self._least
 
     async def follow(self) -> None:
         """Keeps a spare process where the machine is; goes for ever."""
@@ -324,7 +333,7 @@ class Room:
         """Grants the clock's slices, if somebody's program runs."""
         async with self._lock:
             settings = self.clock.settings
-            if settings.on and self.seats.running():
+            if settings.on and self.seats.running() and not self._is_behind():
                 try:
                     await self._hop(_Work(), lambda work: self._do(work, f"* slices {settings.slices}"), None)
                 except LabError as error:
