@@ -90,6 +90,8 @@ async def test_more_output_than_a_buffer_or_a_page_has(tmp_path: pathlib.Path) -
         await tab.until(lambda view: view["state"]["run"] == "stopped" and view["stop"].startswith("ebreak"))
         assert output(tab.view)[-64_000:] == 8_000 * b"1234567\n"
         assert 64_000 < len(output(tab.view)) <= 65_536
+        assert tab.logs["A1"].count("=1 out 1024") == sum("outfull" in entry for entry in tab.logs["A1"]) == 1
+        assert ">1 go" in tab.logs["A1"]  # which 70 full buffers would push out of a long day's log
         transcript = (await room.check_replay())[1].decode()
         told = [line.split()[3:] for line in transcript.splitlines() if line.startswith("1 out ")]
         assert b"".join(bytes.fromhex("".join(digits)) for digits in told) == 9_000 * b"1234567\n"

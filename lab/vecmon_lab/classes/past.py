@@ -52,7 +52,8 @@ class Past:
         digit = line[0]
         if digit == "*":
             for stop in answer.split("\n")[:-1]:
-                self._last[stop[0]].append(done)
+                if stop[1:9] != " outfull":  # which may come without end
+                    self._last[stop[0]].append(done)
                 self._turns[stop[0]] = done
             self._last[digit].append(done)
             return

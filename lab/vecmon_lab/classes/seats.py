@@ -5,6 +5,7 @@ import time
 from collections import deque
 from collections.abc import Iterable, Sequence
 from dataclasses import dataclass, field
+from itertools import takewhile
 
 from ..assembler.commands import log_entries
 from ..assembler.source import Program
@@ -63,7 +64,9 @@ class Seat:
     seen: float = 0.0
 
     def note(self, entry: str) -> None:
-        """Adds an entry to the log."""
+        """Adds an entry to the log, but of those that follow each other while a program prints without end each once."""
+        if _comes_again(entry) and entry in takewhile(_comes_again, reversed(self.log)):
+            return
         self.log.append(entry)
         self.number += 1
 
@@ -182,6 +185,11 @@ class Seats:
             if is_stop(part):
                 seat.stop = part[2:]
                 seat.slices = seat.slices if seat.stop.startswith("outfull") else 0.0
+
+
+def _comes_again(entry: str) -> bool:
+    """Whether an entry tells of a full buffer, or that the server has emptied it."""
+    return entry[0] == "=" or entry[2:10] == " outfull"
 
 
 def _standing(state: State, last: str) -> tuple[str, bool]:
