@@ -12,6 +12,7 @@ if TYPE_CHECKING:
 
 COUNTS = "loop:   addi t0, t0, 1   # counts\n        li a0, 0x12345   # two words\n        vid.v v1\n        j loop\n"
 TEXT = "id('source').value"
+TYPED = "loop: vadd.vx v1, v2, x5\n        j loop\n        nop     # it's an add\n        fro"
 
 
 def empty(tab: Tab, field: str = "source") -> None:
@@ -21,35 +22,33 @@ def empty(tab: Tab, field: str = "source") -> None:
     tab.keys(f"#{field}", Keys.CONTROL, "a", Keys.NULL, Keys.DELETE)
 
 
-def test_the_editor(sit: Sit) -> None:
-    """Lines are numbered, words have colours, Tab and Enter indent, names are offered, and undo goes back over a write."""
-    from selenium.webdriver.common.keys import Keys
-
-    tab = sit("A1")
+def begin_a_line(tab: Tab) -> None:
+    """Types the beginning of a name, of which several are offered then."""
     empty(tab)
     tab.keys("#source", "loop: vadd.v")
+
+
+def type_on(tab: Tab) -> None:
+    """Takes the last name that is offered, and types the rest of a text."""
+    from selenium.webdriver.common.keys import Keys
+
+    tab.keys("#source", *[Keys.ARROW_DOWN] * 4, Keys.ENTER)
+    assert tab.run(TEXT) == "loop: vadd.vx" and tab.run("one('#editor .choices').hidden")
+    tab.keys("#source", " v1, v2, x5", Keys.ENTER, "j lo", Keys.TAB, Keys.ENTER)
+    tab.keys("#source", "nop", Keys.TAB, "# it's an add", Keys.ENTER, "fro")
+    assert tab.run(TEXT) == TYPED
+
+
+def test_names_are_offered_and_words_have_colours(sit: Sit) -> None:
+    tab = sit("A1")
+    begin_a_line(tab)
     offered = "all('#editor .choices li').map((item) => item.textContent)"
     assert tab.run(offered) == [
         f"vadd.v{kind} vd, vs2, {last}[, v0.t]" for kind, last in (("i", "imm"), ("v", "vs1"), ("x", "rs1"))
     ]
-    tab.keys("#source", *[Keys.ARROW_DOWN] * 4, Keys.ENTER)
-    assert tab.run(TEXT) == "loop: vadd.vx" and tab.run("one('#editor .choices').hidden")
-    tab.keys(
-        "#source",
-        " v1, v2, x5",
-        Keys.ENTER,
-        "j lo",
-        Keys.TAB,
-        Keys.ENTER,
-        "nop",
-        Keys.TAB,
-        "# it's an add",
-        Keys.ENTER,
-        "fro",
-    )
-    expected = "loop: vadd.vx v1, v2, x5\n        j loop\n        nop     # it's an add\n        fro"
-    assert tab.run(TEXT) == expected and tab.run("one('#editor .numbers').textContent") == "1\n2\n3\n4"
-    assert tab.run("one('#editor .colours').textContent") == expected + "\n"
+    type_on(tab)
+    assert tab.run("one('#editor .numbers').textContent") == "1\n2\n3\n4"
+    assert tab.run("one('#editor .colours').textContent") == TYPED + "\n"
     pieces = "all('#editor .colours span').map((piece) => `${piece.className} ${piece.textContent}`)"
     assert tab.run(pieces) == [
         *("label loop", "instruction vadd.vx", "register v1", "register v2", "register x5", "instruction j"),
@@ -58,12 +57,20 @@ def test_the_editor(sit: Sit) -> None:
     same = "['fontFamily', 'fontSize', 'lineHeight', 'paddingLeft', 'paddingTop', 'tabSize', 'whiteSpace']"
     styles = f"{same}.map((name) => getComputedStyle(one(arguments[0]))[name])"
     assert tab.run(styles, "#editor .colours") == tab.run(styles, "#source")
+
+
+def test_tab_indents_and_undo_goes_back_over_a_write(sit: Sit) -> None:
+    from selenium.webdriver.common.keys import Keys
+
+    tab = sit("A7")
+    begin_a_line(tab)
+    type_on(tab)
     tab.keys("#source", Keys.SHIFT, Keys.TAB)
     assert tab.run(TEXT).endswith("\nfro")
     tab.keys("#source", Keys.CONTROL, "a", Keys.NULL, Keys.TAB)
     assert tab.run(TEXT).splitlines()[1] == " " * 16 + "j loop"
     tab.keys("#source", Keys.CONTROL, "z", Keys.NULL, Keys.CONTROL, "z", Keys.NULL)
-    assert tab.run(TEXT) == expected
+    assert tab.run(TEXT) == TYPED
     tab.keys("#source", Keys.CONTROL, "y", Keys.NULL)
     assert tab.run(TEXT).endswith("\nfro")
     tab.keys("#source", Keys.CONTROL, Keys.END, Keys.NULL, *[Keys.BACKSPACE] * 3, Keys.CONTROL, Keys.ENTER)
@@ -75,7 +82,14 @@ def test_the_editor(sit: Sit) -> None:
     for _ in range(30):
         tab.keys("#source", Keys.CONTROL, "z", Keys.NULL)
     assert tab.run(TEXT).startswith("# Doubles")
-    for paste in ("# one\n", "# two\n"):  # each is undone by itself
+
+
+def test_each_paste_is_undone_by_itself(sit: Sit) -> None:
+    from selenium.webdriver.common.keys import Keys
+
+    tab = sit("A8")
+    tab.click("#source")
+    for paste in ("# one\n", "# two\n"):
         tab.front().execute_cdp_cmd("Input.insertText", {"text": paste})
     tab.keys("#source", "# three", Keys.CONTROL, "z", Keys.NULL, Keys.CONTROL, "z", Keys.NULL)
     assert "# one" in tab.run(TEXT) and "# two" not in tab.run(TEXT)
