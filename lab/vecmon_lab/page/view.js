@@ -6,7 +6,7 @@ import { paintListing } from "./listing.js";
 import { paintMemory, paintOutput } from "./memory.js";
 import { paintRegisters } from "./scalars.js";
 import { paintElements, paintFacts } from "./vectors.js";
-import { withNames } from "./words.js";
+import { saysMore, withNames } from "./words.js";
 
 /** The numbers of a state's vector registers that aren't zero. */
 export const usedIn = ({ v = {} } = {}) => Object.keys(v).filter((number) => /[^0]/.test(v[number])).map(Number);
@@ -15,8 +15,11 @@ export const usedIn = ({ v = {} } = {}) => Object.keys(v).filter((number) => /[^
 export function showStep(state, ...done) {
   if (state.run === "running") done.push(make("small", "", "it runs: registers and memory are those from before"));
   if (state.instruction) {
-    const text = withNames((state.code[state.instruction] ?? "").slice(9), byId("names").value === "abi");
+    const line = (state.code[state.instruction] ?? "").slice(9);
+    const text = withNames(line, byId("names").value === "abi");
+    const said = saysMore(state.lines?.[state.instruction] ?? "", line); // which the listing may cut
     done.push(make("span", "instruction", make("small", "", state.faulted ? "stopped at " : "carried out "), text));
+    done.push(make("small", "", ...prose(said)));
   }
   byId("step").replaceChildren(...done);
 }

@@ -41,7 +41,8 @@ export const withNames = (text, abi) => (abi ? text.replace(/\bx(\d+)\b/g, (_, n
 export function saysMore(line, text) {
   const [own] = line.split(/\s*(?:#|\/\/)/);
   const numbered = own.replace(/\b[a-z]+\d*\b/g, (name) => (ABI_NAMES.includes(name) ? `x${ABI_NAMES.indexOf(name)}` : name));
-  return numbered.replace(/\s+/g, " ").replace(/ ?, ?/g, ", ") === text ? line.slice(own.length).trim() : line;
+  if (numbered.replace(/\s+/g, " ").replace(/ ?, ?/g, ", ") === text) return line.slice(own.length).trim();
+  return line.replace(/\s{4,}(?=(?:#|\/\/)[^"]*$)/, "   "); // a comment may stand far to the right
 }
 
 /** Where a branch or a jump goes to: an address in hexadecimal, or "" for any other instruction. */
