@@ -18,6 +18,7 @@ if TYPE_CHECKING:
     from selenium.webdriver import Chrome
 
 PATIENCE = 60  # seconds: after so long a test that waits has failed
+FRAME = "requestAnimationFrame(() => setTimeout(arguments[0])), setTimeout(arguments[0], 100)"  # which none has out of sight
 
 
 class Served:
@@ -120,13 +121,15 @@ class Tab:
         return self.front().execute_script(f"{helpers} return {script}", *arguments)
 
     def wait(self, script: str, *arguments: Any) -> Any:
-        """What a script answers as soon as that is true."""
+        """What a script answers as soon as that is true, and what was told till then is painted."""
         from selenium.common.exceptions import TimeoutException
         from selenium.webdriver.support.wait import WebDriverWait
 
         self.front()
         try:
-            return WebDriverWait(self.browser, PATIENCE, 0.02).until(lambda _: self.run(script, *arguments))
+            found = WebDriverWait(self.browser, PATIENCE, 0.02).until(lambda _: self.run(script, *arguments))
+            self.browser.execute_async_script(FRAME)
+            return found
         except TimeoutException as error:
             raise AssertionError(f"{script} {arguments}: {self.run('document.body.innerText')}") from error
 

@@ -26,11 +26,12 @@ export class Desk {
     if (isAnew || !state.v) this.used = new Set();
     usedIn(state).forEach((number) => this.used.add(number));
     this.past.add({ state, before: this.before, used: this.used, entry: byId("log").lastElementChild });
-    this.paint();
+    this.frame ??= requestAnimationFrame(() => this.paint()); // once, however much is told before it
   }
 
   /** Paints it, or the moment of the past that is shown. A machine that runs may never have been looked at. */
   paint() {
+    this.frame = cancelAnimationFrame(this.frame);
     const { state, before, used } = this.past.moment ?? this;
     paintState(state.x ? state : { run: "absent" }, before.x && before, used);
     byId("log").querySelector(".until")?.classList.remove("until");

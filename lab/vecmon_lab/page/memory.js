@@ -15,12 +15,15 @@ export function paintMemory(state, before) {
   rows.show(places, row, places.find(isOther)?.address);
 }
 
+/** The output's end stays in sight, unless one has scrolled away from it. */
 export function paintOutput(state) {
   const digits = state.output ?? Object.values(state.outputs ?? {}).join("");
   if (digits === shown) return; // as after most steps, where it may be long
   shown = digits;
   byId("output-box").hidden = !digits;
+  const { scrollTop, clientHeight, scrollHeight } = byId("output");
   byId("output").textContent = outputText(digits);
+  if (scrollTop + clientHeight > scrollHeight - 18) byId("output").scrollTop = byId("output").scrollHeight;
 }
 
 function memoryRow(address, digits, digitsBefore) {

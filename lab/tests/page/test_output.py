@@ -1,0 +1,57 @@
+"""What a program puts out, on a seat's page: also one that never ends."""
+
+import json
+from typing import TYPE_CHECKING
+
+from support.class_pages import Served, Tab
+
+if TYPE_CHECKING:
+    from selenium.webdriver import Chrome
+
+SENTENCE = "This is put out again and again, in sixty-four bytes a line....\n"
+PRINTS = f"""        la s0, text
+loop:   li a7, 64
+        li a0, 1
+        mv a1, s0
+        li a2, {len(SENTENCE)}
+        ecall
+        j loop
+text:   .ascii {json.dumps(SENTENCE)}
+"""
+# How often the panel was changed, and how many frames there were.
+COUNTS = """addEventListener("DOMContentLoaded", () => {
+  Object.assign(window, { changes: 0, frames: 0 });
+  new MutationObserver((changes) => (window.changes += changes.length)).observe(document.getElementById("output"),
+    { childList: true });
+  const count = () => requestAnimationFrame(count, (window.frames += 1));
+  count();
+});"""
+LEFT = "id('output').scrollHeight - id('output').clientHeight - id('output').scrollTop"  # px below what is in sight
+STOP = """const done = arguments[0], begun = performance.now(), run = document.getElementById("run");
+new MutationObserver(() => run.textContent === "stopped" && done(performance.now() - begun)).observe(run, { childList: true });
+document.getElementById("halt").click();"""
+
+
+def test_a_program_that_prints_without_end_is_stopped(tabs: "Chrome", own_class: Served) -> None:
+    """The panel has the end in sight, is changed once a frame at most, and Stop is answered while all of it comes."""
+    teacher, tab = Tab(tabs, own_class, "teacher"), Tab(tabs, own_class, "A1", COUNTS)
+    tab.run("id('source').value = arguments[0]", PRINTS)
+    tab.click("#assemble")
+    tab.wait("one('#listing .next')")
+    teacher.click("#clocks [name='on']")
+    tab.wait("id('clock').textContent === 'the clock is on'")
+    tab.click("#go")
+    tab.wait("id('output').textContent.length > 9000")
+    tab.wait(f"{LEFT} < 2")
+    text = tab.text("#output")
+    assert text == SENTENCE * (len(text) // len(SENTENCE))
+    tab.run("(id('output').scrollTop = 100)")
+    tab.run("(window.changes = window.frames = 0)")
+    tab.wait("window.changes > 5")
+    assert tab.run("id('output').scrollTop") == 100
+    changes, frames = tab.run("[window.changes, window.frames]")
+    assert changes <= 2 * frames  # what stood there goes, and what stands there now comes
+    assert tab.front().execute_async_script(STOP) < 5000  # ms, on a machine that others use
+    tab.run("(id('output').scrollTop = 1e9)")
+    tab.command("step 1")
+    assert tab.text("#output").endswith(SENTENCE) and tab.run(f"{LEFT} < 2")
