@@ -4,7 +4,7 @@ import { byId, header, make } from "./elements.js";
 import { RowTable, placesOf } from "./rows.js";
 
 const NAMES = ["address", "bytes 0 to 3", "4 to 7", "8 to 11", "12 to 15", "text"];
-let shown = ""; // of the output, in hexadecimal
+let [told, shown, pause] = ["", "", 0]; // of the output, in hexadecimal; a timer, until which nothing else is shown
 const rows = new RowTable(byId("bytes"), "Memory", NAMES, "No memory but the program is in use yet.");
 
 /** A change comes into sight, the first one where there are more. */
@@ -15,14 +15,19 @@ export function paintMemory(state, before) {
   rows.show(places, row, places.find(isOther)?.address);
 }
 
-/** The output's end stays in sight, unless one has scrolled away from it. */
+/** The output's end stays in sight, unless one has scrolled away from it. Much of it isn't shown anew each frame. */
 export function paintOutput(state) {
-  const digits = state.output ?? Object.values(state.outputs ?? {}).join("");
-  if (digits === shown) return; // as after most steps, where it may be long
-  shown = digits;
-  byId("output-box").hidden = !digits;
+  told = state.output ?? Object.values(state.outputs ?? {}).join("");
+  byId("output-box").hidden = !told;
+  showOutput();
+}
+
+function showOutput() {
+  if (pause || told === shown) return;
+  pause = setTimeout(() => ((pause = 0), showOutput()), told.length / 400); // ms, 328 for 64 KB
+  shown = told;
   const { scrollTop, clientHeight, scrollHeight } = byId("output");
-  byId("output").textContent = outputText(digits);
+  byId("output").textContent = outputText(shown);
   if (scrollTop + clientHeight > scrollHeight - 18) byId("output").scrollTop = byId("output").scrollHeight;
 }
 
@@ -44,7 +49,7 @@ function memoryRow(address, digits, digitsBefore) {
 
 /** Bytes in hexadecimal as a text, with a picture for each control character but newlines and tabs. */
 function outputText(digits) {
-  const bytes = Uint8Array.from(digits.match(/../g) ?? [], (byte) => parseInt(byte, 16));
+  const bytes = Uint8Array.fromHex?.(digits) ?? Uint8Array.from(digits.match(/../g) ?? [], (byte) => parseInt(byte, 16));
   const picture = (character) => String.fromCharCode(0x2400 + character.charCodeAt(0));
   return new TextDecoder().decode(bytes).replace(/[\x00-\x08\x0b-\x1f]/g, picture);
 }

@@ -37,10 +37,10 @@ export function paintState(state, previous, used) {
   byId("machine").classList.toggle("running", state.run === "running");
   if (!isThere) return;
   const before = previous && previous.run !== "absent" ? previous : state;
+  paintOutput(state); // first, since it asks how the page is laid out
   paintListing(state, before);
   paintFacts(state, before);
   paintElements(state, before, used);
   paintRegisters(state, before);
   paintMemory(state, before);
-  paintOutput(state);
 }
