@@ -231,6 +231,19 @@ def test_sizes(sit: Sit) -> None:
         tab.front().execute_cdp_cmd("Emulation.clearDeviceMetricsOverride", {})
 
 
+def test_a_source_in_a_low_window(sit: Sit) -> None:
+    """Of a laptop's 768 pixels a browser leaves some 650 to a page: what is below a source is in sight there."""
+    tab = sit("A4")
+    size = {"width": 1366, "height": 650, "deviceScaleFactor": 1, "mobile": False}
+    tab.front().execute_cdp_cmd("Emulation.setDeviceMetricsOverride", size)
+    try:
+        tab.wait("innerHeight === 650")
+        tab.click("#assemble")
+        tab.wait("one('#listing .next')")
+    finally:
+        tab.front().execute_cdp_cmd("Emulation.clearDeviceMetricsOverride", {})
+
+
 def test_rows_out_of_sight_are_not_made(tabs: "Chrome", own_class: Served) -> None:
     """A listing of 3,900 rows is as high as if it had all; the next instruction comes into sight, and what is scrolled to."""
     tab = Tab(tabs, own_class, "A1")
@@ -423,6 +436,11 @@ def test_a_server_is_killed_and_begun_again(tabs: "Chrome", own_class: Served) -
     tab.command("set x9 9")
     assert tab.text("[data-edit='set x9']") == "9" and tab.text("[data-edit='set x7']") == "0"
     assert tab.run("window.marked === 1 && id('gone').hidden")
+    tab.click("#backward")
+    assert tab.text("[data-edit='set x9']") == "0" and "one moment" in tab.text("#says-past")
+    tab.run("(id('moment').value = 0, id('moment').dispatchEvent(new Event('input')))")  # of the server before
+    assert "addi" not in tab.text("#listing") and "moments ago" in tab.text("#says-past")
+    tab.click("#now")
     teacher.wait("id('gone').hidden && !id('desk').hidden && id('log').textContent.includes('set x9 9')")
     script = own_class.check_replay(digest_of(teacher)).decode().splitlines()
     assert script.count("1 step 1") == steps and not any(line.startswith("1 set x7") for line in script)
