@@ -111,6 +111,18 @@ async def test_what_a_good_answer_takes_is_told(room: Served) -> None:
     assert long["cases"] == [False, True, True, False, True] or "takes more than 30 instructions" in long["reason"]
 
 
+async def test_what_else_is_given_is_told(room: Served) -> None:
+    """That other registers hold anything, and what agnostic elements become."""
+    tab = await room.sit("A1")
+    assert (await check(tab, "square", "ret"))["notes"] == []
+    anything = "All other registers hold anything."
+    assert (await check(tab, "doubles", "ret"))["notes"] == [anything]
+    told = await check(tab, "doubles", (OURS / "doubles" / "wrong" / "always_eight.s").read_text())
+    assert told["notes"] == [
+        anything, "Agnostic elements, of a tail or masked off, become all ones here: does the answer use one?"
+    ]  # fmt: skip
+
+
 async def test_a_lesson_of_the_case_that_fails(room: Served) -> None:
     tab = await room.sit("A1")
     await check(tab, "square", "addi a0, a1, 1\nret")

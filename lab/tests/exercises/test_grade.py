@@ -8,16 +8,17 @@ import shutil
 import subprocess
 import sys
 import xml.etree.ElementTree as ElementTree
-from collections.abc import Callable
+from collections.abc import Callable, Sequence
 
 import pytest
 
 from support.images import MARCH, make_image
 from support.places import DATA, DOCS, EXAMPLES, SUM
 from vecmon_lab import LabError
-from vecmon_lab.exercises.answer import settled
+from vecmon_lab.exercises.answer import ready, settled, source_answer
 from vecmon_lab.exercises.exercise import read_exercise
 from vecmon_lab.exercises.grade import grade
+from vecmon_lab.machine.answers import ControlRegisters, Position, ScalarRegisters, VectorRegister
 
 ECHO = """
 set_up = ["map 20000 1 rw"]
@@ -290,6 +291,30 @@ def test_answers_have_limits(program: pathlib.Path, tmp_path: pathlib.Path, sour
     (tmp_path / "exercise.toml").write_text(LONG)
     (tmp_path / "answer.s").write_text(source)
     assert grade(program, settled(program, read_exercise(tmp_path)), tmp_path / "answer.s") == [reason]
+
+
+def registers_before(program: pathlib.Path, folder: pathlib.Path) -> tuple[Sequence[int], list[int], int]:
+    """x0 to x31, v0 to v31 and vxrm, as an answer to the exercise in a folder finds them, which begins where it should."""
+    exercise = read_exercise(folder)
+    with ready(program, source_answer("ret", pathlib.Path("answer.s")), exercise, exercise.cases[0]) as guest:
+        assert guest.told("state", Position).pc == 0x10000
+        v = [int(guest.told(f"vreg v{number} 8", VectorRegister).data.hex(), 16) for number in range(32)]
+        return guest.told("regs", ScalarRegisters).x, v, guest.told("vcsr", ControlRegisters).vxrm
+
+
+def test_other_registers_hold_anything_where_an_exercise_says_so(program: pathlib.Path, tmp_path: pathlib.Path) -> None:
+    """And else 0, as in exercises that don't know the key. It is the same each time, and what a case names stays."""
+    file = tmp_path / "exercise.toml"
+    case = "[[cases]]\nname = 'a'\nregisters = { a1 = 6 }\nexpected.registers = { a0 = 36 }"
+    file.write_text(case)
+    x, v, vxrm = registers_before(program, tmp_path)
+    assert (x[5:10], x[11:], v, vxrm) == ([0] * 5, [6, *[0] * 20], [0] * 32, 0)
+    file.write_text(f"junk = true\n{case}")
+    x, v, vxrm = registers_before(program, tmp_path)
+    assert all(x[5:]) and all(v) and vxrm and len({*x[5:], *v}) == 59 and x[11] == 6
+    assert registers_before(program, tmp_path) == (x, v, vxrm)
+    file.write_text(f"junk = true\n{case}".replace("'a'", "'b'"))
+    assert not {*registers_before(program, tmp_path)[0][12:]} & {*x}
 
 
 def test_what_is_no_file_is_not_read(tmp_path: pathlib.Path) -> None:

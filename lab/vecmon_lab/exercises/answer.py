@@ -7,11 +7,12 @@ import re
 import stat
 from collections.abc import Callable, Iterator, Sequence
 from dataclasses import dataclass, replace
+from random import Random
 
 from .. import LabError, mistakes_in
 from ..guest.guest import IMAGE_BYTES, QUANTUM, STACK_END, STACK_POINTER, Guest, pokes
 from ..lessons.script import Script, read_source, send
-from ..machine.answers import ScalarRegisters, Stop
+from ..machine.answers import Position, ScalarRegisters, Stop
 from ..machine.lines import check_line, words_of
 from ..machine.program import check_flags
 from ..machine.session import Session
@@ -25,7 +26,7 @@ TURNED = 0xA5
 
 MOST_STEPS = 256  # of one line
 
-_RETURN_PAGE = (f"map {RETURN:x} 1 rx", f"poke {RETURN:x} 73001000", f"set x1 {RETURN:x}")
+_RETURN = (f"poke {RETURN:x} 73001000", f"set x1 {RETURN:x}")
 _STACK = (f"map {STACK_END - 0x4000:x} 4 rw", f"set x2 {STACK_POINTER:x}")
 
 
@@ -123,7 +124,7 @@ def ready(
             send(guest, ["enter", *answer.commands], answer.source)
         guest.ask("stop")  # where a script's last line is `go`
         guest.output()
-        send(guest, inputs(exercise, case))
+        send(guest, inputs(exercise, case, guest.told("state", Position).pc))
         yield Guest(session, write=write)
 
 
@@ -155,15 +156,28 @@ def _run(guest: Guest, limits: Limits) -> tuple[Stop | None, bool]:
     return guest.go(limits.ticks), limits.instructions < UNLIMITED
 
 
-def inputs(exercise: Exercise, case: Case) -> list[str]:
-    """The commands between an answer and its run. What is expected somewhere doesn't stand there before."""
+def inputs(exercise: Exercise, case: Case, begin: int) -> list[str]:
+    """The commands between an answer and its run, which begins at this address.
+
+    What is expected somewhere doesn't stand there before.
+    """
     others = [(place.address, bytes(byte ^ TURNED for byte in place.data)) for place in case.expected.memory]
     places = [*others, *((place.address, place.data) for place in case.memory)]
     turned = int.from_bytes(bytes([TURNED]) * 8, "little")
     registers = {name: value ^ turned for name, value in case.expected.registers.items()} | dict(case.registers)
     written = [command for address, data in places for command in pokes(address, data)]
     values = [f"set {name} {value:x}" for name, value in registers.items()]
-    return [*exercise.set_up, *_RETURN_PAGE, f"policy {case.policy}", *written, *values]
+    junk = _junk(case.name, begin) if exercise.junk else []
+    return [*exercise.set_up, f"map {RETURN:x} 1 rx", *junk, *_RETURN, f"policy {case.policy}", *written, *values]
+
+
+def _junk(name: str, begin: int) -> Iterator[str]:
+    """The commands that fill x5 to x31, v0 to v31 and vxrm with what isn't 0: by the name of the case, always the same."""
+    random = Random(name)
+    yield from (f"set x{number} {random.randrange(1, 1 << 64):x}" for number in range(5, 32))
+    yield from (f"vset v{number} {random.randbytes(32).hex()}" for number in range(32))
+    yield from (f"asm {RETURN:x} csrrwi x0, vxrm, {random.randrange(1, 4)}", f"setpc {RETURN:x}", "step 1")
+    yield f"setpc {begin:x}"
 
 
 def _results(guest: Guest, expected: Results, output: bytes) -> Results:

@@ -39,12 +39,14 @@ Taken = TypedDict("Taken", {"instructions": int, "work": int})
 class Told(TypedDict, total=False):
     """Which cases pass; of the first that fails and isn't hidden its number and why; what an answer that passes takes.
 
-    Rows have what is given there, expected and found. Without a number the answer can't be brought in.
+    Rows have what is given there, expected and found, and notes what else holds there. Without a number the answer
+    can't be brought in.
     """
 
     cases: list[bool]
     number: int
     reason: str
+    notes: list[str]
     given: list[Row]
     expected: list[Row]
     found: list[Row]
@@ -70,6 +72,7 @@ def check(program: pathlib.Path, exercise: Exercise, text: str) -> Told:
             given = [_row(where, texts) for where, texts in _strips(inputs_given, True)]
             expected, found = _compared(case.expected, done.found if done else case.expected)
             told.update({"number": number, "reason": reason, "given": given, "expected": expected})
+            told["notes"] = _notes(exercise, case)
             told.update({"found": found} if done else {})
             return told
     if all(told["cases"]) and "good" in exercise.files:
@@ -84,10 +87,18 @@ def lesson(program: pathlib.Path, exercise: Exercise, number: int, text: str) ->
     answer, case = source_answer(text, NAME), exercise.cases[number]
     assert answer.commands is not None and answer.source is not None
     title, reason = f"{exercise.title}: {case.name}", outcome(program, answer, exercise, case)[0]
-    brought = [f"1 {command}" for command in ["enter", *answer.commands, *inputs(exercise, case)]]
+    assembled = assemble(text)
+    brought = [f"1 {line}" for line in ["enter", *answer.commands, *inputs(exercise, case, assembled.entry)]]
     steps = [Step(brought, f"The case is given. {reason[:1].upper()}{reason[1:]}"), Step(["1 step 256"])]
     frames = make_frames(replace(answer.source, steps=steps), program)
-    return lesson_page(title, frames, answer.source.labels, assemble(text).source_lines(text))
+    return lesson_page(title, frames, answer.source.labels, assembled.source_lines(text))
+
+
+def _notes(exercise: Exercise, case: Case) -> list[str]:
+    """What holds before a case, beside numbers in registers and memory."""
+    agnostic = "Agnostic elements, of a tail or masked off, become all ones here: does the answer use one?"
+    junk = "All other registers hold anything."
+    return [junk] * exercise.junk + [agnostic] * (case.policy == "ones")
 
 
 def _taken(program: pathlib.Path, answer: Answer, exercise: Exercise) -> Taken | None:

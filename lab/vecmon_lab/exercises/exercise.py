@@ -78,6 +78,7 @@ class Exercise:
 
     text: in paragraphs, lists and code, as a student reads it; hints: one more after each try that fails
     set_up: lines of the monitor before each case, without the user's digit
+    junk: whether registers that a case doesn't name hold anything before it, and not 0
     files: by the keys of FILES that there are: `reference`, an answer whose results are expected in the places that the
         cases name, which else have them; `good`, another one, with vectors; `start`, the source that a student begins
         with; `lesson`, the source of a lesson before it
@@ -88,6 +89,7 @@ class Exercise:
     text: str
     hints: Sequence[str]
     set_up: Sequence[str]
+    junk: bool
     limits: Limits
     cases: Sequence[Case]
     files: Mapping[str, pathlib.Path]
@@ -101,7 +103,7 @@ def read_exercise(folder: pathlib.Path) -> Exercise:
     with mistakes_in(path, tomllib.TOMLDecodeError, UnicodeDecodeError):
         entries = tomllib.loads(path.read_text("utf-8"))
     texts = dict.fromkeys(["text", *FILES], "") | {"title": path.parent.name}
-    table = _taken(str(path), entries, {**texts, "limits": {}, "hints": [], "set_up": [], "cases": []})
+    table = _taken(str(path), entries, {**texts, "limits": {}, "hints": [], "set_up": [], "junk": False, "cases": []})
     limits = Limits(**vars(_taken(f"{path}: limits", table.limits, LIMITS)))
     files = {key: path.parent / getattr(table, key) for key in FILES if getattr(table, key)}
     cases = [_case(f"{path}: case {number}", each, "reference" in files) for number, each in enumerate(table.cases, 1)]
@@ -116,7 +118,8 @@ def read_exercise(folder: pathlib.Path) -> Exercise:
     for mistake, is_made in mistakes.items():
         if is_made:
             raise LabError(f"{path}: {mistake}")
-    return Exercise(path.parent, table.title, table.text, table.hints, table.set_up, limits, cases, files)
+    about = (table.title, table.text, table.hints, table.set_up, table.junk)
+    return Exercise(path.parent, *about, limits, cases, files)
 
 
 def _taken(where: str, entries: object, defaults: Mapping[str, object]) -> SimpleNamespace:

@@ -12,7 +12,9 @@ function strip({ where, first, numbers, wrong }) {
   return make("div", "strip", make("small", "", first ? `${where}, from number ${first} on` : where), make("p", "", ...boxes));
 }
 
-const picture = (name, strips) => (strips?.length ? [make("h3", "", name), ...strips.map(strip)] : []);
+/** Rows of numbers below a name, and what else is to be said there. */
+const picture = (name, strips = [], notes = []) =>
+  strips.length + notes.length ? [make("h3", "", name), ...strips.map(strip), ...notes.map((note) => make("p", "", note))] : [];
 
 /** What an answer that passes takes, beside a good one. */
 function takenWords({ taken, good }) {
@@ -38,7 +40,7 @@ export function verdict(told, cases, lesson) {
     ...parts,
     make("p", "said", ...prose(`${which}${told.reason}`)),
     ...(lesson ? [make("p", "", link, " opens a lesson of this case, step by step.")] : []),
-    ...picture("Given", told.given),
+    ...picture("Given", told.given, told.notes),
     ...picture("Expected", told.expected),
     ...picture("Found", told.found),
   ];

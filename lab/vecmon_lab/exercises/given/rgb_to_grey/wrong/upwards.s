@@ -1,4 +1,5 @@
-# Halves are rounded upwards, as the machine does by itself.
+# Halves are rounded upwards.
+        csrwi vxrm, 0
         li t1, 77
         li t2, 150
         li t3, 29
