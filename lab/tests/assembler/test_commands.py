@@ -93,10 +93,17 @@ def test_help_lists_the_commands() -> None:
             [
                 "addi x1,  x0, 4096",
                 "              ^",
-                "E15: 4096 doesn't fit here, as the machine reads it: addi x1,  x0, 4096",
+                "E15: 4096 doesn't fit here, as the machine reads it: addi x1,  x0, 4096; the form is addi rd, rs1, imm",
             ],
         ),
-        ("1 asm 10000 vadd.vv v1, v2 ", ["vadd.vv v1, v2", "              ^", "E15: an operand is missing at the end"]),
+        (
+            "1 asm 10000 vadd.vv v1, v2 ",
+            [
+                "vadd.vv v1, v2",
+                "              ^",
+                "E15: an operand is missing at the end; the form is vadd.vv vd, vs2, vs1[, v0.t]",
+            ],
+        ),
         ("1 asm 10000 li x1, 5", ["li x1, 5", "^", "E15: li is a pseudo-instruction, which only a source has"]),
         ("1 asm 10000 jmp 8", ["jmp 8", "^", "E15: there is no instruction jmp; near it is jal"]),
     ],

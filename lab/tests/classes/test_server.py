@@ -64,6 +64,7 @@ async def test_what_refusals_mean(room: Served) -> None:
     tab, teacher = await room.sit("A2"), await room.sit("teacher")
     told = await tab.ask("lines", do=["enter", "map 10000 1 rwx", "asm 10000 add x1, x2, 4", "step 300"])
     mark = "`add x1, x2, 4\n            ^`\nE15: 4 doesn't fit here, as the machine reads it: add x1, x2, 4"
+    mark += "; the form is add rd, rs1, rs2"
     sentence = "E04: 300 isn't from 1 to 256; the form is step N"
     assert told["words"] == ["", "", mark, sentence] and told["do"][2:] == [["E15 13"], ["E04"]]
     assert tab.logs["A2"][-3:] == [f"<2 E15 13\n{mark}", ">2 step 300", f"<2 E04\n{sentence}"]

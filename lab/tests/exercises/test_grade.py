@@ -164,7 +164,10 @@ def test_a_script_and_an_image_are_right(echo: Echo, program: pathlib.Path, tmp_
             "The store at 0x1000c may not write from 0x3 on: a page isn't mapped, or has no permission w.",
         ),
         (("ecall", "li t2"), "answer.s:4:9: li takes 2 operands, not 1"),
-        (("ecall", "vadd.vv v1, v2"), "answer.s:4:23: an operand is missing at the end"),
+        (
+            ("ecall", "vadd.vv v1, v2"),
+            "answer.s:4:23: an operand is missing at the end; the form is vadd.vv vd, vs2, vs1[, v0.t]",
+        ),
     ],
 )
 def test_the_first_wrong_place_is_told(echo: Echo, change: tuple[str, str], reason: str) -> None:
@@ -241,7 +244,7 @@ def test_what_cannot_be_read_is_a_row(tmp_path: pathlib.Path) -> None:
         "it can't be read: No such file or directory",
         "it can't be read: Is a directory",
     ]
-    assert rows[3][-1] == "typo.s:3:19: an operand is missing at the end"
+    assert rows[3][-1] == "typo.s:3:19: an operand is missing at the end; the form is vle16.v vd, (rs1)[, v0.t]"
     assert (done.returncode, done.stderr) == (1, "")
 
 

@@ -5,12 +5,13 @@ from collections.abc import Iterator
 from dataclasses import dataclass
 from string import Formatter
 
+from ..instructions.table import instruction_table
 from ..tables.table import read_table
 from .line import Operand, SourceError, Token
 from .names import INSTRUCTION_NAMES, PSEUDO_NAMES, no_instruction
 from .value import Symbols, Value
 
-_TEXT_BYTES = 256
+_TEXT_BYTES, _VECTOR_TYPE = 256, "eSEW, mLMUL, ta|tu, ma|mu"
 _REGISTERS = {name: name for name in ["v0.t", *(f"{letter}{number}" for letter in "xv" for number in range(32))]}
 _REGISTERS |= dict(read_table("registers"))
 _KEYWORD = re.compile("|".join(f"{name} (?:{words.replace(' ', '|')})" for name, words in read_table("keywords")))
@@ -37,16 +38,18 @@ class Statement:
 def refusal(statement: Statement, column: int) -> SourceError:
     """The error in the source for the machine's answer E15 to a statement, with the column that it names."""
     token = re.match(r"[a-z0-9._]+|.", statement.text[column - 1 :])
+    row = instruction_table().get(statement.text.split()[0])
+    form = f"; the form is {row.name} {row.operands}".replace("vtypei", _VECTOR_TYPE).rstrip() if row else ""
     if token is None:
-        message = "an operand is missing at the end"
+        message = f"an operand is missing at the end{form}"
     elif token[0] == ",":
-        message = f"there is an operand too many, as the machine reads it: {statement.text}"
+        message = f"there is an operand too many, as the machine reads it: {statement.text}{form}"
     elif column == 1 and token[0] in PSEUDO_NAMES:
         message = f"{token[0]} is a pseudo-instruction, which only a source has"
     elif column == 1:
         message = no_instruction(token[0], INSTRUCTION_NAMES)
     else:
-        message = f"{token[0]} doesn't fit here, as the machine reads it: {statement.text}"
+        message = f"{token[0]} doesn't fit here, as the machine reads it: {statement.text}{form}"
     return SourceError(statement.line, statement.columns[column - 1], message)
 
 
