@@ -54,17 +54,19 @@ def square(tmp_path: pathlib.Path) -> pathlib.Path:
 
 @pytest_asyncio.fixture  # type: ignore[misc]
 async def room(tmp_path: pathlib.Path, square: pathlib.Path) -> AsyncIterator[Served]:
-    """A class with that exercise, and one of the lab's."""
-    async with served(tmp_path / "class", exercises=[square, pathlib.Path("doubles")]) as room:
+    """A class with that exercise, and two of the lab's."""
+    async with served(
+        tmp_path / "class", exercises=[square, *map(pathlib.Path, ("doubles", "strip_mined_copy"))]
+    ) as room:
         yield room
 
 
 async def check(tab: Tab, name: str, text: str) -> Any:
     """What is told of an answer."""
-    tries = tab.view["exercises"][name]["tries"]
+    before = tab.view["exercises"][name]
     told = await tab.ask("check", exercise=name, text=text)
     assert "error" not in told, told
-    await tab.until(lambda view: view["exercises"][name]["tries"] > tries)
+    await tab.until(lambda view: any(view["exercises"][name][key] != before[key] for key in ("tries", "told")))
     return tab.view["exercises"][name]["told"]
 
 
@@ -74,26 +76,63 @@ async def test_a_seat_tries_until_it_passes(room: Served) -> None:
     own = tab.view["exercises"]["square"]
     assert (own["text"], own["start"], own["cases"]) == ("Square `a1` into `a0`.", "ret\n", ["six", "another one"])
     assert (own["hints"], own["tries"], own["told"], own["lesson"]) == ([], 0, {}, "")
-    assert await check(tab, "square", "li a0") == {
-        "cases": [False, False], "reason": "answer.s:1:1: li takes 2 operands, not 1"
-    }  # fmt: skip
     told = await check(tab, "square", "addi a0, a1, 1\nret")
-    assert (told["cases"], told["number"], told["reason"]) == ([False, False], 0, "x10: expected 36, found 7")
-    assert told["given"] == [{"where": "a1 (x11)", "first": 0, "numbers": ["6"], "wrong": []}]
-    assert told["expected"] == [{"where": "a0 (x10)", "first": 0, "numbers": ["36"], "wrong": []}]
-    assert told["found"] == [{"where": "a0 (x10)", "first": 0, "numbers": ["7"], "wrong": [0]}]
-    assert tab.view["exercises"]["square"]["hints"] == ["multiply", "mul a0, a1, a1"]
+    assert (told["cases"], told["number"], told["reason"]) == ([False, False], 0, "a0: expected 36, found 7")
+    assert told["given"] == [{"where": "a1 (x11)", "first": 0, "numbers": ["6"], "more": 0, "wrong": []}]
+    assert told["expected"] == [{"where": "a0 (x10)", "first": 0, "numbers": ["36"], "more": 0, "wrong": []}]
+    assert told["found"] == [{"where": "a0 (x10)", "first": 0, "numbers": ["7"], "more": 0, "wrong": [0]}]
+    assert tab.view["exercises"]["square"]["hints"] == ["multiply"]
     assert await check(tab, "square", RIGHT) == {"cases": [True, True]}
     assert tab.view["exercises"]["square"]["passed"] and not tab.view["exercises"]["square"]["checking"]
     await other.do("enter")
     assert (await room.check_replay())[0] == b"2 enter\n" and other.view["exercises"]["square"]["tries"] == 0
 
 
+@pytest.mark.parametrize(
+    "text, mistakes",
+    [
+        (
+            "li a0\nmul a0, a1\nret",
+            [(1, 1, "li takes 2"), (2, 11, "an operand is missing at the end; the form is mul rd")],
+        ),
+        ("", [(1, 1, "there is no instruction in the source")]),
+        ("# " + "long " * 1700, [(1, 1, "the source has more than 8,192 bytes")]),
+    ],
+)
+async def test_mistakes_of_form_are_no_try(room: Served, text: str, mistakes: list[tuple[int, int, str]]) -> None:
+    """No try is counted or kept, no hint is due, and what a seat was told before isn't taken back."""
+    tab = await room.sit("A1")
+    told = (await check(tab, "doubles", text))["mistakes"]
+    assert [(it["line"], it["column"]) for it in told] == [(line, column) for line, column, _ in mistakes]
+    assert all(it["message"].startswith(message) for it, (_, _, message) in zip(told, mistakes))
+    own = tab.view["exercises"]["doubles"]
+    assert (own["tries"], own["hints"], own["lesson"], own["passed"]) == (0, [], "", False)
+    assert not [*room.folder.glob("answers/*")]
+    await check(tab, "doubles", (OURS / "doubles" / "good.s").read_text())
+    await check(tab, "doubles", text)
+    own = tab.view["exercises"]["doubles"]
+    assert (own["tries"], own["hints"], own["passed"]) == (1, [], True)
+
+
+async def test_rows_are_cut_at_the_same_place(room: Served) -> None:
+    """Of long rows some numbers are told, those that are given beside those that are found; and how many more there are."""
+    tab = await room.sit("A1")
+    told = await check(tab, "strip_mined_copy", (OURS / "strip_mined_copy" / "wrong" / "one_round.s").read_text())
+    rows = [told[key][-2] for key in ("given", "expected", "found")]
+    assert [(it["first"], len(it["numbers"]), it["more"]) for it in rows] == [(252, 21, 0), *[(252, 9, 0)] * 2]
+    assert rows[0]["numbers"][:9] == rows[1]["numbers"] and rows[2]["wrong"] == [4, 5, 6, 7, 8]
+    told = await check(
+        tab, "strip_mined_copy", "vsetivli t0, 16, e8, m1, ta, ma\nvle8.v v8, (a1)\nvse8.v v8, (a0)\nret"
+    )
+    rows = [told[key][-2] for key in ("given", "expected", "found")]
+    assert [(it["first"], len(it["numbers"]), it["more"]) for it in rows] == [(0, 48, 225), *[(0, 48, 213)] * 2]
+
+
 async def test_of_a_hidden_case_nothing_is_told(room: Served) -> None:
     """Whatever comes to the tab has no number of it, and nothing of the exercise's files; not even a hint before its time."""
     tab = await room.sit("A1")
     messages: list[Any] = [tab.view]
-    for text in (WRONG, "ebreak", "j .", "", ".zero 5", RIGHT):
+    for text in (WRONG, "ebreak", "j .", "", "ret\n.zero 5", RIGHT):
         messages.append(await check(tab, "square", text))
         messages.append(json.loads(json.dumps(tab.view)))
     assert messages[1] == {"cases": [True, False]}
@@ -129,7 +168,10 @@ async def test_a_lesson_of_the_case_that_fails(room: Served) -> None:
     place = tab.view["exercises"]["square"]["lesson"]
     async with room.session.get(room.url + place) as answer:
         page, policy = await answer.text(), answer.headers["Content-Security-Policy"]
-    assert '"line":"1 step 256: instruction 2"' in page and "The case is given. X10: expected 36, found 7" in page
+    assert (
+        '"line":"1 step 256: instruction 2"' in page
+        and "The case is given. The answer fails: a0: expected 36, found 7" in page
+    )
     async with room.session.get(room.url) as answer:
         assert (
             answer.headers["Content-Security-Policy"].split("script-src")[1][:60] != policy.split("script-src")[1][:60]
@@ -167,7 +209,12 @@ async def test_the_teacher_has_a_table_and_all_answers(room: Served) -> None:
     assert status == 200 and [row[:7] for row in rows[1:]] == [["A3", "Ada", "square", "3", "2", "2", "2"]]
 
 
-HOSTILE = ["j .", "next: li a0, 1\nli a7, 64\nmv a1, sp\nli a2, 4096\necall\nj next", ".zero 1048576", "nop\n" * 16384]
+HOSTILE = [
+    "j .",
+    "next: li a0, 1\nli a7, 64\nmv a1, sp\nli a2, 4096\necall\nj next",
+    "ret\n.zero 1044480",
+    "nop\n" * 16384,
+]
 
 
 async def test_bad_answers_cost_the_others_nothing(room: Served) -> None:
@@ -210,4 +257,4 @@ async def test_bad_exercises_are_told(tmp_path: pathlib.Path, square: pathlib.Pa
     assert "an exercise has a name of its own" in begin(square.rename(tmp_path / "a b"))
     (tmp_path / "a b").rename(square)
     (square / "reference.s").write_text("j .\n")
-    assert begin(square).endswith("six: it hasn't ended after 100,000 ticks")
+    assert begin(square).endswith("100,000 ticks, of which an instruction takes one or more; it is at line 1")

@@ -75,7 +75,7 @@ def test_answers_do_what_the_text_says(program: pathlib.Path, name: str, answer:
         for _ in range(DRAWN):
             drawn = DRAWS[name](random)
             found = leave(guest, drawn)
-            assert not difference(drawn.expected, Attempt(drawn.expected, found, False)), drawn
+            assert not difference(drawn.expected, Attempt(drawn.expected, found, False), drawn.registers), drawn
 
 
 @pytest.mark.by_command("course")

@@ -149,19 +149,24 @@ def test_a_script_and_an_image_are_right(echo: Echo, program: pathlib.Path, tmp_
     [
         (("li t0, 7", "li t0, 8"), "element 1, i32 at 0x20014: expected 7, found 8"),
         (("sw t0, 16", "sw t0, 24"), "element 0, i32 at 0x20010: expected -5, and it was left as it was"),
-        (("li t1, -1", "addi a0, a0, 1"), "x10: expected 5, found 6"),
-        (("li t1, -1", ""), "x6: expected -1, and it was left as it was"),
-        (("li a0, 1", "li a0, 1\naddi a2, a2, -1"), "x10: expected 5, found 4"),
+        (("li t1, -1", "addi a0, a0, 1"), "a0: expected 5, found 6"),
+        (("li t1, -1", ""), "t1: expected -1, and it was left as it was"),
+        (("li t1, -1", "mv a0, a1"), "a0: expected 5, found 131072 (0x20000, near a1's address)"),
+        (("li t1, -1", "li t1, -1\nli a0, 131072 - 4096"), "a0: expected 5, found 126976"),
+        (("li a0, 1", "li a0, 1\naddi a2, a2, -1"), "a0: expected 5, found 4"),
         (("ecall", "ecall\nli a0, 1\necall"), "it writes more than 8 bytes"),
         (("ecall", "li a0, 5"), "output: expected 'hello', found ''"),
-        (("ecall", "j ."), "it hasn't ended after 900 ticks"),
+        (
+            ("ecall", "j ."),
+            "it hasn't ended after 900 ticks, of which an instruction takes one or more; it is at line 4",
+        ),
         (
             ("ecall", "ld a0, 0(x0)"),
-            "The load at 0x10008 may not read from 0x0 on: a page isn't mapped, or has no permission r.",
+            "line 4: The load at 0x10008 may not read from 0x0 on: a page isn't mapped, or has no permission r.",
         ),
         (
             ("ecall", "li t0, 3\nsw x0, 0(t0)"),
-            "The store at 0x1000c may not write from 0x3 on: a page isn't mapped, or has no permission w.",
+            "line 5: The store at 0x1000c may not write from 0x3 on: a page isn't mapped, or has no permission w.",
         ),
         (("ecall", "li t2"), "answer.s:4:9: li takes 2 operands, not 1"),
         (
@@ -180,7 +185,7 @@ def test_the_first_wrong_place_is_told(echo: Echo, change: tuple[str, str], reas
         (
             BY_POKES,
             "script",
-            "x10: expected 5, and it was left as it was",
+            "a0: expected 5, and it was left as it was",
         ),  # it has another value when the program begins
         (
             BY_POKES + "1 map 20000 1 rw\n1 poke 20010 fbffffff07000000",
@@ -213,7 +218,9 @@ def test_the_first_wrong_place_is_told(echo: Echo, change: tuple[str, str], reas
             "asm 10000 nop: E15: nop is a pseudo-instruction, which only a source has",
         ),
         ("", "script", "No instruction can be fetched at 0x0: its page isn't mapped, or has no permission x."),
-        ("", "empty.s", "No instruction can be fetched at 0x10000: its page isn't mapped, or has no permission x."),
+        ("", "empty.s", "there is no instruction in the source"),
+        (".zero 5", "zeros.s", "there is no instruction in the source"),
+        (ECHOES, "answer.s", "it runs on behind its last instruction: is `ret` missing?"),
         (b"\x7fELF", "image", "the machine refuses image (E09 Short): the file has less than 64 bytes"),
         (
             b"\x7fELF\1\1\1" + bytes(60),
@@ -285,8 +292,8 @@ BY_ROUNDS = "li a0, 0\nli t0, 6\nnext: add a0, a0, a1\naddi t0, t0, -1\nbnez t0,
         ("mul a0, a1, a1\nret", ""),
         (BY_ROUNDS.replace("ret", "ebreak"), ""),  # which has 20, since the one that stops isn't carried out
         (BY_ROUNDS, "the results are right, but it takes more than 20 instructions: with vectors fewer will do"),
-        (BY_ROUNDS.replace("6", "7"), "x10: expected 36, found 42"),
-        ("j .", "it hasn't ended after 100,000 ticks"),
+        (BY_ROUNDS.replace("6", "7"), "a0: expected 36, found 42"),
+        ("j .", "it hasn't ended after 100,000 ticks, of which an instruction takes one or more; it is at line 1"),
         ("# " + "as long as it may be " * 4 + "\nret", "it has more than 80 bytes"),
     ],
 )

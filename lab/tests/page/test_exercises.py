@@ -17,6 +17,9 @@ if TYPE_CHECKING:
 
 COURSE = [name for name, _ in read_table("course")]
 VERDICT = "one('#exercise .verdict h3')?.textContent"
+TYPE = "(id('source').value = arguments[0], id('source').dispatchEvent(new Event('input')))"
+IN_SIGHT = """((panel, heading) => heading.top >= panel.top && heading.bottom <= panel.bottom)(
+    ...["#exercise .reading", "#exercise .verdict h3"].map((name) => one(name).getBoundingClientRect()))"""
 
 
 @pytest.fixture(scope="module")
@@ -30,7 +33,7 @@ def course(program: pathlib.Path, tmp_path_factory: pytest.TempPathFactory) -> I
 
 def check(tab: Tab, source: str, verdict: str) -> None:
     """Checks a source, and waits for what is told."""
-    tab.run("(id('source').value = arguments[0], id('source').dispatchEvent(new Event('input')))", source)
+    tab.run(TYPE, source)
     tries = tab.run("one('#exercise [role=status]').textContent")
     tab.click("#exercise .main")
     tab.wait("!one('#exercise .main').disabled && one('#exercise [role=status]').textContent !== arguments[0]", tries)
@@ -45,15 +48,25 @@ def test_an_exercise_is_solved(tabs: "Chrome", course: Served) -> None:
     assert tab.run("all('#exercise .text li').length") == 3 and not tab.run("one('#exercise .hints h3')")
     tab.click("#exercise button:not(.main)")
     assert "a0: where the doubles go" in tab.run("id('source').value") and not tab.run("id('editor').hidden")
-    check(tab, "vsetvli t0, a2, e32", "It passes 0 of 5 cases.")
-    assert tab.text("#exercise .said").startswith("answer.s:1:")
+    tab.run(TYPE, "ret\nvsetvli t0, a2, e32")
+    tab.click("#exercise .main")
+    tab.wait(
+        "one('#mistakes button')?.textContent.startsWith('2:20: an operand is missing at the end; the form is vsetvli rd')"
+    )
+    assert tab.run(VERDICT) == "Source has mistakes." and not tab.run("id('editor').hidden")
+    assert tab.text("#exercise [role=status]") == "" and not tab.run("one('#exercise .hints h3')")
+    tab.click("#mistakes button")
+    assert tab.run("id('source').selectionStart") == 23
+    tab.run(TYPE, "ret")
+    assert tab.text("#mistakes") == ""
     wrong = (OURS / "doubles" / "wrong" / "always_eight.s").read_text()
     check(tab, wrong, "It passes 2 of 5 cases.")
-    assert tab.run("all('#exercise .hints li').length") == 2
+    assert tab.run("all('#exercise .hints li').length") == 1 and tab.run(IN_SIGHT)
     assert tab.run("all('#exercise .cases li').map((item) => item.className)") == [
         "passes", "fails", "fails", "passes", "fails"
     ]  # fmt: skip
     assert "element 3, i32 at 0x2010c: expected -1, found 80" in tab.text("#exercise .said")
+    assert "All other registers hold anything." in tab.text("#exercise .verdict")
     assert tab.run("all('#exercise .wrong').map((box) => box.firstChild.data)") == ["80", "100", "0"]
     assert tab.front().execute_script(CONTRAST) == []
     tab.click("#exercise a")
@@ -69,10 +82,10 @@ def test_an_exercise_is_solved(tabs: "Chrome", course: Served) -> None:
     assert "A good answer takes 10 instructions" in tab.text("#exercise .verdict")
     assert "✓ Doubles" in tab.text("#exercise select")
     teacher = Tab(tabs, course, "teacher")
-    teacher.wait("one('#scores td button')?.textContent.startsWith('✓ try 3')")
+    teacher.wait("one('#scores td button')?.textContent.startsWith('✓ try 2')")
     teacher.click("#scores td button")
     teacher.wait("id('scores').querySelector('pre').textContent.includes('vadd.vv')")
-    teacher.choose("#scores select", "try 2")
+    teacher.choose("#scores select", "try 1")
     teacher.wait("id('scores').querySelector('pre').textContent.includes('vsetivli zero, 8')")
     assert teacher.front().execute_script(CONTRAST) == []
 
@@ -97,7 +110,9 @@ def test_an_endless_answer_holds_nobody_up(tabs: "Chrome", course: Served) -> No
         each.click("#one")
         each.wait("id('step').textContent.includes('addi x5, x5, 1')")
     tab.wait(f"{VERDICT} === 'It passes 0 of 5 cases.'")
-    assert tab.text("#exercise .said") == "eight: it hasn't ended after 2,000 ticks"
+    assert tab.text("#exercise .said") == (
+        "eight: it hasn't ended after 2,000 ticks, of which an instruction takes one or more; it is at line 1"
+    )
 
 
 def test_the_panel_can_be_put_away(tabs: "Chrome", course: Served) -> None:

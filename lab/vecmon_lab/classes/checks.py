@@ -196,9 +196,12 @@ class Checks:
         finally:
             del self._busy[seat]
         work, done = self._of(seat, name), Try(time=int(time.time()), text=text, told=told)
-        work.add(done)
-        self._unsaved[_file(seat, name, len(work.tries))] = done
-        self.keep()
+        if "cases" in told:
+            work.add(done)
+            self._unsaved[_file(seat, name, len(work.tries))] = done
+            self.keep()
+        else:  # mistakes of form are no try
+            work.told, work.ticket = told, ""
         self._tell([seat])
 
     async def _run(self, name: str, *words: str) -> bytes:

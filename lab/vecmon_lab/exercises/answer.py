@@ -79,6 +79,8 @@ def read_answer(path: pathlib.Path, most: int = IMAGE_BYTES) -> Answer:
 def source_answer(text: str, path: pathlib.Path) -> Answer:
     """The answer that a source is, which has this text, and is called so. Raises LabError where it doesn't assemble."""
     source = read_source(text, path.name)
+    if not source.statements:
+        raise LabError("there is no instruction in the source")
     return Answer(path, [line[2:] for line in source.steps[0].lines[1:]] + list(_STACK), source)
 
 
@@ -140,8 +142,19 @@ def attempt(program: pathlib.Path, answer: Answer, exercise: Exercise, case: Cas
     with ready(program, answer, exercise, case, write) as guest:
         before, (stop, is_long) = _results(guest, case.expected, b""), _run(guest, exercise.limits)
         if stop is None or stop.kind not in ("ebreak", "exit"):
-            raise LabError(guest.explain(stop) if stop else f"it hasn't ended after {exercise.limits.ticks:,} ticks")
+            raise LabError(_without_end(guest, answer, stop, exercise.limits.ticks))
         return Attempt(before, _results(guest, case.expected, bytes(output)), is_long)
+
+
+def _without_end(guest: Guest, answer: Answer, stop: Stop | None, ticks: int) -> str:
+    """Why an answer comes to no end of its own, and at which line of its source; without a stop its ticks ran out."""
+    lines = {each.address: each.line for each in answer.source.statements.values()} if answer.source else {}
+    if stop is None:
+        place = f"; it is at line {lines[guest.pc]}" if guest.pc in lines else ""
+        return f"it hasn't ended after {ticks:,} ticks, of which an instruction takes one or more{place}"
+    if lines and stop.pc == max(lines) + 4:
+        return "it runs on behind its last instruction: is `ret` missing?"
+    return (f"line {lines[stop.pc]}: " if stop.pc in lines else "") + guest.explain(stop)
 
 
 def _run(guest: Guest, limits: Limits) -> tuple[Stop | None, bool]:

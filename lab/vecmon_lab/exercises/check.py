@@ -14,24 +14,25 @@ from dataclasses import replace
 from typing import TypedDict
 
 from .. import LabError
-from ..assembler.source import assemble
+from ..assembler.source import SourceError, assemble, read_source
+from ..assembler.trial import all_mistakes
 from ..lessons.frames import make_frames
 from ..lessons.page import lesson_page
 from ..lessons.script import Step
 from ..runs.counts import count
-from ..tables.table import read_table
 from .answer import Answer, inputs, ready, read_answer, settled, source_answer
-from .exercise import Case, Exercise, Results, read_exercise
+from .exercise import ABI, ADDRESSES, Case, Exercise, Results, read_exercise
 from .grade import outcome
 
 NAME = pathlib.Path("answer.s")
 MOST_SHOWN, BEFORE = 48, 4  # numbers of a row; and of them before the first wrong one
 MEASURED_TICKS = 2000  # of a case: what an answer takes is told only where it ends in so many
 CPU_SECONDS = 10
-ADDRESSES = 0x10000  # registers with so much in them are shown in hexadecimal digits
-ABI = {register: name for name, register in reversed(read_table("registers"))}
-Row = TypedDict("Row", {"where": str, "first": int, "numbers": list[str], "wrong": list[int]})
-"""Numbers that stand one behind another: where, the number of the first one that is shown, and places of wrong ones."""
+Row = TypedDict("Row", {"where": str, "first": int, "numbers": list[str], "more": int, "wrong": list[int]})
+"""Numbers that stand one behind another: where, the number of the first one that is shown, how many more there are
+behind those that are shown, and places of wrong ones."""
+Mistake = TypedDict("Mistake", {"line": int, "column": int, "message": str})
+"""A mistake of the source's form."""
 Taken = TypedDict("Taken", {"instructions": int, "work": int})
 """What an answer takes for all cases that aren't hidden: instructions, and of 100 elements those that did work."""
 
@@ -39,10 +40,11 @@ Taken = TypedDict("Taken", {"instructions": int, "work": int})
 class Told(TypedDict, total=False):
     """Which cases pass; of the first that fails and isn't hidden its number and why; what an answer that passes takes.
 
-    Rows have what is given there, expected and found, and notes what else holds there. Without a number the answer
-    can't be brought in.
+    Rows have what is given there, expected and found, and notes what else holds there. Without cases the source has
+    mistakes, and wasn't tried.
     """
 
+    mistakes: list[Mistake]
     cases: list[bool]
     number: int
     reason: str
@@ -56,21 +58,15 @@ class Told(TypedDict, total=False):
 
 def check(program: pathlib.Path, exercise: Exercise, text: str) -> Told:
     """What is told of a source."""
-    try:
-        if len(text.encode()) > exercise.limits.size:
-            raise LabError(f"it has more than {exercise.limits.size:,} bytes")
-        answer = source_answer(text, NAME)
-    except LabError as error:
-        return {"cases": [False] * len(exercise.cases), "reason": str(error)}
+    if mistakes := _mistakes(program, exercise, text):
+        return {"mistakes": [{"line": it.line, "column": it.column, "message": it.message} for it in mistakes]}
+    answer = source_answer(text, NAME)
     outcomes = [outcome(program, answer, exercise, case) for case in exercise.cases]
     told: Told = {"cases": [not reason for reason, _ in outcomes]}
-    if outcomes[0][0].startswith(f"{NAME}:"):  # the machine refuses an instruction
-        return {"cases": told["cases"], "reason": outcomes[0][0]}
     for number, (case, (reason, done)) in enumerate(zip(exercise.cases, outcomes)):
         if reason and not case.is_hidden:
-            inputs_given = Results(case.registers, case.memory, None)
-            given = [_row(where, texts) for where, texts in _strips(inputs_given, True)]
             expected, found = _compared(case.expected, done.found if done else case.expected)
+            given = _given(case, next((row for row in expected if row["first"]), None))
             told.update({"number": number, "reason": reason, "given": given, "expected": expected})
             told["notes"] = _notes(exercise, case)
             told.update({"found": found} if done else {})
@@ -82,6 +78,14 @@ def check(program: pathlib.Path, exercise: Exercise, text: str) -> Told:
     return told
 
 
+def _mistakes(program: pathlib.Path, exercise: Exercise, text: str) -> list[SourceError]:
+    """What is wrong with a source before it is tried in any case."""
+    if len(text.encode()) > exercise.limits.size:
+        return [SourceError(1, 1, f"the source has more than {exercise.limits.size:,} bytes")]
+    mistakes = all_mistakes(source := read_source(text), program)
+    return mistakes or [SourceError(1, 1, "there is no instruction in the source")] * (not source.statements)
+
+
 def lesson(program: pathlib.Path, exercise: Exercise, number: int, text: str) -> str:
     """A lesson, in HTML, of a source in a case, which begins when the case is given, and has 256 instructions at most."""
     answer, case = source_answer(text, NAME), exercise.cases[number]
@@ -89,7 +93,7 @@ def lesson(program: pathlib.Path, exercise: Exercise, number: int, text: str) ->
     title, reason = f"{exercise.title}: {case.name}", outcome(program, answer, exercise, case)[0]
     assembled = assemble(text)
     brought = [f"1 {line}" for line in ["enter", *answer.commands, *inputs(exercise, case, assembled.entry)]]
-    steps = [Step(brought, f"The case is given. {reason[:1].upper()}{reason[1:]}"), Step(["1 step 256"])]
+    steps = [Step(brought, f"The case is given. The answer fails: {reason}"), Step(["1 step 256"])]
     frames = make_frames(replace(answer.source, steps=steps), program)
     return lesson_page(title, frames, answer.source.labels, assembled.source_lines(text))
 
@@ -115,6 +119,13 @@ def _taken(program: pathlib.Path, answer: Answer, exercise: Exercise) -> Taken |
     return {"instructions": instructions, "work": round(100 * elements[0] / max(1, sum(elements)))}
 
 
+def _given(case: Case, cut: Row | None) -> list[Row]:
+    """The rows of what is given, each from the number on that belongs to the first one of a row that is shown of results."""
+    first, of = (cut["first"], cut["first"] + len(cut["numbers"]) + cut["more"]) if cut else (0, 1)
+    strips = _strips(Results(case.registers, case.memory, None), True)
+    return [_row(where, texts, first * max(1, len(texts) // of)) for where, texts in strips]
+
+
 def _compared(expected: Results, found: Results) -> tuple[list[Row], list[Row]]:
     """The rows of what is expected and of what is found, from the same number on, with the wrong ones marked."""
     pairs = []
@@ -127,7 +138,10 @@ def _compared(expected: Results, found: Results) -> tuple[list[Row], list[Row]]:
 
 
 def _row(where: str, texts: Sequence[str], first: int = 0, wrong: Sequence[int] = ()) -> Row:
-    return {"where": where, "first": first, "numbers": list(texts[first : first + MOST_SHOWN]), "wrong": list(wrong)}
+    first = first if first < len(texts) else 0
+    shown = list(texts[first : first + MOST_SHOWN])
+    more = len(texts) - first - len(shown)
+    return {"where": where, "first": first, "numbers": shown, "more": more, "wrong": list(wrong)}
 
 
 def _strips(results: Results, with_addresses: bool = False) -> list[tuple[str, list[str]]]:

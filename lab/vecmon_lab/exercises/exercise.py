@@ -17,6 +17,9 @@ UNLIMITED = 1 << 63
 LIMITS = {"ticks": 100_000, "output": 4096, "instructions": UNLIMITED, "size": IMAGE_BYTES}  # where it has none
 FILES = ("reference", "good", "start", "lesson")  # keys of an exercise that name a file in its folder
 PLACE_BYTES = 1 << 20  # all that a user's pages have
+ADDRESSES = 0x10000  # a register with so much in it may have an address
+
+ABI = {register: name for name, register in reversed(read_table("registers"))}
 
 _NAMES = {bool: "true or false", int: "a number", str: "a text", list: "a list", dict: "a table"}
 _REGISTERS = dict(read_table("registers")) | {f"x{number}": f"x{number}" for number in range(32)}

@@ -5,7 +5,7 @@ import csv
 import os
 import pathlib
 import sys
-from collections.abc import Iterator
+from collections.abc import Iterator, Mapping
 from concurrent.futures import ThreadPoolExecutor
 from functools import partial
 
@@ -14,7 +14,7 @@ from ..arguments import check_output
 from ..machine.program import find_program
 from ..tables.table import spreadsheet_row, table_lines
 from .answer import Answer, Attempt, attempt, read_answer, settled
-from .exercise import OURS, Case, Exercise, Results, read_exercise
+from .exercise import ABI, ADDRESSES, OURS, Case, Exercise, Results, read_exercise
 from .reports import Grades, gradescope, junit
 
 EXERCISE = "a folder with a file exercise.toml, or the name of an exercise that comes with the lab"
@@ -72,18 +72,25 @@ def outcome(program: pathlib.Path, answer: Answer, exercise: Exercise, case: Cas
         done = attempt(program, answer, exercise, case)
     except LabError as error:
         return str(error), None
-    reason = difference(case.expected, done)
+    reason = difference(case.expected, done, case.registers)
     if done.is_long and not reason:
         most = exercise.limits.instructions
         reason = f"the results are right, but it takes more than {most:,} instructions: with vectors fewer will do"
     return reason, done
 
 
-def difference(expected: Results, done: Attempt) -> str:
-    """The first place where something else is found than is expected, in words; or nothing."""
+def difference(expected: Results, done: Attempt, given: Mapping[str, int]) -> str:
+    """The first place where something else is found than is expected, in words; or nothing.
+
+    given: registers before, of which what is found may be near
+    """
     for where, value, old, left in _numbers(expected, done.before, done.found):
         if left != value:
-            return f"{where}: expected {value}, {'and it was left as it was' if left == old else f'found {left}'}"
+            near = next(
+                (ABI[name] for name, it in given.items() if min(it, left) >= ADDRESSES and abs(left - it) < 4096), ""
+            )
+            found = f"found {left}" + (f" ({left:#x}, near {near}'s address)" if near else "")
+            return f"{where}: expected {value}, {'and it was left as it was' if left == old else found}"
     if done.found.output != expected.output:
         return "output: expected {}, found {}".format(*map(_shown, (expected.output, done.found.output)))
     return ""
@@ -94,7 +101,7 @@ def _numbers(expected: Results, before: Results, found: Results) -> Iterator[tup
     for name in expected.registers:
         values = (each.registers[name] for each in (expected, before, found))
         value, old, left = (each - (each >> 63 << 64) for each in values)
-        yield name, value, old, left
+        yield ABI[name], value, old, left
     for place, *others in zip(expected.memory, before.memory, found.memory):
         size = len(place.data) // len(place.numbers)
         for number, (value, old, left) in enumerate(zip(place.numbers, *(each.numbers for each in others))):

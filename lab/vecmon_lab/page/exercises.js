@@ -17,10 +17,10 @@ export class Exercises {
     this.state = Object.assign(make("span", ""), { role: "status" });
     [this.text, this.hints, this.verdict] = ["text", "hints", "verdict"].map((kind) => make("div", kind));
     const controls = make("p", "", this.check, " ", this.begin, " ", this.state);
-    const reading = Object.assign(make("div", "reading", this.text, controls, this.verdict, this.hints), { tabIndex: 0, role: "region" });
-    reading.ariaLabel = "Text of the exercise";
+    const parts = [this.text, controls, this.verdict, this.hints];
+    this.reading = Object.assign(make("div", "reading", ...parts), { tabIndex: 0, role: "region", ariaLabel: "Text of the exercise" });
     const head = make("div", "top", Object.assign(make("h2", "", "Exercise"), { id: "exercise-title" }), this.choice);
-    this.panel = Object.assign(make("section", "student", head, reading), { id: "exercise" });
+    this.panel = Object.assign(make("section", "student", head, this.reading), { id: "exercise" });
     this.panel.setAttribute("aria-labelledby", "exercise-title");
     byId("home").before(this.toggle);
     byId("desk").prepend(this.panel);
@@ -62,11 +62,21 @@ export class Exercises {
     if (it.text !== before.text) this.text.replaceChildren(...blocks(it.text));
     this.begin.hidden = !it.start;
     this.check.disabled = it.checking;
+    const isTold = this.awaited === this.name && !it.checking;
     const tries = it.tries ? `${it.tries} ${it.tries > 1 ? "tries" : "try"}${it.passed ? ", passed" : ""}` : "";
     put(this.state, it.checking ? "It is being checked …" : tries);
     if (it.told !== before.told || it.lesson !== before.lesson) this.verdict.replaceChildren(...verdict(it.told, it.cases, it.lesson));
     const hints = it.hints.map((hint) => make("li", "", ...prose(hint)));
     this.hints.replaceChildren(...(hints.length ? [make("h3", "", "Hints"), make("ol", "", ...hints)] : []));
+    if (it.checking) this.awaited = this.name;
+    if (isTold) this.tell(it.told);
+  }
+
+  /** Brings what was just told into sight. */
+  tell({ mistakes }) {
+    this.awaited = "";
+    this.reading.scrollTop = this.state.parentElement.offsetTop;
+    if (mistakes) this.student.showMistakes(mistakes);
   }
 
   /** Sends the source that stands in the editor. */

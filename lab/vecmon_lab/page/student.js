@@ -40,13 +40,19 @@ export class Student {
     this.side = "listing"; // what is shown since one entered, or left
     byId("log").after(byId("command"), byId("hint"));
     this.showSide = chooseSides(["listing", "source", "reference"]);
-    this.source = new Source(new Editor(byId("source"), () => this.source.typed()), connection);
+    this.source = new Source(new Editor(byId("source"), () => this.typed()), connection);
     this.exercises = new Exercises(this, this.source.editor);
     byId("foot").hidden = false;
     this.listen();
     const name = sessionStorage.getItem("name"); // that was typed with the code
     sessionStorage.removeItem("name");
     if (name) this.request({ ask: "name", name });
+  }
+
+  /** Takes up what was typed. */
+  typed() {
+    this.source.typed();
+    this.showMistakes([]);
   }
 
   listen() {
@@ -208,8 +214,14 @@ export class Student {
 
   async assemble(request) {
     const { mistakes } = (await this.request(request)) ?? {};
-    byId("mistakes").replaceChildren(...(mistakes ?? []).map((mistake) => this.mistake(mistake)));
-    return mistakes && this.showSide(mistakes.length ? "source" : "listing");
+    if (mistakes) this.showSide("listing");
+    this.showMistakes(mistakes ?? []);
+  }
+
+  /** Lists mistakes of the source above it, until it becomes another one. */
+  showMistakes(mistakes) {
+    byId("mistakes").replaceChildren(...mistakes.map((mistake) => this.mistake(mistake)));
+    if (mistakes.length) this.showSide("source");
   }
 
   /** A mistake of the source, which leads to its place. */

@@ -2,14 +2,14 @@
 
 import { make, prose, unseen } from "./elements.js";
 
-/** Numbers that stand one behind another, each in a box; the wrong ones are marked. */
-function strip({ where, first, numbers, wrong }) {
+/** Numbers that stand one behind another, each in a box; the wrong ones are marked. Behind them stands how many more there are. */
+function strip({ where, first, numbers, wrong, more }) {
   const boxes = numbers.map((text, place) => {
     const isWrong = wrong.includes(place);
     const box = make("span", isWrong ? "wrong" : "", text, ...(isWrong ? [unseen(" wrong")] : []));
     return Object.assign(box, { title: `number ${first + place}` });
   });
-  return make("div", "strip", make("small", "", first ? `${where}, from number ${first} on` : where), make("p", "", ...boxes));
+  return make("div", "strip", make("small", "", first ? `${where}, from number ${first} on` : where), make("p", "", ...boxes, more ? `… ${more} more` : ""));
 }
 
 /** Rows of numbers below a name, and what else is to be said there. */
@@ -24,6 +24,7 @@ function takenWords({ taken, good }) {
 
 /** The elements that show it: `cases` are names, and `lesson` is where a lesson of the case that fails is. */
 export function verdict(told, cases, lesson) {
+  if (told.mistakes) return [make("h3", "", "Source has mistakes."), make("p", "", "It wasn't tried in any case, and this is no try.")];
   if (!told.cases) return [];
   const passed = told.cases.filter(Boolean).length;
   const items = cases.map((name, place) => {
