@@ -180,6 +180,35 @@ async def test_a_lesson_of_the_case_that_fails(room: Served) -> None:
     assert (await room.get(place))[0] == 404
 
 
+async def test_the_lesson_before_an_exercise(room: Served) -> None:
+    """It is made once, for whoever opens it; an exercise without one has no link."""
+    tab = await room.sit("A1")
+    assert [tab.view["exercises"][name]["before"] for name in ("square", "doubles")] == ["", "lesson/doubles"]
+    pages = [await room.get("lesson/doubles") for _ in range(2)]
+    assert pages[0] == pages[1] and pages[0][0] == 200 and b"Squares of five numbers" in pages[0][1]
+    assert (await room.get("lesson/square"))[0] == 404
+
+
+async def test_the_case_that_fails_can_be_had_at_the_desk(room: Served) -> None:
+    """A new machine has the source, and what the case gives; nothing is begun for a source with mistakes, or without a case."""
+    tab = await room.sit("A1")
+    assert "no case" in (await tab.ask("case", exercise="doubles", text="ret"))["error"]
+    wrong = (OURS / "doubles" / "wrong" / "always_eight.s").read_text()
+    await check(tab, "doubles", wrong)
+    assert (await tab.ask("case", exercise="doubles", text="li a0"))["mistakes"] and tab.view["state"][
+        "run"
+    ] == "absent"
+    assert (await tab.ask("case", exercise="doubles", text=wrong))["mistakes"] == []
+    x = tab.view["state"]["x"]
+    assert [int(x[str(number)], 16) for number in (10, 11, 12)] == [0x20100, 0x20000, 3] and tab.view["state"][
+        "pc"
+    ] == "10000"
+    assert await tab.do("step 5", "peek 2010c 4") == [
+        ["stepped 5 pc=000000007ffff000"], ["peek 000000000002010c 50000000"]  # 80, where -1 is to stay
+    ]  # fmt: skip
+    assert (await room.check_replay())[0].startswith(b"1 enter\n")
+
+
 async def test_one_check_at_a_time(room: Served) -> None:
     tab = await room.sit("A1")
     assert "error" not in await tab.ask("check", exercise="square", text=RIGHT)

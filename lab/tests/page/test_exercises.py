@@ -46,6 +46,8 @@ def test_an_exercise_is_solved(tabs: "Chrome", course: Served) -> None:
     tab.wait("one('#exercise h2')")
     assert "Double some numbers. There are a2 of them" in tab.text("#exercise .text")
     assert tab.run("all('#exercise .text li').length") == 3 and not tab.run("one('#exercise .hints h3')")
+    assert "a0: where the doubles go" in tab.run("id('source').value")  # and not a sample of something else
+    tab.run(TYPE, "")
     tab.click("#exercise button:not(.main)")
     assert "a0: where the doubles go" in tab.run("id('source').value") and not tab.run("id('editor').hidden")
     tab.run(TYPE, "ret\nvsetvli t0, a2, e32")
@@ -69,7 +71,7 @@ def test_an_exercise_is_solved(tabs: "Chrome", course: Served) -> None:
     assert "All other registers hold anything." in tab.text("#exercise .verdict")
     assert tab.run("all('#exercise .wrong').map((box) => box.firstChild.data)") == ["80", "100", "0"]
     assert tab.front().execute_script(CONTRAST) == []
-    tab.click("#exercise a")
+    tab.click("#exercise .verdict a")
     tab.browser.switch_to.window(tab.browser.window_handles[-1])
     lesson = tab.browser
     assert "always eight" not in lesson.title and "expected -1, found 80" in lesson.find_element("id", "sentence").text
@@ -79,7 +81,12 @@ def test_an_exercise_is_solved(tabs: "Chrome", course: Served) -> None:
     lesson.close()
     lesson.switch_to.window(tab.handle)
     check(tab, (OURS / "doubles" / "good.s").read_text(), "It passes all cases.")
-    assert "A good answer takes 10 instructions" in tab.text("#exercise .verdict")
+    assert "takes 10 instructions, and a good answer takes 10 instructions." in tab.text("#exercise .verdict")
+    choose = "((choice) => (choice.value = arguments[0], choice.onchange()))(one('#exercise select'))"
+    tab.run(choose, "strip_mined_copy")
+    assert "how many this round takes" in tab.run("id('source').value")
+    tab.run(choose, "doubles")
+    assert "vadd.vv" in tab.run("id('source').value")
     assert "✓ Doubles" in tab.text("#exercise select")
     teacher = Tab(tabs, course, "teacher")
     teacher.wait("one('#scores td button')?.textContent.startsWith('✓ try 2')")

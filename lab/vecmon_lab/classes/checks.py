@@ -15,7 +15,7 @@ from dataclasses import dataclass, field
 from typing import TypedDict
 
 from .. import LabError
-from ..exercises.answer import settled
+from ..exercises.answer import STACK, inputs, settled
 from ..exercises.check import Told
 from ..exercises.exercise import Exercise, read_exercise
 from .beside import Beside
@@ -34,10 +34,12 @@ Try = TypedDict("Try", {"time": int, "text": str, "told": Told})
 class ExerciseView(TypedDict):
     """What a student is told of an exercise: of a hidden case its name, and whether it passes; hints that are due.
 
+    before: what opens the lesson before it; "" for none
     lesson: what opens a lesson of the case that failed first; "" for none
     """
 
     title: str
+    before: str
     text: str
     start: str
     cases: list[str]
@@ -95,8 +97,7 @@ class Checks:
         kept = [pathlib.Path(path) for path in store.read(EXERCISES, dict[str, str]).values()]
         self.exercises: dict[str, Exercise] = {}
         for folder in list(folders) or kept:
-            exercise = read_exercise(folder)
-            settled(store.program, exercise)  # so that a mistake is told now
+            exercise = settled(store.program, read_exercise(folder))  # so that a mistake is told now
             name = exercise.folder.name
             if not re.fullmatch(r"[\w-]{1,40}", name, re.ASCII) or name in self.exercises:
                 raise BadFolder(f"{folder}: an exercise has a name of its own: 1 to 40 letters, digits, _ and -")
@@ -108,6 +109,8 @@ class Checks:
         self._busy: dict[str, str] = {}  # exercises that are checked, or made a lesson of, by seat
         self._tasks: set[asyncio.Task[None]] = set()
         self._unsaved: dict[str, Try] = {}
+        self._lessons: dict[str, bytes] = {}  # before exercises, by name
+        self._making = asyncio.Lock()
         for seat, name, _, done in sorted(self._found()):
             self._of(seat, name).add(done)
 
@@ -125,7 +128,13 @@ class Checks:
         self._tell([seat])
 
     async def lesson(self, ticket: str) -> bytes:
-        """The lesson that a ticket opens, as a page in HTML. Raises LabError."""
+        """The lesson that a ticket opens, or the name of an exercise that it is before, as a page in HTML. Raises LabError."""
+        exercise = self.exercises.get(ticket)
+        if exercise and "lesson" in exercise.files:
+            async with self._making:
+                if ticket not in self._lessons:
+                    self._lessons[ticket] = await self._run(ticket, "", "before")
+            return self._lessons[ticket]
         for (seat, name), work in self._work.items():
             if work.ticket and work.ticket == ticket:
                 if seat in self._busy:
@@ -136,6 +145,17 @@ class Checks:
                 finally:
                     del self._busy[seat]
         raise LabError("there is no such lesson, or not any more: check once more")
+
+    def failed(self, seat: str, name: str) -> Callable[[int], list[str]]:
+        """What makes the commands of the case that failed first at a seat, for a program that begins at an address.
+
+        Raises BadRequest where none has failed.
+        """
+        exercise, told = self._exercise(name), self._of(seat, name).told
+        if "number" not in told:
+            raise BadRequest("no case that is shown has failed")
+        case = exercise.cases[told["number"]]
+        return lambda begin: [*STACK, *inputs(exercise, case, begin)]
 
     def text(self, seat: str, name: str, number: int) -> str:
         """The source of a seat's try, the first of which is 1. Raises BadRequest."""
@@ -174,6 +194,7 @@ class Checks:
         work = self._of(seat, name)
         return {
             "title": exercise.title,
+            "before": f"lesson/{name}" if "lesson" in exercise.files else "",
             "text": exercise.text,
             "start": self._starts[name],
             "cases": [case.name for case in exercise.cases],

@@ -122,6 +122,14 @@ class Check:
 
 
 @dataclass(frozen=True)
+class TryCase:
+    """A source for a new machine of the student's, which is given the case of an exercise that failed first."""
+
+    exercise: str
+    text: str
+
+
+@dataclass(frozen=True)
 class ReadAnswer:
     """The answer of a seat to an exercise, the first of which has the number 1."""
 
@@ -153,7 +161,7 @@ class Reset:
     seat: str
 
 
-StudentRequest = Lines | Source | Draft | ReadVersion | SetName | Check
+StudentRequest = Lines | Source | Draft | ReadVersion | SetName | Check | TryCase
 TeacherRequest = Give | Write | Reset | SetClock | SetRights | Renew | LookOver | PutOnWall | ShowCodes | ReadAnswer
 Request = StudentRequest | TeacherRequest
 
@@ -176,6 +184,8 @@ def read_request(message: Mapping[str, object], is_teacher: bool) -> Request:
             return SetName(_name(message, "seat"), _name(message, "name"))
         case "check", False:
             return Check(_name(message, "exercise"), _text(message))
+        case "case", False:
+            return TryCase(_name(message, "exercise"), _text(message))
         case "answer", True:
             return ReadAnswer(_name(message, "seat"), _name(message, "exercise"), _number(message))
         case "version", _:

@@ -63,7 +63,7 @@ class Server:
         application.router.add_get("/{machine:[A-L]}/{what:script|transcript}", self._get_file)
         application.router.add_get("/{seat:[A-L][1-8]}/home", self._get_home)
         application.router.add_get("/{table:seats|exercises}.csv", self._get_table)
-        application.router.add_get("/lesson/{ticket:[a-z2-9]+}", self._get_lesson)
+        application.router.add_get(r"/lesson/{ticket:[\w-]+}", self._get_lesson)
         application.router.add_get("/{machine:[A-L]}.{number:[1-9][0-9]*}/{what:script|transcript}", self._get_file)
         return application
 

@@ -38,6 +38,7 @@ from .requests import (
     SetRights,
     ShowCodes,
     Source,
+    TryCase,
     Write,
     read_request,
 )
@@ -421,6 +422,12 @@ class Class:
                 return {"text": self.sources[self.seat(name).name].version(number)}
             case Check(name, text):
                 self.checks.begin(self.seat(tab.who).name, name, text)
+            case TryCase(name, text):
+                seat, case = self.seat(tab.who), self.checks.failed(tab.who, name)
+                if not (told := await self._write(seat, text))["mistakes"]:
+                    given = Lines("", case(int(seat.state["pc"], 16)), 0, [])
+                    await self.rooms[seat.name[0]].lines(seat, given, [])
+                return told
             case ReadAnswer(seat_name, name, number):
                 return {"text": self.checks.text(self.seat(seat_name).name, name, number)}
             case Give(name, text):

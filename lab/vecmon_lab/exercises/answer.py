@@ -27,7 +27,7 @@ TURNED = 0xA5
 MOST_STEPS = 256  # of one line
 
 _RETURN = (f"poke {RETURN:x} 73001000", f"set x1 {RETURN:x}")
-_STACK = (f"map {STACK_END - 0x4000:x} 4 rw", f"set x2 {STACK_POINTER:x}")
+STACK = (f"map {STACK_END - 0x4000:x} 4 rw", f"set x2 {STACK_POINTER:x}")
 
 
 @dataclass(frozen=True)
@@ -81,7 +81,7 @@ def source_answer(text: str, path: pathlib.Path) -> Answer:
     source = read_source(text, path.name)
     if not source.statements:
         raise LabError("there is no instruction in the source")
-    return Answer(path, [line[2:] for line in source.steps[0].lines[1:]] + list(_STACK), source)
+    return Answer(path, [line[2:] for line in source.steps[0].lines[1:]] + list(STACK), source)
 
 
 def _open(name: str, flags: int) -> int:

@@ -1,7 +1,7 @@
 """What a student is told of an answer in a class, and a lesson of it in a case: each is made in a process of its own.
 
-The words are the exercise's folder and the program; a third one, the number of a case, asks for a lesson. The answer's
-source comes on standard input.
+The words are the exercise's folder and the program; a third one, the number of a case, asks for a lesson, and `before`
+for the one before the exercise. The answer's source comes on standard input.
 """
 
 import json
@@ -19,6 +19,7 @@ from ..assembler.trial import all_mistakes
 from ..lessons.frames import make_frames
 from ..lessons.page import lesson_page
 from ..lessons.script import Step
+from ..lessons.script import read_source as read_script
 from ..runs.counts import count
 from .answer import Answer, inputs, ready, read_answer, settled, source_answer
 from .exercise import ABI, ADDRESSES, Case, Exercise, Results, read_exercise
@@ -98,6 +99,13 @@ def lesson(program: pathlib.Path, exercise: Exercise, number: int, text: str) ->
     return lesson_page(title, frames, answer.source.labels, assembled.source_lines(text))
 
 
+def lesson_before(program: pathlib.Path, exercise: Exercise) -> tuple[str, str]:
+    """The title of the lesson before an exercise, and its page in HTML."""
+    file = exercise.files["lesson"]
+    script = read_script(file.read_text("utf-8"), file.name)
+    return script.title, lesson_page(script.title, make_frames(script, program), script.labels)
+
+
 def _notes(exercise: Exercise, case: Case) -> list[str]:
     """What holds before a case, beside numbers in registers and memory."""
     agnostic = "Agnostic elements, of a tail or masked off, become all ones here: does the answer use one?"
@@ -161,8 +169,13 @@ def main(folder: str, program: str, number: str = "") -> None:
     os.nice(10)
     resource.setrlimit(resource.RLIMIT_CPU, (CPU_SECONDS, CPU_SECONDS))
     text, vecmon = sys.stdin.buffer.read().decode("utf-8", "replace"), pathlib.Path(program)
-    exercise = settled(vecmon, read_exercise(pathlib.Path(folder)))
-    told = lesson(vecmon, exercise, int(number), text) if number else json.dumps(check(vecmon, exercise, text))
+    exercise = read_exercise(pathlib.Path(folder))
+    if number == "before":
+        told = lesson_before(vecmon, exercise)[1]
+    elif number:
+        told = lesson(vecmon, settled(vecmon, exercise), int(number), text)
+    else:
+        told = json.dumps(check(vecmon, settled(vecmon, exercise), text))
     sys.stdout.buffer.write(told.encode("utf-8", "replace"))
 
 

@@ -3,12 +3,10 @@
 import argparse
 import pathlib
 
-from ..lessons.frames import make_frames
-from ..lessons.page import lesson_page
-from ..lessons.script import read_source
 from ..machine.program import find_program
 from ..page.pages import lone_page
 from ..tables.table import read_table
+from .check import lesson_before
 from .exercise import OURS, read_exercise
 
 
@@ -23,12 +21,11 @@ def run(arguments: argparse.Namespace) -> int:
     folder.mkdir(parents=True, exist_ok=True)
     for name, minutes in read_table("course"):
         exercise, path = read_exercise(OURS / name), folder / f"{name}.html"
-        source = exercise.files["lesson"]
-        script = read_source(source.read_text("utf-8"), source.name)
-        path.write_text(lesson_page(script.title, make_frames(script, program), script.labels), "utf-8")
-        texts = {"title": exercise.title, "text": exercise.text, "lesson": script.title}
+        title, page = lesson_before(program, exercise)
+        path.write_text(page, "utf-8")
+        texts = {"title": exercise.title, "text": exercise.text, "lesson": title}
         exercises.append({"name": name, "minutes": minutes} | texts)
-        print(f"{path}: {script.title}")
+        print(f"{path}: {title}")
     (folder / "index.html").write_text(lone_page("course", "A course", exercises), "utf-8")
     print(f"{folder / 'index.html'}: A course")
     return 0

@@ -13,6 +13,9 @@ export function make(tag, kind, ...contents) {
 /** A button whose name says more than its text. */
 export const button = (text, ariaLabel, onclick) => Object.assign(make("button", "", text), { ariaLabel, onclick });
 
+/** A link to a page that opens beside this one. */
+export const link = (href, text) => Object.assign(make("a", "", text), { href, target: "_blank", rel: "noopener" });
+
 /** Words for whoever can't see colour and form. */
 export const unseen = (text) => make("span", "unseen", text);
 

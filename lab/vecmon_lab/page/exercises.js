@@ -1,7 +1,7 @@
 // The exercises of a class, at a seat: the text, hints that are due, and what was told of the answer that was checked last.
 
 import { blocks } from "./blocks.js";
-import { byId, make, prose, put } from "./elements.js";
+import { byId, link, make, prose, put } from "./elements.js";
 import { verdict } from "./verdict.js";
 
 export class Exercises {
@@ -34,8 +34,8 @@ export class Exercises {
     this.panel.hidden = !isOpen;
   }
 
-  /** Shows what the server tells of all exercises. */
-  show(all) {
+  /** Shows what the server tells of all exercises, at a seat that has this source. */
+  show(all, source) {
     const names = Object.keys(all);
     if (all === this.all) return;
     this.all = all;
@@ -45,12 +45,17 @@ export class Exercises {
     this.choice.replaceChildren(...names.map(option));
     this.choice.value = this.name;
     this.open(names.length > 0 && this.isOpen !== false);
-    if (names.length) this.paint();
+    if (!names.length) return;
+    this.paint();
+    if (!source.text && this.all[this.name].start && !this.editor.past.length) this.takeStart();
   }
 
+  /** Goes to another exercise: each has a source of its own, which is the one to begin with at first. */
   choose(name) {
+    sessionStorage.setItem(`source ${this.name}`, this.editor.field.value);
     this.name = name;
     sessionStorage.setItem("exercise", name);
+    this.editor.put(sessionStorage.getItem(`source ${name}`) ?? this.all[name].start);
     this.paint();
   }
 
@@ -59,17 +64,21 @@ export class Exercises {
     const [it, before] = [this.all[this.name], this.shown];
     if (it === before) return;
     this.shown = it;
-    if (it.text !== before.text) this.text.replaceChildren(...blocks(it.text));
+    if (it.text !== before.text) this.text.replaceChildren(...this.lessonBefore(it.before), ...blocks(it.text));
     this.begin.hidden = !it.start;
     this.check.disabled = it.checking;
     const isTold = this.awaited === this.name && !it.checking;
     const tries = it.tries ? `${it.tries} ${it.tries > 1 ? "tries" : "try"}${it.passed ? ", passed" : ""}` : "";
     put(this.state, it.checking ? "It is being checked …" : tries);
-    if (it.told !== before.told || it.lesson !== before.lesson) this.verdict.replaceChildren(...verdict(it.told, it.cases, it.lesson));
+    if (it.told !== before.told || it.lesson !== before.lesson) this.verdict.replaceChildren(...verdict(it, () => this.tryCase()));
     const hints = it.hints.map((hint) => make("li", "", ...prose(hint)));
     this.hints.replaceChildren(...(hints.length ? [make("h3", "", "Hints"), make("ol", "", ...hints)] : []));
     if (it.checking) this.awaited = this.name;
     if (isTold) this.tell(it.told);
+  }
+
+  lessonBefore(href) {
+    return href ? [make("p", "", link(href, "The lesson before it"), " solves another problem of the kind, step by step.")] : [];
   }
 
   /** Brings what was just told into sight. */
@@ -84,6 +93,11 @@ export class Exercises {
     this.check.disabled = true; // so that a click more checks nothing
     await this.student.request({ ask: "check", exercise: this.name, text: this.editor.field.value });
     this.check.disabled = this.all[this.name].checking;
+  }
+
+  /** Begins a machine with the source in the editor, and with what is given in the case that failed. */
+  tryCase() {
+    return this.student.write({ ask: "case", exercise: this.name });
   }
 
   /** Puts the source to begin with into the editor, and opens it. */

@@ -116,7 +116,7 @@ export class Student {
     const side = run === "absent" ? "source" : "listing";
     if (side !== this.side) this.showSide((this.side = side));
     this.showSource(view);
-    this.exercises.show(view.exercises);
+    this.exercises.show(view.exercises, view.source);
     byId("log").ariaLive = "polite";
   }
 
@@ -204,12 +204,13 @@ export class Student {
     byId("source").scrollTop = 0;
   }
 
-  async write() {
+  /** Begins a machine with the source, as the request says that is sent with it. */
+  async write(request = { ask: "source" }) {
     const text = byId("source").value;
     const [size, most] = [text.length, MOST_LETTERS].map((each) => each.toLocaleString("en"));
     const much = `This source has ${size} characters, and ${most} are taken at most: nothing was sent.`;
     if (text.length > MOST_LETTERS) return this.refuse(much);
-    return this.source.bring(text, () => this.assemble({ ask: "source", text }));
+    return this.source.bring(text, () => this.assemble({ ...request, text }));
   }
 
   async assemble(request) {

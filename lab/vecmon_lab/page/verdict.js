@@ -1,6 +1,6 @@
 // What was told of an answer: which cases pass, and of the first that fails what was given, expected and found.
 
-import { make, prose, unseen } from "./elements.js";
+import { link, make, prose, unseen } from "./elements.js";
 
 /** Numbers that stand one behind another, each in a box; the wrong ones are marked. Behind them stands how many more there are. */
 function strip({ where, first, numbers, wrong, more }) {
@@ -18,13 +18,19 @@ const picture = (name, strips = [], notes = []) =>
 
 /** What an answer that passes takes, beside a good one. */
 function takenWords({ taken, good }) {
-  const words = (it) => `${it.instructions.toLocaleString("en")} instructions, and ${it.work} % of the elements did work`;
-  return `In the cases that are shown it takes ${words(taken)}. A good answer takes ${words(good)}.`;
+  const [own, other] = [taken, good].map((it) => it.instructions.toLocaleString("en"));
+  const places = "Of a hundred places that its vector instructions had for elements";
+  return (
+    `In the cases that are shown it takes ${own} instructions, and a good answer takes ${other} instructions. ` +
+    `${places}, ${taken.work} were worked on, and ${good.work} of a good answer's: the others were of tails, or masked off. ` +
+    "With large groups and few elements they are many, which costs nothing."
+  );
 }
 
-/** The elements that show it: `cases` are names, and `lesson` is where a lesson of the case that fails is. */
-export function verdict(told, cases, lesson) {
-  if (told.mistakes) return [make("h3", "", "Source has mistakes."), make("p", "", "It wasn't tried in any case, and this is no try.")];
+/** What was told of an exercise, as elements: `lesson` is where one of the case that fails is, and tryCase brings it in here. */
+export function verdict({ told, cases, lesson }, tryCase) {
+  const untried = make("p", "", "It wasn't tried in any case, and this is no try.");
+  if (told.mistakes) return [make("h3", "", "Source has mistakes."), untried];
   if (!told.cases) return [];
   const passed = told.cases.filter(Boolean).length;
   const items = cases.map((name, place) => {
@@ -36,11 +42,12 @@ export function verdict(told, cases, lesson) {
   if (told.taken) return [...parts, make("p", "", takenWords(told))];
   if (!told.reason) return passed === cases.length ? parts : [...parts, make("p", "", "What is given in a case that fails isn't shown.")];
   const which = told.number === undefined ? "" : `${cases[told.number]}: `;
-  const link = Object.assign(make("a", "", "Show me"), { href: lesson, target: "_blank", rel: "noopener" });
+  const here = Object.assign(make("button", "", "Try it here"), { onclick: tryCase });
+  const rest = " begins your own machine with it.";
   return [
     ...parts,
     make("p", "said", ...prose(`${which}${told.reason}`)),
-    ...(lesson ? [make("p", "", link, " opens a lesson of this case, step by step.")] : []),
+    ...(lesson ? [make("p", "", link(lesson, "Show me"), " opens a lesson of this case, step by step. ", here, rest)] : []),
     ...picture("Given", told.given, told.notes),
     ...picture("Expected", told.expected),
     ...picture("Found", told.found),
