@@ -11,7 +11,8 @@ from support.drawn_inputs import DRAWS, Drawn
 from support.places import DOCS
 from vecmon_lab.exercises.answer import Attempt, read_answer, ready, settled
 from vecmon_lab.exercises.exercise import OURS, Results, read_exercise
-from vecmon_lab.exercises.grade import difference, grade
+from vecmon_lab.exercises.grade import grade
+from vecmon_lab.exercises.outcome import difference
 from vecmon_lab.guest.guest import Guest, pokes
 from vecmon_lab.machine.answers import ScalarRegisters
 from vecmon_lab.tables.table import read_table

@@ -7,6 +7,7 @@ answers/A3.doubles.2.json: the second answer of seat A3 to `doubles`: its time, 
 import asyncio
 import json
 import pathlib
+import pickle
 import re
 import sys
 import time
@@ -133,7 +134,7 @@ class Checks:
         if exercise and "lesson" in exercise.files:
             async with self._making:
                 if ticket not in self._lessons:
-                    self._lessons[ticket] = await self._run(ticket, "", "before")
+                    self._lessons[ticket] = await self._run(ticket, "before")
             return self._lessons[ticket]
         for (seat, name), work in self._work.items():
             if work.ticket and work.ticket == ticket:
@@ -141,7 +142,7 @@ class Checks:
                     raise LabError("a check of this seat is under way")
                 self._busy[seat] = ""
                 try:
-                    return await self._run(name, work.text, str(work.told["number"]))
+                    return await self._run(name, str(work.told["number"]), work.text)
                 finally:
                     del self._busy[seat]
         raise LabError("there is no such lesson, or not any more: check once more")
@@ -209,7 +210,7 @@ class Checks:
     async def _check(self, seat: str, name: str, text: str) -> None:
         """Checks an answer, keeps it, and tells."""
         try:
-            told: Told = json.loads(await self._run(name, text))
+            told: Told = json.loads(await self._run(name, "check", text))
         except LabError as error:  # of which only the teacher is told more
             print(f"vecmon-lab: a check of {name}: {error}", file=sys.stderr)
             cases = [False] * len(self.exercises[name].cases)
@@ -225,11 +226,10 @@ class Checks:
             work.told, work.ticket = told, ""
         self._tell([seat])
 
-    async def _run(self, name: str, *words: str) -> bytes:
-        """What the process puts out that checks a text, or makes a lesson of it. Raises LabError."""
-        text, *number = words
-        folder, program = str(self.exercises[name].folder), str(self._store.program)
-        made = self._beside.run("exercises.check", folder, program, *number, script=text.encode("utf-8", "replace"))
+    async def _run(self, name: str, what: str, text: str = "") -> bytes:
+        """What the process puts out that checks a text, or makes a lesson. Raises LabError."""
+        given = pickle.dumps((self.exercises[name], text))
+        made = self._beside.run("exercises.check", str(self._store.program), what, script=given)
         try:
             return await asyncio.wait_for(made, SECONDS)
         except asyncio.TimeoutError as error:

@@ -1,29 +1,27 @@
 """What a student is told of an answer in a class, and a lesson of it in a case: each is made in a process of its own.
 
-The words are the exercise's folder and the program; a third one, the number of a case, asks for a lesson, and `before`
-for the one before the exercise. The answer's source comes on standard input.
+The words are the program and what is asked for: `check`, the number of a case for a lesson of it, or `before` for the
+lesson before the exercise. The exercise, with what is expected, and the answer's source come pickled on standard input.
 """
 
 import json
 import os
 import pathlib
+import pickle
 import resource
 import sys
-from collections.abc import Sequence
+from collections.abc import Mapping, Sequence
 from dataclasses import replace
 from typing import TypedDict
 
 from .. import LabError
 from ..assembler.source import SourceError, assemble, read_source
 from ..assembler.trial import all_mistakes
-from ..lessons.frames import make_frames
-from ..lessons.page import lesson_page
-from ..lessons.script import Step
+from ..lessons.script import Script, Step
 from ..lessons.script import read_source as read_script
-from ..runs.counts import count
-from .answer import Answer, inputs, ready, read_answer, settled, source_answer
-from .exercise import ABI, ADDRESSES, Case, Exercise, Results, read_exercise
-from .grade import outcome
+from .answer import Answer, inputs, ready, read_answer, source_answer
+from .exercise import ABI, ADDRESSES, Case, Exercise, Results
+from .outcome import outcome
 
 NAME = pathlib.Path("answer.s")
 MOST_SHOWN, BEFORE = 48, 4  # numbers of a row; and of them before the first wrong one
@@ -58,11 +56,17 @@ class Told(TypedDict, total=False):
 
 
 def check(program: pathlib.Path, exercise: Exercise, text: str) -> Told:
-    """What is told of a source."""
-    if mistakes := _mistakes(program, exercise, text):
+    """What is told of a source, in an exercise with what is expected."""
+    try:
+        if len(text.encode()) > exercise.limits.size:
+            raise LabError(f"the source has more than {exercise.limits.size:,} bytes")
+        answer = source_answer(text, NAME)
+        outcomes = [outcome(program, answer, exercise, case) for case in exercise.cases]
+        if outcomes[0][0].startswith(f"{NAME}:"):  # the machine refuses an instruction
+            raise LabError
+    except LabError as error:
+        mistakes = all_mistakes(read_source(text), program) or [SourceError(1, 1, f"{error}")]
         return {"mistakes": [{"line": it.line, "column": it.column, "message": it.message} for it in mistakes]}
-    answer = source_answer(text, NAME)
-    outcomes = [outcome(program, answer, exercise, case) for case in exercise.cases]
     told: Told = {"cases": [not reason for reason, _ in outcomes]}
     for number, (case, (reason, done)) in enumerate(zip(exercise.cases, outcomes)):
         if reason and not case.is_hidden:
@@ -79,14 +83,6 @@ def check(program: pathlib.Path, exercise: Exercise, text: str) -> Told:
     return told
 
 
-def _mistakes(program: pathlib.Path, exercise: Exercise, text: str) -> list[SourceError]:
-    """What is wrong with a source before it is tried in any case."""
-    if len(text.encode()) > exercise.limits.size:
-        return [SourceError(1, 1, f"the source has more than {exercise.limits.size:,} bytes")]
-    mistakes = all_mistakes(source := read_source(text), program)
-    return mistakes or [SourceError(1, 1, "there is no instruction in the source")] * (not source.statements)
-
-
 def lesson(program: pathlib.Path, exercise: Exercise, number: int, text: str) -> str:
     """A lesson, in HTML, of a source in a case, which begins when the case is given, and has 256 instructions at most."""
     answer, case = source_answer(text, NAME), exercise.cases[number]
@@ -95,15 +91,22 @@ def lesson(program: pathlib.Path, exercise: Exercise, number: int, text: str) ->
     assembled = assemble(text)
     brought = [f"1 {line}" for line in ["enter", *answer.commands, *inputs(exercise, case, assembled.entry)]]
     steps = [Step(brought, f"The case is given. The answer fails: {reason}"), Step(["1 step 256"])]
-    frames = make_frames(replace(answer.source, steps=steps), program)
-    return lesson_page(title, frames, answer.source.labels, assembled.source_lines(text))
+    return _page(title, replace(answer.source, steps=steps), program, assembled.source_lines(text))
 
 
 def lesson_before(program: pathlib.Path, exercise: Exercise) -> tuple[str, str]:
     """The title of the lesson before an exercise, and its page in HTML."""
     file = exercise.files["lesson"]
     script = read_script(file.read_text("utf-8"), file.name)
-    return script.title, lesson_page(script.title, make_frames(script, program), script.labels)
+    return script.title, _page(script.title, script, program, {})
+
+
+def _page(title: str, script: Script, program: pathlib.Path, lines: Mapping[str, str]) -> str:
+    """The page in HTML of a script that a source's lines are of, by address."""
+    from ..lessons.frames import make_frames  # which a check does without
+    from ..lessons.page import lesson_page
+
+    return lesson_page(title, make_frames(script, program), script.labels, lines)
 
 
 def _notes(exercise: Exercise, case: Case) -> list[str]:
@@ -115,6 +118,8 @@ def _notes(exercise: Exercise, case: Case) -> list[str]:
 
 def _taken(program: pathlib.Path, answer: Answer, exercise: Exercise) -> Taken | None:
     """What an answer takes; None where it takes too long to be counted."""
+    from ..runs.counts import count  # which is for answers that pass
+
     instructions, elements = 0, [0, 0, 0]
     for case in exercise.cases:
         if not case.is_hidden:
@@ -164,18 +169,18 @@ def _strips(results: Results, with_addresses: bool = False) -> list[tuple[str, l
     return strips
 
 
-def main(folder: str, program: str, number: str = "") -> None:
+def main(program: str, what: str) -> None:
     """Writes what is told, in JSON, or a lesson, to standard output."""
     os.nice(10)
     resource.setrlimit(resource.RLIMIT_CPU, (CPU_SECONDS, CPU_SECONDS))
-    text, vecmon = sys.stdin.buffer.read().decode("utf-8", "replace"), pathlib.Path(program)
-    exercise = read_exercise(pathlib.Path(folder))
-    if number == "before":
-        told = lesson_before(vecmon, exercise)[1]
-    elif number:
-        told = lesson(vecmon, settled(vecmon, exercise), int(number), text)
-    else:
-        told = json.dumps(check(vecmon, settled(vecmon, exercise), text))
+    (exercise, text), vecmon = pickle.load(sys.stdin.buffer), pathlib.Path(program)
+    match what:
+        case "check":
+            told = json.dumps(check(vecmon, exercise, text))
+        case "before":
+            told = lesson_before(vecmon, exercise)[1]
+        case number:
+            told = lesson(vecmon, exercise, int(number), text)
     sys.stdout.buffer.write(told.encode("utf-8", "replace"))
 
 

@@ -1,0 +1,55 @@
+"""What comes of an answer in a case: whether it passes, and why not."""
+
+import pathlib
+from collections.abc import Iterator, Mapping
+
+from .. import LabError
+from .answer import Answer, Attempt, attempt
+from .exercise import ABI, ADDRESSES, Case, Exercise, Results
+
+
+def outcome(program: pathlib.Path, answer: Answer, exercise: Exercise, case: Case) -> tuple[str, Attempt | None]:
+    """Why an answer fails in a case, or nothing; and what it left, if it came to an end."""
+    try:
+        done = attempt(program, answer, exercise, case)
+    except LabError as error:
+        return str(error), None
+    reason = difference(case.expected, done, case.registers)
+    if done.is_long and not reason:
+        most = exercise.limits.instructions
+        reason = f"the results are right, but it takes more than {most:,} instructions: with vectors fewer will do"
+    return reason, done
+
+
+def difference(expected: Results, done: Attempt, given: Mapping[str, int]) -> str:
+    """The first place where something else is found than is expected, in words; or nothing.
+
+    given: registers before, of which what is found may be near
+    """
+    for where, value, old, left in _numbers(expected, done.before, done.found):
+        if left != value:
+            near = next(
+                (ABI[name] for name, it in given.items() if min(it, left) >= ADDRESSES and abs(left - it) < 4096), ""
+            )
+            found = f"found {left}" + (f" ({left:#x}, near {near}'s address)" if near else "")
+            return f"{where}: expected {value}, {'and it was left as it was' if left == old else found}"
+    if done.found.output != expected.output:
+        return "output: expected {}, found {}".format(*map(_shown, (expected.output, done.found.output)))
+    return ""
+
+
+def _numbers(expected: Results, before: Results, found: Results) -> Iterator[tuple[str, int, int, int]]:
+    """The places of numbers, and those that are expected there, were there before, and were found."""
+    for name in expected.registers:
+        values = (each.registers[name] for each in (expected, before, found))
+        value, old, left = (each - (each >> 63 << 64) for each in values)
+        yield ABI[name], value, old, left
+    for place, *others in zip(expected.memory, before.memory, found.memory):
+        size = len(place.data) // len(place.numbers)
+        for number, (value, old, left) in enumerate(zip(place.numbers, *(each.numbers for each in others))):
+            yield f"element {number}, {place.type} at {place.address + number * size:#x}", value, old, left
+
+
+def _shown(output: bytes | None) -> str:
+    """The beginning of an output."""
+    return repr((output or b"").decode("utf-8", "replace"))[:60]
