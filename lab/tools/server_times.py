@@ -1,7 +1,7 @@
 """What a class's server does in a second: `python lab/tools/server_times.py`, with VECMON as for the lab.
 
 Prints requests a second of eight clients; how long a stop takes to a teacher's tab, in ms; what the teacher waits while eight
-clients flood; the bytes of a script of two hours.
+clients flood; the bytes of a script of two hours; how long eight checks at once take.
 """
 
 import asyncio
@@ -11,6 +11,7 @@ import tempfile
 import time
 
 from support.class_tabs import LOOP, Served, Tab, process
+from vecmon_lab.exercises.exercise import OURS
 
 REQUESTS, STOPS, FLOODED = 400, 40, 10_000
 HOURS = 2 * 3600
@@ -76,6 +77,23 @@ async def hours(room: Served, tabs: list[Tab]) -> str:
     return f"two hours: {whole:,} bytes of script, and {clock:,} more if programs run all the time"
 
 
+async def checks(folder: pathlib.Path) -> str:
+    """Eight students check a right answer at once, five times, until each has been told."""
+    source, taken = (OURS / "byte_sum" / "good.s").read_text("utf-8"), []
+
+    async def check(tab: Tab, tries: int) -> None:
+        await tab.ask("check", exercise="byte_sum", text=source)
+        await tab.until(lambda view: view["exercises"]["byte_sum"]["tries"] == tries)
+
+    async with process(folder, "--exercise", "byte_sum") as room:
+        tabs = [await room.sit(f"A{digit}") for digit in "12345678"]
+        for tries in range(1, 6):
+            begun = time.perf_counter()
+            await asyncio.gather(*(check(tab, tries) for tab in tabs))
+            taken.append(time.perf_counter() - begun)
+    return f"eight checks at once: median {statistics.median(taken):.2f} s, worst {max(taken):.2f}"
+
+
 async def main() -> None:
     """Measures, and prints."""
     with tempfile.TemporaryDirectory() as folder:
@@ -91,6 +109,7 @@ async def main() -> None:
             print(await stops(tabs[0], teacher))
             print(await flood(tabs, teacher))
             print(await hours(room, tabs))
+        print(await checks(pathlib.Path(folder) / "checks"))
 
 
 if __name__ == "__main__":

@@ -22,6 +22,7 @@ from vecmon_lab.machine.answers import ControlRegisters, Position, ScalarRegiste
 
 ECHO = """
 set_up = ["map 20000 1 rw"]
+junk = true
 limits = { ticks = 900, output = 8 }
 [[cases]]
 name = "word"

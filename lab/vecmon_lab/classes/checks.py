@@ -17,7 +17,7 @@ from typing import TypedDict
 
 from .. import LabError
 from ..exercises.answer import STACK, inputs, settled
-from ..exercises.check import Told
+from ..exercises.check import Taken, Told
 from ..exercises.exercise import Exercise, read_exercise
 from .beside import Beside
 from .codes import new_code
@@ -111,6 +111,7 @@ class Checks:
         self._tasks: set[asyncio.Task[None]] = set()
         self._unsaved: dict[str, Try] = {}
         self._lessons: dict[str, bytes] = {}  # before exercises, by name
+        self._good: dict[str, Taken] = {}  # what good answers take, as far as that was told
         self._making = asyncio.Lock()
         for seat, name, _, done in sorted(self._found()):
             self._of(seat, name).add(done)
@@ -129,7 +130,7 @@ class Checks:
         self._tell([seat])
 
     async def lesson(self, ticket: str) -> bytes:
-        """The lesson that a ticket opens, or the name of an exercise that it is before, as a page in HTML. Raises LabError."""
+        """The lesson that a ticket opens, or the one before the exercise of this name, as a page in HTML. Raises LabError."""
         exercise = self.exercises.get(ticket)
         if exercise and "lesson" in exercise.files:
             async with self._making:
@@ -218,6 +219,8 @@ class Checks:
         finally:
             del self._busy[seat]
         work, done = self._of(seat, name), Try(time=int(time.time()), text=text, told=told)
+        if "good" in told:
+            self._good[name] = told["good"]
         if "cases" in told:
             work.add(done)
             self._unsaved[_file(seat, name, len(work.tries))] = done
@@ -228,7 +231,7 @@ class Checks:
 
     async def _run(self, name: str, what: str, text: str = "") -> bytes:
         """What the process puts out that checks a text, or makes a lesson. Raises LabError."""
-        given = pickle.dumps((self.exercises[name], text))
+        given = pickle.dumps((self.exercises[name], text, self._good.get(name)))
         made = self._beside.run("exercises.check", str(self._store.program), what, script=given)
         try:
             return await asyncio.wait_for(made, SECONDS)

@@ -26,7 +26,7 @@ TURNED = 0xA5
 
 MOST_STEPS = 256  # of one line
 
-_RETURN = (f"poke {RETURN:x} 73001000", f"set x1 {RETURN:x}")
+_RETURN_PAGE = (f"map {RETURN:x} 1 rx", f"poke {RETURN:x} 73001000", f"set x1 {RETURN:x}")
 STACK = (f"map {STACK_END - 0x4000:x} 4 rw", f"set x2 {STACK_POINTER:x}")
 
 
@@ -181,7 +181,7 @@ def inputs(exercise: Exercise, case: Case, begin: int) -> list[str]:
     written = [command for address, data in places for command in pokes(address, data)]
     values = [f"set {name} {value:x}" for name, value in registers.items()]
     junk = _junk(case.name, begin) if exercise.junk else []
-    return [*exercise.set_up, f"map {RETURN:x} 1 rx", *junk, *_RETURN, f"policy {case.policy}", *written, *values]
+    return [*exercise.set_up, *_RETURN_PAGE, *junk, f"policy {case.policy}", *written, *values]
 
 
 def _junk(name: str, begin: int) -> Iterator[str]:
@@ -189,8 +189,9 @@ def _junk(name: str, begin: int) -> Iterator[str]:
     random = Random(name)
     yield from (f"set x{number} {random.randrange(1, 1 << 64):x}" for number in range(5, 32))
     yield from (f"vset v{number} {random.randbytes(32).hex()}" for number in range(32))
-    yield from (f"asm {RETURN:x} csrrwi x0, vxrm, {random.randrange(1, 4)}", f"setpc {RETURN:x}", "step 1")
-    yield f"setpc {begin:x}"
+    place = RETURN + 4  # of the one instruction that is needed
+    yield f"asm {place:x} csrrwi x0, vxrm, {random.randrange(1, 4)}"
+    yield from (f"setpc {place:x}", "step 1", f"setpc {begin:x}")
 
 
 def _results(guest: Guest, expected: Results, output: bytes) -> Results:

@@ -1,7 +1,8 @@
 """What a student is told of an answer in a class, and a lesson of it in a case: each is made in a process of its own.
 
 The words are the program and what is asked for: `check`, the number of a case for a lesson of it, or `before` for the
-lesson before the exercise. The exercise, with what is expected, and the answer's source come pickled on standard input.
+lesson before the exercise. The exercise with what is expected, the answer's source, and what a good answer takes, if that
+is known, come pickled on standard input.
 """
 
 import json
@@ -55,8 +56,8 @@ class Told(TypedDict, total=False):
     good: Taken
 
 
-def check(program: pathlib.Path, exercise: Exercise, text: str) -> Told:
-    """What is told of a source, in an exercise with what is expected."""
+def check(program: pathlib.Path, exercise: Exercise, text: str, good: Taken | None) -> Told:
+    """What is told of a source, in an exercise with what is expected; good: what its good answer takes, if that is known."""
     try:
         if len(text.encode()) > exercise.limits.size:
             raise LabError(f"the source has more than {exercise.limits.size:,} bytes")
@@ -77,7 +78,8 @@ def check(program: pathlib.Path, exercise: Exercise, text: str) -> Told:
             told.update({"found": found} if done else {})
             return told
     if all(told["cases"]) and "good" in exercise.files:
-        mine, good = (_taken(program, each, exercise) for each in (answer, read_answer(exercise.files["good"])))
+        good = good or _taken(program, read_answer(exercise.files["good"]), exercise)
+        mine = _taken(program, answer, exercise)
         if mine and good:
             told.update({"taken": mine, "good": good})
     return told
@@ -173,10 +175,10 @@ def main(program: str, what: str) -> None:
     """Writes what is told, in JSON, or a lesson, to standard output."""
     os.nice(10)
     resource.setrlimit(resource.RLIMIT_CPU, (CPU_SECONDS, CPU_SECONDS))
-    (exercise, text), vecmon = pickle.load(sys.stdin.buffer), pathlib.Path(program)
+    (exercise, text, good), vecmon = pickle.load(sys.stdin.buffer), pathlib.Path(program)
     match what:
         case "check":
-            told = json.dumps(check(vecmon, exercise, text))
+            told = json.dumps(check(vecmon, exercise, text, good))
         case "before":
             told = lesson_before(vecmon, exercise)[1]
         case number:
