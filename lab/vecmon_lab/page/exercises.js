@@ -52,10 +52,12 @@ export class Exercises {
 
   /** Goes to another exercise: each has a source of its own, which is the one to begin with at first. */
   choose(name) {
-    sessionStorage.setItem(`source ${this.name}`, this.editor.field.value);
+    const place = (of) => `source ${this.student.seat} ${of}`;
+    sessionStorage.setItem(place(this.name), this.editor.field.value);
     this.name = name;
     sessionStorage.setItem("exercise", name);
-    this.editor.put(sessionStorage.getItem(`source ${name}`) ?? this.all[name].start);
+    this.editor.put(sessionStorage.getItem(place(name)) ?? this.all[name].start);
+    this.reading.scrollTop = 0;
     this.paint();
   }
 
