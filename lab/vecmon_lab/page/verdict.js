@@ -9,7 +9,8 @@ function strip({ where, first, numbers, wrong, more }) {
     const box = make("span", isWrong ? "wrong" : "", text, ...(isWrong ? [unseen(" wrong")] : []));
     return Object.assign(box, { title: `number ${first + place}` });
   });
-  return make("div", "strip", make("small", "", first ? `${where}, from number ${first} on` : where), make("p", "", ...boxes, more ? `… ${more} more` : ""));
+  const rest = more ? `… ${more} more` : "";
+  return make("div", "strip", make("small", "", first ? `${where}, from number ${first} on` : where), make("p", "", ...boxes, rest));
 }
 
 /** Rows of numbers below a name, and what else is to be said there. */
