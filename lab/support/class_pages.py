@@ -21,25 +21,33 @@ PATIENCE = 60  # seconds: after so long a test that waits has failed
 FRAME = "requestAnimationFrame(() => setTimeout(arguments[0])), setTimeout(arguments[0], 100)"  # which none has out of sight
 
 
+def lab_command(takes_c: bool) -> list[str]:
+    """The command that runs the lab; root may compile others' C, if that is asked for."""
+    begin = "from vecmon_lab.compilers import wall; wall.check_wall = lambda: None; import vecmon_lab.__main__ as lab; "
+    return [sys.executable, *(["-c", f"{begin}lab.main()"] if takes_c else ["-m", "vecmon_lab"])]
+
+
 class Served:
     """A class's server in a process of its own, over a folder; it can be killed, and begun again at the same port."""
 
-    def __init__(self, folder: pathlib.Path, program: pathlib.Path, *words: str) -> None:
-        self.folder, self.program, self.words, self.port = folder, program, words, 0
+    def __init__(
+        self, folder: pathlib.Path, program: pathlib.Path, *words: str, takes_c: bool = False, clock: bool = False
+    ) -> None:
+        """takes_c: whether sources in C are compiled, also where the tests are root's; clock: whether it is on"""
+        self.folder, self.program, self.words, self.port, self.takes_c = folder, program, words, 0, takes_c
+        self.has_clock = clock
         self.log: IO[str] = open(folder.with_suffix(".log"), "w")
         self.begin()
 
     def begin(self) -> None:
         command = [
-            sys.executable,
-            "-m",
-            "vecmon_lab",
+            *lab_command(self.takes_c),
             "class",
             str(self.folder),
             f"sum={SUM}",
             "--port",
             str(self.port),
-            "--no-clock",
+            *([] if self.has_clock else ["--no-clock"]),
         ]
         environment = os.environ | {"VECMON": str(self.program), "PYTHONPATH": str(TOP)}
         self.server = subprocess.Popen(

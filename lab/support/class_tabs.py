@@ -16,6 +16,7 @@ import aiohttp
 
 from support.places import SUM, TOP
 from vecmon_lab.classes import server as class_server
+from vecmon_lab.classes.builds import Builds
 from vecmon_lab.classes.store import Store, script_name
 from vecmon_lab.classes.view import Class
 from vecmon_lab.machine.program import find_program
@@ -149,10 +150,11 @@ async def served(
     quantum: int | None = None,
     clock: bool = False,
     exercises: Iterable[pathlib.Path] = (),
+    builds: Builds | None = None,
 ) -> AsyncIterator[Served]:
     """A class that is served in this process."""
     store = Store(folder, find_program(), images, quantum, machines)
-    members = Class(store, 5.0, clock=clock, exercises=exercises)
+    members = Class(store, 5.0, clock=clock, exercises=exercises, builds=builds)
     async with class_server.served(
         members, class_server.listening("127.0.0.1", 0), {name}
     ) as port, _session() as session:

@@ -1,8 +1,9 @@
 """The pictures of the pages: `python lab/tools/pictures.py docs/pictures`, with VECMON as for the lab.
 
-Writes lesson.png, student.png, teacher.png, wall.png and exercise.png to the folder: Chromium's pictures of a lesson and of
-classes, in light colours, 1280 pixels wide. In one class six students have each come to another place, and the teacher looks
-over the shoulder of the third, whose seat is on the wall as well. In the other one a student's answer fails in a case.
+Writes lesson.png, listings.png, student.png, teacher.png, wall.png, exercise.png, kernel.png and explore.png to the folder:
+Chromium's pictures of a lesson, of listings side by side and of classes, in light colours, 1280 pixels wide. In one class six students have each come to another
+place, and the teacher looks over the shoulder of the third, whose seat is on the wall as well. In another one a student's
+answer fails in a case, and in a third one sources in C are stepped.
 """
 
 import base64
@@ -43,11 +44,12 @@ def save(browser: "Chrome", path: pathlib.Path, height: int) -> None:
     path.write_bytes(base64.b64decode(told["data"]))
 
 
-def open_lesson(browser: "Chrome", folder: pathlib.Path) -> None:
-    """The lesson of the example, at its masked instruction."""
+def open_page(browser: "Chrome", folder: pathlib.Path, *words: str | pathlib.Path, place: str = "") -> None:
+    """The page that `vecmon-lab lesson` makes by words."""
     page = folder / "lesson.html"
-    subprocess.run([sys.executable, "-m", "vecmon_lab", "lesson", EXAMPLE, "-o", page], check=True, cwd=TOP)
-    browser.get(f"{page.as_uri()}#{MASKED + 1}")
+    subprocess.run([sys.executable, "-m", "vecmon_lab", "lesson", *words, "-o", page], check=True, cwd=TOP)
+    browser.get("about:blank")
+    browser.get(f"{page.as_uri()}{place}")
 
 
 def seat_students(browser: "Chrome", served: Served) -> Tab:
@@ -106,21 +108,47 @@ def picture_exercise(browser: "Chrome", served: Served, folder: pathlib.Path) ->
     save(browser, folder / "exercise.png", HEIGHT)
 
 
+def picture_kernels(browser: "Chrome", served: Served, folder: pathlib.Path) -> None:
+    """The pages of two students with sources in C: the instructions beside their lines, and the line in the source."""
+    for seat, kernel, mark, name in (("A2", "saxpy", "__riscv_vmacc", "kernel"), ("A1", "grey", "vwmaccu", "explore")):
+        text = (EXAMPLES / "kernels" / f"{kernel}.c").read_text("ascii")
+        tab = Tab(browser, served, seat)
+        give_room(browser, HEIGHT)
+        tab.choose("#language", "C, O2")
+        tab.run("(id('source').value = arguments[0], id('assemble').click())", text)
+        tab.wait("id('editor').hidden && one('#listing .next')")
+        line = next(number for number, each in enumerate(text.split("\n"), 1) if mark in each)
+        address = tab.run(
+            "all('#listing tr').find((row) => row.textContent.includes(arguments[0])).dataset.address", f"{line}  "
+        )
+        tab.command(f"break {address}", "go")
+        tab.wait("one('#run').textContent === 'break'")
+        tab.command("step 1")
+        if name == "explore":
+            tab.click("#show-source")
+        save(browser, folder / f"{name}.png", HEIGHT)
+
+
 def main(folder: pathlib.Path) -> None:
     browser = start_browser("hide-scrollbars", "force-prefers-reduced-motion")
     give_room(browser, HEIGHT)
     with tempfile.TemporaryDirectory() as room:
-        open_lesson(browser, pathlib.Path(room))
+        open_page(browser, pathlib.Path(room), EXAMPLE, place=f"#{MASKED + 1}")  # at its masked instruction
         save(browser, folder / "lesson.png", HEIGHT)
+        open_page(browser, pathlib.Path(room), EXAMPLES / "kernels" / "plain_sum.c", "--against", "O2-scalar")
+        save(browser, folder / "listings.png", HEIGHT)
         served = Served(pathlib.Path(room) / "class", find_program())
         course = Served(pathlib.Path(room) / "course", find_program(), "--exercise", EXERCISE)
+        kernels = Served(pathlib.Path(room) / "kernels", find_program(), "--cc", "clang-19", clock=True, takes_c=True)
         try:
+            picture_kernels(browser, kernels, folder)
             picture_exercise(browser, course, folder)
             picture_class(browser, served, folder)
         finally:
             browser.quit()
             served.end()
             course.end()
+            kernels.end()
 
 
 if __name__ == "__main__":

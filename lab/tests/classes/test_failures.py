@@ -18,6 +18,7 @@ from support.class_tabs import LOOP, SECONDS, command, process, served
 from support.places import TOP
 from support.terminal import INTERRUPT, Terminal
 from vecmon_lab import LabError
+from vecmon_lab.classes.languages import SourceText
 from vecmon_lab.classes.requests import Lines
 from vecmon_lab.classes.room import Stopped
 from vecmon_lab.classes.store import BadFolder, Store
@@ -192,7 +193,7 @@ async def test_a_replay_that_differs_stops_the_class(tmp_path: pathlib.Path) -> 
         with pytest.raises(Stopped, match="in doubt.*line 3, '1 asm 10000 .*now with '1 0000000000010000 00128294'"):
             await room.lines(room.seats.users["1"], Lines("", ["step 1"], 0, []), [])
     with pytest.raises(Stopped):
-        await room.source(room.seats.users["1"], "nop")
+        await room.source(room.seats.users["1"], SourceText("nop"))
     assert "in doubt" in room.trouble and room.session.lines == len(LOOP)
     members.end()
     assert (tmp_path / "class" / "A.script").read_text().count("\n") == len(LOOP)

@@ -46,12 +46,13 @@ async def test_what_is_typed_is_the_seats(room: Served) -> None:
     """A draft is in other tabs and in a new one, and before the teacher who looks; others see nothing of it."""
     tab, other, teacher = await room.sit("A3"), await room.sit("A3"), await room.sit("teacher")
     stranger = await room.sit("A4")
-    assert tab.view["source"] == {"text": "", "number": 0, "versions": []}
+    assert tab.view["source"] == {"text": "", "language": 0, "number": 0, "stands": True, "versions": []}
     await teacher.ask("shoulder", seat="A3")
     await tab.ask("draft", text="nop\r\n\tadd \u00e9", number=0)
     for each in (other, teacher):
         await each.until(lambda view: view["source"]["text"] == "nop\r\n\tadd \u00e9")
-    assert (await room.sit("A3")).view["source"] == {"text": "nop\r\n\tadd \u00e9", "number": 1, "versions": []}
+    kept = {"text": "nop\r\n\tadd \u00e9", "language": 0, "number": 1, "stands": False, "versions": []}
+    assert (await room.sit("A3")).view["source"] == kept
     await stranger.do("enter")
     assert "nop" not in str(stranger.view)
     await teacher.ask("shoulder", seat="")

@@ -72,6 +72,19 @@ def test_lines_of_the_source_stand_at_their_instructions(clang: Compiler) -> Non
     assert program.labels["twice"] <= first[3] < program.labels["main"] <= first[8]
 
 
+def test_where_lines_begin() -> None:
+    rows = [
+        (0x10, "source.c:3", ""),
+        (0x10, "source.c:4", ""),
+        (0x18, "source.c:4", ""),
+        (0x20, "", ""),
+        (0x24, "vecmon.h:5", ""),
+        (0x28, "source.c:3", "f"),
+    ]
+    program = program_of({"entry": 0, "segments": [], "symbols": {}, "rows": rows, "variables": []})
+    assert program.line_starts() == {"10": 4, "20": 0, "28": 3}
+
+
 def test_a_function_that_was_inlined_is_named(clang: Compiler) -> None:
     text = (KERNELS / "saxpy.c").read_text("ascii")
     said = compile_c(text, clang, 0, KERNELS).source_lines(text)
@@ -119,7 +132,9 @@ def test_segments_become_pages_and_bytes() -> None:
         [0x11010, "rx", 0x20, (b"\2" * 0x20).hex()],
         [0x12000, "rw", 0x2000, ""],
     ]
-    program = program_of({"entry": 0x11010, "segments": segments, "symbols": {"_start": 0x11010}, "rows": []})
+    program = program_of(
+        {"entry": 0x11010, "segments": segments, "symbols": {"_start": 0x11010}, "rows": [], "variables": []}
+    )
     assert program.lines == [
         "map 10000 1 r",
         "map 11000 1 rx",
@@ -134,14 +149,18 @@ def test_segments_become_pages_and_bytes() -> None:
 
 def test_zeros_are_not_written() -> None:
     data = b"\1" + bytes(100) + b"\2" * 300 + bytes(8)
-    lines = program_of({"entry": 0, "segments": [[0, "rw", 4096, data.hex()]], "symbols": {}, "rows": []}).lines
+    lines = program_of(
+        {"entry": 0, "segments": [[0, "rw", 4096, data.hex()]], "symbols": {}, "rows": [], "variables": []}
+    ).lines
     assert lines[1:4] == ["poke 0 01", f"poke 65 {'02' * 256}", f"poke 165 {'02' * 44}"]
 
 
 def test_an_image_that_is_too_large() -> None:
     for size, data in ((4096 * 201, b"\1"), (1 << 17, b"\1" * 65_537)):
         with pytest.raises(LabError, match="are the most"):
-            program_of({"entry": 0, "segments": [[0, "rw", size, data.hex()]], "symbols": {}, "rows": []})
+            program_of(
+                {"entry": 0, "segments": [[0, "rw", size, data.hex()]], "symbols": {}, "rows": [], "variables": []}
+            )
 
 
 def test_words_are_a_closed_list() -> None:

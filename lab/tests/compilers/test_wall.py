@@ -6,7 +6,7 @@ import pathlib
 import shutil
 import struct
 import time
-from collections.abc import Callable
+from collections.abc import Callable, Sequence
 from typing import Any
 
 import pytest
@@ -115,10 +115,64 @@ def test_names_that_are_long(answer: Ask) -> None:
 
 
 def test_debug_data_that_is_crafted(answer: Ask) -> None:
-    sections = [".debug_line", ".debug_info", ".debug_abbrev", ".debug_ranges", ".debug_str"]
+    sections = [".debug_line", ".debug_info", ".debug_abbrev", ".debug_ranges", ".debug_str", ".debug_loc"]
     junk = "".join(f'__asm__(".section {each}\\n.fill 2000, 4, 0xffffff7f\\n.text");\n' for each in sections)
     told = answer(junk + MAIN)
     assert told["messages"] or told["image"]
+
+
+def number(value: int) -> bytes:
+    """A number as ULEB128."""
+    return bytes([value & 0x7F | 0x80]) + number(value >> 7) if value > 0x7F else bytes([value])
+
+
+def crafted(variables: Sequence[tuple[str, bytes]], type_at: int = 21) -> str:
+    """A source whose debug data tells, beside its own, of variables with these expressions, and of a pointer to itself.
+
+    type_at: where in it the variables have their type
+    """
+    unit = b"\1source.c\0" + b"\3" + struct.pack("<I", 21)
+    for name, expression in variables:
+        place = number(len(expression)) + expression
+        unit += b"\2" + name.encode("ascii") + b"\0" + struct.pack("<I", type_at) + place
+    abbreviations = "1,17,1,3,8,0,0, 2,52,0,3,8,73,19,2,24,0,0, 3,15,0,73,19,0,0, 0"
+    head, data = f".4byte {len(unit) + 8}\\n.2byte 4\\n.4byte kinds\\n.byte 8", ",".join(map(str, unit + b"\0"))
+    lines = [f".section .debug_abbrev\\nkinds: .byte {abbreviations}", f".section .debug_info\\n{head}\\n.byte {data}"]
+    return "".join(f'__asm__("{line}\\n.text");\n' for line in lines) + MAIN
+
+
+def nested(depth: int) -> bytes:
+    """An expression in an expression, and so on (DW_OP_entry_value)."""
+    expression = b"\x50"
+    for _ in range(depth):
+        expression = b"\xa3" + number(len(expression)) + expression
+    return expression
+
+
+def test_variables_that_are_crafted(answer: Ask) -> None:
+    hostile = [
+        b"\xff\xff",
+        b"\x96" * 40,
+        b"\x22",
+        b"\3\0\0",
+        b"\x93\4",
+        nested(12),
+        nested(3000),
+        b"\x31" * 5000,
+        b"\x92\0\0",
+        b"",
+    ]
+    told = answer(
+        crafted([("fine", b"\3" + bytes([0, 1]) + bytes(6)), *((f"v{at}", each) for at, each in enumerate(hostile))])
+    )
+    (_, *fine), *others = told["image"]["variables"]
+    assert fine == ["fine", "", [], "", [], [[0, 1 << 48, "memory", 0, "100"]]]
+    assert [each[6][0][2] for each in others] == ["untold"] * len(hostile)
+
+
+def test_more_variables_than_are_told(answer: Ask) -> None:
+    told = answer(crafted([("x" * 200, b"\x50")] * 1000, type_at=1 << 31))
+    assert len(told["image"]["variables"]) <= 300
 
 
 def elf(headers: list[bytes]) -> bytes:

@@ -190,8 +190,8 @@ def test_set_up_of_a_source_names_labels(program: pathlib.Path) -> None:
 
 def test_the_example_of_the_manual(program: pathlib.Path) -> None:
     text = (DOCS / "LAB.md").read_text("utf-8")
-    example = text.partition("```text\n")[2].partition("```")[0]
-    script = read_script(example)
+    section = text.partition("### A script with sentences\n")[2]
+    script = read_script(section.partition("```text\n")[2].partition("```")[0])
     made = make_frames(script, program)
     assert script.title == "Doubles" and not re.search("E[0-9]{2}", " ".join(logged(made, "<")))
     assert logged(made, "<")[-1].startswith("1 v2 00000000 00000002 00000004 ")

@@ -12,6 +12,7 @@ from urllib.parse import urlsplit
 from .. import LabError
 from ..arguments import between
 from ..machine.program import find_program, images_of
+from .builds import Builds, walled_compiler
 from .codes import LETTERS
 from .names import NAMES
 from .server import HOST, listening, serve
@@ -38,6 +39,9 @@ def add_arguments(parser: argparse.ArgumentParser) -> None:
         default=[],
         help="an exercise of the lab's, or the folder of one's own, for all seats; several are several options",
     )
+    parser.add_argument("--cc", metavar="NAME", help="the compiler of sources in C, as clang-19")
+    most = between(1, 512)
+    parser.add_argument("--image-size", metavar="KB", type=most, default=64, help="the most of a source in C; else 64")
     parser.add_argument("--quantum", metavar="N", type=int, help="the ticks of a slice, 1 to 1000; else 100")
     parser.add_argument(
         "--no-clock", action="store_true", help="a new machine's clock is off until the teacher turns it on"
@@ -61,15 +65,28 @@ def run(arguments: argparse.Namespace) -> int:
     images, host = images_of(arguments.images), arguments.host
     store = Store(arguments.folder, find_program(), images, arguments.quantum, arguments.machines)
     try:
-        doors = _listening(host, arguments.port)  # before the class is carried out again, which may take a while
+        doors = listening_at(host, arguments.port)  # before the class is carried out again, which may take a while
     except LabError:
         store.close()
         raise
-    members = Class(store, arguments.patience, _tell, not arguments.no_clock, arguments.spare, arguments.exercise)
+    builds = _builds(arguments.cc, arguments.image_size << 10)
+    members = Class(
+        store, arguments.patience, _tell, not arguments.no_clock, arguments.spare, arguments.exercise, builds
+    )
     members.address = arguments.address or ""
     hosts = {*arguments.name, urlsplit(members.address).hostname or host}
     asyncio.run(serve(members, host, doors, hosts))
     return 0
+
+
+def _builds(name: str | None, most: int) -> Builds:
+    """What compiles sources in C; without a name nothing may. Raises LabError where a compiler of a name can't."""
+    try:
+        return Builds(walled_compiler(name), most=most)
+    except LabError as error:
+        if name:
+            raise
+        return Builds(None, str(error))
 
 
 def _address(text: str) -> str:
@@ -86,7 +103,7 @@ def _tell(sentence: str) -> None:
         print(f"\r{sentence}", end="\n" if sentence.endswith(" 100 %") else "", file=sys.stderr, flush=True)
 
 
-def _listening(host: str, port: int) -> list[socket.socket]:
+def listening_at(host: str, port: int) -> list[socket.socket]:
     """Sockets that listen at the host's addresses. Raises LabError where there can't be any."""
     try:
         return listening(host, port)

@@ -5,6 +5,7 @@ from dataclasses import dataclass
 
 from .. import LabError
 from ..machine.lines import check_text, is_look
+from .languages import LANGUAGES, SourceText
 from .live import is_servers
 
 REQUEST_LINES, SOURCE_LETTERS, SENTENCE_LETTERS = 256, 1 << 16, 400
@@ -27,9 +28,14 @@ class Lines:
 
 @dataclass(frozen=True)
 class Source:
-    """An assembler source for a new machine of the student's; None for that of the machine that there is."""
+    """A source for a new machine of the student's; None for that of the machine that there is."""
 
-    text: str | None
+    source: SourceText | None
+
+
+@dataclass(frozen=True)
+class StepLine:
+    """Steps until another line of a source in C begins."""
 
 
 @dataclass(frozen=True)
@@ -94,7 +100,7 @@ class ShowCodes:
 class Draft:
     """The source that a student types, and the number that it had."""
 
-    text: str
+    source: SourceText
     number: int
 
 
@@ -110,7 +116,7 @@ class Give:
     """A source for a seat; "" for all."""
 
     seat: str
-    text: str
+    source: SourceText
 
 
 @dataclass(frozen=True)
@@ -161,7 +167,7 @@ class Reset:
     seat: str
 
 
-StudentRequest = Lines | Source | Draft | ReadVersion | SetName | Check | TryCase
+StudentRequest = Lines | Source | StepLine | Draft | ReadVersion | SetName | Check | TryCase
 TeacherRequest = Give | Write | Reset | SetClock | SetRights | Renew | LookOver | PutOnWall | ShowCodes | ReadAnswer
 Request = StudentRequest | TeacherRequest
 
@@ -175,11 +181,13 @@ def read_request(message: Mapping[str, object], is_teacher: bool) -> Request:
         case "lines", _:
             return _lines(message, is_teacher)
         case "source", False:
-            return Source(_text(message))
+            return Source(_source(message))
         case "again", False:
             return Source(None)
+        case "step-line", False:
+            return StepLine()
         case "draft", False:
-            return Draft(_text(message), _number(message))
+            return Draft(_source(message), _number(message))
         case "name", _:
             return SetName(_name(message, "seat"), _name(message, "name"))
         case "check", False:
@@ -191,7 +199,7 @@ def read_request(message: Mapping[str, object], is_teacher: bool) -> Request:
         case "version", _:
             return ReadVersion(_number(message))
         case "give", True:
-            return Give(_name(message, "seat"), _text(message))
+            return Give(_name(message, "seat"), _source(message))
         case "write", True:
             return Write(_name(message, "seat"), _sentence(message))
         case "reset", True:
@@ -239,8 +247,16 @@ def _settings(message: Mapping[str, object]) -> Mapping[str, int]:
     return settings
 
 
+def _source(message: Mapping[str, object]) -> SourceText:
+    """The source of a message, in assembler where that doesn't say its language."""
+    language = message.get("language", 0)
+    if not isinstance(language, int) or not 0 <= language < len(LANGUAGES):
+        raise BadRequest(f"languages have numbers from 0 to {len(LANGUAGES) - 1}")
+    return SourceText(_text(message), int(language))
+
+
 def _text(message: Mapping[str, object]) -> str:
-    """The source of a message."""
+    """The text of a source of a message."""
     text = message.get("text")
     if not isinstance(text, str) or len(text) > SOURCE_LETTERS:
         raise BadRequest(f"a source is a text of {SOURCE_LETTERS} characters at most")

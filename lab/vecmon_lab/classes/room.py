@@ -15,12 +15,15 @@ from functools import partial
 from .. import LabError
 from ..assembler.source import Program, SourceError, in_order, read_source, refusal
 from ..assembler.trial import all_mistakes
-from ..machine.answers import Granted, OutOfStep, Position, Refused, read
+from ..compilers.compiled import CompiledProgram
+from ..machine.answers import Granted, Listing, OutOfStep, Position, Refused, read
 from ..machine.lines import DIGITS, is_look
 from ..machine.session import TOGETHER, Checkpoint, ProgramGone, ReplayDiffers, ScriptFull, Session
 from ..page.state import State
 from .beside import Beside
+from .builds import Builds
 from .clock import Clock
+from .languages import SourceText
 from .live import GO, OUT, STOP, with_output
 from .past import Past
 from .requests import BadRequest, Lines
@@ -29,6 +32,8 @@ from .store import Notes, ScriptFile
 
 SEAT_BYTES = 1_500_000  # of a seat's lines in the script: eight leave 3,000,000 to the operator and the clock
 SOURCE_LINES = 4096
+LINE_BLOCKS, BLOCK_WORDS = 256, 16  # of code, that a step of a line goes through; and a block's instructions at most
+LEAVES = "bje"  # how the names of scalar instructions begin that may go elsewhere, or call: bne, jal, ecall
 LEAVING: Mapping[str, Sequence[str]] = {"absent": [], "running": ["stop", "leave"], "stopped": ["leave"]}
 WATCH_SECONDS = 0.5  # between looks at a program that runs
 FOLLOW_SECONDS, SHORTEN_SECONDS = 0.2, 0.5  # between a spare's parts; and between looks at how long a script has become
@@ -65,7 +70,7 @@ class Room:
     """A machine, its seats, and its clock.
 
     `changed` is called with the names of seats that have news; `watched` answers whom somebody looks at; `keep` keeps
-    notes beside the script, and answers whether that went well.
+    notes beside the script, and answers whether that went well; `compile` makes a program of a seat's source in C.
     """
 
     def __init__(self, letter: str, session: Session, file: ScriptFile, makers: Beside) -> None:
@@ -77,6 +82,7 @@ class Room:
         self.changed: Callable[[Iterable[str]], None] = lambda names: None
         self.keep: Callable[[Notes], bool] = lambda notes: False
         self.watched: Callable[[], Container[str]] = set
+        self.compile = Builds().compile
         self._has_run = False  # whether slices were granted since programs were looked at
         self._least = math.inf  # the weight of a script that gets a checkpoint; more where there was none
         self.stopped = self.down = self.rebuilding = ""
@@ -158,25 +164,38 @@ class Room:
             self.note(seat, f"!The clock is off, so the program waits: the teacher can turn it on{own_way}.")
         return [[part[2:] for part in answer] for answer in work.looks]
 
-    async def source(self, seat: Seat, text: str | None) -> list[SourceError]:
-        """Brings an assembler source into a new machine of the seat's; the mistakes in it.
+    async def source(self, seat: Seat, source: SourceText | None) -> tuple[list[SourceError], Sequence[SourceError]]:
+        """Brings a source into a new machine of the seat's; the mistakes in it, and what a compiler warns of.
 
         Without one, that of the machine that there is, whose breakpoints stay.
         """
+        program = await self._program(seat, source) if source else None
+        breaks: Sequence[int] = []
         async with seat.turn:
-            is_again, text = text is None, seat.written if text is None else text
-            if is_again and not text:
+            if source is None:
+                source, program, breaks = seat.written, seat.program, sorted(seat.watch.breaks)
+            if program is None:
                 raise BadRequest("no source stands in this machine, so none can be written again")
-            loop, vecmon = asyncio.get_running_loop(), pathlib.Path(self.session.command[0])
-            program = await loop.run_in_executor(self._assembler, read_source, text)
+            warnings = program.warnings if isinstance(program, CompiledProgram) else []
             if program.mistakes:
-                return await loop.run_in_executor(self._assembler, all_mistakes, program, vecmon)
+                return program.mistakes, warnings
             if (number := len(program.lines)) > SOURCE_LINES:
                 raise BadRequest(f"a source becomes {SOURCE_LINES} lines at most, and this one {number}")
-            mistakes = await self._bring_in(seat, program, sorted(seat.watch.breaks) if is_again else [])
-            seat.take(text, program)
+            mistakes = await self._bring_in(seat, program, breaks)
+            seat.take(source, program)
             self.changed([seat.name])
-        return mistakes
+        return mistakes, warnings
+
+    async def _program(self, seat: Seat, source: SourceText) -> Program:
+        """The program of a source, with all its mistakes, which needs no turn of the machine's."""
+        if source.choice is not None:
+            return await self.compile(seat.name, source.text, source.choice)
+        loop, vecmon = asyncio.get_running_loop(), pathlib.Path(self.session.command[0])
+        program = await loop.run_in_executor(self._assembler, read_source, source.text)
+        if not program.mistakes:
+            return program
+        mistakes = await loop.run_in_executor(self._assembler, all_mistakes, program, vecmon)
+        return replace(program, mistakes=mistakes)
 
     async def _bring_in(self, seat: Seat, program: Program, breaks: Iterable[int]) -> list[SourceError]:
         """Brings a program in, some dozens of lines at a turn, so that others have theirs between; what is refused."""
@@ -192,6 +211,8 @@ class Room:
                         mistakes.append(refusal(statements[line], int(column)))
                     case Refused(code):
                         raise BadRequest(f"the machine answers {code} to {line[2:60]}")
+            if work.is_last:
+                seat.list_program(program)
 
         while not lines or len(done) < len(lines):
             async with self._lock:
@@ -204,6 +225,41 @@ class Room:
                 await self._hop(work, carry_out, seat)
             done = [*done, *work.done]
         return in_order(mistakes)
+
+    async def step_line(self, seat: Seat) -> None:
+        """Steps a program until it stands at another line of its source in C, or stops, or for LINE_BLOCKS blocks of code.
+
+        Raises BadRequest where there is no such source, or the program doesn't stand still.
+        """
+
+        def carry_out(work: _Work) -> None:
+            program, pc = seat.program, int(seat.state["pc"], 16)
+            assert isinstance(program, CompiledProgram)
+            begun = program.line_at(pc)
+            for _ in range(LINE_BLOCKS):
+                answer = read(*self._do(work, f"{seat.digit} step {self._block(seat, program, pc)}"))
+                if not isinstance(answer, Position):
+                    return
+                pc = answer.pc
+                if program.line_at(pc) not in (0, begun) or pc in seat.watch.breaks:
+                    return
+
+        async with seat.turn, self._lock:
+            if not isinstance(seat.program, CompiledProgram) or seat.state["run"] != "stopped":
+                raise BadRequest("lines are stepped where the program of a source in C stands still")
+            self._check_share(seat, [f"{seat.digit} step {LINE_BLOCKS}"] * LINE_BLOCKS)
+            await self._hop(_Work(), carry_out, seat)
+
+    def _block(self, seat: Seat, program: CompiledProgram, pc: int) -> int:
+        """How many instructions from one on are of its line, up to the first that may go elsewhere, or calls."""
+        listing = read(self.session.look(f"{seat.digit} dis {pc:x} {BLOCK_WORDS}"))
+        words = listing.words if isinstance(listing, Listing) else []
+        number = 0
+        for number, word in enumerate(words, 1):
+            after = word.address + 4
+            if word.text[0] in LEAVES or program.line_at(after) != program.line_at(pc) or after in seat.watch.breaks:
+                break
+        return max(number, 1)
 
     async def reset(self, seat: Seat) -> None:
         """Takes a seat's machine away, however much of its share is used up."""
@@ -344,7 +400,8 @@ class Room:
         """Raises BadRequest where the lines don't fit into the seat's share of the script."""
         size = sum(len(line) + 1 for line in lines if not is_look(line))
         if seat is not self.seats.operator and size and seat.used + size > SEAT_BYTES:
-            raise BadRequest("this seat's share of the script is used up, so only lines that look go on")
+            left = f"this takes {size:,} bytes, and {max(0, SEAT_BYTES - seat.used):,} are left"
+            raise BadRequest(f"this seat's share of the script is used up, so only lines that look go on: {left}")
 
     async def _hop(self, work: _Work, carry_out: Callable[[_Work], object], asker: Seat | None) -> None:
         """Carries out work in the machine's thread, looks at whom it may have changed, and tells what was done.

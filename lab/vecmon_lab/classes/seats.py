@@ -6,14 +6,18 @@ from collections import deque
 from collections.abc import Iterable, Sequence
 from dataclasses import dataclass, field
 from itertools import takewhile
+from typing import Any
 
 from ..assembler.commands import log_entries
 from ..assembler.source import Program
+from ..compilers.compiled import CompiledProgram, memory_rows
 from ..guest.guest import Guest
 from ..instructions.reasons import brief_stop
+from ..lessons.frames import MOST_NAMED
 from ..machine.answers import ControlRegisters, Granted, Stop, is_refusal, is_stop, read, told
 from ..machine.lines import DIGITS, is_look, words_of
 from ..machine.session import Session
+from .languages import SourceText
 from .live import is_servers
 from ..page.state import ABSENT, RowChoice, State, Watch, look_at, with_rows
 
@@ -30,7 +34,9 @@ class Seat:
 
     log, number: its last entries, and how many there were
     state, shown: all that is known of the user, and what pages show of it
-    written, labels, lines: the source that stands in the machine, its labels, and its line for each word, by address
+    written, program: the source that stands in the machine, and its program
+    labels, lines: its labels, and its line for each word, by address
+    starts, variables: of a source in C, as CompiledProgram has them
     stop, line, answer: the last stop, command and line of an answer, without the digit
     output: the last of what the program has put out, in hexadecimal digits, in blocks by number
     stands, is_stuck, since: how its program stands, in a few words beside the state's `run`; whether its student may need
@@ -51,7 +57,10 @@ class Seat:
     rows: RowChoice = field(default_factory=RowChoice)
     labels: dict[str, list[str]] = field(default_factory=dict)
     lines: dict[str, str] = field(default_factory=dict)
-    written: str = ""
+    starts: dict[str, int] = field(default_factory=dict)
+    variables: Sequence[Sequence[Any]] = ()
+    written: SourceText = SourceText()
+    program: Program | None = None
     output: dict[str, str] = field(default_factory=dict)
     stop: str = ""
     line: str = ""
@@ -82,9 +91,18 @@ class Seat:
         """Takes up how it stands from now on."""
         self.stands, self.is_stuck, self.since = stands, is_stuck, time.time()
 
-    def take(self, source: str, program: Program) -> None:
+    def take(self, source: SourceText, program: Program) -> None:
         """Takes up which source stands in the machine now."""
-        self.written, self.labels, self.lines = source, program.names(), program.source_lines(source)
+        self.written, self.program = source, program
+        self.labels, self.lines = program.names(), program.source_lines(source.text)
+        self.starts, self.variables = {}, []
+        if isinstance(program, CompiledProgram):
+            self.starts, self.variables = program.line_starts(), program.variables
+
+    def list_program(self, program: Program) -> None:
+        """Has instructions and variables of a program shown that a compiler made, in place of all that lines name."""
+        if isinstance(program, CompiledProgram):
+            self.watch.take_compiled(program.text(), memory_rows(program.variables)[:MOST_NAMED])
 
     def put_out(self, digits: str) -> None:
         """Takes up what the program has put out. Full blocks stay as they are, so that pages aren't told them again."""
@@ -143,7 +161,7 @@ class Seats:
             state = look_at(Guest(session, int(digit)), seat.watch, before, own, carried_out, is_done)
             state.pop("output", None)  # which the seat has
             seat.rows.add(state)
-            states[digit] = state, with_rows(state, seat.rows.rows(seat.watch))
+            states[digit] = state, with_rows(state, seat.rows.rows(seat.watch, 1 + seat.watch.is_compiled))
         return states
 
     def take(self, states: dict[str, tuple[State, State]]) -> None:
@@ -174,7 +192,8 @@ class Seats:
         elif not is_look(line):
             asker.used += len(line) + 1
         if _begins_anew(line, answer):
-            asker.stop, asker.written, asker.labels, asker.lines, asker.output = "", "", {}, {}, {}
+            asker.stop, asker.written, asker.program = "", SourceText(), None
+            asker.labels, asker.lines, asker.starts, asker.output = {}, {}, {}, {}
         elif words == ["go"] and not is_refusal(answer):
             asker.stop, asker.slices, asker.seen = "", 0.0, 0.0
         for part, entry in zip(answer, log_entries(line, answer)):

@@ -230,8 +230,8 @@ async def served(members: Class, doors: Iterable[socket.socket], names: set[str]
         await runner.cleanup()
 
 
-async def serve(members: Class, host: str, doors: Iterable[socket.socket], names: set[str]) -> None:
-    """Serves a class at a host's sockets until SIGINT or SIGTERM.
+async def serve(members: Class, host: str, doors: Iterable[socket.socket], names: set[str], who: str = TEACHER) -> None:
+    """Serves a class at a host's sockets until SIGINT or SIGTERM, and prints the address of somebody's page.
 
     Raises BadFolder once the program was replaced or taken away, as with its package.
     """
@@ -242,7 +242,7 @@ async def serve(members: Class, host: str, doors: Iterable[socket.socket], names
     for sign in (signal.SIGINT, signal.SIGTERM):
         loop.add_signal_handler(sign, ended.set)
     async with served(members, doors, {host, *names}) as port:
-        _announce(host, port, members.codes.codes[TEACHER])
+        _announce(host, port, "page" if who != TEACHER else who, members.codes.codes[who])
         missed = 0  # looks that found no program; after one, it may just be installed anew
         while not ended.is_set():
             missed = 0 if members.store.check_program() else missed + 1
@@ -269,12 +269,12 @@ async def _keep(members: Class) -> None:
         members.keep()
 
 
-def _announce(host: str, port: int, code: str) -> None:
-    """Prints the teacher's address, and a warning where others than this computer's users can come."""
+def _announce(host: str, port: int, whose: str, code: str) -> None:
+    """Prints the address of the teacher, or of the one page, and a warning where others than this computer's users can come."""
     shown = f"[{host}]" if ":" in host else host
     if host in ("0.0.0.0", "::"):
         shown = socket.gethostname()
-    print(f"teacher: http://{shown}:{port}/#{code}", flush=True)
+    print(f"{whose}: http://{shown}:{port}/#{code}", flush=True)
     if host not in ("127.0.0.1", "::1", "localhost"):
         warning = f"whoever reaches {host} reaches the class, and nothing is encrypted"
         print(f"vecmon-lab: warning: {warning}: use it in a network that you trust (docs/CLASS.md)", file=sys.stderr)

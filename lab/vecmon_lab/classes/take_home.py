@@ -11,13 +11,15 @@ from dataclasses import replace
 
 from .. import LabError
 from ..assembler.source import assemble
+from ..compilers.compiled import CompiledProgram
 from ..lessons.frames import make_frames
 from ..lessons.page import lesson_page
-from ..lessons.script import Script, Step, add_line, read_source
+from ..lessons.script import Script, Step, add_line, read_c, read_source
 from ..machine.lines import words_of
 from .live import is_servers
 from .names import NAMES
 from .solo import solo
+from .sources import kept_program, kept_source
 from .store import Store
 
 MOST_FRAMES, MOST_ENTRIES = 500, 200  # of a lesson; and of a frame's log
@@ -47,20 +49,23 @@ def _frames(step: Step) -> int:
 
 def archive(store: Store, seat: str) -> bytes:
     """The archive of a seat. Raises LabError where it has done nothing."""
-    lines, sources = solo(store, seat), [store.folder / f"{seat}{ending}" for ending in (".written.s", ".s")]
-    texts = [source.read_text("utf-8", "replace") for source in sources if source.exists()]
+    lines, own = solo(store, seat), kept_source(store, seat)
     name, said = store.read(NAMES, dict[str, str]).get(seat), dict[str, str]()
     script = Script(f"Seat {seat}, {name}" if name else f"Seat {seat}", steps_of(lines))
-    if texts:
-        with contextlib.suppress(LabError):  # a source that isn't finished
-            named = read_source(texts[0], seat)
-            script = replace(script, labels=named.labels, notes=named.notes)
-            said = assemble(texts[0]).source_lines(texts[0])
+    with contextlib.suppress(LabError):  # a source that isn't finished
+        written, program = kept_program(store, seat)
+        if isinstance(program, CompiledProgram):
+            named, said = read_c(written.text, seat, program), program.source_lines(written.text)
+        else:
+            text = written.text or own.text
+            named, said = read_source(text, seat), assemble(text).source_lines(text)
+        starts, variables = named.starts, named.variables
+        script = replace(script, labels=named.labels, notes=named.notes, starts=starts, variables=variables)
     frames = make_frames(script, store.program, store.images, store.quantum)
     frames = [replace(frame, log=frame.log[-MOST_ENTRIES:]) for frame in frames]
     files: dict[str, str | bytes] = {f"{seat}.script": "".join(f"{line}\n" for line in lines)}
-    files |= {f"{seat}.html": lesson_page(script.title, frames, script.labels, said)}
-    files |= {f"{seat}.s": text for text in texts[-1:]}
+    files |= {f"{seat}.html": lesson_page(script.title, frames, script.labels, said, script.starts, script.variables)}
+    files |= {f"{seat}.{own.suffix}": own.text} if own.text else {}
     loaded = {words_of(line)[1] for line in lines if words_of(line)[:1] == ["load"] and words_of(line)[1:]}
     files |= {f"{name}.elf": path.read_bytes() for name, path in store.images.items() if name in loaded}
     data = io.BytesIO()

@@ -12,13 +12,15 @@ from typing import TypedDict
 
 from .. import LabError
 from ..assembler.commands import refusal_on_pages
-from ..assembler.source import read_source
+from ..assembler.source import SourceError
 from ..machine.session import SCRIPT_BYTES
 from ..page.pages import merge_patch
 from ..page.state import State
 from .beside import Beside
+from .builds import Builds
 from .checks import Checks, ExerciseTable, ExerciseView
 from .codes import TEACHER, WALL
+from .languages import LANGUAGES, SourceText
 from .names import NAMES, as_csv, checked_name
 from .requests import (
     BadRequest,
@@ -38,6 +40,7 @@ from .requests import (
     SetRights,
     ShowCodes,
     Source,
+    StepLine,
     TryCase,
     Write,
     read_request,
@@ -45,7 +48,7 @@ from .requests import (
 from .room import SEAT_BYTES, Room
 from .seats import Seat
 from .sheet import pictures
-from .sources import SeatSource, Version
+from .sources import SeatSource, Version, kept_program
 from .store import Notes, ScriptFile, Store
 
 Logs = dict[str, list[str]]
@@ -53,7 +56,11 @@ Answers = list[list[str]]
 Clock = Mapping[str, int]
 Mistake = TypedDict("Mistake", {"line": int, "column": int, "message": str})
 Share = TypedDict("Share", {"used": int, "of": int})
-SourceView = TypedDict("SourceView", {"text": str, "number": int, "versions": list[Version]}, total=False)
+SourceView = TypedDict(
+    "SourceView",
+    {"text": str, "language": int, "number": int, "stands": bool, "versions": list[Version]},
+    total=False,
+)
 
 
 class Message(TypedDict, total=False):
@@ -66,7 +73,9 @@ class Message(TypedDict, total=False):
     do: Answers
     look: Answers
     mistakes: list[Mistake]
+    warnings: list[Mistake]
     text: str
+    language: int
     error: str
     done: Answers
     words: list[str]
@@ -88,6 +97,8 @@ class StudentView(TypedDict):
     clock: bool
     own_slices: bool
     share: Share
+    languages: list[str]
+    no_c: str
     source: SourceView
     exercises: dict[str, ExerciseView]
     again: bool
@@ -140,6 +151,8 @@ class TeacherView(TypedDict):
     state: State
     wall: str
     address: str
+    languages: list[str]
+    no_c: str
     source: SourceView
     exercises: dict[str, ExerciseTable]
 
@@ -167,13 +180,15 @@ class Class:
         clock: bool = True,
         has_spares: bool = False,
         exercises: Iterable[pathlib.Path] = (),
+        builds: Builds | None = None,
     ) -> None:
         """Starts the machines, and brings each to where it was. Raises LabError where that can't be.
 
         progress: is told how far that is, in sentences; clock: whether that of a new machine is on; has_spares: whether
-        a second process follows each machine; exercises: their folders, or those that the class had if there is none
+        a second process follows each machine; exercises: their folders, or those that the class had if there is none;
+        builds: what compiles sources in C
         """
-        self.has_spares = has_spares
+        self.has_spares, self.builds = has_spares, builds or Builds()
         self.store, self.codes = store, store.codes
         self.names = store.read(NAMES, dict[str, str])  # by seat
         self.address = ""  # where students reach the class, with a slash at its end
@@ -190,15 +205,23 @@ class Class:
                 file = ScriptFile(store.folder, letter, len(notes.scripts))
                 self.rooms[letter] = room = Room(letter, store.session(patience), file, makers)
                 room.changed, room.watched, room.keep = self._tell, self._watched, partial(self._keep, letter)
+                room.compile = self.builds.compile
                 room.set_clock({"on": clock})
                 room.restore(notes, progress)
                 for seat in room.seats.users.values():
-                    self.sources[seat.name] = source = SeatSource(seat.name, store)
-                    if source.written:
-                        seat.take(source.written, read_source(source.written))
+                    self.sources[seat.name] = SeatSource(seat.name, store)
+                    self._restore_source(seat)
         except BaseException:
             self.end()
             raise
+
+    def _restore_source(self, seat: Seat) -> None:
+        """Tells a seat which source stands in its machine, as far as the folder has it."""
+        with contextlib.suppress(LabError):
+            source, program = kept_program(self.store, seat.name)
+            if source.text:
+                seat.take(source, program)
+                seat.list_program(program)
 
     def end(self) -> None:
         """Ends the machines, and leaves the folder."""
@@ -213,7 +236,7 @@ class Class:
             for seat in room.seats.users.values():
                 source = self.sources[seat.name]
                 source.written = seat.written
-                if source.keep():
+                if source.keep(seat.program):
                     self._tell([seat.name])
             if room.is_busy():
                 continue
@@ -345,9 +368,11 @@ class Class:
             "clock": room.clock.settings.on,
             "own_slices": room.own_slices,
             "share": {"used": seat.used, "of": SEAT_BYTES},
+            "languages": [language.name for language in LANGUAGES],
+            "no_c": self.builds.no_c,
             "source": self._source_view(seat),
             "exercises": self.checks.of(seat.name),
-            "again": bool(seat.written),
+            "again": seat.program is not None,
             "ready": not room.rebuilding,
             "trouble": room.trouble,
         }
@@ -370,13 +395,21 @@ class Class:
             "state": _shown(tab.shoulder) if tab.shoulder else {},
             "wall": self.wall.name if self.wall else "",
             "address": self.address,
+            "languages": [language.name for language in LANGUAGES],
+            "no_c": self.builds.no_c,
             "source": self._source_view(tab.shoulder) if tab.shoulder else {},
             "exercises": self.checks.table(),
         }
 
     def _source_view(self, seat: Seat) -> SourceView:
         source = self.sources[seat.name]
-        return {"text": source.text, "number": source.number, "versions": source.versions}
+        return {
+            "text": source.own.text,
+            "language": source.own.language,
+            "number": source.number,
+            "stands": source.own == seat.written,
+            "versions": source.versions,
+        }
 
     def _machine_view(self, room: Room) -> MachineView:
         return {
@@ -412,27 +445,30 @@ class Class:
             case Lines(machine):
                 seat = self._room(machine).seats.operator if tab.who == TEACHER else self.seat(tab.who)
                 return {"do": done, "look": await self.rooms[seat.name[0]].lines(seat, request, done)}
-            case Source(text):
-                return await self._write(self.seat(tab.who), text)
-            case Draft(text, number):
-                self.sources[tab.who].draft(text, number)
+            case Source(source):
+                return await self._write(self.seat(tab.who), source)
+            case StepLine():
+                await self.rooms[tab.who[0]].step_line(self.seat(tab.who))
+            case Draft(source, number):
+                self.sources[tab.who].draft(source, number)
                 self._tell([tab.who])
             case ReadVersion(number):
                 name = tab.who if tab.who != TEACHER else tab.shoulder.name if tab.shoulder else ""
-                return {"text": self.sources[self.seat(name).name].version(number)}
+                version = self.sources[self.seat(name).name].version(number)
+                return {"text": version.text, "language": version.language}
             case Check(name, text):
                 self.checks.begin(self.seat(tab.who).name, name, text)
             case TryCase(name, text):
                 seat, case = self.seat(tab.who), self.checks.failed(tab.who, name)
-                if not (told := await self._write(seat, text))["mistakes"]:
+                if not (told := await self._write(seat, SourceText(text)))["mistakes"]:
                     given = Lines("", case(int(seat.state["pc"], 16)), 0, [])
                     await self.rooms[seat.name[0]].lines(seat, given, [])
                 return told
             case ReadAnswer(seat_name, name, number):
                 return {"text": self.checks.text(self.seat(seat_name).name, name, number)}
-            case Give(name, text):
+            case Give(name, source):
                 for each in self._receivers(name):
-                    self.sources[each].give(text)
+                    self.sources[each].give(source)
                 self._note(name, "The teacher gave a source. Your own is kept, as a version.")
             case Write(name, text):
                 self._note(name, f"The teacher: {text}")
@@ -460,15 +496,15 @@ class Class:
                 return await self._shown_codes(name, with_pictures)
         return {}
 
-    async def _write(self, seat: Seat, text: str | None) -> Message:
+    async def _write(self, seat: Seat, source: SourceText | None) -> Message:
         """Begins a seat's machine anew with a source, or with the one that stands there; the mistakes that it has."""
-        if text is not None:
-            self.sources[seat.name].write(text)
-        mistakes = await self.rooms[seat.name[0]].source(seat, text)
+        if source:
+            self.sources[seat.name].write(source)
+        mistakes, warnings = await self.rooms[seat.name[0]].source(seat, source)
         if mistakes:
             seat.stand(f"{len(mistakes)} mistake{'s' * (len(mistakes) > 1)} in the source", True)
             self._tell([seat.name])
-        return {"mistakes": [{"line": it.line, "column": it.column, "message": it.message} for it in mistakes]}
+        return {"mistakes": _as_told(mistakes), "warnings": _as_told(warnings)}
 
     async def _shown_codes(self, name: str, with_pictures: bool) -> Message:
         """The codes of a seat, or of all for "". Raises BadRequest."""
@@ -526,10 +562,17 @@ class Class:
         return self.rooms[machine]
 
 
+def _as_told(mistakes: Iterable[SourceError]) -> list[Mistake]:
+    """Mistakes of a source, or warnings, as a tab is told."""
+    return [{"line": it.line, "column": it.column, "message": it.message} for it in mistakes]
+
+
 def _shown(seat: Seat) -> State:
     """A seat's state as pages show it."""
     shown = seat.shown.copy()
     shown["labels"], shown["lines"] = seat.labels, seat.lines
+    if seat.starts:
+        shown["starts"], shown["variables"] = seat.starts, seat.variables
     if seat.output:
         shown["outputs"] = seat.output
     return shown

@@ -1,18 +1,23 @@
 """A C source compiled to lines of the monitor, which bring its image in; they are carried out again without a compiler."""
 
+import bisect
 import json
+import math
 import pathlib
 import re
 from collections.abc import Iterable, Iterator, Mapping, Sequence
-from dataclasses import dataclass
-from itertools import groupby
+from dataclasses import dataclass, replace
+from itertools import groupby, islice
 from typing import Any
 
 from .. import LabError
 from ..assembler.source import Program, SourceError
 from ..guest.guest import STACK_END, STACK_POINTER, pokes
-from ..instructions.accesses import PAGE_BYTES
+from ..instructions.accesses import PAGE_BYTES, ROW_BYTES
 from .compiler import SOURCE, Compiler
+from .debug import MOST_BYTES, MOST_ROWS, MOST_SEGMENTS, MOST_SYMBOLS
+from .inside import MESSAGE_LETTERS, MOST_MESSAGES
+from .variables import Variable, read_variables
 from .wall import answer_of_own, answer_walled
 
 IMAGE_BYTES, IMAGE_PAGES = 1 << 16, 200  # of what isn't zeros; and of all pages
@@ -26,12 +31,33 @@ _STACK = (f"map {STACK_END - 0x4000:x} 4 rw", f"set x2 {STACK_POINTER:x}")
 class CompiledProgram(Program):
     """A program that a compiler made.
 
+    told: what it was read from
     rows: where instructions of a line of the source begin, with that line (0 for none) and the function that was inlined
-    there, in rising order; warnings: what the compiler warned of
+    there, in rising order; warnings: what the compiler warned of; variables: those of the source
     """
 
     rows: Sequence[tuple[int, int, str]] = ()
     warnings: Sequence[SourceError] = ()
+    variables: Sequence[Variable] = ()
+    told: bytes = b""
+
+    def text(self) -> range:
+        """The addresses of its instructions."""
+        return range(self.rows[0][0], self.rows[-1][0], 4) if self.rows else range(0)
+
+    def line_at(self, address: int) -> int:
+        """The number of the line that the instruction at an address is of; 0 for none."""
+        at = bisect.bisect_right(self.rows, address, key=lambda row: row[0])
+        return self.rows[at - 1][1] if at else 0
+
+    def line_starts(self) -> dict[str, int]:
+        """Where instructions of another line of the source begin: its number, 0 for none, by their address.
+
+        An instruction is of the last line that begins at its address or before it.
+        """
+        numbers = {address: number for address, number, _ in self.rows}  # of several at an address the last one
+        told = zip(numbers.items(), [None, *numbers.values()])
+        return {f"{address:x}": number for (address, number), before in told if number != before}
 
     def source_lines(self, text: str) -> dict[str, str]:
         """The number and the text of the line that instructions are of, by the address of their first word."""
@@ -54,30 +80,70 @@ def compile_c(text: str, compiler: Compiler, choice: int, headers: pathlib.Path 
 
     headers: the folder of a source of one's own; without it that happens behind a wall, as for a text of others
     """
+    words = words_for(text, compiler, choice)
+    return read_answer(answer_of_own(words, text, headers) if headers else answer_walled(words, text))
+
+
+def words_for(text: str, compiler: Compiler, choice: int) -> list[str]:
+    """The words of `inside` for a source. Raises LabError where that is too long."""
     if len(text.encode("utf-8", "replace")) > SOURCE_BYTES:
         raise LabError(f"a source in C has {SOURCE_BYTES:,} bytes at most")
-    words = [compiler.name, f"{choice}"]
-    answer = json.loads(answer_of_own(words, text, headers) if headers else answer_walled(words, text))
+    return [compiler.name, f"{choice}"]
+
+
+def read_answer(told: bytes, most: int = IMAGE_BYTES) -> CompiledProgram:
+    """The program of what was answered from behind the wall. Raises LabError where that is in bad form, or too much."""
+    try:
+        return _read_answer(told, most)
+    except (ValueError, TypeError, LookupError, AttributeError, RecursionError) as error:
+        raise LabError("what the compiler made can't be read") from error
+
+
+def _read_answer(told: bytes, most: int) -> CompiledProgram:
+    answer = json.loads(told)
     errors, warnings = list[SourceError](), list[SourceError]()
-    for line, column, is_error, message in answer["messages"]:
-        (errors if is_error else warnings).append(SourceError(line, column, message))
+    for line, column, is_error, message in answer["messages"][:MOST_MESSAGES]:
+        (errors if is_error else warnings).append(SourceError(int(line), int(column), str(message)[:MESSAGE_LETTERS]))
     if errors:
         return CompiledProgram([], {}, [], 0, errors, (), warnings)
-    return program_of(answer["image"], warnings)
+    program = program_of(answer["image"], warnings, most)
+    program.names()  # so that what is in bad form is told here
+    return replace(program, told=told)
 
 
-def program_of(image: Mapping[str, Any], warnings: Sequence[SourceError] = ()) -> CompiledProgram:
-    """The program of an image, as it is answered from behind the wall. Raises LabError where it is too large."""
+def program_of(
+    image: Mapping[str, Any], warnings: Sequence[SourceError] = (), most_bytes: int = IMAGE_BYTES
+) -> CompiledProgram:
+    """The program of an image, as it is answered from behind the wall. Raises LabError where it is too large.
+
+    most_bytes: of those that aren't zeros
+    """
     segments = [(address, rights, size, bytes.fromhex(data)) for address, rights, size, data in image["segments"]]
+    if len(segments) > MOST_SEGMENTS or not all(0 < size <= MOST_BYTES for _, _, size, _ in segments):
+        raise LabError(f"the image has more than {MOST_SEGMENTS} segments, or one of more than {MOST_BYTES:,} bytes")
     pages = _pages((address, rights, size) for address, rights, size, _ in segments)
     pieces = [(address + piece.start(), piece[0]) for address, _, _, data in segments for piece in _DATA.finditer(data)]
     size = sum(len(data) for _, data in pieces)
-    if len(pages) > IMAGE_PAGES or size > IMAGE_BYTES:
-        most = f"{IMAGE_PAGES} pages and {IMAGE_BYTES:,} bytes that aren't zeros"
+    if len(pages) > IMAGE_PAGES or size > most_bytes:
+        most = f"{IMAGE_PAGES} pages and {most_bytes:,} bytes that aren't zeros"
         raise LabError(f"the program has {len(pages)} pages and {size:,} bytes; {most} are the most")
     lines = [*_maps(pages), *(line for address, data in pieces for line in pokes(address, data)), *_STACK]
-    rows = [(address, _own_line(line), inlined) for address, line, inlined in image["rows"]]
-    return CompiledProgram(lines, dict(image["symbols"]), [], image["entry"], [], rows, warnings)
+    rows = [(int(address), _own_line(line), str(inlined)) for address, line, inlined in image["rows"][:MOST_ROWS]]
+    labels = dict(islice(dict(image["symbols"]).items(), MOST_SYMBOLS))
+    variables = read_variables(image["variables"])
+    return CompiledProgram(lines, labels, [], int(image["entry"]), [], rows, warnings, variables)
+
+
+def memory_rows(variables: Sequence[Sequence[Any]]) -> list[int]:
+    """The rows of memory with numbers of variables that lie at an address, in the variables' order."""
+    rows = dict[int, None]()
+    for _, _, element, counts, _, _, locations in variables:
+        for first in (
+            int(offset, 16) for _, _, kind, register, offset in locations if kind == "memory" and not register
+        ):
+            size = int(element[1:]) // 8 * math.prod(counts) if element else 0
+            rows |= dict.fromkeys(range(first // ROW_BYTES * ROW_BYTES, first + min(size, PAGE_BYTES), ROW_BYTES))
+    return list(rows)
 
 
 def _own_line(line: str) -> int:

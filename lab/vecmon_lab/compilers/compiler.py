@@ -57,6 +57,12 @@ class Compiler:
         """Whether it has the intrinsics of vectors."""
         return self.is_clang or _version(self.name) >= LEAST_GCC
 
+    def title(self, choice: int) -> str:
+        """The compiler with its options, as pages name it; and what it lacks."""
+        return (
+            f"{self.name} {CHOICES[choice].name}{'' if self.has_vectors else ' (scalar C alone: it has no intrinsics)'}"
+        )
+
     def words(self, choice: int) -> list[str]:
         """The command that compiles the source in its folder. Raises LabError where there is no such choice."""
         if not 0 <= choice < len(CHOICES):
@@ -67,6 +73,14 @@ class Compiler:
         else:
             own = [*_GCC, *CHOICES[choice].gcc]
         return [self.name, *_ALL, *_TOLD, *own, f"-I{RUNTIME}", "-o", IMAGE, SOURCE, str(RUNTIME / "runtime.c")]
+
+
+def choice_of(name: str) -> int:
+    """The number of options by their name. Raises LabError where there are none of it."""
+    names = [choice.name for choice in CHOICES]
+    if name not in names:
+        raise LabError(f"{name} aren't options; there are {', '.join(names)}")
+    return names.index(name)
 
 
 def find_compilers() -> list[Compiler]:

@@ -1,4 +1,4 @@
-"""What an image has, as JSON may: its segments, its symbols, and the source's line of each instruction."""
+"""What an image has, as JSON may: its segments, its symbols, the source's line of each instruction, and its variables."""
 
 import pathlib
 from collections.abc import Iterator
@@ -6,14 +6,14 @@ from itertools import islice
 from typing import TYPE_CHECKING, NamedTuple, TypedDict
 
 from ..guest.symbols import Symbols, source_rows
+from .entries import NAME_LETTERS, name_of, ranges_of
+from .variables import Variable, variables_of
 
 if TYPE_CHECKING:
-    from elftools.dwarf.compileunit import CompileUnit
-    from elftools.dwarf.die import DIE
     from elftools.dwarf.dwarfinfo import DWARFInfo
     from elftools.elf.elffile import ELFFile
 
-MOST_SEGMENTS, MOST_BYTES, MOST_SYMBOLS, MOST_ROWS, NAME_LETTERS = 64, 1 << 20, 2000, 20_000, 100
+MOST_SEGMENTS, MOST_BYTES, MOST_SYMBOLS, MOST_ROWS = 64, 1 << 20, 2000, 20_000
 _RIGHTS = {"r": 4, "w": 2, "x": 1}  # by the bits of p_flags
 
 
@@ -42,6 +42,7 @@ class Image(TypedDict):
     segments: list[Segment]
     symbols: dict[str, int]
     rows: list[Row]
+    variables: list[Variable]
 
 
 def image_of(path: pathlib.Path) -> Image:
@@ -56,6 +57,7 @@ def image_of(path: pathlib.Path) -> Image:
             "segments": list(_segments(elf)),
             "symbols": {name[:NAME_LETTERS]: address for name, address in symbols[:MOST_SYMBOLS]},
             "rows": _rows(elf),
+            "variables": variables_of(elf),
         }
 
 
@@ -94,29 +96,5 @@ def _inlined(debug: "DWARFInfo") -> Iterator[tuple[int, int, int, str]]:
             entry, depth = waiting.pop()
             waiting += [(child, depth + 1) for child in entry.iter_children()]
             if entry.tag == "DW_TAG_inlined_subroutine":
-                name = _name(entry)
-                yield from ((depth, low, high, name) for low, high in _ranges(debug, unit, entry))
-
-
-def _name(entry: "DIE") -> str:
-    """The name of a function, by where it was declared."""
-    while "DW_AT_name" not in entry.attributes and "DW_AT_abstract_origin" in entry.attributes:
-        entry = entry.get_DIE_from_attribute("DW_AT_abstract_origin")
-    name = entry.attributes.get("DW_AT_name")
-    return str(name.value, "utf-8", "replace")[:NAME_LETTERS] if name else ""
-
-
-def _ranges(debug: "DWARFInfo", unit: "CompileUnit", entry: "DIE") -> Iterator[tuple[int, int]]:
-    """The addresses of an entry, each from the first to the one behind the last."""
-    attributes = entry.attributes
-    if "DW_AT_ranges" in attributes:
-        first = unit.get_top_DIE().attributes.get("DW_AT_low_pc")
-        base = first.value if first else 0
-        for each in debug.range_lists().get_range_list_at_offset(attributes["DW_AT_ranges"].value):
-            if hasattr(each, "base_address"):
-                base = each.base_address
-            else:
-                yield base + each.begin_offset, base + each.end_offset
-    elif "DW_AT_low_pc" in attributes and "DW_AT_high_pc" in attributes:
-        low, high = attributes["DW_AT_low_pc"].value, attributes["DW_AT_high_pc"]
-        yield low, high.value if high.form == "DW_FORM_addr" else low + high.value
+                name = name_of(entry)
+                yield from ((depth, low, high, name) for low, high in ranges_of(debug, unit, entry))

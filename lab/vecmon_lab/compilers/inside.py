@@ -4,6 +4,7 @@
 """
 
 import json
+import os
 import pathlib
 import re
 import resource
@@ -69,6 +70,7 @@ def compile_source(compiler: Compiler, choice: int) -> list[Message]:
 
 def main() -> None:
     """Compiles, and answers."""
+    os.nice(10)  # whoever steps a machine comes first
     for limit, most in LIMITS.items():
         resource.setrlimit(limit, (most, most))
     compiler, choice = Compiler(sys.argv[1]), int(sys.argv[2])

@@ -3,12 +3,14 @@
 A source can have a compiler read files (`#include`, `.incbin`), take all memory, and put out what its readers fall over.
 """
 
+import asyncio
+import contextlib
 import os
 import pathlib
 import shutil
-import subprocess
 import sys
 import tempfile
+from asyncio.subprocess import DEVNULL, PIPE
 from collections.abc import Mapping, Sequence
 
 from .. import LabError
@@ -17,6 +19,7 @@ LAB = pathlib.Path(__file__).resolve().parents[2]
 SECONDS, ANSWER_BYTES, FOLDER_BYTES = 20, 4 << 20, 64 << 20  # by the clock; of what is answered; of all files there
 PLACE = "/lab"  # where the lab's own files are within
 MODULE = ("-m", "vecmon_lab.compilers.inside")
+TOO_MUCH = "the compiler was stopped, since it, or what it made, took too much"
 
 _EMPTY = ("--unshare-all", "--die-with-parent", "--new-session", "--clearenv")
 _SYSTEM = ("--ro-bind", "/usr", "/usr", "--symlink", "usr/lib", "/lib", "--symlink", "usr/lib64", "/lib64")
@@ -34,28 +37,52 @@ def check_wall() -> None:
 
 def answer_walled(words: Sequence[str], text: str) -> bytes:
     """What words of `inside` answer to a text of others. Raises LabError."""
+    return asyncio.run(answer_beside(words, text))
+
+
+async def answer_beside(words: Sequence[str], text: str) -> bytes:
+    """As `answer_walled`, beside all else that an event loop does."""
     own = ("--ro-bind", f"{LAB / 'vecmon_lab'}", f"{PLACE}/vecmon_lab")
     command = ["bwrap", *_EMPTY, *_SYSTEM, *own, *_FOLDER, *_VARIABLES, "--", "/usr/bin/python3", "-B", *MODULE, *words]
-    return _answer(command, text, pathlib.Path("/"), {"PATH": os.environ.get("PATH", os.defpath)})
+    return await _answer(command, text, pathlib.Path("/"), {"PATH": os.environ.get("PATH", os.defpath)})
 
 
 def answer_of_own(words: Sequence[str], text: str, headers: pathlib.Path) -> bytes:
     """What words of `inside` answer to a text of one's own, which includes headers of a folder. Raises LabError."""
     variables = os.environ | {"PYTHONPATH": f"{LAB}", "CPATH": f"{headers.absolute()}", "LC_ALL": "C.UTF-8"}
     with tempfile.TemporaryDirectory() as folder:
-        return _answer([sys.executable, "-PB", *MODULE, *words], text, pathlib.Path(folder), variables)
+        return asyncio.run(_answer([sys.executable, "-PB", *MODULE, *words], text, pathlib.Path(folder), variables))
 
 
-def _answer(command: Sequence[str], text: str, folder: pathlib.Path, variables: Mapping[str, str]) -> bytes:
+async def _answer(command: Sequence[str], text: str, folder: pathlib.Path, variables: Mapping[str, str]) -> bytes:
     """What a command answers a text. Raises LabError where it takes too long, fails, or answers too much."""
-    pipe, nothing = subprocess.PIPE, subprocess.DEVNULL
-    with subprocess.Popen(command, stdin=pipe, stdout=pipe, stderr=nothing, cwd=folder, env=variables) as child:
-        try:
-            answer, _ = child.communicate(text.encode("utf-8", "replace"), timeout=SECONDS)
-        except subprocess.TimeoutExpired as error:
-            raise LabError(f"the compiler was stopped, since it took more than {SECONDS} s") from error
-        finally:
+    child = await asyncio.create_subprocess_exec(
+        *command, stdin=PIPE, stdout=PIPE, stderr=DEVNULL, cwd=folder, env=variables
+    )
+    try:
+        async with asyncio.timeout(SECONDS):
+            answer = await _told(child, text.encode("utf-8", "replace"))
+            status = await child.wait()
+    except asyncio.TimeoutError as error:
+        raise LabError(f"the compiler was stopped, since it took more than {SECONDS} s") from error
+    finally:
+        with contextlib.suppress(ProcessLookupError):
             child.kill()
-    if child.returncode or len(answer) > ANSWER_BYTES:
-        raise LabError("the compiler was stopped, since it, or what it made, took too much")
+        await child.wait()
+    if status:
+        raise LabError(TOO_MUCH)
     return answer
+
+
+async def _told(child: asyncio.subprocess.Process, text: bytes) -> bytes:
+    """What a process puts out for a text on its input. Raises LabError where that is too much."""
+    assert child.stdin and child.stdout
+    with contextlib.suppress(ConnectionError):  # whoever doesn't read it all
+        child.stdin.write(text)
+        await child.stdin.drain()
+    child.stdin.close()
+    try:
+        await child.stdout.readexactly(ANSWER_BYTES + 1)
+    except asyncio.IncompleteReadError as end:
+        return end.partial
+    raise LabError(TOO_MUCH)

@@ -7,12 +7,15 @@ from dataclasses import dataclass
 
 from .. import LabError
 from ..assembler.commands import log_entries
+from ..compilers.compiled import memory_rows
 from ..guest.guest import Guest
 from ..machine.answers import Answer, Position, Refused, read, told
 from ..machine.lines import DIGITS, BadLine, is_look, words_of
 from ..machine.session import Session
 from ..page.state import ABSENT, RowChoice, State, Watch, look_at, with_rows
 from .script import Script, Step, refused_statement
+
+MOST_NAMED = 40  # rows of memory that variables of a source in C have for certain
 
 
 @dataclass(frozen=True)
@@ -125,10 +128,12 @@ class _Maker:
     def finish(self) -> list[Frame]:
         """The frames, with those rows of memory alone that tell most."""
         for user, watch in self._watches.items():
+            if self._script.variables:  # and not what else the image has
+                watch.named = set(memory_rows(self._script.variables)[:MOST_NAMED])
             choice = RowChoice()
             for frame in self._frames:
                 choice.add(frame.states.get(user, ABSENT))
-            rows = choice.rows(watch)
+            rows = choice.rows(watch, 2 if self._script.variables else 1)
             for frame in self._frames:
                 if user in frame.states:
                     frame.states[user] = with_rows(frame.states[user], rows)

@@ -3,14 +3,17 @@
 import argparse
 import pathlib
 import sys
+from collections.abc import Mapping
 
+from .. import LabError
 from ..arguments import check_output
 from ..compilers.compiled import compile_c
-from ..compilers.compiler import CHOICES, find_compiler
+from ..compilers.compiler import CHOICES, choice_of, find_compiler
 from ..machine.program import find_program, images_of
 from .frames import make_frames
+from .listings import Listing, listing_of, listings_page
 from .page import lesson_page
-from .script import Script, read_c, read_script, read_source
+from .script import check_compiled, read_c, read_script, read_source
 
 SOURCE_SUFFIXES, C_SUFFIX = (".s", ".S"), ".c"
 
@@ -26,6 +29,8 @@ def add_arguments(parser: argparse.ArgumentParser) -> None:
     parser.add_argument("--cc", metavar="NAME", help="the compiler of a source in C, as clang-19")
     names = [choice.name for choice in CHOICES]
     parser.add_argument("--options", choices=names, default=names[0], help="those of the compiler; else %(default)s")
+    against = "listings side by side in place of a lesson: by --options, and by these, of another compiler"
+    parser.add_argument("--against", metavar="[NAME:]OPTIONS", help=against)
     parser.add_argument("--quantum", metavar="N", type=int, help="the ticks of a slice, 1 to 1000; else 100")
 
 
@@ -33,9 +38,7 @@ def run(arguments: argparse.Namespace) -> int:
     """Writes the page. Raises LabError and OSError for bad input."""
     path, images = arguments.script, images_of(arguments.images)
     check_output(arguments.output, path, *images.values())
-    script = _read(arguments)
-    frames = make_frames(script, find_program(), images, arguments.quantum)
-    page = lesson_page(arguments.title or script.title or path.name, frames, script.labels, script.said)
+    page = _listings(arguments) if arguments.against else _lesson(arguments, images)
     if arguments.output is None:
         sys.stdout.buffer.write(page.encode("utf-8"))
     else:
@@ -43,11 +46,30 @@ def run(arguments: argparse.Namespace) -> int:
     return 0
 
 
-def _read(arguments: argparse.Namespace) -> Script:
-    """The lesson of the file. Raises LabError for a source with mistakes, or where there is no compiler for it."""
+def _lesson(arguments: argparse.Namespace, images: Mapping[str, pathlib.Path]) -> str:
+    """The page of a lesson. Raises LabError for a source with mistakes, or where there is no compiler for it."""
     path: pathlib.Path = arguments.script
     text = path.read_text("utf-8", "replace")
     if path.suffix == C_SUFFIX:
-        choice = [each.name for each in CHOICES].index(arguments.options)
-        return read_c(text, path.name, compile_c(text, find_compiler(arguments.cc), choice, path.parent))
-    return read_source(text, path.name) if path.suffix in SOURCE_SUFFIXES else read_script(text)
+        choice = choice_of(arguments.options)
+        script = read_c(text, path.name, compile_c(text, find_compiler(arguments.cc), choice, path.parent))
+    else:
+        script = read_source(text, path.name) if path.suffix in SOURCE_SUFFIXES else read_script(text)
+    frames = make_frames(script, find_program(), images, arguments.quantum)
+    title = arguments.title or script.title or path.name
+    return lesson_page(title, frames, script.labels, script.said, script.starts, script.variables)
+
+
+def _listings(arguments: argparse.Namespace) -> str:
+    """The page of two listings side by side. Raises LabError as `_lesson` does."""
+    path: pathlib.Path = arguments.script
+    text, machine, listings = path.read_text("utf-8", "replace"), find_program(), list[Listing]()
+    if path.suffix != C_SUFFIX:
+        raise LabError(f"--against is for a source in C, and {path} is none")
+    name, _, options = arguments.against.rpartition(":")
+    for cc, each in ((arguments.cc, arguments.options), (name or arguments.cc, options)):
+        compiler, choice = find_compiler(cc), choice_of(each)
+        program = compile_c(text, compiler, choice, path.parent)
+        check_compiled(program, f"{compiler.title(choice)}: {path.name}")
+        listings.append(listing_of(program, compiler.title(choice), machine))
+    return listings_page(arguments.title or path.name, text, listings)

@@ -3,6 +3,7 @@
 import re
 from collections.abc import Sequence
 from dataclasses import dataclass, field, replace
+from typing import Any
 
 from .. import LabError
 from ..assembler.commands import refusal_in_words
@@ -32,7 +33,8 @@ class Script:
     """A lesson's steps.
 
     Of a source also: its name, its labels by address, its instructions by the line that writes them, and its
-    sentences by the address of the instruction behind them; of one in C what its lines say, by address.
+    sentences by the address of the instruction behind them; of one in C what its lines say, by address, where the
+    instructions of its lines begin, and its variables.
     """
 
     title: str
@@ -42,6 +44,8 @@ class Script:
     statements: dict[str, Statement] = field(default_factory=dict)
     notes: dict[int, str] = field(default_factory=dict)
     said: dict[str, str] = field(default_factory=dict)
+    starts: dict[str, int] = field(default_factory=dict)
+    variables: Sequence[Sequence[Any]] = ()
 
 
 def read_script(text: str) -> Script:
@@ -83,11 +87,17 @@ def read_c(text: str, name: str, program: CompiledProgram) -> Script:
 
     Its lines that begin with `//` are as those of an assembler source that begin with `#`.
     """
-    for error in program.mistakes:
-        raise _mistake(name, error) if error.line else LabError(f"{name}: {error.message}")
+    check_compiled(program, name)
     lines = [line.strip() for line in text.split("\n")]
     lines = [f"#{line[2:]}" if line.startswith("//") else line.replace("#", " #", 1) for line in lines]
-    return replace(_script_of(program, lines, name), said=program.source_lines(text))
+    script, said = _script_of(program, lines, name), program.source_lines(text)
+    return replace(script, said=said, starts=program.line_starts(), variables=program.variables)
+
+
+def check_compiled(program: CompiledProgram, name: str) -> None:
+    """Raises LabError with the first mistake of a source in C that has any."""
+    for error in program.mistakes:
+        raise _mistake(name, error) if error.line else LabError(f"{name}: {error.message}")
 
 
 def _script_of(program: Program, lines: list[str], name: str) -> Script:

@@ -1,7 +1,9 @@
-"""Makes the ten lessons of the tour (docs/TOUR.md), and a page with links to them."""
+"""Makes the eleven lessons of the tour (docs/TOUR.md), and a page with links to them."""
 
 import argparse
+import json
 import pathlib
+from itertools import islice
 
 from ..machine.program import find_program
 from ..page.pages import lone_page
@@ -11,6 +13,7 @@ from .page import lesson_page
 from .script import Script, Step, add_line
 
 TOURS = pathlib.Path(__file__).with_name("tours")
+KERNEL = "kernel_in_c"  # which comes compiled, with what is told of its source beside it
 
 
 def add_arguments(parser: argparse.ArgumentParser) -> None:
@@ -27,7 +30,9 @@ def run(arguments: argparse.Namespace) -> int:
     print(f"{folder / 'index.html'}: A tour")
     for name, script in scripts.items():
         path = folder / f"{name}.html"
-        path.write_text(lesson_page(script.title, make_frames(script, program)), "utf-8")
+        frames = make_frames(script, program)
+        page = lesson_page(script.title, frames, script.labels, script.said, script.starts, script.variables)
+        path.write_text(page, "utf-8")
         print(f"{path}: {script.title}")
     return 0
 
@@ -38,11 +43,17 @@ def tours() -> dict[str, Script]:
 
 
 def _script(name: str, title: str) -> Script:
-    """A tour's script. Its sentences stand in a file of their own, each behind how many lines it is said of."""
-    lines = iter((TOURS / name).read_text("ascii").splitlines())
+    """A tour's script. Its sentences stand in a file of their own, each behind how many lines it is said of.
+
+    In a kernel, which comes compiled, those are one frame.
+    """
+    lines, told = iter((TOURS / name).read_text("ascii").splitlines()), TOURS / f"{name}.json"
     steps: list[Step] = []
     for sentence in (TOURS / f"{name}.steps").read_text("utf-8").splitlines():
         number, _, note = sentence.partition(" ")
+        if told.exists():
+            steps.append(Step([*islice(lines, int(number))], note))
+            continue
         for place in range(int(number)):
             add_line(steps, next(lines), "" if place else note)
-    return Script(title, steps)
+    return Script(title, steps, **json.loads(told.read_text("ascii")) if told.exists() else {})

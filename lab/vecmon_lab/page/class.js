@@ -2,6 +2,7 @@
 
 import { Connection } from "./connection.js";
 import { ask, byId, put, say } from "./elements.js";
+import { isLink } from "./links.js";
 import { patched } from "./patches.js";
 import { Student } from "./student.js";
 import { Teacher } from "./teacher.js";
@@ -14,6 +15,14 @@ function sitDown(code) {
   if (![code, null].includes(sessionStorage.getItem("code"))) sessionStorage.clear(); // it was somebody else's
   if (code) sessionStorage.setItem("code", code);
   history.replaceState(null, "", location.pathname);
+}
+
+/** Takes up what stands behind the address's #: a source, which waits for a seat, or a code. */
+function takeHash() {
+  const { hash } = location;
+  if (!isLink(hash)) return sitDown(hash.slice(1));
+  sessionStorage.setItem("linked", hash);
+  return history.replaceState(null, "", location.pathname);
 }
 
 function askForCode(words) {
@@ -43,7 +52,7 @@ class ClassTab {
   }
 }
 
-window.addEventListener("hashchange", () => (sitDown(location.hash.slice(1)), location.reload()));
+window.addEventListener("hashchange", () => (takeHash(), location.reload()));
 byId("forget").addEventListener("click", () => ask(LEAVING, "Leave", () => (sitDown(""), location.reload())));
 document.addEventListener("submit", (event) => event.preventDefault());
 byId("join").addEventListener("submit", () => {
@@ -51,6 +60,6 @@ byId("join").addEventListener("submit", () => {
   if (byId("called").value) sessionStorage.setItem("name", byId("called").value);
   location.reload();
 });
-if (location.hash) sitDown(location.hash.slice(1));
+if (location.hash) takeHash();
 if (sessionStorage.getItem("code")) new ClassTab(sessionStorage.getItem("code"));
 else askForCode("");

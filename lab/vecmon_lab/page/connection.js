@@ -4,7 +4,9 @@ import { offerFile } from "./elements.js";
 
 const [FIRST_PAUSE, LONGEST_PAUSE] = [500, 15000]; // ms
 const LONGEST_SILENCE = 60000; // until a request without an answer tells that the connection is broken
-const NAMES = { lines: "slices", source: "the source", again: "the source", name: "the name", shoulder: "", wall: "", draft: "", check: "the check" };
+const QUIET = { shoulder: "", wall: "", draft: "" };
+const SOURCE = { source: "the source", again: "the source", "step-line": "a step of a line" };
+const NAMES = { lines: "slices", name: "the name", check: "the check", ...SOURCE, ...QUIET };
 const ENDINGS = { 4403: "This code isn't valid, or not any more.", 4429: "This seat is open in too many tabs." };
 
 /** What a request is called where it is lost; "" where whoever asked asks again. */

@@ -1,25 +1,27 @@
 // A field for a source: the browser's own, with line numbers and colours around it, indents, names to choose, and undo.
 
 import { make } from "./elements.js";
-import { choicesAt, piecesOf } from "./syntax.js";
+import { choicesAt, piecesOf, piecesOfC } from "./syntax.js";
 
-const INDENT = 8; // columns
+const [INDENT, INDENT_OF_C] = [8, 4]; // columns
 const TOGETHER = 1000; // ms: what is typed without a longer pause is undone at once
 const [MOST_STATES, MOST_LETTERS] = [300, 4e6]; // that undo goes back to, and of their texts together
 
 const columnOf = (text) => [...text].reduce((at, letter) => at + (letter === "\t" ? INDENT - (at % INDENT) : 1), 0);
 
 export class Editor {
-  /** changed: is called when the text has become another one. */
-  constructor(field, changed = () => {}) {
+  /** changed: is called when the text has become another one; language: a list of languages, of which one is chosen. */
+  constructor(field, changed = () => {}, language = make("select", "")) {
     const [numbers, colours, choices] = [make("pre", "numbers"), make("pre", "colours"), make("ul", "choices")];
-    Object.assign(this, { field, changed, numbers, colours, choices, past: [], future: [], kind: "", time: 0 });
+    Object.assign(this, { field, changed, language, numbers, colours, choices, past: [], future: [], kind: "", time: 0 });
+    Object.assign(this, { told: new Map(), here: 0, stops: [] }); // messages by line; where the machine stands, and breakpoints
     numbers.ariaHidden = colours.ariaHidden = "true";
     const box = make("div", "lines", numbers);
     field.replaceWith(box);
     box.append(make("div", "text", colours, field, choices));
-    this.state = { text: field.value, start: 0, end: 0 };
+    this.state = { text: field.value, language: 0, start: 0, end: 0 };
     this.offer();
+    language.addEventListener("change", () => (this.remember(), this.took()));
     const heard = {
       input: (event) => this.typed(event),
       beforeinput: (event) => /^history/.test(event.inputType) && this.turn(event, event.inputType === "historyUndo"),
@@ -34,9 +36,22 @@ export class Editor {
     new ResizeObserver(() => this.paint()).observe(field);
   }
 
-  /** Puts in another text, which can be undone. */
-  put(text) {
-    if (text !== this.field.value) this.edit(0, this.field.value.length, text, 0);
+  /** The source: its text and the number of its language. */
+  get source() {
+    return { text: this.field.value, language: Math.max(0, this.language.selectedIndex) };
+  }
+
+  get isC() {
+    return this.source.language > 0;
+  }
+
+  /** Puts in another source, which can be undone. */
+  put({ text, language }) {
+    if (text === this.field.value && language === this.source.language) return;
+    this.remember();
+    Object.assign(this.field, { value: text });
+    this.language.selectedIndex = language;
+    this.took(0);
   }
 
   /** Replaces a part of the text, and selects some of it. */
@@ -44,6 +59,12 @@ export class Editor {
     this.remember();
     this.field.setRangeText(text, start, end);
     this.took(from, to);
+  }
+
+  /** Shows messages at their lines, until the text is another one. */
+  tell(messages) {
+    this.told = new Map(messages.map(({ line, message }) => [line, message]).reverse());
+    this.paint();
   }
 
   /** Keeps the text as it was, to undo what comes. */
@@ -56,10 +77,12 @@ export class Editor {
   }
 
   /** Takes up the text as it has become, and selects some of it, unless it was typed. */
-  took(from, to) {
+  took(from, to = from) {
     if (from !== undefined) this.field.setSelectionRange(from, to);
     if (from !== undefined) this.kind = "";
-    this.state = { text: this.field.value, start: this.field.selectionStart, end: this.field.selectionEnd };
+    this.state = { ...this.source, start: this.field.selectionStart, end: this.field.selectionEnd };
+    this.told.clear();
+    [this.here, this.stops] = [0, []];
     this.offer();
     this.paint();
     this.changed();
@@ -80,8 +103,9 @@ export class Editor {
     const [from, to] = isBack ? [this.past, this.future] : [this.future, this.past];
     if (!from.length) return;
     to.push(this.state);
-    const { text, start, end } = from.pop();
+    const { text, language, start, end } = from.pop();
     this.field.value = text;
+    this.language.selectedIndex = language;
     this.took(start, end);
   }
 
@@ -122,8 +146,13 @@ export class Editor {
   breakLine() {
     const { selectionStart: start, selectionEnd: end } = this.field;
     const line = this.field.value.slice(this.lineStart(start), start);
-    const indent = /^\s*/.exec(line)[0] || (/^[\w.$]+:/.test(line) ? " ".repeat(INDENT) : "");
-    this.edit(start, end, `\n${indent}`);
+    const more = (this.isC ? /\{\s*$/ : /^[\w.$]+:/).test(line) ? " ".repeat(this.columns) : "";
+    const indent = /^\s*/.exec(line)[0];
+    this.edit(start, end, `\n${this.isC ? indent + more : indent || more}`);
+  }
+
+  get columns() {
+    return this.isC ? INDENT_OF_C : INDENT;
   }
 
   /** Goes to the next column that is indented to, or moves the lines that are selected. */
@@ -132,17 +161,18 @@ export class Editor {
     const first = this.lineStart(start);
     const isSelected = this.field.value.slice(start, end).includes("\n");
     const column = columnOf(this.field.value.slice(first, start));
-    if (!isBack && !isSelected) return this.edit(start, end, " ".repeat(INDENT - (column % INDENT)));
+    if (!isBack && !isSelected) return this.edit(start, end, " ".repeat(this.columns - (column % this.columns)));
     const last = `${this.field.value}\n`.indexOf("\n", isSelected ? end - 1 : end);
     const lines = this.field.value.slice(first, last).split("\n");
-    const moved = lines.map((line) => (isBack ? line.replace(/^(\t| {1,8})/, "") : line && " ".repeat(INDENT) + line)).join("\n");
+    const [spaces, back] = [" ".repeat(this.columns), new RegExp(`^(\t| {1,${this.columns}})`)];
+    const moved = lines.map((line) => (isBack ? line.replace(back, "") : line && spaces + line)).join("\n");
     const caret = Math.max(first, start + moved.length - (last - first));
     return this.edit(first, last, moved, ...(isSelected ? [first, first + moved.length] : [caret]));
   }
 
   /** Offers names that go on from the word before the caret, if it has so many letters. */
   suggest(least) {
-    this.offer(choicesAt(this.field.value, this.field.selectionEnd, least));
+    if (!this.isC) this.offer(choicesAt(this.field.value, this.field.selectionEnd, least));
   }
 
   /** Shows names below the word, or above it in the lower half. */
@@ -178,14 +208,43 @@ export class Editor {
     const { field, numbers, colours } = this;
     if (!field.clientHeight) return;
     const lines = this.field.value.split("\n");
-    if (lines.length !== this.count) numbers.textContent = lines.map((_, place) => place + 1).join("\n");
-    this.count = lines.length;
+    const marksOf = (line) => (this.stops.includes(line) ? "●" : "") + (line === this.here ? "▶" : "");
+    const marked = `${lines.length} ${this.here} ${this.stops}`;
+    if (marked !== this.marked) numbers.textContent = lines.map((_, place) => `${marksOf(place + 1)}${place + 1}`).join("\n");
+    this.marked = marked;
     const height = parseFloat(getComputedStyle(field).lineHeight);
+    this.bringIntoSight(height);
     const first = Math.max(0, Math.floor(field.scrollTop / height) - 2);
     const shown = lines.slice(first, first + Math.ceil(field.clientHeight / height) + 5);
-    const pieces = shown.flatMap((line) => [...piecesOf(line).map(([kind, text]) => (kind ? make("span", kind, text) : text)), "\n"]);
-    colours.replaceChildren("\n".repeat(first), ...pieces);
+    const ofC = this.isC && piecesOfC(lines.slice(0, first).join("\n"));
+    const messageAt = (line) => (this.told.has(line) ? [["message", `  ◂ ${this.told.get(line)}`]] : []);
+    const hereOf = (line) => ([kind, text]) => [line === this.here ? `${kind} here` : kind, text];
+    const piecesAt = (text, line) => [...(ofC ? ofC(text) : piecesOf(text)).map(hereOf(line)), ...messageAt(line), ["", "\n"]];
+    const pieces = shown.flatMap((text, at) => piecesAt(text, first + at + 1));
+    colours.replaceChildren("\n".repeat(first), ...pieces.map(([kind, text]) => (kind ? make("span", kind, text) : text)));
     colours.style.transform = `translate(${-field.scrollLeft}px, ${-field.scrollTop}px)`;
     numbers.scrollTop = field.scrollTop;
+  }
+
+  /** Marks the line where the machine stands, which comes into sight, and those of breakpoints. */
+  mark(here, stops) {
+    Object.assign(this, { here, stops });
+    this.paint();
+  }
+
+  /** Has the line where the machine stands in sight, once. */
+  bringIntoSight(height) {
+    const { field, here } = this;
+    const [first, last] = [field.scrollTop / height, (field.scrollTop + field.clientHeight) / height - 1];
+    if (here && here !== this.seen && (here - 1 < first || here > last)) field.scrollTop = (here - 4) * height;
+    this.seen = here;
+  }
+
+  /** The line whose number an event is at. */
+  lineAt({ clientY }) {
+    const { field, numbers } = this;
+    const { lineHeight, paddingTop } = getComputedStyle(field);
+    const top = numbers.getBoundingClientRect().top + parseFloat(paddingTop) - field.scrollTop;
+    return Math.floor((clientY - top) / parseFloat(lineHeight)) + 1;
   }
 }

@@ -53,10 +53,10 @@ export class Exercises {
   /** Goes to another exercise: each has a source of its own, which is the one to begin with at first. */
   choose(name) {
     const place = (of) => `source ${this.student.seat} ${of}`;
-    sessionStorage.setItem(place(this.name), this.editor.field.value);
+    sessionStorage.setItem(place(this.name), JSON.stringify(this.editor.source));
     this.name = name;
     sessionStorage.setItem("exercise", name);
-    this.editor.put(sessionStorage.getItem(place(name)) ?? this.all[name].start);
+    this.editor.put(JSON.parse(sessionStorage.getItem(place(name))) ?? { text: this.all[name].start, language: 0 });
     this.reading.scrollTop = 0;
     this.paint();
   }
@@ -87,11 +87,14 @@ export class Exercises {
   tell({ mistakes }) {
     this.awaited = "";
     this.reading.scrollTop = this.state.parentElement.offsetTop;
-    if (mistakes) this.student.showMistakes(mistakes);
+    if (!mistakes) return;
+    this.student.showMistakes(mistakes);
+    this.student.showSide("source");
   }
 
   /** Sends the source that stands in the editor. */
   async checkSource() {
+    if (this.editor.isC) return this.student.refuse("An exercise is answered in assembler, and this source is in C.");
     this.check.disabled = true; // so that a click more checks nothing
     await this.student.request({ ask: "check", exercise: this.name, text: this.editor.field.value });
     this.check.disabled = this.all[this.name].checking;
@@ -104,7 +107,7 @@ export class Exercises {
 
   /** Puts the source to begin with into the editor, and opens it. */
   takeStart() {
-    this.editor.put(this.all[this.name].start);
+    this.editor.put({ text: this.all[this.name].start, language: 0 });
     this.student.showSide("source");
   }
 }

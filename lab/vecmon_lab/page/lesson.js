@@ -2,15 +2,16 @@
 
 import { byId, make, prose, put } from "./elements.js";
 import { patched } from "./patches.js";
+import { lineBegins } from "./source_lines.js";
 import { STOP_LINE, entryParts, logEntry } from "./transcript.js";
 import { paintState, showStep, showStop, usedIn } from "./view.js";
 
 const ADDRESS_DELAY = 300; // ms: a browser takes only so many new addresses in a time
 
 class Lesson {
-  constructor({ frames, labels, lines }) {
-    Object.assign(this, { frames, labels, lines, states: [], user: "" }); // user: chosen to be shown; else it is the line's
-    document.body.classList.toggle("sourced", Object.keys(lines).length > 0);
+  constructor({ frames, ...source }) {
+    Object.assign(this, { frames, source, states: [], user: "" }); // user: chosen to be shown; else it is the line's
+    document.body.classList.toggle("sourced", Object.keys(source.lines).length > 0);
     byId("machine").addEventListener("change", () => this.show(this.place));
     let states = {};
     for (const frame of frames) this.states.push((states = patched(states, frame.states)));
@@ -20,6 +21,7 @@ class Lesson {
     this.used = Object.fromEntries(this.users.map((user) => [user, usedBy(user)]));
     byId("sentence").hidden = !frames.some((frame) => frame.note);
     this.listen();
+    this.listenToLines();
     this.show(Number(location.hash.slice(1) || 1) - 1);
   }
 
@@ -38,10 +40,35 @@ class Lesson {
     }
   }
 
+  /** The ways from line to line of a source in C, which has as many frames as instructions. */
+  listenToLines() {
+    const { starts, lines } = this.source;
+    this.begins = lineBegins(starts, this.states.map((states) => states[1]?.pc));
+    byId("line-ways").hidden = !this.begins.length;
+    byId("program-title").after(byId("line-ways"));
+    const texts = new Map(Object.values(lines).map((text) => [parseInt(text), text]));
+    const numbers = [...new Set(this.begins.map(({ line }) => line))].sort((one, other) => one - other);
+    byId("line").append(...numbers.map((line) => Object.assign(make("option", "", texts.get(line)), { value: line })));
+    for (const [id, step] of [["line-back", -1], ["line-next", 1]]) byId(id).addEventListener("click", () => this.stepLine(step));
+    byId("line-go").addEventListener("click", () => {
+      const own = this.begins.filter(({ line }) => line === Number(byId("line").value));
+      this.show((own.find(({ place }) => place > this.place) ?? own[0]).place);
+    });
+  }
+
+  /** Shows the frame where the next line begins, or this one or the one before. */
+  stepLine(step) {
+    const isBeyond = ({ place }) => (step > 0 ? place > this.place : place < this.place);
+    const begin = step > 0 ? this.begins.find(isBeyond) : this.begins.findLast(isBeyond);
+    if (begin) this.show(begin.place);
+  }
+
   pressed(event) {
     if (event.ctrlKey || event.altKey || event.metaKey || event.target.matches("select, input")) return;
     const box = event.target.closest(".scroll, #output");
     if (box && box.scrollWidth > box.clientWidth) return; // there the keys move the box
+    const line = { ArrowDown: 1, ArrowUp: -1 }[event.key];
+    if (line && this.begins.length && !box) return void (event.preventDefault(), this.stepLine(line));
     const step = { ArrowRight: 1, ArrowLeft: -1 }[event.key];
     const end = event.shiftKey ? undefined : { Home: 0, End: this.frames.length - 1 }[event.key];
     if (!step && end === undefined) return;
@@ -61,7 +88,7 @@ class Lesson {
     this.showPlace(user, states);
     this.showStage(frame, state, user, states);
     this.showLog(frame.log.length);
-    paintState({ ...state, labels: this.labels, lines: this.lines }, this.states[this.place - 1]?.[user], this.used[user]);
+    paintState({ ...state, ...this.source }, this.states[this.place - 1]?.[user], this.used[user]);
     byId("log").scrollTop = byId("log").scrollHeight;
     clearTimeout(this.address);
     this.address = setTimeout(() => history.replaceState(null, "", `#${this.place + 1}`), ADDRESS_DELAY);

@@ -2,6 +2,7 @@
 
 import { byId, header, make, unseen } from "./elements.js";
 import { RowTable, placesOf } from "./rows.js";
+import { startOf } from "./source_lines.js";
 import { saysMore, target, withNames } from "./words.js";
 
 const NAMES = ["marks", "address", "word", "instruction", "source"];
@@ -16,7 +17,7 @@ export function paintListing(state, before) {
     [code, labels] = [state.code, state.labels];
     places = placesOf(Object.keys(code), 4, labels);
   }
-  if (state.code[state.instruction]) seen = state.instruction;
+  if (state.code[state.instruction] && !Object.keys(state.starts ?? {}).length) seen = state.instruction;
   else if (state.pc !== pc) seen = state.pc;
   pc = state.pc;
   rows.show(places, (address) => listingRow(state, before, address, abi), seen);
@@ -25,7 +26,8 @@ export function paintListing(state, before) {
 function listingRow(state, before, address, abi) {
   const line = state.code[address];
   const marks = make("td", "marks");
-  const kinds = [address === state.pc ? "next" : "", address === state.instruction ? "told" : ""];
+  const isOfLine = address === startOf(state.starts ?? {}, state.pc);
+  const kinds = [address === state.pc ? "next" : "", address === state.instruction ? "told" : "", isOfLine ? "here" : ""];
   if (state.breaks.includes(address)) marks.append(make("span", "breakpoint", "●"), unseen("breakpoint"));
   if (kinds[0]) marks.append(make("span", "arrow", "▶"), unseen("next instruction"));
   if (kinds[1]) marks.append(unseen(state.faulted ? "stopped here" : "carried out"));

@@ -1,7 +1,9 @@
-// Memory in rows of 16 bytes, with a gap where rows are left out; and what the program has put out.
+// Memory in rows of 16 bytes, with a gap where rows are left out, and with numbers where variables have them; and what the
+// program has put out.
 
 import { byId, header, make } from "./elements.js";
 import { RowTable, placesOf } from "./rows.js";
+import { knownVariables, numberOf, numberText } from "./variables.js";
 
 const NAMES = ["address", "bytes 0 to 3", "4 to 7", "8 to 11", "12 to 15", "text"];
 let [told, shown, pause] = ["", "", 0]; // of the output, in hexadecimal; a timer, until which nothing else is shown
@@ -9,8 +11,12 @@ const rows = new RowTable(byId("bytes"), "Memory", NAMES, "No memory but the pro
 
 /** A change comes into sight, the first one where there are more. */
 export function paintMemory(state, before) {
-  const places = placesOf(Object.keys(state.memory), 16, state.labels);
-  const row = (address) => memoryRow(address, state.memory[address], before.memory[address]);
+  const placed = knownVariables(state).filter(({ at }) => at !== null);
+  const names = placed.filter(({ counts, isLocal }) => counts.length || !isLocal);
+  const labels = names.map(({ at, declaration }) => [at.toString(16), [declaration]]);
+  const places = placesOf(Object.keys(state.memory), 16, { ...state.labels, ...Object.fromEntries(labels) });
+  const arrays = placed.filter(({ element }) => element && element !== "c8");
+  const row = (address) => memoryRow(address, state.memory[address], before.memory[address], arrays);
   const isOther = ({ address }) => ![undefined, state.memory[address]].includes(before.memory[address]);
   rows.show(places, row, places.find(isOther)?.address);
 }
@@ -31,18 +37,32 @@ function showOutput() {
   if (scrollTop + clientHeight > scrollHeight - 18) byId("output").scrollTop = byId("output").scrollHeight;
 }
 
-function memoryRow(address, digits, digitsBefore) {
-  const bytes = digits.match(/../g);
-  const spans = bytes.map((byte, place) => {
-    const changed = digitsBefore !== undefined && digitsBefore.slice(2 * place, 2 * place + 2) !== byte;
-    const span = make("span", changed ? "changed" : byte === "00" ? "zero" : "", byte);
-    span.dataset.edit = `poke ${(BigInt("0x" + address) + BigInt(place)).toString(16)}`;
-    return span;
-  });
-  const separated = (some) => some.flatMap((span, place) => (place ? [" ", span] : [span]));
-  const groups = [0, 4, 8, 12].map((first) => make("td", "", ...separated(spans.slice(first, first + 4))));
-  const text = bytes.map((byte) => (/[2-6].|7[0-9a-e]/.test(byte) ? String.fromCharCode(parseInt(byte, 16)) : "·"));
-  const row = make("tr", "", header("row", address), ...groups, make("td", "text", text.join("")));
+/** The kind of the number that stands at a place, and its bytes; one byte where no variable has a number there. */
+function elementAt(place, arrays) {
+  const length = ({ element, counts }) => (element.slice(1) / 8) * counts.reduce((product, count) => product * count, 1);
+  const array = arrays.find((each) => each.at <= place && place < each.at + BigInt(length(each)));
+  const size = array ? array.element.slice(1) / 8 : 1;
+  return array && place % BigInt(size) === 0n ? [array.element, size] : ["", 1];
+}
+
+function memoryRow(address, digits, digitsBefore, arrays) {
+  const cells = [0, 4, 8, 12].map(() => make("td", ""));
+  for (let place = 0, size; place < 16; place += size) {
+    const at = BigInt("0x" + address) + BigInt(place);
+    let element;
+    [element, size] = elementAt(at, arrays);
+    const own = digits.slice(2 * place, 2 * (place + size));
+    const changed = digitsBefore !== undefined && digitsBefore.slice(2 * place, 2 * (place + size)) !== own;
+    const kind = changed ? "changed" : /[^0]/.test(own) ? "" : "zero";
+    const span = make("span", element ? `number ${kind}` : kind, element ? numberText(element, numberOf(own)) : own);
+    span.dataset.edit = `poke ${at.toString(16)}`;
+    if (element) span.title = own.replace(/..(?=.)/g, "$& ");
+    const cell = cells[place >> 2];
+    cell.append(...(cell.firstChild ? [" "] : []), span);
+    cell.colSpan = Math.max(1, size / 4);
+  }
+  const text = digits.match(/../g).map((byte) => (/[2-6].|7[0-9a-e]/.test(byte) ? String.fromCharCode(parseInt(byte, 16)) : "·"));
+  const row = make("tr", "", header("row", address), ...cells.filter((cell) => cell.firstChild), make("td", "text", text.join("")));
   row.dataset.address = address;
   return row;
 }

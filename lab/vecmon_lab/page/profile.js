@@ -1,26 +1,18 @@
 // A profile: bars beside the disassembly, and vector lengths.
 
+import { bar, elementsBar, legend } from "./bars.js";
 import { byId, make } from "./elements.js";
 
 const ORDERS = { "by-address": () => 0, "by-ticks": (one, other) => other.ticks - one.ticks };
-const KINDS = ["active", "masked", "tail"];
-
-/** A cell with a bar of parts, which are shares of the whole cell, each of a class. */
-function bar(kind, parts) {
-  const piece = ([name, share]) => Object.assign(make("span", name), { style: `flex: 0 0 ${100 * share}%` });
-  return make("td", "bar", make("div", kind, ...parts.map(piece)));
-}
-
 const number = (value, kind = "number") => make("td", kind, value.toLocaleString("en"));
 
 /** A row of the table of instructions. */
 function instructionRow(row, most) {
-  const groups = row.active + row.masked + row.tail;
-  const elements = KINDS.map((kind) => [kind, row[kind] / groups]);
+  const elements = [row.active, row.masked, row.tail];
   return make("tr", "",
     make("th", "", row.address), make("td", "text", row.text), make("td", "", row.source), number(row.times),
     number(row.ticks), bar("", [["ticks", row.ticks / most]]),
-    ...(groups ? [...KINDS.map((kind) => number(row[kind])), number(row.work), bar("elements", elements)] : []));
+    ...(row.work ? [...elements.map((each) => number(each)), number(row.work), elementsBar(elements)] : []));
 }
 
 /** Shows the instructions in an order; by address each symbol has a line of its own. */
@@ -48,6 +40,7 @@ const NAMES = ["address", "place", "source", "text", "times", "ticks", "active",
 const rows = data.rows.map((cells) => Object.fromEntries(cells.map((cell, place) => [NAMES[place], cell])));
 const most = Math.max(...data.lengths.map(([, , times]) => times));
 
+document.querySelector("header").append(legend());
 byId("summary").append(...data.summary.map((text) => make("p", "", text)));
 byId("lengths").append(...data.lengths.map(([kind, vl, times]) =>
   make("tr", "", make("td", "", kind), number(`vl=${vl}`), number(times), bar("", [["ticks", times / most]]))));

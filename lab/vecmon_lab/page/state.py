@@ -3,7 +3,7 @@
 import re
 from collections import Counter
 from collections.abc import Iterable, Iterator, Mapping, Sequence
-from typing import TypedDict
+from typing import Any, TypedDict
 
 from ..guest.guest import Guest
 from ..instructions.accesses import LINE_BYTES, PAGE_BYTES, ROW_BYTES
@@ -36,6 +36,7 @@ class State(TypedDict, total=False):
     output: the bytes that answers to `out` have shown
     outputs: in a class in place of it, the last 64 KB of them, in blocks by number
     labels, lines: in a class, names and lines by address of the source that was assembled last
+    starts, variables: in a class, of a source in C (`compilers/compiled.py`)
     """
 
     run: str
@@ -59,6 +60,8 @@ class State(TypedDict, total=False):
     outputs: Mapping[str, str]
     labels: dict[str, list[str]]
     lines: dict[str, str]
+    starts: Mapping[str, int]
+    variables: Sequence[Sequence[Any]]
 
 
 ABSENT: State = {"run": "absent"}
@@ -79,6 +82,7 @@ class Watch:
         self.pages: set[int] = set()  # addresses of pages
         self.named: set[int] = set()  # addresses of rows that lines named
         self.breaks: set[int] = set()  # where the program stops, of which a look at one that runs doesn't tell
+        self.is_compiled = False  # whether a compiler made what stands in memory
         self.trace: Sequence[int] = []  # as it was when it was looked at last
 
     def follow(self, line: str) -> None:
@@ -87,6 +91,7 @@ class Watch:
             case ["enter"] | ["leave"] | ["load", _]:
                 for places in (self.code, self.pages, self.named, self.breaks):
                     places.clear()
+                self.is_compiled = False
             case ["map", address, pages, _]:
                 self._add_pages(int(address, 16), int(pages) * PAGE_BYTES, MAPPED_PAGES)
             case ["poke", address, digits]:
@@ -99,6 +104,11 @@ class Watch:
                 self.breaks.add(int(address, 16))
             case ["unbreak", address]:
                 self.breaks.discard(int(address, 16))
+
+    def take_compiled(self, text: range, rows: Iterable[int]) -> None:
+        """Takes up where instructions of a compiled program stand, and the rows of its variables in place of all pokes."""
+        self.code.update(text[: max(0, MOST_WORDS - len(self.code))])
+        self.named, self.is_compiled = set(rows), True
 
     def _name(self, address: int, length: int) -> None:
         self.named.update(range(address // ROW_BYTES * ROW_BYTES, address + length, ROW_BYTES))
@@ -194,10 +204,12 @@ class RowChoice:
             self._weights[row] = max(self._weights[row], 2 if has_changed else int(digits.strip("0") != ""))
         self._last = state["memory"]
 
-    def rows(self, watch: Watch) -> set[str]:
-        """The addresses of the rows that tell most."""
+    def rows(self, watch: Watch, least: int = 1) -> set[str]:
+        """The addresses of the rows that tell most; 2 is the least for those that have changed alone."""
         listing = {f"{address // ROW_BYTES * ROW_BYTES:x}" for address in watch.code}
-        weights = Counter({row: weight for row, weight in self._weights.items() if weight and row not in listing})
+        weights = Counter(
+            {row: weight for row, weight in self._weights.items() if weight >= least and row not in listing}
+        )
         weights.update({f"{row:x}": 3 for row in watch.named if f"{row:x}" in self._weights})
         return {row for row, _ in weights.most_common(MOST_ROWS)}
 

@@ -5,10 +5,13 @@ import { Desk } from "./desk.js";
 import { Editor } from "./editor.js";
 import { ask, button, byId, make, pressNamed, put, say } from "./elements.js";
 import { Exercises } from "./exercises.js";
+import { offerLanguages } from "./languages.js";
 import { LineField, requestsOf, unfitLines } from "./lines.js";
+import { linkOf, sourceOf } from "./links.js";
 import { entryText, showReference, tellName } from "./reference.js";
 import { chooseSides } from "./sides.js";
 import { MOST_LETTERS, Source } from "./source.js";
+import { firstOf } from "./source_lines.js";
 
 const MOST_WAITING = 5; // requests: keys that repeat faster are left out
 const NEW_MACHINE = ["map 10000 1 rwx", "map 20000 1 rw", "setpc 10000"];
@@ -40,7 +43,8 @@ export class Student {
     this.side = "listing"; // what is shown since one entered, or left
     byId("log").after(byId("command"), byId("hint"));
     this.showSide = chooseSides(["listing", "source", "reference"]);
-    this.source = new Source(new Editor(byId("source"), () => this.typed()), connection);
+    this.source = new Source(new Editor(byId("source"), () => this.typed(), byId("language")), connection);
+    this.source.editor.numbers.addEventListener("click", (event) => this.breakAt(this.source.editor.lineAt(event)));
     this.exercises = new Exercises(this, this.source.editor);
     byId("foot").hidden = false;
     this.listen();
@@ -62,11 +66,13 @@ export class Student {
     new LineField("line", (lines) => this.enter(lines));
     new Cursor((place) => this.edit(place));
     on("change", "submit", () => this.change());
+    on("step-line", "click", () => this.request({ ask: "step-line" }));
     on("slice", "click", () => this.request({ ask: "lines", slices: 100 }));
     on("again", "click", () => this.assemble({ ask: "again" }));
     on("new", "click", () => this.beginAnew("New machine", NEW_MACHINE));
     on("images", "change", () => this.beginAnew("Load", [`load ${byId("images").value}`]));
     on("assemble", "click", () => this.write());
+    on("link", "click", () => this.link());
     on("name", "change", () => this.request({ ask: "name", name: byId("name").value }));
     on("home", "click", () => this.takeHome());
     on("show-reference", "click", () => this.refer(""));
@@ -101,7 +107,8 @@ export class Student {
     const stop = run === "stopped" && view.state.stop && view.stop.split(" ")[0];
     put(byId("run"), run === "absent" ? "not entered" : stop || run);
     byId("run").className = `pill ${run}`;
-    for (const id of ["one", "many", "number", "go"]) byId(id).disabled = run !== "stopped" || !view.ready;
+    byId("step-line").hidden = !view.state.starts;
+    for (const id of ["one", "many", "step-line", "number", "go"]) byId(id).disabled = run !== "stopped" || !view.ready;
     byId("halt").disabled = byId("slice").disabled = run !== "running" || !view.ready;
     byId("slice").hidden = !view.own_slices;
     byId("again").disabled = !view.again || !view.ready;
@@ -115,6 +122,7 @@ export class Student {
     this.desk.show(view.seat, view.state, logs[view.seat] ?? [], isAnew);
     const side = run === "absent" ? "source" : "listing";
     if (side !== this.side) this.showSide((this.side = side));
+    offerLanguages(byId("language"), view);
     this.showSource(view);
     this.exercises.show(view.exercises, view.source);
     byId("log").ariaLive = "polite";
@@ -171,6 +179,13 @@ export class Student {
     return byId("value").select();
   }
 
+  /** Sets or removes a breakpoint at a line of the source in C that stands in the machine, if it has instructions. */
+  breakAt(line) {
+    const { starts, breaks } = this.desk.state;
+    const address = this.source.stands && starts && firstOf(starts, line);
+    if (address) this.send([`${breaks.includes(address) ? "un" : ""}break ${address}`]);
+  }
+
   /** Sends the line that writes a value, which is decimal where decimal ones are shown. */
   change() {
     const text = byId("value").value.trim();
@@ -195,40 +210,63 @@ export class Student {
   }
 
   /** Shows the seat's source; one that the teacher has just given is opened. */
-  showSource({ seat, source }) {
+  showSource({ seat, state, source, share }) {
     const isOther = this.source.told && this.source.told.versions !== source.versions;
     const isGiven = isOther && source.versions.at(-1)?.why === "given";
     this.source.show(seat, source);
+    this.source.mark(state);
+    this.source.showLanguage(share);
+    this.takeLinked();
     if (!isGiven || source.text !== byId("source").value) return;
     this.showSide("source");
     byId("source").scrollTop = 0;
   }
 
+  /** Puts the source into the page's address. */
+  link() {
+    history.replaceState(null, "", linkOf(this.source.editor.source, byId("language")));
+    this.refuse("The address of this page has the source now. Whoever opens it at a seat has the source in the editor.");
+  }
+
+  /** Puts a source into the editor that a link has brought; it is compiled only where that is asked for. */
+  takeLinked() {
+    const linked = sessionStorage.getItem("linked") && sourceOf(sessionStorage.getItem("linked"), byId("language"));
+    sessionStorage.removeItem("linked");
+    if (!linked) return;
+    this.source.editor.put(linked);
+    this.showSide("source");
+    this.refuse("A link has brought this source; undo takes it back.");
+  }
+
   /** Begins a machine with the source, as the request says that is sent with it. */
   async write(request = { ask: "source" }) {
-    const text = byId("source").value;
-    const [size, most] = [text.length, MOST_LETTERS].map((each) => each.toLocaleString("en"));
+    const { source } = this.source.editor;
+    const [size, most] = [source.text.length, MOST_LETTERS].map((each) => each.toLocaleString("en"));
     const much = `This source has ${size} characters, and ${most} are taken at most: nothing was sent.`;
-    if (text.length > MOST_LETTERS) return this.refuse(much);
-    return this.source.bring(text, () => this.assemble({ ...request, text }));
+    if (source.text.length > MOST_LETTERS) return this.refuse(much);
+    byId("assemble").disabled = true; // one at a time
+    await this.source.bring(source, () => this.assemble({ ...request, ...source }));
+    byId("assemble").disabled = false;
   }
 
   async assemble(request) {
-    const { mistakes } = (await this.request(request)) ?? {};
-    if (mistakes) this.showSide("listing");
-    this.showMistakes(mistakes ?? []);
+    const { mistakes, warnings = [] } = (await this.request(request)) ?? {};
+    const also = warnings.map((each) => ({ ...each, message: `warning: ${each.message}` }));
+    this.showMistakes([...(mistakes ?? []), ...also]);
+    return mistakes && this.showSide(mistakes.length ? "source" : "listing");
   }
 
-  /** Lists mistakes of the source above it, until it becomes another one. */
-  showMistakes(mistakes) {
-    byId("mistakes").replaceChildren(...mistakes.map((mistake) => this.mistake(mistake)));
-    if (mistakes.length) this.showSide("source");
+  /** Lists what is told of the source below it, and shows it at its lines, until it becomes another one. */
+  showMistakes(told) {
+    byId("mistakes").replaceChildren(...told.map((mistake) => this.mistake(mistake)));
+    this.source.editor.tell(told);
   }
 
   /** A mistake of the source, which leads to its place. */
   mistake({ line, column, message }) {
-    const words = `${line}:${column}: ${message}`;
+    const words = line ? `${line}:${column}: ${message}` : message; // a linker knows no line
     const goThere = () => {
+      if (!line) return;
       const lines = byId("source").value.split("\n");
       const start = lines.slice(0, line - 1).reduce((sum, each) => sum + each.length + 1, 0);
       byId("source").focus();

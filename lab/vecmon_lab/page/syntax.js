@@ -6,6 +6,13 @@ import { ABI_NAMES } from "./words.js";
 const MOST_CHOICES = 10;
 const LONGEST = 1000; // characters of a line that are told apart
 const TOKEN = /(#.*|\/\/.*)|("(?:[^"\\]|\\.)*"?)|([A-Za-z_.$][\w.$]*)|(\d\w*)|[^\w.$"#/]+|./g;
+const WORDS_OF_C =
+  "auto|break|case|char|const|continue|default|do|else|enum|extern|for|goto|if|inline|int|long|register|restrict|return|short|signed|" +
+  "sizeof|static|struct|switch|typedef|union|unsigned|void|volatile|while";
+const TEXTS_OF_C = String.raw`(\/\/.*|\/\*.*?(?:\*\/|$))|("(?:[^"\\]|\\.)*"?|'(?:[^'\\]|\\.)*'?|<[\w./]+\.h>)`;
+const NAMES_OF_C = String.raw`(#\s*\w+|\b(?:${WORDS_OF_C})\b)|(__riscv_\w+)|(\w+_t\b)|(\d[\w.]*)|\w+|[^\w"'#/<]+|.`;
+const TOKEN_OF_C = new RegExp(`${TEXTS_OF_C}|${NAMES_OF_C}`, "g");
+const KINDS_OF_C = ["comment", "string", "directive", "instruction", "register", "number"];
 const LABEL = /^\s*([A-Za-z_.$][\w.$]*):|^\s*\.(?:equ|set)\s+([A-Za-z_.$][\w.$]*)/gm;
 const REGISTERS = new Set([...ABI_NAMES, "fp", ...Array.from({ length: 32 }, (_, at) => [`x${at}`, `v${at}`]).flat()]);
 const FORMS = new Map(["Instructions", "Pseudo-instructions", "Directives"].flatMap((section) => SECTIONS[section])); // by name
@@ -25,6 +32,19 @@ export function piecesOf(line) {
   };
   const pieces = [...line.slice(0, LONGEST).matchAll(TOKEN)].map((match) => [kindOf(match), match[0]]);
   return [...pieces, ["", line.slice(LONGEST)]];
+}
+
+/** What gives the pieces of one line of C after the other, behind a text; in that a comment may have begun. */
+export function piecesOfC(before) {
+  let isComment = before.lastIndexOf("/*") > before.lastIndexOf("*/");
+  return (line) => {
+    const all = isComment ? `/*${line}` : line;
+    const pieces = [...all.slice(0, LONGEST).matchAll(TOKEN_OF_C)].map(([text, ...kinds]) => [KINDS_OF_C[kinds.findIndex(Boolean)] ?? "", text]);
+    if (isComment) pieces[0] = ["comment", pieces[0][1].slice(2)];
+    const last = isComment && pieces.length === 1 ? `/*${pieces[0][1]}` : pieces.at(-1)?.[1] ?? "";
+    isComment = last.startsWith("/*") && (!last.endsWith("*/") || last.length < 4);
+    return [...pieces, ["", all.slice(LONGEST)]];
+  };
 }
 
 /** The word before a place, and names that go on from it, with their forms: of instructions and directives, or of labels. */

@@ -4,6 +4,7 @@ import { CodeField, showSheet } from "./codes.js";
 import { Desk } from "./desk.js";
 import { Editor } from "./editor.js";
 import { byId, make, pressNamed, put, say } from "./elements.js";
+import { offerLanguages } from "./languages.js";
 import { LineField, requestsOf, unfitLines } from "./lines.js";
 import { Scores } from "./scores.js";
 import { SeatTable } from "./seats.js";
@@ -60,18 +61,25 @@ export class Teacher {
     byId("teacher").hidden = false;
     new LineField("operator-line", (lines) => this.operate(lines));
     chooseSides(["listing", "source"]);
-    byId("source").readOnly = true;
-    this.source = new Source(new Editor(byId("source")), connection);
+    byId("source").readOnly = byId("language").disabled = true;
+    this.source = new Source(new Editor(byId("source"), undefined, byId("language")), connection);
     byId("given").value = sessionStorage.getItem("given") ?? ""; // as before a reload
-    const keep = () => sessionStorage.setItem("given", byId("given").value.slice(0, MOST_LETTERS));
-    const given = new Editor(byId("given"), keep);
-    byId("take").onclick = () => given.put(byId("source").value);
+    const given = new Editor(byId("given"), () => this.keep(given.source), byId("given-language"));
+    byId("take").onclick = () => given.put(this.source.editor.source);
     document.addEventListener("keydown", (event) => pressNamed(event));
-    byId("give").onclick = () => this.request({ ask: "give", seat: byId("receiver").value, text: byId("given").value });
+    byId("give").onclick = () => this.request({ ask: "give", seat: byId("receiver").value, ...given.source });
+  }
+
+  /** Keeps the source to give, until the tab is closed. */
+  keep({ text, language }) {
+    sessionStorage.setItem("given", text.slice(0, MOST_LETTERS));
+    sessionStorage.setItem("given-language", language);
   }
 
   show(view, logs, isAnew) {
     this.view = view;
+    for (const id of ["language", "given-language"]) offerLanguages(byId(id), view);
+    put(byId("no-c"), view.no_c && `This class takes no C: ${view.no_c}`);
     const letters = Object.keys(view.machines);
     for (const letter of letters.filter((each) => !this.machines[each])) {
       this.machines[letter] = new ClassMachine(letter, this);
@@ -102,6 +110,7 @@ export class Teacher {
     if (!this.seat) return;
     this.desk.show(this.seat, view.state, logs[this.seat] ?? [], isOther);
     this.source.show(this.seat, view.source);
+    this.source.mark(view.state);
   }
 
   /** The field of a code, which asks for it where it is wanted. */

@@ -5,6 +5,7 @@ import { byId, make, prose, put } from "./elements.js";
 import { paintListing } from "./listing.js";
 import { paintMemory, paintOutput } from "./memory.js";
 import { paintRegisters } from "./scalars.js";
+import { paintVariables } from "./variables.js";
 import { paintElements, paintFacts } from "./vectors.js";
 import { saysMore, withNames } from "./words.js";
 
@@ -41,6 +42,7 @@ export function paintState(state, previous, used) {
   paintListing(state, before);
   paintFacts(state, before);
   paintElements(state, before, used);
+  paintVariables(state, before);
   paintRegisters(state, before);
   paintMemory(state, before);
 }

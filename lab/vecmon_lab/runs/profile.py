@@ -43,7 +43,7 @@ def run(arguments: argparse.Namespace) -> int:
         counts, stop = count(guest, arguments.ticks)
         end = f"status {stop.number}" if stop and stop.kind == "exit" else guest.tell(stop, symbols.place(guest.pc))
     rows = [*_rows(counts, symbols)]
-    summary = [*_summary(counts, end)]
+    summary = [*summary_of(counts, end)]
     print("\n".join([*table_lines([HEAD, *rows], 4), "", *_histogram(counts), "", *summary]))
     if page:
         with page.with_suffix(".csv").open("w", newline="", encoding="utf-8") as file:
@@ -67,7 +67,7 @@ def _share(elements: Sequence[int]) -> str:
     return f"{100 * elements[0] / sum(elements):.0f} %"
 
 
-def _summary(counts: Counts, end: str) -> Iterator[str]:
+def summary_of(counts: Counts, end: str) -> Iterator[str]:
     """What was carried out in all, and how it ended."""
     places = counts.places.values()
     elements = [sum(numbers) for numbers in zip(*(place.elements for place in places))]

@@ -1,0 +1,75 @@
+"""`explore`: one's own page for a source, served to this computer alone."""
+
+import asyncio
+import pathlib
+import re
+import shutil
+import signal
+import subprocess
+
+import aiohttp
+import pytest
+
+from support.class_pages import lab_command
+from support.class_tabs import SECONDS, Tab
+from support.commands import Lab
+from support.left_out import NO_WALL, leave_out
+from support.places import EXAMPLES, TOP
+from vecmon_lab.classes.languages import LANGUAGES
+from vecmon_lab.compilers.compiler import Compiler
+
+GREY = EXAMPLES / "kernels" / "grey.c"
+
+
+@pytest.mark.asyncio
+@pytest.mark.by_command("explore")
+async def test_the_command(clang: Compiler, tmp_path: pathlib.Path) -> None:
+    """The file is the source of its one seat; another site gets nothing; and nothing is left of it."""
+    if shutil.which("bwrap") is None:
+        leave_out(NO_WALL)
+    words = [*lab_command(True), "explore", str(GREY), "--options", "O1", "--cc", clang.name]
+    environment = {"PATH": "/usr/bin:/bin", "TMPDIR": str(tmp_path)}
+    child = await asyncio.create_subprocess_exec(
+        *words, cwd=TOP, stdout=subprocess.PIPE, env=_with_program(environment)
+    )
+    assert child.stdout
+    try:
+        line = (await asyncio.wait_for(child.stdout.readline(), SECONDS)).decode()
+        found = re.fullmatch(r"page: (http://127\.0\.0\.1:\d+/)#([a-z2-9]{14})\n", line)
+        assert found, line
+        async with aiohttp.ClientSession() as session:
+            for headers in ({"Host": "else.example"}, {"Origin": "http://else.example"}):
+                async with session.get(found[1], headers=headers) as answer:
+                    assert answer.status == 403
+            socket = await session.ws_connect(f"{found[1]}socket", max_msg_size=0)
+            await socket.send_json({"code": found[2]})
+            tab = Tab(socket)
+            assert (await tab.receive())["who"] == "A1"
+            source = tab.view["source"]
+            assert (source["text"], LANGUAGES[source["language"]].name) == (GREY.read_text("ascii"), "C, O1")
+            assert tab.view["state"]["run"] == "absent" and tab.view["clock"]
+            told = await tab.ask("source", text=source["text"], language=source["language"])
+            assert told["mistakes"] == [] and tab.view["state"]["run"] == "stopped"
+            await tab.do("go")
+            await tab.until(lambda view: view["stop"].startswith("exit 0"))
+        child.send_signal(signal.SIGTERM)
+        assert await asyncio.wait_for(child.wait(), SECONDS) == 0 and not list(tmp_path.iterdir())
+    finally:
+        if child.returncode is None:
+            child.kill()
+
+
+def _with_program(environment: dict[str, str]) -> dict[str, str]:
+    """An environment in which the lab and the program are found."""
+    from vecmon_lab.machine.program import find_program
+
+    return environment | {"VECMON": str(find_program()), "PYTHONPATH": str(TOP / "lab")}
+
+
+def test_what_it_refuses(lab: Lab, clang: Compiler, tmp_path: pathlib.Path, monkeypatch: pytest.MonkeyPatch) -> None:
+    status, _, told = lab("explore", tmp_path / "kernel.txt")
+    assert status == 2 and told.endswith("kernel.txt: the name of a source ends in .c or .s\n")
+    assert lab("explore", GREY, "--cc", "@file")[0] == 2
+    monkeypatch.setattr("os.geteuid", lambda: 0)
+    status, _, told = lab("explore", GREY)
+    assert status == 2 and ("as root" in told or "bubblewrap" in told) and told.count("\n") == 1

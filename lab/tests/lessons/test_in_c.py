@@ -1,0 +1,125 @@
+"""Sources in C: their listings side by side, the rows of memory that lessons show of them, and the tour's kernel."""
+
+import json
+import pathlib
+import re
+import struct
+from typing import Any
+
+import pytest
+
+from support.commands import Lab
+from support.places import EXAMPLES
+from support.tour_kernel import COMPILER, made
+from vecmon_lab import LabError
+from vecmon_lab.compilers.compiled import compile_c, memory_rows
+from vecmon_lab.compilers.compiler import CHOICES, Compiler, choice_of
+from vecmon_lab.lessons.frames import make_frames
+from vecmon_lab.lessons.listings import listing_of
+from vecmon_lab.lessons.script import read_c
+from vecmon_lab.lessons.tour import KERNEL, TOURS, tours
+
+KERNELS = EXAMPLES / "kernels"
+LOOP = """
+int main(void)
+{
+    volatile int sum = 0;
+    for (int i = 0; i < 7; i++)
+        sum += i;
+    return sum == 21 ? 0 : 1;
+}
+"""
+
+
+def test_how_often_a_line_is_carried_out(clang: Compiler, program: pathlib.Path) -> None:
+    listing = listing_of(compile_c(LOOP, clang, choice_of("O1"), KERNELS), "one", program)
+    assert {row[4] for row in listing.rows if row[1] == 6} == {7}
+    assert {row[2] for row in listing.rows} == {""} and {row[1] for row in listing.rows} <= {3, *range(4, 9)}
+    assert listing.summary[-1].endswith("status 0")
+
+
+def test_elements_of_a_line(clang: Compiler, program: pathlib.Path) -> None:
+    """37 elements in groups of 16 leave 5, and 11 in the last tail."""
+    text = (KERNELS / "saxpy.c").read_text("ascii")
+    listing = listing_of(compile_c(text, clang, 0, KERNELS), "one", program)
+    number = text[: text.index("vse32")].count("\n") + 1
+    (store,) = (row for row in listing.rows if row[1] == number)
+    assert re.fullmatch(r"vse32\.v .*", str(store[3])) and list(store[4:]) == [3, 37, 0, 11] and store[2] == "saxpy"
+
+
+def test_a_program_without_an_end(clang: Compiler, program: pathlib.Path) -> None:
+    text = "int main(void)\n{\n    for (volatile int i = 0;; i++)\n        ;\n}\n"
+    listing = listing_of(compile_c(text, clang, 0, KERNELS), "one", program)
+    assert "the ticks ran out" in listing.summary[0]
+
+
+def test_listings_side_by_side(lab: Lab, clang: Compiler, tmp_path: pathlib.Path) -> None:
+    page, source = tmp_path / "page.html", KERNELS / "plain_sum.c"
+    words = ["lesson", str(source), "--cc", clang.name, "--against", "O2-scalar", "-o", str(page)]
+    assert lab(*words)[0] == 0
+    data = re.search(r'<script type="application/json" id="data">(.*)</script>', page.read_text("utf-8"))
+    assert data
+    told = json.loads(data[1])
+    assert told["lines"] == source.read_text("ascii").split("\n")
+    assert [each["name"] for each in told["listings"]] == [f"{clang.name} O2", f"{clang.name} O2-scalar"]
+    vectors = [any(row[3].startswith("vadd.vv") for row in each["rows"]) for each in told["listings"]]
+    assert vectors == [True, False]
+
+
+@pytest.mark.parametrize(
+    ("words", "told"),
+    [
+        (["saxpy.c", "--against", "O7"], "O7 aren't options"),
+        (["saxpy.c", "--against", "clang-1:O2"], "clang-1 is no compiler that is here"),
+    ],
+)
+def test_against_what_isnt_there(lab: Lab, clang: Compiler, words: list[str], told: str) -> None:
+    status, _, errors = lab("lesson", str(KERNELS / words[0]), *words[1:])
+    assert status == 2 and told in errors
+
+
+def test_against_is_for_c(lab: Lab) -> None:
+    assert "is for a source in C" in lab("lesson", str(EXAMPLES / "strip_mined.s"), "--against", "O2")[2]
+
+
+def test_what_has_no_intrinsics_says_so() -> None:
+    assert Compiler("clang-19").title(0) == "clang-19 O2"
+    assert Compiler("riscv64-linux-gnu-gcc-14").title(1) == "riscv64-linux-gnu-gcc-14 O0"
+    assert Compiler("riscv64-linux-gnu-gcc").title(0).endswith("(scalar C alone: it has no intrinsics)")
+    assert [choice_of(choice.name) for choice in CHOICES] == list(range(len(CHOICES)))
+    with pytest.raises(LabError, match="aren't options"):
+        choice_of("@file")
+
+
+def test_memory_shows_where_variables_lie(clang: Compiler, program: pathlib.Path) -> None:
+    text = (KERNELS / "saxpy.c").read_text("ascii")
+    compiled = compile_c(text, clang, 0, KERNELS)
+    memory = make_frames(read_c(text, "x", compiled), program)[-1].states["1"]["memory"]
+    first, expected = compiled.labels["y"], struct.pack("<37i", *(1000 + 2 * i for i in range(37)))
+    rows = {f"{row:x}" for row in range(first & -16, first + len(expected), 16)}
+    assert rows <= memory.keys()
+    assert bytes.fromhex("".join(memory[row] for row in sorted(rows)))[first % 16 :][: len(expected)] == expected
+
+
+def test_rows_of_variables() -> None:
+    places = [[0, 9, "memory", 0, "1008"]]
+    variables: list[list[Any]] = [
+        ["a", "", "i32", [3], "", [], places],
+        ["b", "", "u8", [], "", [], [[0, 9, "memory", 2, "3000"], [0, 9, "register", 0, "0"]]],
+        ["c", "", "i64", [1 << 40], "", [], [[0, 9, "memory", 0, "2000"]]],
+        ["d", "", "", [7], "", [], places],
+    ]
+    assert memory_rows(variables) == [0x1000, 0x1010, *range(0x2000, 0x3000, 16)]
+
+
+def test_the_tours_kernel_is_what_the_compiler_makes(clang: Compiler) -> None:
+    """Made again by `python3 -m support.tour_kernel`, in lab/."""
+    if clang == COMPILER:
+        script, told = made()
+        assert (TOURS / KERNEL).read_text("ascii") == script and (TOURS / f"{KERNEL}.json").read_text("ascii") == told
+
+
+def test_the_tour_ends_with_a_kernel() -> None:
+    script = tours()[KERNEL]
+    assert list(tours())[-1] == KERNEL and script.labels["112a0"] == ["_start"]
+    assert script.said["111e8"].endswith("length = __riscv_vsetvl_e32m1(count);  (saxpy, inlined)")

@@ -1,0 +1,154 @@
+"""A source in C in a class, in Chromium: chosen, compiled, with its messages at their lines, given, and shared."""
+
+import pathlib
+import shutil
+from collections.abc import Iterator
+from typing import TYPE_CHECKING
+
+import pytest
+
+from support.class_pages import Served, Tab
+from support.left_out import NO_WALL, leave_out
+from support.places import EXAMPLES
+from vecmon_lab.compilers.compiler import Compiler
+
+if TYPE_CHECKING:
+    from selenium.webdriver import Chrome
+
+SAXPY = (EXAMPLES / "kernels" / "saxpy.c").read_text("ascii")
+TEXT = "id('source').value"
+
+
+@pytest.fixture
+def with_c(clang: Compiler, program: pathlib.Path, tmp_path: pathlib.Path) -> Iterator[Served]:
+    """A class that takes C."""
+    if shutil.which("bwrap") is None:
+        leave_out(NO_WALL)
+    served = Served(tmp_path / "class", program, "--cc", clang.name, takes_c=True)
+    yield served
+    served.end()
+
+
+def put_in(tab: Tab, text: str, language: str = "C, O2") -> None:
+    """Puts a source into the editor, as a paste does, and chooses its language."""
+    from selenium.webdriver.common.keys import Keys
+
+    tab.click("#show-source")
+    tab.keys("#source", Keys.CONTROL, "a", Keys.NULL, Keys.DELETE)
+    tab.front().execute_cdp_cmd("Input.insertText", {"text": text})
+    tab.choose("#language", language)
+
+
+def test_a_kernel_in_c(tabs: "Chrome", with_c: Served) -> None:
+    """It is compiled, stepped with its lines beside the instructions, and given to others with its language."""
+    from selenium.webdriver.common.keys import Keys
+
+    tab, teacher = Tab(tabs, with_c, "A1"), Tab(tabs, with_c, "teacher")
+    put_in(tab, SAXPY)
+    assert tab.text("#assemble") == "Compile" and "are left" in tab.text("#left")
+    tab.run("id('source').scrollTop = 0")
+    tab.wait("one('#editor .colours').textContent.startsWith(arguments[0])", SAXPY[:400])
+    pieces = tab.run("all('#editor .colours span').map((piece) => `${piece.className} ${piece.textContent}`)")
+    assert {"directive #include", "string <riscv_vector.h>", "register int32_t", "directive static"} <= set(pieces)
+    assert "instruction __riscv_vsetvl_e32m2" in pieces and "unknown" not in str(pieces)
+    tab.keys("#source", Keys.CONTROL, Keys.ENTER)
+    tab.wait("id('editor').hidden && one('#listing .next')")
+    said = tab.run("all('#listing .source').map((cell) => cell.textContent).join()")
+    assert "__riscv_vmacc_vx_i32m2(sum, factor" in said and "(saxpy, inlined)" in said
+    teacher.click("#seats tr button[aria-label='Look at seat A1']")
+    teacher.wait("id('source').value === arguments[0] && id('language').selectedOptions[0].text === 'C, O2'", SAXPY)
+    teacher.click("#show-source")
+    teacher.click("#take")
+    assert teacher.run("id('given-language').selectedOptions[0].text") == "C, O2"
+    teacher.choose("#receiver", "A2")
+    teacher.click("#give")
+    other = Tab(tabs, with_c, "A2")
+    other.wait(f"{TEXT} === arguments[0] && id('assemble').textContent === 'Compile'", SAXPY)
+    put_in(tab, "nop", "assembler")
+    tab.keys("#source", Keys.CONTROL, "z", Keys.NULL)  # also of the choice of a language
+    assert tab.run("id('language').selectedOptions[0].text") == "C, O2"
+
+
+def test_lines_are_stepped(tabs: "Chrome", with_c: Served) -> None:
+    """The line where the machine stands is marked in the source and its number, at which a click sets a breakpoint."""
+    from selenium.webdriver.common.keys import Keys
+
+    tab = Tab(tabs, with_c, "A1")
+    assert not tab.front().find_element("id", "step-line").is_displayed()
+    put_in(tab, SAXPY)
+    tab.click("#assemble")
+    tab.wait("one('#listing .next')")
+    tab.click("#show-source")
+    here = "one('#editor .numbers').textContent.split('\\n').find((number) => number.includes('▶'))"
+    tab.keys("body", Keys.F10)
+    first = tab.wait(here)
+    text = tab.run("all('#editor .colours .here').map((piece) => piece.textContent).join('')")
+    assert text == SAXPY.splitlines()[int(first.strip("▶")) - 1] and int(first.strip("▶")) > 22
+    tab.click("#step-line")
+    tab.wait(f"{here} !== arguments[0]", first)
+    line = SAXPY[: SAXPY.index("sum = __riscv_vmacc")].count("\n") + 1
+    tab.run(
+        """((numbers, height) => numbers.dispatchEvent(new MouseEvent("click", { clientY: numbers.getBoundingClientRect().top
+            + (arguments[0] - 0.4) * height + 4 - id("source").scrollTop })))(one("#editor .numbers"),
+            parseFloat(getComputedStyle(id("source")).lineHeight))""",
+        line,
+    )
+    tab.wait(f"one('#editor .numbers').textContent.split('\\n')[{line - 1}].includes('●')")
+    tab.click("#go")
+    tab.wait("!id('slice').disabled")
+    tab.click("#slice")
+    tab.wait(f"{here} === arguments[0]", f"●▶{line}")
+    tab.keys("#source", " ")  # another source than that in the machine
+    assert not tab.run(here)
+
+
+def test_messages_stand_at_their_lines(tabs: "Chrome", with_c: Served) -> None:
+    """In the editor, until it changes; and below it, from where a click leads to the place. A linker's have none."""
+    tab = Tab(tabs, with_c, "A1")
+    put_in(tab, "int main(void)\n{\n    /* one\n two */ return missing;\n}\n")
+    assert tab.run("all('#editor .colours .comment').map((piece) => piece.textContent)") == ["/* one", " two */"]
+    tab.click("#assemble")
+    tab.wait("one('#editor .colours .message')")
+    assert "missing" in tab.text("#editor .colours .message")
+    assert tab.text("#mistakes").startswith("4:16: ")
+    tab.click("#mistakes button")
+    assert tab.run("id('source').selectionStart") == tab.run(f"{TEXT}.indexOf('missing')")
+    tab.keys("#source", "0")
+    assert not tab.run("one('#editor .colours .message')")
+    put_in(tab, "long other(void);\nint main(void) { return other(); }\n")
+    tab.click("#assemble")
+    tab.wait("id('mistakes').textContent === 'undefined symbol: other'")
+
+
+def test_a_class_without_c_says_so(tabs: "Chrome", program: pathlib.Path, tmp_path: pathlib.Path) -> None:
+    served = Served(tmp_path / "class", program)
+    tab, teacher = Tab(tabs, served, "A1"), Tab(tabs, served, "teacher")
+    why = teacher.text("#no-c")
+    if not why:
+        pytest.skip("this class takes C")
+    assert why.startswith("This class takes no C: ") and tab.run("id('language').title") == why
+    assert tab.run("[...id('language').options].map((option) => option.disabled)").count(False) == 1
+    served.end()
+
+
+def test_a_source_is_handed_on(tabs: "Chrome", with_c: Served, tmp_path: pathlib.Path) -> None:
+    """A link fills the editor of whoever opens it at a seat, with its language, and compiles nothing; so does a file."""
+    tab = Tab(tabs, with_c, "A1")
+    put_in(tab, "int main(void) { return 'é'; } // ÿ\n", "C, O3-scalar")
+    tab.click("#link")
+    link = tab.front().current_url
+    assert "#source=" in link and not set(link.partition("#source=")[2]) - set(
+        "ABCDEFGHIJKLMNOPQRSTUVWXYZabcdefghijklmnopqrstuvwxyz0123456789-_"
+    )
+    other = Tab(tabs, with_c, "A2")
+    other.run(f"void (location.hash = {link.partition('#')[2]!r})")
+    other.wait(f"{TEXT}?.includes('é') && id('language').selectedOptions[0].text === 'C, O3-scalar'")
+    assert other.run("document.title") == "Seat A2 – vecmon" and "#" not in other.front().current_url
+    assert other.text("#run") == "not entered" and "A link has brought" in other.text("#stop")
+    other.run("void (location.hash = 'source=junk')")
+    other.wait("document.title === 'Seat A2 – vecmon' && !location.hash")
+    file = tmp_path / "kernel.O1.c"
+    file.write_text(SAXPY)
+    other.run("id('open').hidden = false")
+    other.keys("#open", str(file))
+    other.wait(f"{TEXT} === arguments[0] && id('language').selectedOptions[0].text === 'C, O1'", SAXPY)

@@ -1,0 +1,47 @@
+"""Sources in C of a class's seats: compiled behind a wall, beside the machines, one at a time for a seat."""
+
+import asyncio
+import os
+
+from ..compilers.compiled import IMAGE_BYTES, CompiledProgram, read_answer, words_for
+from ..compilers.compiler import Compiler, find_compiler
+from ..compilers.wall import answer_beside, check_wall
+from .requests import BadRequest
+
+NO_COMPILER = "no compiler was named"
+
+
+def walled_compiler(name: str | None) -> Compiler:
+    """The compiler of this name, or the first one, for sources of others. Raises LabError where there can be none."""
+    compiler = find_compiler(name)
+    check_wall()
+    return compiler
+
+
+class Builds:
+    """What compiles: as many sources at once as there are cores; who comes later waits.
+
+    no_c: why no C is taken; "" where it is
+    """
+
+    def __init__(self, compiler: Compiler | None = None, no_c: str = NO_COMPILER, most: int = IMAGE_BYTES) -> None:
+        """most: bytes of an image that aren't zeros"""
+        self._compiler, self._most = compiler, most
+        self.no_c = "" if compiler else no_c
+        self._places = asyncio.Semaphore(os.cpu_count() or 1)
+        self._busy = set[str]()
+
+    async def compile(self, seat: str, text: str, choice: int) -> CompiledProgram:
+        """The program of a seat's source, in which its mistakes are. Raises LabError."""
+        if self._compiler is None:
+            raise BadRequest(f"this class takes no C: {self.no_c}")
+        if seat in self._busy:
+            raise BadRequest("a source of this seat is being compiled")
+        words = words_for(text, self._compiler, choice)
+        self._busy.add(seat)
+        try:
+            async with self._places:
+                answer = await answer_beside(words, text)
+            return await asyncio.to_thread(read_answer, answer, self._most)
+        finally:
+            self._busy.discard(seat)

@@ -1,0 +1,55 @@
+"""Serves one person's page: a source is written, compiled and stepped there, at a machine that nobody else has."""
+
+import argparse
+import asyncio
+import os
+import pathlib
+import tempfile
+
+from .. import LabError
+from ..arguments import between
+from ..compilers.compiler import CHOICES
+from ..machine.program import find_program
+from .builds import Builds, walled_compiler
+from .command import listening_at
+from .languages import LANGUAGES, SourceText
+from .server import serve
+from .store import Store
+from .view import Class
+
+HOST, SEAT = "127.0.0.1", "A1"
+PATIENCE = 10.0  # seconds of silence
+
+
+def add_arguments(parser: argparse.ArgumentParser) -> None:
+    """The words of `vecmon-lab explore`."""
+    parser.add_argument(
+        "source", metavar="FILE", type=pathlib.Path, help="a source in C (.c) or assembler (.s) to begin with"
+    )
+    parser.add_argument("--port", metavar="P", type=between(0, 65535), default=0, help="else one that is free")
+    parser.add_argument("--cc", metavar="NAME", help="the compiler of sources in C, as clang-19")
+    names = [choice.name for choice in CHOICES]
+    parser.add_argument("--options", choices=names, default=names[0], help="those of the compiler; else %(default)s")
+    parser.add_argument("--quantum", metavar="N", type=int, help="the ticks of a slice, 1 to 1000; else 100")
+
+
+def run(arguments: argparse.Namespace) -> int:
+    """Serves until it is told to end. Raises LabError and OSError for a bad source, or where nothing can be compiled."""
+    os.umask(0o077)
+    source = read(arguments.source, arguments.options)
+    builds = Builds(walled_compiler(arguments.cc))
+    with tempfile.TemporaryDirectory(prefix="vecmon-") as folder:
+        store = Store(pathlib.Path(folder) / "own", find_program(), quantum=arguments.quantum)
+        members = Class(store, PATIENCE, builds=builds)
+        members.sources[SEAT].give(source)
+        asyncio.run(serve(members, HOST, listening_at(HOST, arguments.port), {HOST}, SEAT))
+    return 0
+
+
+def read(path: pathlib.Path, options: str) -> SourceText:
+    """The source of a file, in C with these options or in assembler. Raises LabError where it is neither."""
+    suffix = {".c": f"{options}.c", ".s": "s", ".S": "s"}.get(path.suffix)
+    numbers = {language.suffix: number for number, language in enumerate(LANGUAGES)}
+    if suffix is None:
+        raise LabError(f"{path}: the name of a source ends in .c or .s")
+    return SourceText(path.read_text("utf-8", "replace"), numbers[suffix])

@@ -1,0 +1,67 @@
+"""Types of C by their entries in debug data: in C's words, and as numbers of a kind."""
+
+from typing import TYPE_CHECKING
+
+from .entries import entry_at, name_of
+
+if TYPE_CHECKING:
+    from elftools.dwarf.die import DIE
+
+_QUALIFIERS = {f"DW_TAG_{word}_type": word for word in ("const", "volatile", "restrict")}
+_KINDS = {"DW_TAG_structure_type": "struct ", "DW_TAG_union_type": "union ", "DW_TAG_enumeration_type": "enum "}
+_NUMBERS = {2: "u", 5: "i", 6: "i", 7: "u", 8: "u"}  # by how a base type is encoded (DW_ATE_boolean and so on)
+_CHARACTERS = (6, 8)
+_COUNTS = (("DW_AT_count", 0), ("DW_AT_upper_bound", 1))  # and what is added
+
+
+def declaration(entry: "DIE | None", inner: str) -> str:
+    """What declares something of a type, where `inner` is its name: `const int *from`, `int x[3][4]`.
+
+    Raises RecursionError for a type that has itself in it.
+    """
+    if entry is None:
+        return f"void {inner}"
+    of = entry_at(entry, "DW_AT_type")
+    match entry.tag:
+        case "DW_TAG_pointer_type":
+            return declaration(of, f"*{inner}")
+        case "DW_TAG_array_type" | "DW_TAG_subroutine_type":
+            behind = "".join(f"[{count or ''}]" for count in _counts(entry)) or "()"
+            return declaration(of, f"({inner}){behind}" if inner.startswith("*") else f"{inner}{behind}")
+        case tag if tag in _QUALIFIERS:
+            word = _QUALIFIERS[tag]
+            if of is not None and of.tag in ("DW_TAG_pointer_type", *_QUALIFIERS):
+                return declaration(of, f"{word} {inner}")
+            return f"{word} {declaration(of, inner)}"
+    return f"{_KINDS.get(entry.tag, '')}{name_of(entry)} {inner}"
+
+
+def shape(entry: "DIE | None") -> tuple[str, list[int]]:
+    """The kind of a type's numbers with their bits, as `i32`, or "" where it has none; and an array's dimensions.
+
+    Kinds are `i` and `u`, `c` for char and `x` for a pointer. Raises RecursionError for a type that has itself in it.
+    """
+    if entry is None:
+        return "", []
+    match entry.tag:
+        case "DW_TAG_pointer_type":
+            return "x64", []
+        case "DW_TAG_enumeration_type":
+            return f"u{8 * entry.attributes['DW_AT_byte_size'].value}", []
+        case "DW_TAG_base_type":
+            encoding, size = (entry.attributes[f"DW_AT_{name}"].value for name in ("encoding", "byte_size"))
+            kind = "c" if encoding in _CHARACTERS and name_of(entry) == "char" else _NUMBERS.get(encoding, "")
+            return (f"{kind}{8 * size}" if kind and size in (1, 2, 4, 8) else ""), []
+        case "DW_TAG_array_type" if "DW_AT_GNU_vector" not in entry.attributes:
+            element, counts = shape(entry_at(entry, "DW_AT_type"))
+            return element, [*_counts(entry), *counts]
+        case tag if tag in (*_QUALIFIERS, "DW_TAG_typedef"):
+            return shape(entry_at(entry, "DW_AT_type"))
+    return "", []
+
+
+def _counts(entry: "DIE") -> list[int]:
+    """The dimensions of an array; 0 for one that isn't told as a number."""
+    ranges = [child.attributes for child in entry.iter_children() if child.tag == "DW_TAG_subrange_type"]
+    told = [[each[name].value + more for name, more in _COUNTS if name in each] for each in ranges]
+    return [number[0] if number and isinstance(number[0], int) else 0 for number in told]

@@ -1,0 +1,41 @@
+"""An entry of debug data: its name, the addresses of its code, and the entry that an attribute of it names."""
+
+from collections.abc import Iterator
+from typing import TYPE_CHECKING
+
+if TYPE_CHECKING:
+    from elftools.dwarf.compileunit import CompileUnit
+    from elftools.dwarf.die import DIE
+    from elftools.dwarf.dwarfinfo import DWARFInfo
+
+NAME_LETTERS, MOST_ORIGINS = 100, 8
+
+
+def name_of(entry: "DIE") -> str:
+    """The name of a function or a variable, by where it was declared."""
+    for _ in range(MOST_ORIGINS):
+        if "DW_AT_name" not in entry.attributes and "DW_AT_abstract_origin" in entry.attributes:
+            entry = entry.get_DIE_from_attribute("DW_AT_abstract_origin")
+    name = entry.attributes.get("DW_AT_name")
+    return str(name.value, "utf-8", "replace")[:NAME_LETTERS] if name else ""
+
+
+def ranges_of(debug: "DWARFInfo", unit: "CompileUnit", entry: "DIE") -> Iterator[tuple[int, int]]:
+    """The addresses of an entry, each from the first to the one behind the last."""
+    attributes = entry.attributes
+    if "DW_AT_ranges" in attributes:
+        first = unit.get_top_DIE().attributes.get("DW_AT_low_pc")
+        base = first.value if first else 0
+        for each in debug.range_lists().get_range_list_at_offset(attributes["DW_AT_ranges"].value):
+            if hasattr(each, "base_address"):
+                base = each.base_address
+            else:
+                yield base + each.begin_offset, base + each.end_offset
+    elif "DW_AT_low_pc" in attributes and "DW_AT_high_pc" in attributes:
+        low, high = attributes["DW_AT_low_pc"].value, attributes["DW_AT_high_pc"]
+        yield low, high.value if high.form == "DW_FORM_addr" else low + high.value
+
+
+def entry_at(entry: "DIE", attribute: str) -> "DIE | None":
+    """The entry that an attribute names; None without that attribute."""
+    return entry.get_DIE_from_attribute(attribute) if attribute in entry.attributes else None

@@ -1,0 +1,88 @@
+"""Where a variable lies, by an expression of debug data (DWARF 4, section 2.5) that comes to a register and a number."""
+
+import re
+from collections.abc import Sequence
+from typing import NamedTuple
+
+CODE_END = 1 << 48  # no code is as high
+MOST_BYTES = 64  # of an expression
+
+_LITERAL, _REGISTER, _BASE = 0x30, 0x50, 0x70  # of 32 operations each, the first one
+_VECTOR, _LENGTH, _VECTOR_BYTES = 96, 7202, 32  # the numbers of v0 and of vlenb, and what that is here
+_NUMBER = re.compile("addr|const[1248]?[us]")
+
+Operation = tuple[int, str, list[int], int]
+"""An operation as pyelftools tells it: its code, its name, its arguments, and where it stands."""
+
+Sum = tuple[int, int]
+"""The number of a scalar register, and what is added to it. Register 0 is zero, so that it is a number alone."""
+
+
+class Location(NamedTuple):
+    """Where a variable lies while the program counter is at `first` or behind it, and before `end`.
+
+    kind: `register`, the scalar one of this number; `vector`, the vector register of this number; `memory`, at the
+    register plus the offset; `value`, which is that sum itself; `untold`
+    offset: 64 bits, in hexadecimal digits
+    """
+
+    first: int
+    end: int
+    kind: str
+    register: int = 0
+    offset: str = "0"
+
+
+def location(first: int, end: int, operations: Sequence[Operation], frame: Sum | None) -> Location:
+    """A location by its operations, and by the base of the function's frame, where that is known. Raises ValueError and IndexError for
+    operations that aren't known here."""
+    match operations:
+        case [(code, name, arguments, _)] if re.fullmatch(r"DW_OP_reg(x|\d+)", name):
+            number = arguments[0] if arguments else code - _REGISTER
+            kind, register = ("vector", number - _VECTOR) if number >= _VECTOR else ("register", number)
+            return Location(first, end, kind if register < 32 else "untold", register)
+        case [*before, (_, "DW_OP_stack_value", _, _)]:
+            kind, (register, offset) = "value", _sum(before, frame)
+        case _:
+            kind, (register, offset) = "memory", _sum(operations, frame)
+    return Location(first, end, kind, register, f"{offset % (1 << 64):x}")
+
+
+def _sum(operations: Sequence[Operation], frame: Sum | None) -> Sum:
+    """What operations leave on their stack. Raises ValueError and IndexError."""
+    stack = list[Sum]()
+    for code, name, arguments, _ in operations:
+        kind = name.removeprefix("DW_OP_").rstrip("0123456789")
+        match kind, arguments:
+            case "lit", []:
+                stack.append((0, code - _LITERAL))
+            case _, [number] if _NUMBER.fullmatch(kind):
+                stack.append((0, number))
+            case "breg", [number]:
+                stack.append((code - _BASE, number))
+            case "bregx", [register, number] if register == _LENGTH:
+                stack.append((0, _VECTOR_BYTES + number))
+            case "fbreg", [number] if frame:
+                stack.append((frame[0], frame[1] + number))
+            case "plus_uconst", [number]:
+                stack.append(_of("plus", stack.pop(), (0, number)))
+            case "plus" | "minus" | "mul", []:
+                other = stack.pop()
+                stack.append(_of(kind, stack.pop(), other))
+            case _:
+                raise ValueError(f"{name} isn't known here")
+    return stack.pop()
+
+
+def _of(sign: str, one: Sum, other: Sum) -> Sum:
+    """What an operation makes of two. Raises ValueError where that isn't one register and a number."""
+    match sign, one, other:
+        case "plus", (register, number), (0, more):
+            return register, number + more
+        case "plus", (0, number), (register, more):
+            return register, number + more
+        case "minus", (register, number), (0, less):
+            return register, number - less
+        case "mul", (0, number), (0, times):
+            return 0, number * times
+    raise ValueError(f"{sign} of two registers")

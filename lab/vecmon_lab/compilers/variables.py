@@ -1,0 +1,157 @@
+"""The variables that debug data tells of a source: their types in C's words, and where they lie at which address of code."""
+
+import re
+from collections.abc import Iterable, Iterator, Sequence
+from itertools import islice
+from typing import TYPE_CHECKING, Any, NamedTuple
+
+from .c_types import declaration, shape
+from .compiler import SOURCE
+from .entries import NAME_LETTERS, entry_at, name_of, ranges_of
+from .locations import CODE_END, MOST_BYTES, Location, Sum, location
+
+if TYPE_CHECKING:
+    from elftools.dwarf.compileunit import CompileUnit
+    from elftools.dwarf.die import DIE
+    from elftools.dwarf.dwarfinfo import DWARFInfo
+    from elftools.elf.elffile import ELFFile
+
+MOST_VARIABLES, MOST_PARTS = 300, 32
+
+_ELEMENT = re.compile("([iucx](8|16|32|64))?")
+_VARIABLES = ("DW_TAG_formal_parameter", "DW_TAG_variable")
+_FUNCTION, _BLOCKS = "DW_TAG_subprogram", ("DW_TAG_inlined_subroutine", "DW_TAG_lexical_block")
+
+
+class Variable(NamedTuple):
+    """A variable of the source.
+
+    declaration: in C's words, as `int32_t x[37]`
+    element: the kind of its numbers with their bits, as `i32`, or "" where it has none; counts: an array's dimensions
+    function: where it stands, also one that is inlined; "" for one of all functions
+    scopes: the addresses where it is known, each from the first to the one behind the last; none for everywhere
+    locations: where none of them has the address, it was optimized out
+    """
+
+    name: str
+    declaration: str
+    element: str
+    counts: Sequence[int]
+    function: str
+    scopes: Sequence[tuple[int, int]]
+    locations: Sequence[Location]
+
+
+def variables_of(elf: "ELFFile") -> list[Variable]:
+    """The variables of the source, MOST_VARIABLES at most; those up to where the debug data is damaged."""
+    found = list[Variable]()
+    try:
+        debug = elf.get_dwarf_info() if elf.has_dwarf_info() else None
+        for unit in debug.iter_CUs() if debug else ():
+            if name_of(unit.get_top_DIE()) == SOURCE:
+                found += islice(_Unit(debug, unit).variables(), MOST_VARIABLES - len(found))
+    except Exception:  # pylint: disable=broad-except  # damaged data makes pyelftools raise what its parts do
+        pass
+    return found
+
+
+def read_variables(told: Iterable[Any]) -> list[Variable]:
+    """Variables as they came as JSON. Raises ValueError and TypeError where that is in another form."""
+    found = list[Variable]()
+    for name, words, element, counts, function, scopes, locations in islice(told, MOST_VARIABLES):
+        if not _ELEMENT.fullmatch(element):
+            raise ValueError("a kind of numbers that there isn't")
+        places = [
+            Location(int(a), int(b), str(c), d % 32, f"{int(e, 16):x}") for a, b, c, d, e in locations[:MOST_PARTS]
+        ]
+        ranges = [(int(first), int(end)) for first, end in scopes[:MOST_PARTS]]
+        name, words, function = (str(each)[:NAME_LETTERS] for each in (name, words, function))
+        sizes = [int(each) for each in counts[:MOST_PARTS]]
+        found.append(Variable(name, words, element, sizes, function, ranges, places))
+    return found
+
+
+class _Unit:
+    """What a compiler made of one source."""
+
+    def __init__(self, debug: "DWARFInfo", unit: "CompileUnit") -> None:
+        from elftools.dwarf.dwarf_expr import DWARFExprParser
+
+        self._debug, self._unit = debug, unit
+        self._operations = DWARFExprParser(unit.structs).parse_expr
+        first = unit.get_top_DIE().attributes.get("DW_AT_low_pc")
+        self._base = first.value if first else 0
+
+    def variables(self) -> Iterator[Variable]:
+        """All of them."""
+        return self._within(self._unit.get_top_DIE(), "", (), None)
+
+    def _within(self, entry: "DIE", function: str, scopes: Sequence[Sum], frame: Sum | None) -> Iterator[Variable]:
+        """Those within an entry of this function, of these scopes, and with this base of its frame, if it is known."""
+        for child in entry.iter_children():
+            if child.tag in _VARIABLES:
+                yield _variable(child, function, scopes, self._locations(child, frame))
+            elif child.tag in (_FUNCTION, *_BLOCKS):
+                own = list(islice(ranges_of(self._debug, self._unit, child), MOST_PARTS))
+                if own:  # else it is what a function is inlined from
+                    name = name_of(child) or function
+                    base = self._frame(child) if child.tag == _FUNCTION else frame
+                    yield from self._within(child, name, own, base)
+                    yield from (_variable(each, name, own, ()) for each in _dropped(child))
+
+    def _frame(self, entry: "DIE") -> Sum | None:
+        """The base of a function's frame, where the entry tells it: a scalar register."""
+        told = entry.attributes.get("DW_AT_frame_base")
+        place = self._location(0, CODE_END, told.value, None) if told else None
+        return (place.register, 0) if place and place.kind == "register" else None
+
+    def _locations(self, entry: "DIE", frame: Sum | None) -> Sequence[Location]:
+        """Where a variable lies."""
+        told, constant = (entry.attributes.get(name) for name in ("DW_AT_location", "DW_AT_const_value"))
+        if constant and isinstance(constant.value, int):
+            return [Location(0, CODE_END, "value", 0, f"{constant.value % (1 << 64):x}")]
+        if told is None:
+            return []
+        if told.form == "DW_FORM_exprloc":
+            return [self._location(0, CODE_END, told.value, frame)]
+        base, found = self._base, list[Location]()
+        for each in self._debug.location_lists().get_location_list_at_offset(told.value, entry)[:MOST_PARTS]:
+            if hasattr(each, "base_address"):
+                base = each.base_address
+            else:
+                found.append(self._location(base + each.begin_offset, base + each.end_offset, each.loc_expr, frame))
+        return found
+
+    def _location(self, first: int, end: int, expression: Sequence[int], frame: Sum | None) -> Location:
+        """A location by its expression; `untold` where that is long, damaged, or has what isn't known here."""
+        try:
+            if len(expression) <= MOST_BYTES:
+                return location(first, end, self._operations(expression), frame)
+        except Exception:  # pylint: disable=broad-except  # as above
+            pass
+        return Location(first, end, "untold")
+
+
+def _variable(entry: "DIE", function: str, scopes: Sequence[Sum], locations: Sequence[Location]) -> Variable:
+    """A variable by its entry."""
+    name, kind = name_of(entry), entry_at(entry_at(entry, "DW_AT_abstract_origin") or entry, "DW_AT_type")
+    try:
+        words, (element, counts) = " ".join(declaration(kind, name).split()), shape(kind)
+    except Exception:  # pylint: disable=broad-except  # types that are damaged, or have themselves in them
+        words, element, counts = name, "", []
+    return Variable(name, words[:NAME_LETTERS], element, counts, function, scopes, locations)
+
+
+def _dropped(entry: "DIE") -> list["DIE"]:
+    """The variables of a function that was inlined, of which its copy doesn't tell: they were optimized out."""
+    origin = entry_at(entry, "DW_AT_abstract_origin")
+    kept = {source.offset for each in _all_within(entry) if (source := entry_at(each, "DW_AT_abstract_origin"))}
+    whole = _all_within(origin) if origin else ()
+    return [each for each in whole if each.tag in _VARIABLES and each.offset not in kept]
+
+
+def _all_within(entry: "DIE") -> Iterator["DIE"]:
+    """All entries below one."""
+    for child in entry.iter_children():
+        yield child
+        yield from _all_within(child)

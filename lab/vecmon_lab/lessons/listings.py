@@ -1,0 +1,60 @@
+"""What compilers make of a source in C: under each line its instructions, how often they were carried out, and with how
+many elements; listings side by side, as one page."""
+
+import pathlib
+from collections.abc import Sequence
+from dataclasses import dataclass
+from itertools import islice, pairwise
+
+from ..compilers.compiled import CompiledProgram
+from ..guest.guest import Guest
+from ..machine.answers import Listing as Words
+from ..machine.session import Session
+from ..page.pages import lone_page
+from ..page.state import runs_of
+from ..runs.counts import Place, count
+from ..runs.profile import summary_of
+from .script import send
+
+MOST_TICKS, MOST_WORDS = 50_000, 4000
+
+
+@dataclass(frozen=True)
+class Listing:
+    """What a compiler made of a source.
+
+    name: of the compiler with its options; summary: what was carried out, in sentences
+    rows: of each instruction its address, the line of the source that it is of, the function that was inlined there,
+    its text, how often it was carried out, and its elements: active, masked off, in the tail
+    """
+
+    name: str
+    summary: Sequence[str]
+    rows: Sequence[Sequence[int | str]]
+
+
+def listing_of(program: CompiledProgram, name: str, machine: pathlib.Path) -> Listing:
+    """The listing of a program, which runs on a machine of its own to its end, or until MOST_TICKS have run out.
+
+    Raises LabError where the machine refuses it.
+    """
+    told = {address: (line, inlined) for address, line, inlined in program.rows}
+    of_source = [(range(first, end, 4), told[first]) for first, end in pairwise(told) if told[first][0]]
+    lines = dict(islice(((address, line) for run, line in of_source for address in run), MOST_WORDS))
+    with Session(machine) as session:
+        guest = Guest(session)
+        send(guest, ["enter", *program.lines, f"setpc {program.entry:x}"])
+        answers = guest.ask(*(f"dis {run[0]:x} {len(run)}" for run in runs_of(lines)))
+        counts, stop = count(guest, MOST_TICKS)
+        end = f"status {stop.number}" if stop and stop.kind == "exit" else guest.tell(stop)
+    words = [word for answer in answers if isinstance(answer, Words) for word in answer.words]
+    places = [(word, counts.places.get(word.address, Place(word.text))) for word in words]
+    rows: list[Sequence[int | str]] = [
+        (f"{word.address:x}", *lines[word.address], word.text, it.times, *it.elements) for word, it in places
+    ]
+    return Listing(name, [*summary_of(counts, end)], rows)
+
+
+def listings_page(title: str, text: str, listings: Sequence[Listing]) -> str:
+    """The page of some listings of a source that has this text, in HTML."""
+    return lone_page("listings", title, {"lines": text.split("\n"), "listings": [vars(each) for each in listings]})

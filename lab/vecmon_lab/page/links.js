@@ -1,0 +1,32 @@
+// A source with its language behind the # of an address, which browsers send to nobody; and a file's language by its name.
+
+const PREFIX = "#source=";
+const namesOf = (languages) => [...languages.options].map(({ text }) => text);
+
+/** The part of an address with a source, in base64url; the language by its name in a list. */
+export function linkOf({ text, language }, languages) {
+  const bytes = new TextEncoder().encode(JSON.stringify({ text, language: namesOf(languages)[language] }));
+  const letters = btoa(Array.from(bytes, (byte) => String.fromCharCode(byte)).join(""));
+  return PREFIX + letters.replaceAll("+", "-").replaceAll("/", "_").replaceAll("=", "");
+}
+
+export const isLink = (hash) => hash.startsWith(PREFIX);
+
+/** The source of such a part; null where it isn't one. */
+export function sourceOf(hash, languages) {
+  try {
+    const letters = atob(hash.slice(PREFIX.length).replaceAll("-", "+").replaceAll("_", "/"));
+    const bytes = Uint8Array.from(letters, (letter) => letter.charCodeAt(0));
+    const { text, language } = JSON.parse(new TextDecoder().decode(bytes));
+    return { text: `${text}`, language: Math.max(0, namesOf(languages).indexOf(language)) };
+  } catch {
+    return null;
+  }
+}
+
+/** The suffix of a file for a language: `s`, or `O2.c` with C's options. */
+export const suffixOf = (language, languages) => (language ? `${namesOf(languages)[language].split(" ")[1]}.c` : "s");
+
+/** The language of a file by its name, whose suffix may be one of these; else the first C, or assembler. */
+export const languageOf = (name, languages) =>
+  Math.max(namesOf(languages).indexOf(`C, ${/\.([\w-]+)\.c$/.exec(name)?.[1]}`), Number(name.endsWith(".c")));

@@ -1,0 +1,30 @@
+// Listings of a source side by side: under each of its lines what each compiler made of it.
+
+import { elementsBar, legend } from "./bars.js";
+import { byId, header, make, table } from "./elements.js";
+
+/** The instructions of a line in one listing, with a gap where others stand between. */
+function listingOf(rows, line) {
+  let end = "";
+  const own = rows.filter((row) => row[1] === line).flatMap(([address, , inlined, text, times, ...elements]) => {
+    const isApart = end && end !== address;
+    end = (parseInt(address, 16) + 4).toString(16);
+    const name = inlined ? make("small", "", ` ${inlined}`) : "";
+    const row = make("tr", times ? "" : "unused", make("td", "number", times.toLocaleString("en")), make("th", "", address),
+      make("td", "text", text, name), elementsBar(elements));
+    return isApart ? [make("tr", "", make("td", "gap", "⋯")), row] : [row];
+  });
+  return make("td", "", own.length ? table("Instructions", make("tbody", "", ...own)) : "");
+}
+
+const { lines, listings } = JSON.parse(byId("data").textContent);
+const head = ({ name, summary }) => header("col", make("h2", "", name), ...summary.map((text) => make("p", "", text)));
+const body = lines.flatMap((text, place) => {
+  const number = make("span", "number", `${place + 1}`);
+  const words = Object.assign(header("rowgroup", number, " ", text), { colSpan: listings.length });
+  const made = listings.map(({ rows }) => listingOf(rows, place + 1));
+  const isMade = made.some((cell) => cell.firstChild?.nodeType === 1);
+  return [make("tr", isMade ? "made" : "", words), ...(isMade ? [make("tr", "", ...made)] : [])];
+});
+document.querySelector("header").append(legend());
+byId("rows").append(make("thead", "", make("tr", "", ...listings.map(head))), make("tbody", "", ...body));
