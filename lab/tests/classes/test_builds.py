@@ -39,7 +39,8 @@ async def run(tab: Tab) -> tuple[str, str]:
     """Lets a seat's program run to its end: the last stop, and what was put out, in hexadecimal digits."""
     await tab.do("go")
     while tab.view["state"]["run"] == "running":
-        await tab.do(slices=100)
+        if "error" in await tab.ask("lines", do=[], slices=100):
+            await asyncio.sleep(0.2)  # slices wait where a checkpoint is behind
     return tab.view["stop"], "".join(tab.view["state"].get("outputs", {}).values())
 
 

@@ -8,15 +8,21 @@ from support.class_pages import Served, Tab
 if TYPE_CHECKING:
     from selenium.webdriver import Chrome
 
-SENTENCE = "This is put out again and again, in sixty-four bytes a line....\n"
-PRINTS = f"""        la s0, text
+LINES = [
+    f"{word} is put out again and again, in sixty-four bytes a line".ljust(63, ".") for word in ("This", "That", "What")
+]
+PRINTS = f"""        la s1, end
+again:  la s0, text
 loop:   li a7, 64
         li a0, 1
         mv a1, s0
-        li a2, {len(SENTENCE)}
+        li a2, 64
         ecall
-        j loop
-text:   .ascii {json.dumps(SENTENCE)}
+        addi s0, s0, 64
+        bne s0, s1, loop
+        j again
+text:   .ascii {json.dumps("".join(f"{line}{chr(10)}" for line in LINES))}
+end:    nop
 """
 # How often the panel was changed, and how many frames there were.
 COUNTS = """addEventListener("DOMContentLoaded", () => {
@@ -43,8 +49,9 @@ def test_a_program_that_prints_without_end_is_stopped(tabs: "Chrome", own_class:
     tab.click("#go")
     tab.wait("id('output').textContent.length > 9000")
     tab.wait(f"{LEFT} < 2")
-    text = tab.text("#output")
-    assert text == SENTENCE * (len(text) // len(SENTENCE))
+    shown = tab.text("#output").splitlines()
+    first = LINES.index(shown[0])
+    assert shown == [LINES[(first + place) % 3] for place in range(len(shown))]
     tab.run("(id('output').scrollTop = 100)")
     tab.run("(window.changes = window.frames = 0)")
     tab.wait("window.changes > 5")
@@ -54,4 +61,4 @@ def test_a_program_that_prints_without_end_is_stopped(tabs: "Chrome", own_class:
     assert tab.front().execute_async_script(STOP) < 5000  # ms, on a machine that others use
     tab.run("(id('output').scrollTop = 1e9)")
     tab.command("step 1")
-    assert tab.text("#output").endswith(SENTENCE) and tab.run(f"{LEFT} < 2")
+    assert tab.text("#output").splitlines()[-1] in LINES and tab.run(f"{LEFT} < 2")

@@ -17,7 +17,7 @@ LEAST_CLANG, LEAST_GCC = 17, 14  # which have the intrinsics of vectors by their
 
 _ALL = (MARCH, "-mabi=lp64", "-ffreestanding", "-fno-pic", "-nostdlib", "-static", "-Wl,--build-id=none")
 _TOLD = ("-g", "-gdwarf-4", "-Wall", "-fdiagnostics-color=never")
-_CLANG = ("--target=riscv64-linux-gnu", "-fno-caret-diagnostics", "-ferror-limit=20")
+_CLANG = ("--target=riscv64-linux-gnu", "-fno-caret-diagnostics", "-ferror-limit=20", "-fdebug-compilation-dir=.")
 _GCC = ("-no-pie", "-Wl,--no-relax", "-fno-diagnostics-show-caret", "-fmax-errors=20")
 
 
@@ -72,7 +72,11 @@ class Compiler:
             own = [*_CLANG, linker, *CHOICES[choice].clang]
         else:
             own = [*_GCC, *CHOICES[choice].gcc]
-        return [self.name, *_ALL, *_TOLD, *own, f"-I{RUNTIME}", "-o", IMAGE, SOURCE, str(RUNTIME / "runtime.c")]
+        runtime = (
+            f"-I{RUNTIME}",
+            f"-fdebug-prefix-map={RUNTIME}=runtime",
+        )  # so that an image is the same in each folder
+        return [self.name, *_ALL, *_TOLD, *own, *runtime, "-o", IMAGE, SOURCE, str(RUNTIME / "runtime.c")]
 
 
 def choice_of(name: str) -> int:
