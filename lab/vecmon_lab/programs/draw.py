@@ -56,8 +56,7 @@ class _Generator:
         self._registers, self._control = Registers(self._draws, has_choices), FIRST
         self._drawn, self._times, self._since, self._is_atomic = Drawn(), 1, 0, False
         self._counters = set[int]()  # the scalar register that counts the turns of a loop
-        self._table = instruction_table()
-        rows = [row for row in self._table.values() if row.name not in _LEFT_OUT]
+        rows = [row for row in instruction_table().values() if row.name not in _LEFT_OUT]
         self._scalar = [row for row in rows if row.opcode in (0x13, 0x1B, 0x33, 0x3B, 0x37, 0x17)]
         self._rows = [*rows, *(row for row in rows if row.opcode != OP_V and row.opcode not in VECTOR_ACCESSES)]
         self._rows += [row for row in rows if row.name.startswith("vset")] * 10
@@ -74,10 +73,8 @@ class _Generator:
     def program(self, length: int, faults: bool) -> Drawn:
         """Draws all of it."""
         while self._drawn.executed < length:
-            if self._draws.random() < 0.05:
-                self._loop()
-            else:
-                self._step()
+            draw = self._loop if self._draws.random() < 0.05 else self._step
+            draw()
         self._refresh([REGISTER_BITS] * 32)
         self._checkpoint()
         if faults:
@@ -87,9 +84,8 @@ class _Generator:
 
     def _fault(self) -> None:
         """A scalar access near address 0, or a store of whole registers past the end of memory."""
-        row = self._draws.choice(
-            [row for row in self._rows if row.opcode in (LOAD, STORE) or row.name.startswith("vs8r")]
-        )
+        rows = [row for row in self._rows if row.opcode in (LOAD, STORE) or row.name.startswith("vs8r")]
+        row = self._draws.choice(rows)
         if row.opcode in (LOAD, STORE):
             number = {"rd" if row.opcode == LOAD else "rs2": 5}
             self._emit(row.name, self._draws.randrange(256) << 23, rs1=0, **number)
@@ -132,7 +128,7 @@ class _Generator:
             self._checkpoint()
         for place, number in numbers.items():
             bits = bits & ~(31 << _PLACES[place]) | number << _PLACES[place]
-        row = self._table[name]
+        row = instruction_table()[name]
         self._drawn.words.append(row.word(bits))
         self._drawn.executed += self._times
         self._since, self._is_atomic = self._since + 1, is_atomic
@@ -217,13 +213,11 @@ class _Generator:
             length = self._draws.randrange(min(most, 31) + 1)
         if self._has_choices:
             length = self._draws.choice((length, self._draws.randrange(32)))
-        numbers, bits = {"rs1": length}, vtype << 20
-        if name != "vsetivli":
-            numbers["rs1"] = self._constant(length)
+        numbers = {"rs1": length if name == "vsetivli" else self._constant(length)}
         if name == "vsetvl":
-            numbers["rs2"], bits = self._constant(vtype), 0
+            numbers["rs2"] = self._constant(vtype)
         self._control = ControlRegisters(min(length, most), vtype)
-        return self._emit(name, bits, rd=self._registers.x_target(), **numbers)
+        return self._emit(name, vtype << 20, rd=self._registers.x_target(), **numbers)
 
     def _constant(self, value: int) -> int:
         """A scalar register with a number below 2,048."""
@@ -246,17 +240,15 @@ class _Generator:
 
     def _placed(self, row: Row) -> dict[str, int] | None:
         """Registers for the vector operands of an instruction, and 1 or 0 for `vm`; None where it isn't legal now."""
-        name, control = row.name, self._control
-        operands = operands_of(name, control.vtype & 0x3F)
-        if operands is None or name.startswith("vcompress") and control.vtype >> 6 & 1 and not self._has_choices:
+        name, control, reads_mask = row.name, self._control, row.operands.endswith(", v0")
+        operands, has_mask = operands_of(name, control.vtype & 0x3F), self._registers.is_fixed(0, [control.vl])
+        is_open = name.startswith("vcompress") and control.vtype >> 6 & 1 and not self._has_choices
+        if operands is None or is_open or reads_mask and not has_mask:
             return None
-        has_mask = self._registers.is_fixed(0, [control.vl])
         is_masked = has_mask and "[, v0.t]" in row.operands and self._draws.random() < 0.5
-        if row.operands.endswith(", v0") and not has_mask:
-            return None
         for _ in range(_TRIES):
             numbers = {"vm": int(not is_masked)}
-            read = set[int]({0} if is_masked or row.operands.endswith(", v0") else ())
+            read = set[int]({0} if is_masked or reads_mask else ())
             for place, operand in reversed(operands.items()):  # vd comes last
                 is_target = operand.noun == "destination" or operand.noun == "index" and row.opcode in VECTOR_ACCESSES
                 if is_target:

@@ -55,8 +55,7 @@ class Registers:
 
     def x_target(self) -> int:
         """A scalar register to be written."""
-        free = [number for number in SCALARS if number not in self.x and number not in self.kept]
-        return int(self._draws.choice(free))
+        return self._draws.choice([number for number in SCALARS if number not in self.x | self.kept])
 
     def source(self, name: str, place: str, operand: Operand, vl: int) -> int | None:
         """The first register of an operand that an instruction reads, mostly one that nothing has read; None if there is none."""
@@ -67,15 +66,10 @@ class Registers:
 
     def target(self, name: str, operand: Operand, vl: int, read: Iterable[int]) -> int | None:
         """The first register of a destination: nothing is lost there, where the instruction reads some registers as well."""
-        lost, size = self.v - set(read), len(operand.registers)
-        accumulates = name.startswith(ACCUMULATES)
-        wanted = list(bits_of(operand, vl)) if accumulates else []
-        fits = [
-            first
-            for first in self._firsts(operand)
-            if accumulates or lost.isdisjoint(range(first, first + size))
-            if self.is_fixed(first, wanted)
-        ]
+        accumulates, size = name.startswith(ACCUMULATES), len(operand.registers)
+        lost, wanted = (set[int](), list(bits_of(operand, vl))) if accumulates else (self.v - set(read), [])
+        fits = [first for first in self._firsts(operand) if self.is_fixed(first, wanted)]
+        fits = [first for first in fits if lost.isdisjoint(range(first, first + size))]
         return self._draws.choice(fits) if fits else None
 
     def is_fixed(self, first: int, wanted: Sequence[int]) -> bool:
