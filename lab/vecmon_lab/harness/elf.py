@@ -37,11 +37,10 @@ def elf(entry: int, segments: Sequence[Segment], symbols: Mapping[str, int]) -> 
         table += struct.pack("<I2BH2Q", len(names), _GLOBAL, 0, _ABSOLUTE, address, 8)
         names += name.encode() + b"\0"
     sections, at = bytes(64), PAGE_BYTES + len(body)
-    for name, data in ((".symtab", table), (".strtab", names), (".shstrtab", _SECTIONS)):
+    for section, data in ((b".symtab", table), (b".strtab", names), (b".shstrtab", _SECTIONS)):
         kind, link, size = (2, 2, 24) if data is table else (3, 0, 0)
-        sections += struct.pack(
-            "<2I4Q2I2Q", _SECTIONS.index(name.encode()), kind, 0, 0, at, len(data), link, link // 2, 8, size
-        )
+        fields = (_SECTIONS.index(section), kind, 0, 0, at, len(data), link, link // 2, 8, size)
+        sections += struct.pack("<2I4Q2I2Q", *fields)
         at += len(data)
     counts = (64, 56, len(segments), 64, 4, 3)
     head = struct.pack("<16s2HI3QI6H", b"\x7fELF\2\1\1", 2, 243, 1, entry, 64, at, 0, *counts) + headers

@@ -49,12 +49,11 @@ class Environment:
     base: int = 0
 
 
+_ENDS = {"ran": 0, "shortened load": 0}
 _SIGNALS = {"fault 2": 4, "refused control register": 4, "ebreak": 5, "fault 5": 11, "fault 7": 11}
 ENVIRONMENTS = {
-    "linux": Environment(
-        ("linux", "calls"), 0x60000000, {"ran": 0, "shortened load": 0, "jump to another page": 11} | _SIGNALS
-    ),
-    "vecmon": Environment(("vecmon", "calls"), 0x60000000, {"ran": 0, "shortened load": 0}),
+    "linux": Environment(("linux", "calls"), 0x60000000, _ENDS | _SIGNALS | {"jump to another page": 11}),
+    "vecmon": Environment(("vecmon", "calls"), 0x60000000, _ENDS),
     "bare": Environment(("bare",), 0x80000000, {"ran": 0, "fault 2": 3, "ebreak": 4}, 0x80000000),
 }
 """Linux's user mode; vecmon; and a core in machine mode, whose memory begins at 80000000."""
@@ -113,10 +112,8 @@ def _source(name: str) -> str:
     if name != "cases":
         return text
     entry = _source("enter")
-    return text + "".join(
-        entry.replace("_S", f"_{number}").replace("xS", f"x{number}").replace("xT", f"x{number - 1}")
-        for number in SPARE
-    )
+    entries = [entry.replace("_S", f"_{it}").replace("xS", f"x{it}").replace("xT", f"x{it - 1}") for it in SPARE]
+    return "".join([text, *entries])
 
 
 def _expanded(text: str) -> Iterator[str]:

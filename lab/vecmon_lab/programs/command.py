@@ -9,7 +9,7 @@ import pathlib
 import random
 import struct
 from collections import Counter
-from collections.abc import Iterator
+from collections.abc import Iterator, Sequence
 from dataclasses import replace
 from signal import SIGSEGV
 
@@ -34,9 +34,7 @@ Coverage = Counter[tuple[str, int, bool, str]]
 def add_arguments(parser: argparse.ArgumentParser) -> None:
     """The words of `vecmon-lab programs`."""
     parser.add_argument("folder", metavar="DIR", type=pathlib.Path, help="where they go")
-    parser.add_argument(
-        "--seed", metavar="S", type=int, default=0, help="another one gives other programs (default: 0)"
-    )
+    parser.add_argument("--seed", metavar="S", type=int, default=0, help="another one gives other programs; else 0")
     parser.add_argument("--length", metavar="N", type=between(10, 20_000), default=1000, help="instructions; else 1000")
     parser.add_argument("--count", metavar="K", type=between(1, 100_000), default=1, help="how many; else 1")
     parser.add_argument("--choices", action="store_true", help="also what the standard leaves open")
@@ -61,9 +59,8 @@ def run(arguments: argparse.Namespace) -> int:
 
 def _write(arguments: argparse.Namespace, seed: int) -> tuple[int, Coverage]:
     """Writes a program, its signature and the state at its end; how many instructions it has, and what is met in it."""
-    environment = runner = ENVIRONMENTS[arguments.environment]
-    if "calls" not in environment.files:
-        runner = replace(environment, files=ENVIRONMENTS["vecmon"].files)  # at the same addresses
+    environment = ENVIRONMENTS[arguments.environment]
+    runner = replace(ENVIRONMENTS["vecmon"], code=environment.code, base=environment.base)  # at the same addresses
     drawn = draw_program(f"{seed}", arguments.length, arguments.choices, arguments.faults)
     path, state = arguments.folder / f"program_{seed}.elf", _first_state(random.Random(seed), environment.base)
     code = _write_image(path, runner, drawn, state)
@@ -76,8 +73,7 @@ def _write(arguments: argparse.Namespace, seed: int) -> tuple[int, Coverage]:
     if arguments.faults:  # what the handler of signals has of the state
         digests[drawn.digests - 1] = digest(left[:56] + left[1096:1328] + left[64:1088])
         digests[drawn.digests] = digest(left[BLOCK_BYTES:])
-    if runner is not environment:
-        _write_image(path, environment, drawn, state)
+    _write_image(path, environment, drawn, state)
     path.with_suffix(".reference").write_text(signature_text(digests), "ascii")
     path.with_suffix(".state").write_text(f"{json.dumps(_told(left, environment.base), indent=1)}\n", "ascii")
     return drawn.executed, drawn.coverage
@@ -131,10 +127,9 @@ def _told(block: bytes, base: int) -> dict[str, object]:
 
 def _table(coverage: Coverage) -> Iterator[str]:
     """What stands in programs, a line for each instruction, vector type, mask and tail; and the instructions that don't."""
-    rows = [
-        (name, vtype_text(vtype).partition(",t")[0], "masked" if is_masked else "-", tail, count)
-        for (name, vtype, is_masked, tail), count in sorted(coverage.items())
-    ]
-    yield from table_lines([("instruction", "type", "mask", "tail", "times"), *rows], 4)
+    rows: list[Sequence[object]] = [("instruction", "type", "mask", "tail", "times")]
+    for (name, vtype, is_masked, tail), count in sorted(coverage.items()):
+        rows.append((name, vtype_text(vtype).partition(",t")[0], "masked" if is_masked else "-", tail, count))
+    yield from table_lines(rows, 4)
     met = {name for name, *_ in coverage}
     yield f"not met: {' '.join(name for name in instruction_table() if name not in met) or 'none'}"

@@ -152,16 +152,15 @@ class _Generator:
         """Loads registers of which less is fixed than it was."""
         for number in range(32):
             if not self._registers.is_fixed(number, [fixed[number]]):
-                self._emit("vl1re8.v", rs1=self._base(8), vd=number)
+                self._emit("vl1re8.v", rs1=self._base(), vd=number)
                 self._registers.fixed[number] = REGISTER_BITS
                 self._registers.kept = set(self._counters)
 
-    def _base(self, width: int) -> int:
-        """A scalar register with an address in the middle of memory, a multiple of a width in bytes."""
+    def _base(self) -> int:
+        """A scalar register with an address in the middle of memory, a multiple of 8 unless there are choices."""
         if self._draws.random() < 0.5:
             return _BASE
-        distance = self._aligned(self._draws.randrange(-1024, 1024), width)
-        return self._prepared("addi", distance << 20, rs1=_BASE)
+        return self._prepared("addi", self._aligned(self._draws.randrange(-1024, 1024), 8) << 20, rs1=_BASE)
 
     def _aligned(self, number: int, width: int) -> int:
         """A number of 12 bits, which is a multiple of a width unless there are choices."""
@@ -173,21 +172,18 @@ class _Generator:
 
     def _scalar_access(self, row: Row) -> bool:
         number = self._aligned(self._draws.randrange(-2048, 2048), 8)
-        if row.opcode == STORE:
-            bits = number >> 5 << 25 | (number & 31) << 7
-            return self._emit(row.name, bits, rs1=_BASE, rs2=self._registers.x_source())
-        return self._emit(row.name, number << 20, rs1=_BASE, rd=self._registers.x_target())
+        register = {"rs2": self._registers.x_source()} if row.opcode == STORE else {"rd": self._registers.x_target()}
+        bits = number << 20 | (number & 31) << 7  # a store has the low five at the place of rd
+        return self._emit(row.name, bits, rs1=_BASE, **register)
 
     def _jump(self, row: Row) -> bool:
         """A branch past an instruction; or a jump to the next one."""
         if row.opcode == _BRANCH:
-            one, other = self._registers.x_source(), self._registers.x_source()
-            self._emit(row.name, branch_bits(8), True, rs1=one, rs2=other)
+            self._emit(row.name, branch_bits(8), True, rs1=self._registers.x_source(), rs2=self._registers.x_source())
             return self._arithmetic(self._draws.choice(self._scalar))
         if row.name == "jal":
             return self._emit(row.name, 2 << 21, rd=self._registers.x_target())
-        base = self._prepared("auipc", 0, True)
-        return self._emit(row.name, 8 << 20, rs1=base, rd=self._registers.x_target())
+        return self._emit(row.name, 8 << 20, rs1=self._prepared("auipc", 0, True), rd=self._registers.x_target())
 
     def _control_register(self, row: Row) -> bool:
         """Reads a control register, or writes a value that it takes."""
@@ -250,8 +246,7 @@ class _Generator:
             numbers = {"vm": int(not is_masked)}
             read = set[int]({0} if is_masked or reads_mask else ())
             for place, operand in reversed(operands.items()):  # vd comes last
-                is_target = operand.noun == "destination" or operand.noun == "index" and row.opcode in VECTOR_ACCESSES
-                if is_target:
+                if operand.noun == "destination" or operand.noun == "index" and row.opcode in VECTOR_ACCESSES:
                     number = self._registers.target(name if place == "vd" else "", operand, control.vl, read)
                 else:
                     number = self._registers.source(name, place, operand, control.vl)
@@ -310,7 +305,7 @@ class _Generator:
             self._emit("vmv.x.s", vs2=number, rd=self._registers.x_target())
         else:
             for first in range(number, target.registers.stop, target.group):
-                self._emit(f"vse{target.eew}.v", vm, rs1=self._base(8), vd=first)
+                self._emit(f"vse{target.eew}.v", vm, rs1=self._base(), vd=first)
         self._registers.v -= set(target.registers)
 
     def _vector_access(self, row: Row) -> bool:
@@ -333,7 +328,7 @@ class _Generator:
             numbers["rs2"] = self._constant(self._aligned(stride, width))
         if index and offsets is not None:
             self._make_index(index, numbers["vs2"], offsets)
-        numbers["rs1"] = self._base(8)
+        numbers["rs1"] = self._base()
         return self._carry_out(row, numbers)
 
     def _make_index(self, index: Operand, number: int, source: int) -> None:
@@ -346,20 +341,17 @@ class _Generator:
         self._control = replace(control, vtype=other, vstart=0)
         registers = range(number, number + len(index.registers))
         self._emit("vand.vx", 1 << 25, vd=number, vs2=source, rs1=limit)
-        self._registers.v -= set(range(source, source + len(registers)))
         self._registers.write("vand.vx", replace(index, registers=registers), self._control, False)
-        self._registers.v -= set(registers)
+        self._registers.v -= {*range(source, source + len(registers)), *registers}
         self._emit("vsetvli", control.vtype << 20)
         self._control = replace(control, vstart=0)
 
 
 def branch_bits(distance: int) -> int:
     """The distance of a branch at its place in a word."""
-    bits = distance >> 12 & 1, distance >> 11 & 1, distance >> 5 & 63, distance >> 1 & 15
-    return bits[0] << 31 | bits[1] << 7 | bits[2] << 25 | bits[3] << 8
+    return (distance & 0x1000) << 19 | (distance & 0x800) >> 4 | (distance & 0x7E0) << 20 | (distance & 0x1E) << 7
 
 
 def jump_bits(distance: int) -> int:
     """The distance of a jump at its place in a word."""
-    bits = distance >> 20 & 1, distance >> 12 & 255, distance >> 11 & 1, distance >> 1 & 1023
-    return bits[0] << 31 | bits[1] << 12 | bits[2] << 20 | bits[3] << 21
+    return (distance & 0x100000) << 11 | distance & 0xFF000 | (distance & 0x800) << 9 | (distance & 0x7FE) << 20

@@ -32,13 +32,10 @@ def commits(lines: Iterable[str]) -> Iterator[Commit]:
     states: list[Commit] = []  # QEMU's, before an instruction each: the last one and this one
     for line in lines:
         if written := _COMMIT.match(line):
-            commit = Commit(int(written[1], 16), int(written[2], 16))
-            for kind, number, digits in _WRITTEN.findall(written[3]):
-                if kind == "x":
-                    commit.x[int(number)] = int(digits, 16)
-                else:
-                    commit.v[int(number)] = int(digits, 16).to_bytes(REGISTER_BYTES, "little")
-            yield commit
+            values = [(kind, int(number), int(digits, 16)) for kind, number, digits in _WRITTEN.findall(written[3])]
+            x = {number: value for kind, number, value in values if kind == "x"}
+            v = {number: value.to_bytes(REGISTER_BYTES, "little") for kind, number, value in values if kind == "v"}
+            yield Commit(int(written[1], 16), int(written[2], 16), x=x, v=v)
         elif place := _PLACE.match(line):
             yield from _changed(states)
             states = [*states[-1:], Commit(int(place[1], 16))]

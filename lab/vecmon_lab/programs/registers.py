@@ -80,7 +80,6 @@ class Registers:
         """An instruction writes its destination, which has its registers; whether the standard fixes all of these then."""
         is_first = name.startswith(FIRST_ELEMENT)
         keeps_tail, keeps_masked = not control.vtype >> 6 & 1 and operand.eew > 1, not control.vtype >> 7 & 1
-        is_masked = is_masked and not is_first
         if name.startswith("vcompress"):
             is_masked, keeps_masked = True, keeps_tail
         is_whole = operand.is_whole and operand.eew > 1 and not is_first
@@ -89,7 +88,7 @@ class Registers:
         written = [REGISTER_BITS] * 8 if is_whole else bits_of(operand, 1 if is_first else control.vl)
         for number, bits in zip(operand.registers, written):
             old = self.fixed[number]
-            body = bits if is_whole or not is_masked or keeps_masked and old >= bits else 0
+            body = bits if is_whole or is_first or not is_masked or keeps_masked and old >= bits else 0
             self.fixed[number] = max(body, old) if keeps_tail and body == bits else body
         self.v.update(operand.registers)
         return all(self.fixed[number] == REGISTER_BITS for number in operand.registers)

@@ -95,8 +95,7 @@ def case_words(golden: Case, environment: Environment) -> tuple[list[int], int]:
     named = {word >> 7 & 31, word >> 15 & 31, word >> 20 & 31}
     spare = next(number for number in SPARE if not {number, number - 1} & named)
     end = environment.ends[kind_of(golden, environment.base)]
-    before, after = state(golden), expected(golden) | {"end": end}
-    old, new = (LAYOUT.pack(*values.values()) for values in (before, after))
+    old, new = (LAYOUT.pack(*values.values()) for values in (state(golden), expected(golden) | {"end": end}))
     back = 0x67 | spare << 7 | spare << 15 | _HAS_MEMORY * has_memory  # jalr xS, 0(xS)
     words = [word | back << 32, *_runs(bytes(LAYOUT.size), old), *_runs(old, new)]
     return words, digest(new if has_memory else new[:BLOCK_BYTES])
