@@ -210,8 +210,7 @@ class _Generator:
         if self._has_choices:
             length = self._draws.choice((length, self._draws.randrange(32)))
         numbers = {"rs1": length if name == "vsetivli" else self._constant(length)}
-        if name == "vsetvl":
-            numbers["rs2"] = self._constant(vtype)
+        numbers |= {"rs2": self._constant(vtype)} if name == "vsetvl" else {}
         self._control = ControlRegisters(min(length, most), vtype)
         return self._emit(name, vtype << 20, rd=self._registers.x_target(), **numbers)
 
@@ -282,8 +281,7 @@ class _Generator:
         for place in row.fields():
             if place in ("rs1", "rs2") and place not in numbers:
                 numbers[place] = self._registers.x_source()
-        if "rd" in row.fields():
-            numbers["rd"] = self._registers.x_target()
+        numbers |= {"rd": self._registers.x_target()} if "rd" in row.fields() else {}
         word, control = row.word(self._bits(numbers)), self._control
         instruction = decode(word, control.sew, control.lmul)
         assert instruction is not None

@@ -70,11 +70,9 @@ def _trap(step: Step, following: Commit | None, pc: int) -> str | None:
     if stop:
         has_gone_on = commit.is_done and (commit.word is not None or following and following.pc == commit.pc + 4)
         return f"{stop.kind} here, carried out in the log" if has_gone_on and stop.kind != "exit" else None
-    if following is None:
-        return None if commit.is_done else "carried out here, the end of the log"
-    if commit.is_done and (commit.word is not None or following.pc == pc):
+    if commit.is_done and (following is None or commit.word is not None or following.pc == pc):
         return None
-    return f"carried out here, and the log goes on at {following.pc:x}"
+    return f"carried out here, {f'and the log goes on at {following.pc:x}' if following else 'the end of the log'}"
 
 
 def differences(step: Step, after: Registers, shift: int) -> Iterator[tuple[str, set[Place]]]:

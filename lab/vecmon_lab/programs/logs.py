@@ -1,5 +1,6 @@
 """Logs of other devices, instruction by instruction: Spike's, and QEMU's."""
 
+import itertools
 import re
 from collections.abc import Iterable, Iterator
 from dataclasses import dataclass, field
@@ -47,7 +48,6 @@ def commits(lines: Iterable[str]) -> Iterator[Commit]:
 
 def _changed(states: list[Commit]) -> Iterator[Commit]:
     """What an instruction changed, by the registers before it and after it, if there are both."""
-    if len(states) == 2:
-        before, after = states
+    for before, after in itertools.pairwise(states):
         changed = {number: value for number, value in after.x.items() if value != before.x.get(number)}
         yield Commit(before.pc, stack=before.x.get(2), x=changed)
