@@ -21,6 +21,8 @@ TYPE = "(id('source').value = arguments[0], id('source').dispatchEvent(new Event
 IN_SIGHT = """((panel, heading) => heading.top >= panel.top && heading.bottom <= panel.bottom)(
     ...["#exercise .reading", "#exercise .verdict h3"].map((name) => one(name).getBoundingClientRect()))"""
 
+ANSWERS = "#scores button[aria-label^='Answers of seat A3 to']"
+
 
 @pytest.fixture(scope="module")
 def course(program: pathlib.Path, tmp_path_factory: pytest.TempPathFactory) -> Iterator[Served]:
@@ -80,6 +82,14 @@ def test_an_exercise_is_solved(tabs: "Chrome", course: Served) -> None:
     assert "vse32.v v8, (x10)" in lesson.find_element("id", "step").text
     lesson.close()
     lesson.switch_to.window(tab.handle)
+
+
+def test_what_passed_is_told(tabs: "Chrome", course: Served) -> None:
+    """At the seat, where each exercise has a source of its own, and to the teacher, with each try."""
+    tab = Tab(tabs, course, "A3")
+    tab.wait("one('#exercise h2')")
+    wrong = (OURS / "doubles" / "wrong" / "always_eight.s").read_text()
+    check(tab, wrong, "It passes 2 of 5 cases.")
     check(tab, (OURS / "doubles" / "good.s").read_text(), "It passes all cases.")
     assert "takes 10 instructions, and a good answer takes 10 instructions." in tab.text("#exercise .verdict")
     choose = "((choice) => (choice.value = arguments[0], choice.onchange()))(one('#exercise select'))"
@@ -89,8 +99,8 @@ def test_an_exercise_is_solved(tabs: "Chrome", course: Served) -> None:
     assert "vadd.vv" in tab.run("id('source').value")
     assert "✓ Doubles" in tab.text("#exercise select")
     teacher = Tab(tabs, course, "teacher")
-    teacher.wait("one('#scores td button')?.textContent.startsWith('✓ try 2')")
-    teacher.click("#scores td button")
+    teacher.wait("one(arguments[0])?.textContent.startsWith('✓ try 2')", ANSWERS)
+    teacher.click(ANSWERS)
     teacher.wait("id('scores').querySelector('pre').textContent.includes('vadd.vv')")
     teacher.choose("#scores select", "try 1")
     teacher.wait("id('scores').querySelector('pre').textContent.includes('vsetivli zero, 8')")

@@ -41,6 +41,7 @@ from .requests import (
     ShowCodes,
     Source,
     StepLine,
+    TeacherRequest,
     TryCase,
     Write,
     read_request,
@@ -464,6 +465,15 @@ class Class:
                     given = Lines("", case(int(seat.state["pc"], 16)), 0, [])
                     await self.rooms[seat.name[0]].lines(seat, given, [])
                 return told
+            case SetName(seat_name, name):
+                self._set_name(self.seat(seat_name if tab.who == TEACHER else tab.who).name, checked_name(name))
+            case _:
+                return await self._carry_out_teachers(tab, request)
+        return {}
+
+    async def _carry_out_teachers(self, tab: Tab, request: TeacherRequest) -> Message:
+        """The same of a request that only the teacher makes."""
+        match request:
             case ReadAnswer(seat_name, name, number):
                 return {"text": self.checks.text(self.seat(seat_name).name, name, number)}
             case Give(name, source):
@@ -476,8 +486,6 @@ class Class:
                 seat = self.seat(name)
                 await self.rooms[name[0]].reset(seat)
                 self._note(name, "The teacher has taken this machine away. Your source is kept.")
-            case SetName(seat_name, name):
-                self._set_name(self.seat(seat_name if tab.who == TEACHER else tab.who).name, checked_name(name))
             case SetClock(machine, settings):
                 self._room(machine).set_clock(settings)
             case SetRights(machine, own_slices):
