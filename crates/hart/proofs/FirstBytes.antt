@@ -1,13 +1,11 @@
 -- The first of some bytes, read or written
-use Rattle.std.proofs.Common.{◌≡◌, ℕ, zero, suc, ◌+◌, ◌*◌, ◌%◌, ◌^◌, ◌-◌, ◌<◌, ◌≤◌, true, List, refl, sym, ◌∙◌, ap, ap₂, get_or, length, arith}
-use Rattle.std.specs.Int.{Width, w64, byte_len, byte_worth, from_le_bytes, sum_through, to_le_bytes}
+use Rattle.std.proofs.Common.{◌≡◌, ℕ, zero, suc, ◌+◌, ◌*◌, ◌%◌, ◌^◌, ◌-◌, ◌<◌, ◌≤◌, true, List, refl, sym, ◌∙◌, ap, ap₂, get_or, arith}
+use Rattle.std.specs.Int.{Width, w64, byte_len, byte_worth, from_le_bytes, sum_through}
 use Rattle.rv_model.specs.declared.instructions.operations.LoadOp.{LoadOp}
 use Rattle.rv_model.specs.declared.instructions.operations.LoadOp.TheVariants.{Ld}
-use Rattle.rv_model.specs.declared.instructions.operations.StoreOp.{StoreOp}
-use Rattle.rv_model.specs.declared.instructions.operations.StoreOp.TheVariants.{Sd}
 use Rattle.rv_model.specs.declared.memory.Access.{Access}
 use Rattle.rv_model.specs.memory.Memory.{Memory, can_access, bytes_at}
-use Rattle.rv_model.specs.scalar.LoadsAndStores.{load_width, number_at, store_width}
+use Rattle.rv_model.specs.scalar.LoadsAndStores.{load_width, number_at}
 use Rattle.rv_model.proofs.memory_lemmas.Memory.{can_access-at, can_access_from, get_or-bytes_at}
 
 -- where more may be accessed, so may fewer
@@ -38,8 +36,3 @@ load_reads op m a bs same =
     number_of (load_width op) bs (bytes_at m a (byte_len (load_width op))) (λ i l.
     ap (λ (xs : List ℕ). get_or xs i 0) same ∙ get_or-bytes_at m a 8 i (a + i) (omega (arith, few.0, few.1)) refl
     ∙ sym (get_or-bytes_at m a (byte_len (load_width op)) i (a + i) (omega (arith, few.0)) refl))
-
--- how many bytes a store writes
-pub length_stored : (op : StoreOp) (value : ℕ) → length (to_le_bytes (store_width op) value) ≡ byte_len (store_width op)
-length_stored Sd value = refl
-length_stored _ value = refl

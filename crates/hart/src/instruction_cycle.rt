@@ -1,5 +1,5 @@
 //! The instruction cycle: fetch, decode, execute.
-ghost use Rattle.std.specs.Prelude.{◌≡◌, ◌≢◌, ◌≤◌, None, Some, if◌then◌else◌};
+ghost use Rattle.std.specs.Prelude.{◌≡◌, ◌≢◌, ◌≤◌, None, Some, if◌then◌else◌, true};
 ghost use Rattle.rv_model.specs.declared.memory.Access.TheVariants.{Fetch};
 ghost use Rattle.rv_model.specs.step.Resumes.{StepGoesOn};
 ghost use Rattle.rv_model.specs.step.Hart.{ends_after};
@@ -32,18 +32,24 @@ fn fetch_anywhere<M: UserBytes>(memory: &M, pc: u64) -> Option<u32>
     }
 }
 
-/// The word at an address.
+/// Sets the word to the one at an address. Answers whether it may be fetched.
 #[inline(always)]
-fn fetch<M: UserBytes>(memory: &M, pc: u64) -> Option<u32>
-    ensures { result ≡ (if can_access Fetch (M.memory memory.now) pc 4
-        then Some (word_at (M.memory memory.now) pc)
-        else None) }
+fn fetch<M: UserBytes>(memory: &M, pc: u64, word: &mut u32) -> bool
+    ensures allowed { result ≡ can_access Fetch (M.memory memory.now) pc 4 }
+    ensures value { result ≡ true → word.new ≡ word_at (M.memory memory.now) pc }
 {
     let mut bytes = [0; 4];
     if memory.read_at_once(pc, Access::Fetch, &mut bytes) {
-        return Some(u32::from_le_bytes(bytes));
+        *word = u32::from_le_bytes(bytes);
+        return true;
     }
-    fetch_anywhere(memory, pc)
+    match fetch_anywhere(memory, pc) {
+        Some(found) => {
+            *word = found;
+            true
+        }
+        None => false,
+    }
 }
 
 /// Carries out one instruction of a user within `limit` ticks, and answers its ticks where it ran; any other answers
@@ -68,9 +74,10 @@ pub fn cycle<M: UserBytes, V: Vectors>(
     ensures parts { SameParts view.old view.new }
 {
     let pc = view.scalar.pc;
-    let Some(word) = fetch(&*view.memory, pc) else {
+    let mut word = 0;
+    if !fetch(&*view.memory, pc, &mut word) {
         return ending.in_one_tick(fault(Cause::FetchAccess, pc, &*view.scalar));
-    };
+    }
     let policy = view.policy;
     let terms = StepTerms { limit, policy };
     match kind_of(word) {

@@ -7,9 +7,9 @@ use Rattle.rv_model.specs.step.Step.{dirties, executed, fetched, step, touches}
 use Rattle.hart.specs.States.{Returns, shown}
 use Rattle.hart.proofs.instruction_cycle.cycle.Goals as goal
 
-pub returns-in_default-clause-vectors : goal.returns-in_default-clause-vectors
+pub returns-then-not-fetch-clause-vectors : goal.returns-then-not-fetch-clause-vectors
 unfolding dirties
-returns-in_default-clause-vectors g c = (
+returns-then-not-fetch-clause-vectors g c = (
   (λ output. grind (arith, common_steps), λ clean. refl, λ touching. grind (arith, common_steps)),
   grind (arith, common_steps),
   c.requires.ready,
@@ -30,7 +30,7 @@ returns-in-Scalar-clause-vectors g c = (
 pub returns-in-System-clause-vectors : goal.returns-in-System-clause-vectors
 returns-in-System-clause-vectors g c =
     let view = c.args.view.now in
-    let found : scan table c.in-Some.word ≡ fetched (g.M.UserBytes.memory view.memory.now) view.scalar.now.pc = grind (arith, common_steps) in
+    let found : scan table c.fetch.new.word ≡ fetched (g.M.UserBytes.memory view.memory.now) view.scalar.now.pc = grind (arith, common_steps) in
     subst (λ (o : Option Instr). Returns g.V.Vectors.ready g.V.Vectors.lent g.V.Vectors.back (touches o) (dirties c.args.limit o) (shown g.M.UserBytes.memory g.V.Vectors.lent view) view.vectors.now c.execute_system.new.vectors)
     found (c.execute_system.ensures.vectors c.args.limit view.policy)
 
