@@ -1,5 +1,6 @@
 -- The first instruction of a run, and the others.
-use Rattle.std.proofs.Common.{◌≡◌, refl, ℕ, suc, zero, ◌-◌, Bool, List, [], ◌∷◌, ◌++◌, is_none, ap, ◌∙◌, sym, subst, append-nil, append_assoc, flat_map, arith}
+use Rattle.std.proofs.Common.{◌≡◌, refl, ℕ, suc, zero, ◌-◌, Bool, true, false, List, [], ◌∷◌, ◌++◌, is_none, ap, ◌∙◌, sym, subst, append-nil, append_assoc, flat_map, take, drop, arith}
+use Rattle.std.proofs.lemmas.List.{take-append-drop}
 use Rattle.std.proofs.lemmas.List.Concat.{flat_map-append}
 use Rattle.std.proofs.lemmas.List.Sums.{sum_by_push}
 use Rattle.rv_model.specs.declared.step.step_end.StepEnd.{StepEnd}
@@ -7,8 +8,8 @@ use Rattle.rv_model.specs.machine.UserMachine.{stop_of}
 use Rattle.rv_model.specs.step.Hart.{HartState, Stepped, ends_after}
 use Rattle.rv_model.specs.step.Step.{step}
 use Rattle.recording.specs.Machines.{Advances, taken}
-use Rattle.recording.specs.Runs.{Run, begins, put_out, run, share, shares, stays}
-use Rattle.recording.specs.Sums.{HasMore, Row}
+use Rattle.recording.specs.Runs.{Run, TakesFirst, all_of, begins, put_out, run, stays}
+use Rattle.recording.specs.Sums.{HasMore, Key, Row, Sums}
 use Rattle.recording.proofs.TableTotals.{composed, none_more}
 
 -- ---- no instruction is carried out, without fuel or ticks
@@ -42,17 +43,28 @@ run_is k n left m ticks s next end goes fuel some made whether =
     ∙ ap (λ (b : Bool). begins s b end x (run n (left - ticks) x)) whether
     ∙ ap (λ (y : HartState). begins s goes end y (run n (left - ticks) y)) (sym made.state)
 
+-- whatever it ends by, it is the first that is found
+begins_with : (s : HartState) (goes : Bool) (end : StepEnd) (next : HartState) (others : Run) → (rest : List HartState) × ((begins s goes end next others).found ≡ s ∷ rest)
+begins_with s true end next others = (others.found, refl)
+begins_with s false end next others = ([], refl)
+
+pub run_begins : (k left n m : ℕ) (s : HartState) → k ≡ suc n → left ≡ suc m → (rest : List HartState) × ((run k left s).found ≡ s ∷ rest)
+run_begins k left n m s fuel some =
+    let x : HartState = taken (step 256 s).state in
+    let begun = begins_with s (is_none (stop_of (step 256 s).end)) (step 256 s).end x (run n (suc m - (step 256 s).ticks) x) in
+    (begun.0, ap (λ (f : ℕ). (run f left s).found) fuel ∙ ap (λ (l : ℕ). (run (suc n) l s).found) some ∙ ap (λ (r : Run). r.found) (first n m s) ∙ begun.1)
+
 -- ---- the states so far
 
 -- what the loop has seen of a run, what is still to come, and what was counted of what it has seen
-pub record SoFar (all rest : Run) (seen : List HartState) (old new : List Row) : Type 0 where
+pub record SoFar (counts : HartState → (Sums → ℕ) → (Key → Bool) → ℕ) (all rest : Run) (seen : List HartState) (old new : List Row) : Type 0 where
   pub found : seen ++ rest.found ≡ all.found
   pub state : rest.state ≡ all.state
   pub end : rest.end ≡ all.end
-  pub rows : HasMore (shares seen) old new
+  pub rows : HasMore (all_of counts seen) old new
 
-pub nothing_yet : (k n : ℕ) (s : HartState) (rows : List Row) → k ≡ n → SoFar (run n n s) (run k n s) [] rows rows
-nothing_yet k n s rows same =
+pub nothing_yet : (counts : HartState → (Sums → ℕ) → (Key → Bool) → ℕ) (k n : ℕ) (s : HartState) (rows : List Row) → k ≡ n → SoFar counts (run n n s) (run k n s) [] rows rows
+nothing_yet counts k n s rows same =
     let e : run k n s ≡ run n n s = ap (λ (f : ℕ). run f n s) same in
     record {
       found = ap (λ (r : Run). r.found) e;
@@ -62,23 +74,23 @@ nothing_yet k n s rows same =
     }
 
 -- one instruction more
-pub one_more : (all now rest : Run) (seen : List HartState) (s : HartState) (old mid new : List Row) → now ≡ record { found = s ∷ rest.found; state = rest.state; end = rest.end }
-    → HasMore (share s) mid new → SoFar all now seen old mid → SoFar all rest (seen ++ s ∷ []) old new
-one_more all now rest seen s old mid new is more so_far =
+pub one_more : (counts : HartState → (Sums → ℕ) → (Key → Bool) → ℕ) (all now rest : Run) (seen : List HartState) (s : HartState) (old mid new : List Row) → now ≡ record { found = s ∷ rest.found; state = rest.state; end = rest.end }
+    → HasMore (counts s) mid new → SoFar counts all now seen old mid → SoFar counts all rest (seen ++ s ∷ []) old new
+one_more counts all now rest seen s old mid new is more so_far =
     record {
       found = append_assoc seen (s ∷ []) rest.found ∙ ap (λ (r : Run). seen ++ r.found) (sym is) ∙ so_far.found;
       state = ap (λ (r : Run). r.state) (sym is) ∙ so_far.state;
       end = ap (λ (r : Run). r.end) (sym is) ∙ so_far.end;
-      rows = composed (shares seen) (share s) (shares (seen ++ s ∷ [])) old mid new (λ number asked. sym (sum_by_push (λ (x : HartState). share x number asked) seen s)) so_far.rows more;
+      rows = composed (all_of counts seen) (counts s) (all_of counts (seen ++ s ∷ [])) old mid new (λ number asked. sym (sum_by_push (λ (x : HartState). counts x number asked) seen s)) so_far.rows more;
     }
 
 -- nothing is still to come
-module _ (all rest : Run) (seen : List HartState) (old new : List Row) (so_far : SoFar all rest seen old new) (none : rest.found ≡ []) where
+module _ (counts : HartState → (Sums → ℕ) → (Key → Bool) → ℕ) (all rest : Run) (seen : List HartState) (old new : List Row) (so_far : SoFar counts all rest seen old new) (none : rest.found ≡ []) where
   all_seen : seen ≡ all.found
   all_seen = sym (append-nil seen) ∙ ap (λ (l : List HartState). seen ++ l) (sym none) ∙ so_far.found
 
-  pub all_counted : HasMore (shares all.found) old new
-  all_counted = subst (λ (l : List HartState). HasMore (shares l) old new) all_seen so_far.rows
+  pub all_counted : HasMore (all_of counts all.found) old new
+  all_counted = subst (λ (l : List HartState). HasMore (all_of counts l) old new) all_seen so_far.rows
 
   pub all_put_out : flat_map put_out seen ≡ flat_map put_out all.found
   all_put_out = ap (λ (l : List HartState). flat_map put_out l) all_seen
@@ -87,6 +99,47 @@ module _ (all rest : Run) (seen : List HartState) (old new : List Row) (so_far :
 pub more_put_out : (seen : List HartState) (s : HartState) → flat_map put_out seen ++ put_out s ≡ flat_map put_out (seen ++ s ∷ [])
 more_put_out seen s =
     ap (λ (l : List ℕ). flat_map put_out seen ++ l) (sym (append-nil (put_out s))) ∙ sym (flat_map-append put_out seen (s ∷ []))
+
+-- the run can't go on where these were seen and that was found, of which a part was put out
+pub first_put_out : {D : Type 0} (Took : D → List ℕ → D → Type 0) → ((a b c : D) (xs ys : List ℕ) → Took a xs b → Took b ys c → Took a (xs ++ ys) c)
+    → (seen rest all : List HartState) (s : HartState) (a b c : D) → seen ++ s ∷ rest ≡ all → Took a (flat_map put_out seen) b → TakesFirst Took b (put_out s) c
+    → TakesFirst Took a (flat_map put_out all) c
+first_put_out Took took_more seen rest all s a b c is before part =
+    let xs : List ℕ = flat_map put_out seen in
+    let zs : List ℕ = flat_map put_out rest in
+    record {
+      first = xs ++ part.first;
+      rest = part.rest ++ zs;
+      are_first = append_assoc xs part.first (part.rest ++ zs)
+          ∙ ap (λ (l : List ℕ). xs ++ l) (sym (append_assoc part.first part.rest zs) ∙ ap (λ (l : List ℕ). l ++ zs) part.are_first)
+          ∙ sym (flat_map-append put_out seen (s ∷ rest))
+          ∙ ap (λ (l : List HartState). flat_map put_out l) is;
+      took = took_more a b c xs part.first before part.took;
+    }
+
+-- nothing of it
+pub none_put_out : {D : Type 0} (Took : D → List ℕ → D → Type 0) (a : D) (bytes : List ℕ) → Took a [] a → TakesFirst Took a bytes a
+none_put_out Took a bytes none =
+    record {
+      first = [];
+      rest = bytes;
+      are_first = refl;
+      took = none;
+    }
+
+-- so many of it
+pub part_put_out : {D : Type 0} (Took : D → List ℕ → D → Type 0) (a b : D) (n : ℕ) (bytes : List ℕ) → Took a (take n bytes) b → TakesFirst Took a bytes b
+part_put_out Took a b n bytes is =
+    record {
+      first = take n bytes;
+      rest = drop n bytes;
+      are_first = take-append-drop n bytes;
+      took = is;
+    }
+
+-- the same bytes, written otherwise
+pub same_put_out : {D : Type 0} (Took : D → List ℕ → D → Type 0) (a b : D) (xs ys : List ℕ) → xs ≡ ys → TakesFirst Took a xs b → TakesFirst Took a ys b
+same_put_out Took a b xs ys is part = subst (λ (l : List ℕ). TakesFirst Took a l b) is part
 
 -- an instruction that was carried out, and whose output was taken
 pub advanced : (s mid new : HartState) (end : StepEnd) (ticks : ℕ) → step 256 s ≡ ends_after ticks end mid → new ≡ taken mid → Advances s new end ticks

@@ -1,4 +1,5 @@
 pub mod Classes
+pub mod Found
 pub mod Laws
 pub mod Machines
 pub mod Runs

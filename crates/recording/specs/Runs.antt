@@ -1,5 +1,5 @@
 -- A run of a machine of one user, whose output is taken after each instruction, and what is counted of it.
-use Rattle.std.specs.Prelude.{ℕ, zero, suc, ◌+◌, ◌-◌, Bool, true, false, List, [], ◌∷◌, Option, Some, None, is_none, if◌then◌else◌}
+use Rattle.std.specs.Prelude.{ℕ, zero, suc, ◌≡◌, ◌+◌, ◌-◌, Bool, true, false, List, [], ◌∷◌, ◌++◌, Option, Some, None, is_none, if◌then◌else◌}
 use Rattle.std.specs.List.{sum_by}
 use Rattle.rv_model.specs.declared.step.step_end.StepEnd.{StepEnd}
 use Rattle.rv_model.specs.declared.step.step_end.StepEnd.TheVariants.{Ran, Exit}
@@ -51,6 +51,13 @@ ran ticks s = run ticks ticks s
 abbrev pub put_out : HartState → List ℕ
 put_out s = (step 256 s).state.output
 
+-- The first of these bytes were taken, and no others.
+pub record TakesFirst {K : Type 0} (Took : K → List ℕ → K → Type 0) (old : K) (bytes : List ℕ) (new : K) : Type 0 where
+  pub first : List ℕ
+  pub rest : List ℕ
+  pub are_first : first ++ rest ≡ bytes
+  pub took : Took old first new
+
 -- ---- what is counted of an instruction
 
 -- once more, of so many ticks, with these elements: those of its body that are active, the others, and those of its tail
@@ -100,6 +107,10 @@ share s =
     counted one.end (Word s.scalar.pc (word_of s)) (carried_out one.ticks (body k (register_of s.vector.file 0) s.vector.vstart c) (tail_end k c))
     (key_beside k s.vector.conf s.scalar.pc one.state.scalar.pc)
 
--- of all that found these
+-- so much of each that found one of these
+abbrev pub all_of : (HartState → (Sums → ℕ) → (Key → Bool) → ℕ) → List HartState → (Sums → ℕ) → (Key → Bool) → ℕ
+all_of counts states number asked = sum_by (λ s. counts s number asked) states
+
+-- what is counted of all that found these
 abbrev pub shares : List HartState → (Sums → ℕ) → (Key → Bool) → ℕ
-shares states number asked = sum_by (λ s. share s number asked) states
+shares states = all_of share states

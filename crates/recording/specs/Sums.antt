@@ -17,6 +17,10 @@ no_sums = record { times = 0; ticks = 0; active = 0; masked = 0; tail = 0 }
 abbrev pub once : Sums
 once = record { times = 1; ticks = 0; active = 0; masked = 0; tail = 0 }
 
+-- once, in so many ticks, without elements
+abbrev pub plain : ℕ → Sums
+plain ticks = record { times = 1; ticks = ticks; active = 0; masked = 0; tail = 0 }
+
 -- both together, as far as 64 bits tell
 abbrev pub added : Sums → Sums → Sums
 added a b =

@@ -1,62 +1,16 @@
 //! How many elements an instruction has of each kind.
 ghost use Rattle.std.specs.Prelude.{◌≡◌, ◌≤◌, ◌-◌, false, true};
-ghost use Rattle.rv_model.specs.vector.Groups.{register_of};
-ghost use Rattle.recording.specs.Classes.{active_count, body, body_end, is_unmasked, moved, most, tail_end};
+ghost use Rattle.recording.specs.Classes.{active_count, body, body_end, moved, most, tail_end};
 ghost use Rattle.recording.specs.Runs.{carried_out};
 
 use crate::class::Class;
+use crate::found::Found;
 use crate::sums::Sums;
 use lane_arith::Body;
 use mask_unit::count;
-use reg_groups::{mask_register, register_count};
+use reg_groups::register_count;
 use rv_model::instructions::operations::RegisterCount;
-use rv_model::{GROUP_BYTES, VConf, VLENB, VState};
-
-/// What an instruction finds: where it stands, its class, vl and the vector type, vstart, and v0 if it is masked.
-#[derive(Clone, Copy)]
-pub(crate) struct Found {
-    pub pc: u64,
-    pub class: Class,
-    pub conf: VConf,
-    pub start: usize,
-    pub mask: [u8; VLENB],
-}
-
-/// v0, where an instruction of a class is masked.
-#[inline(always)]
-fn found_mask(class: Class, state: &VState) -> [u8; VLENB]
-    ensures { is_unmasked class ≡ false → result ≡ register_of state.now.file 0 }
-{
-    match class {
-        Class::Length { unmasked: false } => mask_register(&state.file),
-        Class::Length { unmasked: true }
-        | Class::Plain
-        | Class::Link
-        | Class::MaskBytes
-        | Class::Elements { count: _ }
-        | Class::Registers { count: _ } => [0; VLENB],
-    }
-}
-
-impl Found {
-    /// What an instruction of a class finds.
-    #[inline(always)]
-    pub(crate) fn new(class: Class, pc: u64, state: &VState) -> Found
-        ensures pc { result.pc ≡ pc }
-        ensures class { result.class ≡ class }
-        ensures conf { result.conf ≡ state.now.conf }
-        ensures start { result.start ≡ state.now.vstart }
-        ensures mask { is_unmasked class ≡ false → result.mask ≡ register_of state.now.file 0 }
-    {
-        Found {
-            pc,
-            class,
-            conf: state.conf,
-            start: usize::from(state.vstart),
-            mask: found_mask(class, state),
-        }
-    }
-}
+use rv_model::{GROUP_BYTES, VConf, VLENB};
 
 /// VLMAX, where there is a vector type.
 fn most(conf: VConf) -> usize
@@ -141,9 +95,9 @@ fn active(found: &Found, conf: VConf) -> usize
     }
 }
 
-/// What is counted of an instruction of so many ticks that found this and left this length and type, if it has
-/// elements.
-fn with_elements(found: &Found, conf: VConf, ticks: usize) -> Sums
+/// What is counted of an instruction of so many ticks that found this and left this length and type.
+#[inline(always)]
+pub(crate) fn with_elements(found: &Found, conf: VConf, ticks: usize) -> Sums
     ensures { result ≡ carried_out ticks (body found.now.class found.now.mask found.now.start conf)
         (tail_end found.now.class conf) }
 {
@@ -155,27 +109,5 @@ fn with_elements(found: &Found, conf: VConf, ticks: usize) -> Sums
         active: active as u64,
         masked: end.saturating_sub(found.start).saturating_sub(active) as u64,
         tail: tail_end(found.class, conf).saturating_sub(end) as u64,
-    }
-}
-
-/// The same of any instruction.
-#[tactic(auto, using(crate::proofs::Actives::no_elements))]
-#[inline(always)]
-pub(crate) fn carried_out(found: &Found, conf: VConf, ticks: usize) -> Sums
-    ensures { result ≡ carried_out ticks (body found.now.class found.now.mask found.now.start conf)
-        (tail_end found.now.class conf) }
-{
-    match found.class {
-        Class::Plain | Class::Link => Sums {
-            times: 1,
-            ticks: ticks as u64,
-            active: 0,
-            masked: 0,
-            tail: 0,
-        },
-        Class::Length { unmasked: _ }
-        | Class::MaskBytes
-        | Class::Elements { count: _ }
-        | Class::Registers { count: _ } => with_elements(found, conf, ticks),
     }
 }

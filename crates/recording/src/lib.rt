@@ -1,11 +1,13 @@
-//! Runs of a machine of one user that are counted.
+//! Runs of a machine of one user, counted or not.
 #![tactic(auto)]
 
 mod alone;
 mod class;
+mod counter;
 mod counting;
 mod elements;
 mod fault;
+mod found;
 mod key;
 mod laws;
 mod row;
@@ -21,5 +23,5 @@ pub use key::Key;
 pub use laws::recording_laws;
 pub use row::Row;
 pub use rows::{ROWS, totals, unused_rows};
-pub use run::count;
+pub use run::{count, run_uncounted};
 pub use sums::Sums;

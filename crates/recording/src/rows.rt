@@ -1,5 +1,5 @@
 //! Rows that are made, and summed up.
-ghost use Rattle.std.specs.Prelude.{◌≡◌, ◌%◌, ◌^◌, IfOk};
+ghost use Rattle.std.specs.Prelude.{◌≡◌, ◌%◌, ◌^◌, vec_len, IfOk};
 ghost use Rattle.recording.specs.Sums.{HasNothing, OfEach, is_word, part_of, total};
 
 use crate::key::Key;
@@ -12,7 +12,8 @@ pub const ROWS: usize = 1 << 17;
 
 /// So many rows that aren't used.
 pub fn unused_rows<A: Allocator>(alloc: A, count: usize) -> Result<Vec<Row, A>, AllocError>
-    ensures { IfOk result (λ rows. HasNothing rows.items) }
+    ensures nothing { IfOk result (λ rows. HasNothing rows.items) }
+    ensures count { IfOk result (λ rows. vec_len rows ≡ count) }
 {
     let mut rows = Vec::with_capacity(alloc, count)?;
     for _ in 0..count {

@@ -1,6 +1,6 @@
 //! What is counted.
 ghost use Rattle.std.specs.Prelude.{◌≡◌};
-ghost use Rattle.recording.specs.Sums.{added, no_sums, once};
+ghost use Rattle.recording.specs.Sums.{added, no_sums, once, plain};
 
 /// How often instructions were carried out, in how many ticks, and how many of their elements were active, masked off
 /// and of the tail. Each is counted modulo 2^64.
@@ -34,6 +34,20 @@ impl Sums {
         Sums {
             times: 1,
             ticks: 0,
+            active: 0,
+            masked: 0,
+            tail: 0,
+        }
+    }
+
+    /// Once, in so many ticks, without elements.
+    #[inline(always)]
+    pub(crate) fn plain(ticks: usize) -> Sums
+        ensures { result ≡ plain ticks }
+    {
+        Sums {
+            times: 1,
+            ticks: ticks as u64,
             active: 0,
             masked: 0,
             tail: 0,

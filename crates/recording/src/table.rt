@@ -131,6 +131,7 @@ pub(crate) fn count_at(rows: &mut [Row], index: usize, sums: Sums)
 }
 
 /// Counts this more of a key.
+#[inline(always)]
 pub(crate) fn count_in(rows: &mut [Row], key: Key, sums: Sums) -> Result<(), CountFault>
     ensures { OnOk result (HasMore (more_of key sums) rows.old rows.new) }
 {

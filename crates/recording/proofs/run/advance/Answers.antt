@@ -1,7 +1,7 @@
 use Rattle.std.proofs.Common.{ap, sym}
-use Rattle.devices.proofs.Moves.{moved}
+use Rattle.devices.proofs.Moves.{moved, on_err}
 use Rattle.rv_model.specs.step.Hart.{Stepped}
-use Rattle.recording.proofs.Runs.{advanced}
+use Rattle.recording.proofs.Runs.{advanced, none_put_out, same_put_out}
 use Rattle.recording.proofs.run.advance.Goals as goal
 
 pub returns-clause-machine : goal.returns-clause-machine
@@ -10,3 +10,11 @@ returns-clause-machine g c = advanced _ _ _ _ _ c.in_ok-end.ensures.model c.in_o
 pub returns-clause-output : goal.returns-clause-output
 returns-clause-output g c =
     moved g.K.Sink.took _ _ _ _ (ap (λ (o : Stepped). o.state.output) (sym c.in_ok-end.ensures.model)) c.in_ok-take_output.ensures.output
+
+pub returns-in_err-end-clause-part : goal.returns-in_err-end-clause-part
+returns-in_err-end-clause-part g c = on_err c.from_residual.result (none_put_out g.K.Sink.took c.args.sink.now _ (g.met.K.Sink.took_none c.args.sink.now))
+
+pub returns-in_err-take_output-clause-part : goal.returns-in_err-take_output-clause-part
+returns-in_err-take_output-clause-part g c =
+    on_err c.from_residual-in_err-take_output.result
+    (same_put_out g.K.Sink.took _ _ _ _ (ap (λ (o : Stepped). o.state.output) (sym c.in_ok-end.ensures.model)) c.in_err-take_output.ensures.part)

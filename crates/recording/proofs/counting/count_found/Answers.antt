@@ -1,0 +1,12 @@
+use Rattle.std.proofs.lemmas.Result.{on_ok_weaker}
+use Rattle.recording.specs.Sums.{IsRowOf, Key}
+use Rattle.recording.proofs.Counted.{both_counted}
+use Rattle.recording.proofs.counting.count_found.Goals as goal
+
+pub returns : goal.returns
+returns c =
+    on_ok_weaker c.count_beside.result
+    (λ more. λ (key : Key) (row : IsRowOf key c.args.index c.args.rows.now).
+    both_counted key c.with_elements.result _ c.key_beside.result _ c.args.rows.now c.count_at.new.rows c.count_beside.new.rows
+    c.with_elements.ensures c.key_beside.ensures (c.count_at.ensures key row) more)
+    c.count_beside.ensures
