@@ -8,6 +8,7 @@ import select
 import struct
 import subprocess
 import termios
+import time
 from collections.abc import Mapping, Sequence
 from types import TracebackType
 
@@ -49,6 +50,14 @@ class Terminal:
     def type(self, text: str) -> None:
         """Types a text."""
         os.write(self._file, text.encode())
+
+    def interrupt(self) -> None:
+        """Types Ctrl-C once the program waits for input. A signal that came just before would be told after the next line alone."""
+        with open(f"/proc/{self._child.pid}/stat", "rb") as file:
+            while file.read().rpartition(b") ")[2][:1] != b"S":
+                time.sleep(0.01)
+                file.seek(0)
+        self.type(INTERRUPT)
 
     def expect(self, text: str, is_raw: bool = False) -> str:
         """Waits until a text is shown; what was shown up to its end. Without escape sequences, unless it is raw."""
