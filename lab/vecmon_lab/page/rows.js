@@ -40,7 +40,8 @@ export class RowTable {
     this.table = table(caption, make("thead", "", heads), this.body);
     Object.assign(this, { box, empty: make("p", "empty", empty), columns: names.length, places: [], made: "" });
     Object.assign(this, { top: 0, room: 0, height: 18 }); // px: what is scrolled away, what is in sight, a row
-    box.addEventListener("scroll", () => this.moved(box.scrollTop));
+    // A box that has become lower may be scrolled by that alone, and be told of it first.
+    box.addEventListener("scroll", () => (box.clientHeight === this.room ? this.moved(box.scrollTop) : this.resized()));
     new ResizeObserver(() => this.resized()).observe(box);
   }
 
