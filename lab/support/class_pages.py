@@ -8,8 +8,9 @@ import re
 import signal
 import subprocess
 import sys
+import time
 import urllib.request
-from collections.abc import Sequence
+from collections.abc import Callable, Sequence
 from typing import IO, TYPE_CHECKING, Any
 
 from support.places import SUM, TOP
@@ -157,6 +158,18 @@ class Tab:
         from selenium.webdriver.support.select import Select
 
         Select(self.front().find_element(By.CSS_SELECTOR, selector)).select_by_visible_text(text)
+
+    def save(self, selector: str, path: pathlib.Path, is_whole: Callable[[bytes], bool] = bool) -> bytes:
+        """What a click has the browser save as a file, as soon as it is whole: a file is there, and empty, before it is written."""
+        # the headless shell takes this for one tab alone
+        folder = {"behavior": "allow", "downloadPath": str(path.parent)}
+        self.front().execute_cdp_cmd("Browser.setDownloadBehavior", folder)
+        self.click(selector)
+        end = time.monotonic() + PATIENCE
+        while not path.exists() or not is_whole(path.read_bytes()):
+            assert time.monotonic() < end, f"{path} isn't saved"
+            time.sleep(0.02)
+        return path.read_bytes()
 
     def command(self, *lines: str) -> None:
         """Enters lines at the command line, and waits until all are answered."""

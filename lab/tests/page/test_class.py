@@ -1,9 +1,9 @@
 """The pages of a class in Chromium: eight tabs at seats, and the teacher's."""
 
+import io
 import os
 import pathlib
 import signal
-import time
 import zipfile
 from typing import TYPE_CHECKING
 
@@ -366,16 +366,11 @@ def test_the_teacher_sees_and_settles(sit: Sit, tmp_path: pathlib.Path, served: 
     tab.wait("!id('slice').disabled")
     tab.click("#slice")
     tab.wait("all('#log li').at(-1).textContent.startsWith('break')")
-    teacher.browser.execute_cdp_cmd("Browser.setDownloadBehavior", {"behavior": "allow", "downloadPath": str(tmp_path)})
     for name in ("script", "transcript"):
-        teacher.click(f"[name={name}]")
-        path, expected = tmp_path / f"A.{name}.txt", served.fetch(f"A/{name}")
-        while not path.exists() or path.stat().st_size < len(expected):  # it is there, and empty, before it is written
-            time.sleep(0.02)
-        assert path.read_bytes() == expected
-    tab.click("#home")
-    while not (tmp_path / "A5.zip").exists():
-        time.sleep(0.02)
+        expected = served.fetch(f"A/{name}")
+        saved = teacher.save(f"[name={name}]", tmp_path / f"A.{name}.txt", lambda data: len(data) >= len(expected))
+        assert saved == expected
+    tab.save("#home", tmp_path / "A5.zip", lambda data: zipfile.is_zipfile(io.BytesIO(data)))
     with zipfile.ZipFile(tmp_path / "A5.zip") as packed:
         assert packed.namelist() == ["A5/A5.script", "A5/A5.html"]
         assert b"5 break 10004\n" in packed.read("A5/A5.script")

@@ -1,7 +1,6 @@
 """The source of a seat: its editor, and how tabs, the class and the teacher share it, in Chromium."""
 
 import pathlib
-import time
 from typing import TYPE_CHECKING
 
 from page.conftest import Sit
@@ -175,11 +174,7 @@ def test_a_source_is_given(sit: Sit, tmp_path: pathlib.Path) -> None:
     teacher.click("#give")
     for page in (tab, other):
         page.wait(f"{TEXT}.includes('# all')")
-    tab.front().execute_cdp_cmd("Browser.setDownloadBehavior", {"behavior": "allow", "downloadPath": str(tmp_path)})
-    tab.click("#save")
-    while not (tmp_path / "A3.s").exists() or not (tmp_path / "A3.s").stat().st_size:
-        time.sleep(0.02)
-    assert (tmp_path / "A3.s").read_text("utf-8") == tab.run(TEXT)
+    assert tab.save("#save", tmp_path / "A3.s").decode("utf-8") == tab.run(TEXT)
     teacher.click("tr[data-seat='A3'] td:nth-child(2) button")
     teacher.wait("id('desk').hidden")
     teacher.front().refresh()
