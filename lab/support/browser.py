@@ -6,6 +6,9 @@ from typing import TYPE_CHECKING
 if TYPE_CHECKING:
     from selenium.webdriver import Chrome
 
+# The commands of browsers for tests, the one that takes less of the processor first, and the window in which a page has 1280 by 757 pixels.
+WINDOWS = {"chromium-headless-shell": "1280,757", "chromium": "1280,900"}
+
 # The texts whose colours are too close to those behind them: the class, the text and the ratio of each.
 CONTRAST = """
 const channels = (color) => color.match(/[\\d.]+/g).map(Number);
@@ -34,16 +37,17 @@ return low;
 """
 
 
-def start_browser(*more: str) -> "Chrome":
-    """Chromium without a window, with more words than it needs for that."""
+def start_browser(*more: str, command: str = "chromium") -> "Chrome":
+    """Chromium, or its headless shell, without a window on the screen, with more words than it needs for that."""
     from selenium.webdriver import Chrome, ChromeOptions
     from selenium.webdriver.chrome.service import Service
 
-    chromium, driver = shutil.which("chromium"), shutil.which("chromedriver")
-    assert chromium and driver
+    path, driver = shutil.which(command), shutil.which("chromedriver")
+    assert path and driver
     options = ChromeOptions()
-    options.binary_location = chromium
-    for word in ("headless=new", "no-sandbox", "disable-dev-shm-usage", "disable-gpu", "window-size=1280,900", *more):
+    options.binary_location = path
+    size = f"window-size={WINDOWS[command]}"
+    for word in ("headless=new", "no-sandbox", "disable-dev-shm-usage", "disable-gpu", size, *more):
         options.add_argument(f"--{word}")
     options.set_capability("goog:loggingPrefs", {"browser": "ALL"})
     return Chrome(options=options, service=Service(driver))

@@ -11,7 +11,7 @@ from typing import TYPE_CHECKING
 import pytest
 from _pytest.terminal import TerminalReporter
 
-from support.browser import start_browser
+from support.browser import WINDOWS, start_browser
 from support.commands import Lab
 from support.left_out import NO_BINUTILS, NO_BROWSER, NO_CLANG, NO_GDB, NO_QEMU, NO_WALL, leave_out
 from vecmon_lab.compilers.compiler import Compiler, find_compilers
@@ -54,14 +54,15 @@ def lab(monkeypatch: pytest.MonkeyPatch, capfdbinary: pytest.CaptureFixture[byte
 
 @pytest.fixture(scope="session")
 def browser() -> Iterator["Chrome"]:
-    """Chromium without a window, for all tests that want one; its console is in `get_log("browser")`.
+    """A browser without a window, for all tests that want one; its console is in `get_log("browser")`.
 
-    Where there is none, a test that wants it is left out and counted; where CI is set, it fails.
+    It is Chromium's headless shell, which takes less of the processor's time, or Chromium where that isn't installed. Where there is
+    neither, a test that wants it is left out and counted; where CI is set, it fails.
     """
-    chromium, driver = shutil.which("chromium"), shutil.which("chromedriver")
-    if not chromium or not driver or not importlib.util.find_spec("selenium"):
+    commands = [each for each in WINDOWS if shutil.which(each)]
+    if not commands or not shutil.which("chromedriver") or not importlib.util.find_spec("selenium"):
         leave_out(NO_BROWSER)
-    chrome = start_browser()
+    chrome = start_browser(command=commands[0])
     yield chrome
     chrome.quit()
 
