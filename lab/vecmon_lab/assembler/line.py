@@ -23,8 +23,11 @@ class SourceError(LabError):
     """What is wrong in a source, and the line and the column where it stands."""
 
     def __init__(self, line: int, column: int, message: str) -> None:
-        super().__init__(f"line {line}, column {column}: {message}")
+        super().__init__(line, column, message)
         self.line, self.column, self.message = line, column, message
+
+    def __str__(self) -> str:
+        return f"line {self.line}, column {self.column}: {self.message}"
 
 
 @dataclass(frozen=True)

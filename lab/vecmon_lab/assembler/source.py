@@ -49,6 +49,10 @@ class Program:
         """The address of the first instruction of each line of the source that has one."""
         return {statement.line: statement.address for statement in reversed(self.statements)}
 
+    def line_at(self, address: int) -> int:
+        """The number of the line that the instruction at an address is of; 0 for none."""
+        return next((statement.line for statement in self.statements if statement.address == address), 0)
+
     def source_lines(self, text: str) -> dict[str, str]:
         """What the lines of the source, which has this text, say behind their labels, by the address of their first word.
 

@@ -31,13 +31,13 @@ class Builds:
         self._places = asyncio.Semaphore(os.cpu_count() or 1)
         self._busy = set[str]()
 
-    async def compile(self, seat: str, text: str, choice: int) -> CompiledProgram:
-        """The program of a seat's source, in which its mistakes are. Raises LabError."""
+    async def compile(self, seat: str, text: str, choice: int, is_answer: bool = False) -> CompiledProgram:
+        """The program of a seat's source, which may be to answer an exercise, with its mistakes. Raises LabError."""
         if self._compiler is None:
             raise BadRequest(f"this class takes no C: {self.no_c}")
         if seat in self._busy:
             raise BadRequest("a source of this seat is being compiled")
-        words = words_for(text, self._compiler, choice)
+        words = words_for(text, self._compiler, choice, is_answer)
         self._busy.add(seat)
         try:
             async with self._places:

@@ -1,7 +1,8 @@
 """The exercises of a class: seats' answers are checked beside its machines, in processes of their own, and kept.
 
 exercises.json: the folder of each exercise by its name
-answers/A3.doubles.2.json: the second answer of seat A3 to `doubles`: its time, its text, and what was told of it
+answers/A3.doubles.2.json: the second answer of seat A3 to `doubles`: its time, its text and the suffix of its language, and
+what was told of it
 """
 
 import asyncio
@@ -13,14 +14,18 @@ import sys
 import time
 from collections.abc import Callable, Iterable, Iterator, Mapping, Sequence
 from dataclasses import dataclass, field
-from typing import TypedDict
+from typing import NotRequired, TypedDict
 
 from .. import LabError
-from ..exercises.answer import STACK, inputs, settled
+from ..assembler.source import SourceError
+from ..compilers.compiled import CompiledProgram
+from ..exercises.answer import C_SUFFIX, STACK, inputs, settled
 from ..exercises.check import Taken, Told
 from ..exercises.exercise import Exercise, read_exercise
 from .beside import Beside
+from .builds import Builds
 from .codes import new_code
+from .languages import NUMBERS, SourceText
 from .requests import BadRequest
 from .store import BadFolder, Store
 
@@ -28,13 +33,15 @@ EXERCISES, ANSWERS = "exercises.json", "answers"
 PLACES, SECONDS = 16, 12.0  # checks at once, and how long one may take
 MOST_TRIES = 200  # of a seat at an exercise
 
-Try = TypedDict("Try", {"time": int, "text": str, "told": Told})
-"""An answer: when, in seconds since 1970; the source; and what was told of it."""
+Try = TypedDict("Try", {"time": int, "text": str, "suffix": NotRequired[str], "told": Told})
+"""An answer: when, in seconds since 1970; the source, and that of its language, else `s`; and what was told of it."""
+Start = TypedDict("Start", {"text": str, "language": int})
 
 
 class ExerciseView(TypedDict):
     """What a student is told of an exercise: of a hidden case its name, and whether it passes; hints that are due.
 
+    starts: sources to begin with, the one that is meant first; of two one is in C
     before: what opens the lesson before it; "" for none
     lesson: what opens a lesson of the case that failed first; "" for none
     """
@@ -42,7 +49,7 @@ class ExerciseView(TypedDict):
     title: str
     before: str
     text: str
-    start: str
+    starts: list[Start]
     cases: list[str]
     hints: Sequence[str]
     tries: int
@@ -65,14 +72,14 @@ class Work:
     """
 
     tries: list[tuple[int, int]] = field(default_factory=list)
-    text: str = ""
+    source: SourceText = SourceText()
     told: Told = field(default_factory=lambda: Told())
     first: int = 0
     ticket: str = ""
 
     def add(self, done: Try) -> None:
         """Takes up a try."""
-        self.text, self.told = done["text"], done["told"]
+        self.source, self.told = _source(done), done["told"]
         cases = self.told.get("cases", [])
         self.tries.append((done["time"], sum(cases)))
         self.ticket = new_code() if "number" in self.told else ""
@@ -89,12 +96,18 @@ class Work:
 class Checks:
     """The exercises of a class by name, and what each seat has done of them."""
 
-    def __init__(self, store: Store, folders: Iterable[pathlib.Path], tell: Callable[[Iterable[str]], object]) -> None:
+    def __init__(
+        self,
+        store: Store,
+        folders: Iterable[pathlib.Path],
+        tell: Callable[[Iterable[str]], object],
+        builds: Builds,
+    ) -> None:
         """folders: of exercises, or names of those that come with the lab; none for those that the class had before.
 
         `tell` is called with the names of seats that have news. Raises LabError and OSError for a bad exercise.
         """
-        self._store, self._tell, self._beside = store, tell, Beside(PLACES)
+        self._store, self._tell, self._beside, self._builds = store, tell, Beside(PLACES), builds
         kept = [pathlib.Path(path) for path in store.read(EXERCISES, dict[str, str]).values()]
         self.exercises: dict[str, Exercise] = {}
         for folder in list(folders) or kept:
@@ -103,7 +116,7 @@ class Checks:
             if not re.fullmatch(r"[\w-]{1,40}", name, re.ASCII) or name in self.exercises:
                 raise BadFolder(f"{folder}: an exercise has a name of its own: 1 to 40 letters, digits, _ and -")
             self.exercises[name] = exercise
-        self._starts = {name: _start(exercise) for name, exercise in self.exercises.items()}
+        self._starts = {name: _starts(exercise) for name, exercise in self.exercises.items()}
         if self.exercises:
             store.write(EXERCISES, {name: str(each.folder) for name, each in self.exercises.items()})
         self._work: dict[tuple[str, str], Work] = {}
@@ -116,15 +129,17 @@ class Checks:
         for seat, name, _, done in sorted(self._found()):
             self._of(seat, name).add(done)
 
-    def begin(self, seat: str, name: str, text: str) -> None:
+    def begin(self, seat: str, name: str, source: SourceText) -> None:
         """Begins to check an answer. Raises BadRequest where there is no such exercise, or a check is under way."""
         self._exercise(name)
+        if source.choice is not None and self._builds.no_c:
+            raise BadRequest(f"this class takes no C: {self._builds.no_c}")
         if seat in self._busy:
             raise BadRequest("a check of this seat is under way")
         if len(self._of(seat, name).tries) >= MOST_TRIES:
             raise BadRequest(f"this seat has tried it {MOST_TRIES} times")
         self._busy[seat] = name
-        task = asyncio.get_running_loop().create_task(self._check(seat, name, text))
+        task = asyncio.get_running_loop().create_task(self._check(seat, name, source))
         self._tasks.add(task)
         task.add_done_callback(self._tasks.discard)
         self._tell([seat])
@@ -143,28 +158,29 @@ class Checks:
                     raise LabError("a check of this seat is under way")
                 self._busy[seat] = ""
                 try:
-                    return await self._run(name, str(work.told["number"]), work.text)
+                    compiled = await self._compiled(seat, work.source)
+                    return await self._run(name, str(work.told["number"]), work.source.text, compiled)
                 finally:
                     del self._busy[seat]
         raise LabError("there is no such lesson, or not any more: check once more")
 
-    def failed(self, seat: str, name: str) -> Callable[[int], list[str]]:
-        """What makes the commands of the case that failed first at a seat, for a program that begins at an address.
+    def failed(self, seat: str, name: str, source: SourceText) -> Callable[[int], list[str]]:
+        """What makes the commands of the case that failed first at a seat, for a source's program that begins at an address.
 
         Raises BadRequest where none has failed.
         """
         exercise, told = self._exercise(name), self._of(seat, name).told
         if "number" not in told:
             raise BadRequest("no case that is shown has failed")
-        case = exercise.cases[told["number"]]
-        return lambda begin: [*STACK, *inputs(exercise, case, begin)]
+        case, stack = exercise.cases[told["number"]], STACK if source.choice is None else ()
+        return lambda begin: [*stack, *inputs(exercise, case, begin)]
 
-    def text(self, seat: str, name: str, number: int) -> str:
+    def answer(self, seat: str, name: str, number: int) -> SourceText:
         """The source of a seat's try, the first of which is 1. Raises BadRequest."""
         if not 1 <= number <= len(self._of(seat, name).tries):
             raise BadRequest("there is no such answer")
         file = _file(seat, name, number)
-        return str((self._unsaved.get(file) or self._store.read(file, dict[str, object])).get("text", ""))
+        return _source(self._unsaved.get(file) or self._store.read(file, Try))
 
     def keep(self) -> None:
         """Brings the folder up to date, as far as the disk takes it."""
@@ -198,7 +214,7 @@ class Checks:
             "title": exercise.title,
             "before": f"lesson/{name}" if "lesson" in exercise.files else "",
             "text": exercise.text,
-            "start": self._starts[name],
+            "starts": self._starts[name],
             "cases": [case.name for case in exercise.cases],
             "hints": exercise.hints[: len(work.tries) - (work.first > 0)],
             "tries": len(work.tries),
@@ -208,17 +224,19 @@ class Checks:
             "lesson": f"lesson/{work.ticket}" if work.ticket else "",
         }
 
-    async def _check(self, seat: str, name: str, text: str) -> None:
+    async def _check(self, seat: str, name: str, source: SourceText) -> None:
         """Checks an answer, keeps it, and tells."""
         try:
-            told: Told = json.loads(await self._run(name, "check", text))
+            compiled = await self._compiled(seat, source)
+            told: Told = json.loads(await self._run(name, "check", source.text, compiled))
         except LabError as error:  # of which only the teacher is told more
             print(f"vecmon-lab: a check of {name}: {error}", file=sys.stderr)
             cases = [False] * len(self.exercises[name].cases)
             told = {"cases": cases, "reason": "it can't be checked, or takes too long"}
         finally:
             del self._busy[seat]
-        work, done = self._of(seat, name), Try(time=int(time.time()), text=text, told=told)
+        work = self._of(seat, name)
+        done = Try(time=int(time.time()), text=source.text, suffix=source.suffix, told=told)
         if "good" in told:
             self._good[name] = told["good"]
         if "cases" in told:
@@ -229,9 +247,18 @@ class Checks:
             work.told, work.ticket = told, ""
         self._tell([seat])
 
-    async def _run(self, name: str, what: str, text: str = "") -> bytes:
+    async def _compiled(self, seat: str, source: SourceText) -> CompiledProgram | None:
+        """What a compiler makes of a seat's source, if that is in C. What it can't be given is a mistake."""
+        if source.choice is None:
+            return None
+        try:
+            return await self._builds.compile(seat, source.text, source.choice, is_answer=True)
+        except LabError as error:
+            return CompiledProgram([], {}, [], 0, [SourceError(0, 0, f"{error}")])
+
+    async def _run(self, name: str, what: str, text: str = "", compiled: CompiledProgram | None = None) -> bytes:
         """What the process puts out that checks a text, or makes a lesson. Raises LabError."""
-        given = pickle.dumps((self.exercises[name], text, self._good.get(name)))
+        given = pickle.dumps((self.exercises[name], text, compiled, self._good.get(name)))
         made = self._beside.run("exercises.check", str(self._store.program), what, script=given)
         try:
             return await asyncio.wait_for(made, SECONDS)
@@ -257,6 +284,12 @@ def _file(seat: str, name: str, number: int) -> str:
     return f"{ANSWERS}/{seat}.{name}.{number}.json"
 
 
-def _start(exercise: Exercise) -> str:
-    """The source that a student begins with."""
-    return exercise.files["start"].read_text("utf-8") if "start" in exercise.files else ""
+def _source(done: Try) -> SourceText:
+    """The source of a try."""
+    return SourceText(done.get("text", ""), NUMBERS.get(done.get("suffix", ""), 0))
+
+
+def _starts(exercise: Exercise) -> list[Start]:
+    """The sources that a student may begin with."""
+    files = [exercise.files[key] for key in ("start", "start_c") if key in exercise.files]
+    return [Start(text=file.read_text("utf-8"), language=int(file.suffix == C_SUFFIX)) for file in files]

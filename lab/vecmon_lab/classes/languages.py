@@ -18,6 +18,7 @@ LANGUAGES = [
     Language("assembler", "s"),
     *(Language(f"C, {each.name}", f"{each.name}.c", number) for number, each in enumerate(CHOICES)),
 ]
+NUMBERS = {language.suffix: number for number, language in enumerate(LANGUAGES)}
 
 
 @dataclass(frozen=True)

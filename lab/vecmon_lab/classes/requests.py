@@ -124,7 +124,7 @@ class Check:
     """A source that is checked as an answer to an exercise."""
 
     exercise: str
-    text: str
+    source: SourceText
 
 
 @dataclass(frozen=True)
@@ -132,7 +132,7 @@ class TryCase:
     """A source for a new machine of the student's, which is given the case of an exercise that failed first."""
 
     exercise: str
-    text: str
+    source: SourceText
 
 
 @dataclass(frozen=True)
@@ -191,9 +191,9 @@ def read_request(message: Mapping[str, object], is_teacher: bool) -> Request:
         case "name", _:
             return SetName(_name(message, "seat"), _name(message, "name"))
         case "check", False:
-            return Check(_name(message, "exercise"), _text(message))
+            return Check(_name(message, "exercise"), _source(message))
         case "case", False:
-            return TryCase(_name(message, "exercise"), _text(message))
+            return TryCase(_name(message, "exercise"), _source(message))
         case "answer", True:
             return ReadAnswer(_name(message, "seat"), _name(message, "exercise"), _number(message))
         case "version", _:

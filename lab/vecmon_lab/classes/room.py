@@ -164,12 +164,14 @@ class Room:
             self.note(seat, f"!The clock is off, so the program waits: the teacher can turn it on{own_way}.")
         return [[part[2:] for part in answer] for answer in work.looks]
 
-    async def source(self, seat: Seat, source: SourceText | None) -> tuple[list[SourceError], Sequence[SourceError]]:
+    async def source(
+        self, seat: Seat, source: SourceText | None, is_answer: bool = False
+    ) -> tuple[list[SourceError], Sequence[SourceError]]:
         """Brings a source into a new machine of the seat's; the mistakes in it, and what a compiler warns of.
 
-        Without one, that of the machine that there is, whose breakpoints stay.
+        Without one, that of the machine that there is, whose breakpoints stay. is_answer: whether it answers an exercise
         """
-        program = await self._program(seat, source) if source else None
+        program = await self._program(seat, source, is_answer) if source else None
         breaks: Sequence[int] = []
         async with seat.turn:
             if source is None:
@@ -186,10 +188,10 @@ class Room:
             self.changed([seat.name])
         return mistakes, warnings
 
-    async def _program(self, seat: Seat, source: SourceText) -> Program:
+    async def _program(self, seat: Seat, source: SourceText, is_answer: bool) -> Program:
         """The program of a source, with all its mistakes, which needs no turn of the machine's."""
         if source.choice is not None:
-            return await self.compile(seat.name, source.text, source.choice)
+            return await self.compile(seat.name, source.text, source.choice, is_answer)
         loop, vecmon = asyncio.get_running_loop(), pathlib.Path(self.session.command[0])
         program = await loop.run_in_executor(self._assembler, read_source, source.text)
         if not program.mistakes:

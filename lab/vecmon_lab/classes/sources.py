@@ -13,7 +13,7 @@ from typing import TypedDict
 from ..assembler.source import Program, read_source
 from ..compilers.compiled import CompiledProgram, read_answer
 from ..compilers.debug import MOST_BYTES
-from .languages import LANGUAGES, SourceText
+from .languages import LANGUAGES, NUMBERS, SourceText
 from .requests import BadRequest
 from .store import Store
 
@@ -119,12 +119,12 @@ class SeatSource:
 
     def _found(self) -> list[Version]:
         """The versions that the folder has."""
-        found, numbers = [], {language.suffix: number for number, language in enumerate(LANGUAGES)}
+        found = []
         for path in (self._store.folder / "sources").glob(f"{self._name}.*"):
             parts = re.fullmatch(r"\w+\.(\d+)\.(typed|written|given)\.(.+)", path.name)
-            if parts and parts[3] in numbers:
+            if parts and parts[3] in NUMBERS:
                 number, when = int(parts[1]), int(path.stat().st_mtime)
-                found.append(Version(number=number, time=when, why=parts[2], language=numbers[parts[3]]))
+                found.append(Version(number=number, time=when, why=parts[2], language=NUMBERS[parts[3]]))
         return sorted(found, key=lambda version: version["number"])[-MOST_VERSIONS:]
 
 

@@ -200,7 +200,7 @@ class Class:
         self._kept: dict[str, Notes] = {}
         makers, self._packers, self._packing = Beside(1), Beside(2), set[str]()
         try:
-            self.checks = Checks(store, exercises, self._tell)
+            self.checks = Checks(store, exercises, self._tell, self.builds)
             for letter in store.machines:
                 notes = store.read(f"{letter}.json", Notes)
                 file = ScriptFile(store.folder, letter, len(notes.scripts))
@@ -457,11 +457,11 @@ class Class:
                 name = tab.who if tab.who != TEACHER else tab.shoulder.name if tab.shoulder else ""
                 version = self.sources[self.seat(name).name].version(number)
                 return {"text": version.text, "language": version.language}
-            case Check(name, text):
-                self.checks.begin(self.seat(tab.who).name, name, text)
-            case TryCase(name, text):
-                seat, case = self.seat(tab.who), self.checks.failed(tab.who, name)
-                if not (told := await self._write(seat, SourceText(text)))["mistakes"]:
+            case Check(name, source):
+                self.checks.begin(self.seat(tab.who).name, name, source)
+            case TryCase(name, source):
+                seat, case = self.seat(tab.who), self.checks.failed(tab.who, name, source)
+                if not (told := await self._write(seat, source, is_answer=True))["mistakes"]:
                     given = Lines("", case(int(seat.state["pc"], 16)), 0, [])
                     await self.rooms[seat.name[0]].lines(seat, given, [])
                 return told
@@ -475,7 +475,8 @@ class Class:
         """The same of a request that only the teacher makes."""
         match request:
             case ReadAnswer(seat_name, name, number):
-                return {"text": self.checks.text(self.seat(seat_name).name, name, number)}
+                answer = self.checks.answer(self.seat(seat_name).name, name, number)
+                return {"text": answer.text, "language": answer.language}
             case Give(name, source):
                 for each in self._receivers(name):
                     self.sources[each].give(source)
@@ -504,11 +505,11 @@ class Class:
                 return await self._shown_codes(name, with_pictures)
         return {}
 
-    async def _write(self, seat: Seat, source: SourceText | None) -> Message:
+    async def _write(self, seat: Seat, source: SourceText | None, is_answer: bool = False) -> Message:
         """Begins a seat's machine anew with a source, or with the one that stands there; the mistakes that it has."""
         if source:
             self.sources[seat.name].write(source)
-        mistakes, warnings = await self.rooms[seat.name[0]].source(seat, source)
+        mistakes, warnings = await self.rooms[seat.name[0]].source(seat, source, is_answer)
         if mistakes:
             seat.stand(f"{len(mistakes)} mistake{'s' * (len(mistakes) > 1)} in the source", True)
             self._tell([seat.name])

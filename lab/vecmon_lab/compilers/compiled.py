@@ -14,7 +14,7 @@ from .. import LabError
 from ..assembler.source import Program, SourceError
 from ..guest.guest import STACK_END, STACK_POINTER, pokes
 from ..instructions.accesses import PAGE_BYTES, ROW_BYTES
-from .compiler import SOURCE, Compiler
+from .compiler import FUNCTION, SOURCE, Compiler
 from .debug import MOST_BYTES, MOST_ROWS, MOST_SEGMENTS, MOST_SYMBOLS
 from .inside import MESSAGE_LETTERS, MOST_MESSAGES
 from .variables import Variable, read_variables
@@ -75,20 +75,23 @@ class CompiledProgram(Program):
         return {number: address for address, number, _ in reversed(self.rows) if number}
 
 
-def compile_c(text: str, compiler: Compiler, choice: int, headers: pathlib.Path | None = None) -> CompiledProgram:
+def compile_c(
+    text: str, compiler: Compiler, choice: int, headers: pathlib.Path | None = None, is_answer: bool = False
+) -> CompiledProgram:
     """Compiles a source, by the options of this number. Mistakes are in the program. Raises LabError.
 
     headers: the folder of a source of one's own; without it that happens behind a wall, as for a text of others
+    is_answer: whether it is to answer an exercise
     """
-    words = words_for(text, compiler, choice)
+    words = words_for(text, compiler, choice, is_answer)
     return read_answer(answer_of_own(words, text, headers) if headers else answer_walled(words, text))
 
 
-def words_for(text: str, compiler: Compiler, choice: int) -> list[str]:
+def words_for(text: str, compiler: Compiler, choice: int, is_answer: bool = False) -> list[str]:
     """The words of `inside` for a source. Raises LabError where that is too long."""
     if len(text.encode("utf-8", "replace")) > SOURCE_BYTES:
         raise LabError(f"a source in C has {SOURCE_BYTES:,} bytes at most")
-    return [compiler.name, f"{choice}"]
+    return [compiler.name, f"{choice}", *[FUNCTION] * is_answer]
 
 
 def read_answer(told: bytes, most: int = IMAGE_BYTES) -> CompiledProgram:

@@ -13,6 +13,9 @@ RUNTIME = pathlib.Path(__file__).parent / "runtime"
 SOURCE, IMAGE = "source.c", "image"
 """The names that a source and its image always have."""
 
+FUNCTION = "answer"
+"""The function that begins an image which is to answer an exercise; others begin with `main`."""
+
 LEAST_CLANG, LEAST_GCC = 17, 14  # which have the intrinsics of vectors by their present names
 
 _ALL = (MARCH, "-mabi=lp64", "-ffreestanding", "-fno-pic", "-nostdlib", "-static", "-Wl,--build-id=none")
@@ -63,8 +66,11 @@ class Compiler:
             f"{self.name} {CHOICES[choice].name}{'' if self.has_vectors else ' (scalar C alone: it has no intrinsics)'}"
         )
 
-    def words(self, choice: int) -> list[str]:
-        """The command that compiles the source in its folder. Raises LabError where there is no such choice."""
+    def words(self, choice: int, is_answer: bool = False) -> list[str]:
+        """The command that compiles the source in its folder. Raises LabError where there is no such choice.
+
+        is_answer: to an exercise, whose loops have vectors where the source asks for them alone
+        """
         if not 0 <= choice < len(CHOICES):
             raise LabError(f"options have numbers from 0 to {len(CHOICES) - 1}")
         if self.is_clang:
@@ -72,6 +78,9 @@ class Compiler:
             own = [*_CLANG, linker, *CHOICES[choice].clang]
         else:
             own = [*_GCC, *CHOICES[choice].gcc]
+        if is_answer:
+            plain = _PLAIN_CLANG if self.is_clang else _PLAIN_GCC
+            own += ["-DANSWER", f"-Wl,--entry={FUNCTION}", *plain]
         runtime = (
             f"-I{RUNTIME}",
             f"-fdebug-prefix-map={RUNTIME}=runtime",

@@ -1,6 +1,7 @@
 """What runs behind the wall: compiles the source on its input, and answers what became of it, as JSON.
 
-`inside COMPILER CHOICE`, in a folder of its own. The answer has `messages`, and `image` where there is one (`debug.py`).
+`inside COMPILER CHOICE [answer]`, in a folder of its own, with that word for an answer to an exercise. What is answered has
+`messages`, and `image` where there is one (`debug.py`).
 """
 
 import json
@@ -12,7 +13,7 @@ import subprocess
 import sys
 from typing import NamedTuple
 
-from .compiler import IMAGE, SOURCE, Compiler
+from .compiler import FUNCTION, IMAGE, SOURCE, Compiler
 from .debug import image_of
 
 COMPLAINT_BYTES, MOST_MESSAGES, MESSAGE_LETTERS = 1 << 16, 100, 400
@@ -52,9 +53,9 @@ def read_messages(complaint: str) -> list[Message]:
     return list(dict.fromkeys(messages))[:MOST_MESSAGES]
 
 
-def compile_source(compiler: Compiler, choice: int) -> list[Message]:
+def compile_source(compiler: Compiler, choice: int, is_answer: bool) -> list[Message]:
     """Compiles the source of this folder; what the compiler said."""
-    command = compiler.words(choice)
+    command = compiler.words(choice, is_answer)
     with subprocess.Popen(
         command, stdin=subprocess.DEVNULL, stdout=subprocess.DEVNULL, stderr=subprocess.PIPE
     ) as child:
@@ -73,12 +74,14 @@ def main() -> None:
     os.nice(10)  # whoever steps a machine comes first
     for limit, most in LIMITS.items():
         resource.setrlimit(limit, (most, most))
-    compiler, choice = Compiler(sys.argv[1]), int(sys.argv[2])
+    compiler, choice, is_answer = Compiler(sys.argv[1]), int(sys.argv[2]), sys.argv[3:] == [FUNCTION]
     pathlib.Path(SOURCE).write_bytes(sys.stdin.buffer.read())
-    messages, image = compile_source(compiler, choice), None
+    messages, image = compile_source(compiler, choice, is_answer), None
     try:
         if not any(message.is_error for message in messages):
             image = image_of(pathlib.Path(IMAGE))
+            if is_answer and image["symbols"].get(FUNCTION) != image["entry"]:
+                messages.append(Message(0, 0, True, f"the source has no function `{FUNCTION}`, which each case calls"))
     except (ValueError, OSError) as error:
         messages.append(Message(0, 0, True, f"the image can't be read: {error}"))
     sys.stdout.write(json.dumps({"messages": messages, "image": image}))

@@ -10,8 +10,10 @@ from dataclasses import dataclass, replace
 from random import Random
 
 from .. import LabError, mistakes_in
+from ..compilers.compiled import CompiledProgram, compile_c
+from ..compilers.compiler import find_compiler
 from ..guest.guest import IMAGE_BYTES, QUANTUM, STACK_END, STACK_POINTER, Guest, pokes
-from ..lessons.script import Script, read_source, send
+from ..lessons.script import Script, read_c, read_source, send
 from ..machine.answers import Position, ScalarRegisters, Stop
 from ..machine.lines import check_line, words_of
 from ..machine.program import check_flags
@@ -24,6 +26,7 @@ RETURN = STACK_END
 TURNED = 0xA5
 """The bits of a byte that are turned round where something is expected. All would make -32768 of 32767, as sums do."""
 
+C_SUFFIX = ".c"
 MOST_STEPS = 256  # of one line
 
 _RETURN_PAGE = (f"map {RETURN:x} 1 rx", f"poke {RETURN:x} 73001000", f"set x1 {RETURN:x}")
@@ -51,10 +54,11 @@ class Attempt:
     is_long: bool
 
 
-def read_answer(path: pathlib.Path, most: int = IMAGE_BYTES) -> Answer:
-    """The answer in a file of so many bytes at most: an ELF image, a source (.s, .S), or a script.
+def read_answer(path: pathlib.Path, most: int = IMAGE_BYTES, is_own: bool = False) -> Answer:
+    """The answer in a file of so many bytes at most: an ELF image, a source (.s, .S, .c), or a script.
 
     Raises LabError with the reason. A link isn't followed, and what is no file, as a pipe or a device, isn't read.
+    is_own: whether it is one's own file, of which C is compiled without a wall, with the headers that lie beside it
     """
     try:
         with open(path, "rb", opener=_open) as file:
@@ -73,15 +77,22 @@ def read_answer(path: pathlib.Path, most: int = IMAGE_BYTES) -> Answer:
         text = data.decode("utf-8")
     except UnicodeDecodeError as error:
         raise LabError(f"it is no image and no text: byte {error.start + 1} is {data[error.start]:#04x}") from error
+    if path.suffix == C_SUFFIX:
+        compiled = compile_c(text, find_compiler(None), 0, path.parent if is_own else None, is_answer=True)
+        return source_answer(text, path, compiled)
     return source_answer(text, path) if path.suffix in (".s", ".S") else Answer(path, _script_commands(text))
 
 
-def source_answer(text: str, path: pathlib.Path) -> Answer:
-    """The answer that a source is, which has this text, and is called so. Raises LabError where it doesn't assemble."""
-    source = read_source(text, path.name)
-    if not source.statements:
+def source_answer(text: str, path: pathlib.Path, compiled: CompiledProgram | None = None) -> Answer:
+    """The answer that a source is, which has this text, and is called so. Raises LabError where it has mistakes.
+
+    compiled: of one in C what a compiler made of it
+    """
+    source = read_c(text, path.name, compiled) if compiled else read_source(text, path.name)
+    if not (source.statements or compiled):
         raise LabError("there is no instruction in the source")
-    return Answer(path, [line[2:] for line in source.steps[0].lines[1:]] + list(STACK), source)
+    stack = [] if compiled else STACK  # which a compiled program has
+    return Answer(path, [line[2:] for line in source.steps[0].lines[1:]] + [*stack], source)
 
 
 def _open(name: str, flags: int) -> int:
@@ -148,13 +159,14 @@ def attempt(program: pathlib.Path, answer: Answer, exercise: Exercise, case: Cas
 
 def _without_end(guest: Guest, answer: Answer, stop: Stop | None, ticks: int) -> str:
     """Why an answer comes to no end of its own, and at which line of its source; without a stop its ticks ran out."""
-    lines = {each.address: each.line for each in answer.source.statements.values()} if answer.source else {}
+    source, pc = answer.source.program if answer.source else None, stop.pc if stop else guest.pc
+    line = source.line_at(pc) if source else 0
     if stop is None:
-        place = f"; it is at line {lines[guest.pc]}" if guest.pc in lines else ""
+        place = f"; it is at line {line}" if line else ""
         return f"it hasn't ended after {ticks:,} ticks, of which an instruction takes one or more{place}"
-    if lines and stop.pc == max(lines) + 4:
+    if source and source.statements and pc == source.statements[-1].address + 4:
         return "it runs on behind its last instruction: is `ret` missing?"
-    return (f"line {lines[stop.pc]}: " if stop.pc in lines else "") + guest.explain(stop)
+    return (f"line {line}: " if line else "") + guest.explain(stop)
 
 
 def _run(guest: Guest, limits: Limits) -> tuple[Stop | None, bool]:
@@ -205,10 +217,11 @@ def _results(guest: Guest, expected: Results, output: bytes) -> Results:
 def settled(program: pathlib.Path, exercise: Exercise) -> Exercise:
     """The exercise with what its reference leaves as what is expected. Raises LabError where a case can't be given."""
     reference, cases = Answer(pathlib.Path(), [f"setpc {RETURN:x}"]), []  # it returns at once
+    if "reference" in exercise.files:
+        with mistakes_in(exercise.title):
+            reference = read_answer(exercise.files["reference"], is_own=True)
     for case in exercise.cases:
         with mistakes_in(f"{exercise.title}, {case.name}"):
-            if "reference" in exercise.files:
-                reference = read_answer(exercise.files["reference"])
             results = attempt(program, reference, exercise, case).found
         cases.append(replace(case, expected=results) if "reference" in exercise.files else case)
     return replace(exercise, cases=cases)

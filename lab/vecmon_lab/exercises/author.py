@@ -5,8 +5,9 @@ import pathlib
 import shutil
 from collections.abc import Iterator
 
+from ..compilers.compiler import find_compilers
 from ..machine.program import find_program
-from .answer import settled
+from .answer import C_SUFFIX, settled
 from .exercise import OURS, Exercise, read_exercise
 from .grade import grade
 from .reports import told
@@ -35,7 +36,10 @@ def run(arguments: argparse.Namespace) -> int:
         print(f"after {number} {'try' if number == 1 else 'tries'}: {hint}")
     is_fit = True
     for path, shall_pass in _answers(exercise):
-        outcomes = grade(program, exercise, path)
+        if path.suffix == C_SUFFIX and not find_compilers():
+            print(f"{path.relative_to(folder)}: it isn't tried, since there is no compiler for C")
+            continue
+        outcomes = grade(program, exercise, path, is_own=True)
         is_fit &= any(outcomes) != shall_pass
         print(f"{path.relative_to(exercise.folder)}: {_verdict(exercise, outcomes)}", end="")
         print("" if any(outcomes) != shall_pass else f", and it shall {'pass' if shall_pass else 'fail'}")
@@ -44,7 +48,7 @@ def run(arguments: argparse.Namespace) -> int:
 
 def _answers(exercise: Exercise) -> Iterator[tuple[pathlib.Path, bool]]:
     """The answers that an exercise has, and whether each shall pass; the reference's results are expected anyway."""
-    for key, shall_pass in (("good", True), ("start", False)):
+    for key, shall_pass in (("good", True), ("start", False), ("start_c", False)):
         if key in exercise.files:
             yield exercise.files[key], shall_pass
     for path in sorted((exercise.folder / "wrong").glob("*")):

@@ -1,30 +1,32 @@
 """What a student is told of an answer in a class, and a lesson of it in a case: each is made in a process of its own.
 
 The words are the program and what is asked for: `check`, the number of a case for a lesson of it, or `before` for the
-lesson before the exercise. The exercise with what is expected, the answer's source, and what a good answer takes, if that
-is known, come pickled on standard input.
+lesson before the exercise. The exercise with what is expected, the answer's source, what a compiler made of it, if that is
+in C, and what a good answer takes, if that is known, come pickled on standard input.
 """
 
+import contextlib
 import json
 import os
 import pathlib
 import pickle
 import resource
 import sys
-from collections.abc import Mapping, Sequence
+from collections.abc import Sequence
 from dataclasses import replace
 from typing import TypedDict
 
 from .. import LabError
-from ..assembler.source import SourceError, assemble, read_source
+from ..assembler.source import SourceError, read_source
 from ..assembler.trial import all_mistakes
+from ..compilers.compiled import CompiledProgram
 from ..lessons.script import Script, Step
 from ..lessons.script import read_source as read_script
 from .answer import Answer, inputs, ready, read_answer, source_answer
 from .exercise import ABI, ADDRESSES, Case, Exercise, Results
 from .outcome import outcome
 
-NAME = pathlib.Path("answer.s")
+NAME = pathlib.Path("answer")
 MOST_SHOWN, BEFORE = 48, 4  # numbers of a row; and of them before the first wrong one
 MEASURED_TICKS = 2000  # of a case: what an answer takes is told only where it ends in so many
 CPU_SECONDS = 10
@@ -56,17 +58,23 @@ class Told(TypedDict, total=False):
     good: Taken
 
 
-def check(program: pathlib.Path, exercise: Exercise, text: str, good: Taken | None) -> Told:
-    """What is told of a source, in an exercise with what is expected; good: what its good answer takes, if that is known."""
+def check(
+    program: pathlib.Path, exercise: Exercise, text: str, compiled: CompiledProgram | None, good: Taken | None
+) -> Told:
+    """What is told of a source, in an exercise with what is expected.
+
+    compiled: what a compiler made of it, if it is in C; good: what the exercise's good answer takes, if that is known
+    """
     try:
         if len(text.encode()) > exercise.limits.size:
             raise LabError(f"the source has more than {exercise.limits.size:,} bytes")
-        answer = source_answer(text, NAME)
+        answer = source_answer(text, NAME, compiled)
         outcomes = [outcome(program, answer, exercise, case) for case in exercise.cases]
         if outcomes[0][0].startswith(f"{NAME}:"):  # the machine refuses an instruction
             raise LabError
     except LabError as error:
-        mistakes = all_mistakes(read_source(text), program) or [SourceError(1, 1, f"{error}")]
+        of_form = compiled.mistakes if compiled else all_mistakes(read_source(text), program)
+        mistakes = of_form or [SourceError(1, 1, f"{error}")]
         return {"mistakes": [{"line": it.line, "column": it.column, "message": it.message} for it in mistakes]}
     told: Told = {"cases": [not reason for reason, _ in outcomes]}
     for number, (case, (reason, done)) in enumerate(zip(exercise.cases, outcomes)):
@@ -78,37 +86,39 @@ def check(program: pathlib.Path, exercise: Exercise, text: str, good: Taken | No
             told.update({"found": found} if done else {})
             return told
     if all(told["cases"]) and "good" in exercise.files:
-        good = good or _taken(program, read_answer(exercise.files["good"]), exercise)
+        with contextlib.suppress(LabError):  # as one in C, where there is no compiler
+            good = good or _taken(program, read_answer(exercise.files["good"], is_own=True), exercise)
         mine = _taken(program, answer, exercise)
         if mine and good:
             told.update({"taken": mine, "good": good})
     return told
 
 
-def lesson(program: pathlib.Path, exercise: Exercise, number: int, text: str) -> str:
+def lesson(program: pathlib.Path, exercise: Exercise, number: int, text: str, compiled: CompiledProgram | None) -> str:
     """A lesson, in HTML, of a source in a case, which begins when the case is given, and has 256 instructions at most."""
-    answer, case = source_answer(text, NAME), exercise.cases[number]
-    assert answer.commands is not None and answer.source is not None
+    answer, case = source_answer(text, NAME, compiled), exercise.cases[number]
+    assert answer.commands is not None and answer.source is not None and answer.source.program is not None
     title, reason = f"{exercise.title}: {case.name}", outcome(program, answer, exercise, case)[0]
-    assembled = assemble(text)
-    brought = [f"1 {line}" for line in ["enter", *answer.commands, *inputs(exercise, case, assembled.entry)]]
+    source = answer.source.program
+    brought = [f"1 {line}" for line in ["enter", *answer.commands, *inputs(exercise, case, source.entry)]]
     steps = [Step(brought, f"The case is given. The answer fails: {reason}"), Step(["1 step 256"])]
-    return _page(title, replace(answer.source, steps=steps), program, assembled.source_lines(text))
+    return _page(title, replace(answer.source, steps=steps, said=source.source_lines(text)), program)
 
 
 def lesson_before(program: pathlib.Path, exercise: Exercise) -> tuple[str, str]:
     """The title of the lesson before an exercise, and its page in HTML."""
     file = exercise.files["lesson"]
     script = read_script(file.read_text("utf-8"), file.name)
-    return script.title, _page(script.title, script, program, {})
+    return script.title, _page(script.title, script, program)
 
 
-def _page(title: str, script: Script, program: pathlib.Path, lines: Mapping[str, str]) -> str:
-    """The page in HTML of a script that a source's lines are of, by address."""
+def _page(title: str, script: Script, program: pathlib.Path) -> str:
+    """The page in HTML of a script."""
     from ..lessons.frames import make_frames  # which a check does without
     from ..lessons.page import lesson_page
 
-    return lesson_page(title, make_frames(script, program), script.labels, lines)
+    frames = make_frames(script, program)
+    return lesson_page(title, frames, script.labels, script.said, script.starts, script.variables)
 
 
 def _notes(exercise: Exercise, case: Case) -> list[str]:
@@ -175,14 +185,14 @@ def main(program: str, what: str) -> None:
     """Writes what is told, in JSON, or a lesson, to standard output."""
     os.nice(10)
     resource.setrlimit(resource.RLIMIT_CPU, (CPU_SECONDS, CPU_SECONDS))
-    (exercise, text, good), vecmon = pickle.load(sys.stdin.buffer), pathlib.Path(program)
+    (exercise, text, compiled, good), vecmon = pickle.load(sys.stdin.buffer), pathlib.Path(program)
     match what:
         case "check":
-            told = json.dumps(check(vecmon, exercise, text, good))
+            told = json.dumps(check(vecmon, exercise, text, compiled, good))
         case "before":
             told = lesson_before(vecmon, exercise)[1]
         case number:
-            told = lesson(vecmon, exercise, int(number), text)
+            told = lesson(vecmon, exercise, int(number), text, compiled)
     sys.stdout.buffer.write(told.encode("utf-8", "replace"))
 
 

@@ -15,7 +15,7 @@ from ..tables.table import read_table
 OURS = pathlib.Path(__file__).with_name("given")
 UNLIMITED = 1 << 63
 LIMITS = {"ticks": 100_000, "output": 4096, "instructions": UNLIMITED, "size": IMAGE_BYTES}  # where it has none
-FILES = ("reference", "good", "start", "lesson")  # keys of an exercise that name a file in its folder
+FILES = ("reference", "good", "start", "start_c", "lesson")  # keys of an exercise that name a file in its folder
 PLACE_BYTES = 1 << 20  # all that a user's pages have
 ADDRESSES = 0x10000  # a register with so much in it may have an address
 
@@ -84,7 +84,7 @@ class Exercise:
     junk: whether registers that a case doesn't name hold anything before it, and not 0
     files: by the keys of FILES that there are: `reference`, an answer whose results are expected in the places that the
         cases name, which else have them; `good`, another one, with vectors; `start`, the source that a student begins
-        with; `lesson`, the source of a lesson before it
+        with; `start_c`, one more in C, for who chooses that; `lesson`, the source of a lesson before it
     """
 
     folder: pathlib.Path

@@ -10,9 +10,11 @@ from functools import partial
 
 from .. import LabError
 from ..arguments import check_output
+from ..compilers.compiler import find_compiler
+from ..compilers.wall import check_wall
 from ..machine.program import find_program
 from ..tables.table import spreadsheet_row, table_lines
-from .answer import read_answer, settled
+from .answer import C_SUFFIX, read_answer, settled
 from .exercise import OURS, Exercise, read_exercise
 from .outcome import outcome
 from .reports import Grades, gradescope, junit
@@ -42,6 +44,9 @@ def run(arguments: argparse.Namespace) -> int:
         raise LabError("--gradescope tells of one answer, and here are several")
     for report in (arguments.junit, arguments.gradescope):
         check_output(report, *arguments.answers)
+    if any(path.suffix == C_SUFFIX for path in arguments.answers):
+        find_compiler(None)
+        check_wall()
     program = find_program()
     exercise = settled(program, read_exercise(arguments.exercise))
     with ThreadPoolExecutor(os.cpu_count()) as pool:
@@ -57,10 +62,10 @@ def run(arguments: argparse.Namespace) -> int:
     return int(any(any(outcomes) for _, outcomes in grades))
 
 
-def grade(program: pathlib.Path, exercise: Exercise, path: pathlib.Path) -> list[str]:
-    """Why an answer fails, or nothing, for each case, whatever the file is."""
+def grade(program: pathlib.Path, exercise: Exercise, path: pathlib.Path, is_own: bool = False) -> list[str]:
+    """Why an answer, which may be one's own, fails, or nothing, for each case, whatever the file is."""
     try:
-        answer = read_answer(path, exercise.limits.size)
+        answer = read_answer(path, exercise.limits.size, is_own)
     except LabError as error:
         return [str(error)] * len(exercise.cases)
     return [outcome(program, answer, exercise, case)[0] for case in exercise.cases]

@@ -32,7 +32,7 @@ class Step:
 class Script:
     """A lesson's steps.
 
-    Of a source also: its name, its labels by address, its instructions by the line that writes them, and its
+    Of a source also: its program, its name, its labels by address, its instructions by the line that writes them, and its
     sentences by the address of the instruction behind them; of one in C what its lines say, by address, where the
     instructions of its lines begin, and its variables.
     """
@@ -46,6 +46,7 @@ class Script:
     said: dict[str, str] = field(default_factory=dict)
     starts: dict[str, int] = field(default_factory=dict)
     variables: Sequence[Sequence[Any]] = ()
+    program: Program | None = None
 
 
 def read_script(text: str) -> Script:
@@ -111,7 +112,7 @@ def _script_of(program: Program, lines: list[str], name: str) -> Script:
     for line in set_up + ([] if runs else RUN_LINES):
         add_line(steps, line)
     statements = {f"1 {each.command}": each for each in program.statements}
-    return Script(title, steps, name, program.names(), statements, notes)
+    return Script(title, steps, name, program.names(), statements, notes, program=program)
 
 
 def refused_statement(script: Script, line: str, answer: Refused) -> LabError:

@@ -1,8 +1,6 @@
 /* Where a program begins and ends, and the functions that a compiler calls by itself. */
 #include "vecmon.h"
 
-int main(void);
-
 static long call(long number, long first, long second, long third)
 {
     register long a7 __asm__("a7") = number;
@@ -41,7 +39,11 @@ void *memset(void *to, int byte, size_t count)
     return to;
 }
 
+#ifndef ANSWER /* an answer to an exercise begins with a function of its own, and returns */
+int main(void);
+
 _Noreturn void _start(void)
 {
     exit(main());
 }
+#endif
