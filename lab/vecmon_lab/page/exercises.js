@@ -12,7 +12,7 @@ export class Exercises {
     this.toggle = Object.assign(make("button", "student", "Exercise"), { hidden: true, onclick: () => this.open(!this.isOpen) });
     this.check = Object.assign(make("button", "main", "Check"), { title: "Checks the source (Ctrl Shift Enter)" });
     this.check.onclick = () => this.checkSource();
-    this.begin = Object.assign(make("button", "", "Begin"), { title: "Puts the source to begin with into Source; undo takes it back" });
+    this.begin = Object.assign(make("button", "", "Begin"), { title: "Puts the source to begin with, in C where C is chosen, into Source" });
     this.begin.onclick = () => this.takeStart();
     this.state = Object.assign(make("span", ""), { role: "status" });
     [this.text, this.hints, this.verdict] = ["text", "hints", "verdict"].map((kind) => make("div", kind));
@@ -22,6 +22,7 @@ export class Exercises {
     const head = make("div", "top", Object.assign(make("h2", "", "Exercise"), { id: "exercise-title" }), this.choice);
     this.panel = Object.assign(make("section", "student", head, this.reading), { id: "exercise" });
     this.panel.setAttribute("aria-labelledby", "exercise-title");
+    this.editor.language.addEventListener("change", () => this.changeStart());
     byId("home").before(this.toggle);
     byId("desk").prepend(this.panel);
   }
@@ -47,7 +48,7 @@ export class Exercises {
     this.open(names.length > 0 && this.isOpen !== false);
     if (!names.length) return;
     this.paint();
-    if (!source.text && this.all[this.name].start && !this.editor.past.length) this.takeStart();
+    if (!source.text && this.all[this.name].starts.length && !this.editor.past.length) this.takeStart();
   }
 
   /** Goes to another exercise: each has a source of its own, which is the one to begin with at first. */
@@ -56,9 +57,16 @@ export class Exercises {
     sessionStorage.setItem(place(this.name), JSON.stringify(this.editor.source));
     this.name = name;
     sessionStorage.setItem("exercise", name);
-    this.editor.put(JSON.parse(sessionStorage.getItem(place(name))) ?? { text: this.all[name].start, language: 0 });
+    this.editor.put(JSON.parse(sessionStorage.getItem(place(name))) ?? this.start);
     this.reading.scrollTop = 0;
     this.paint();
+  }
+
+  /** The source to begin with: of two, the one of the language that is chosen, be it C by whatever options. */
+  get start() {
+    const [{ starts }, { language }] = [this.all[this.name], this.editor.source];
+    const own = starts.find((start) => start.language > 0 === language > 0);
+    return own ? { ...own, language } : (starts[0] ?? { text: "", language: 0 });
   }
 
   /** Paints what is another than before of the exercise that is chosen. */
@@ -67,7 +75,7 @@ export class Exercises {
     if (it === before) return;
     this.shown = it;
     if (it.text !== before.text) this.text.replaceChildren(...this.lessonBefore(it.before), ...blocks(it.text));
-    this.begin.hidden = !it.start;
+    this.begin.hidden = !it.starts.length;
     this.check.disabled = it.checking;
     const isTold = this.awaited === this.name && !it.checking;
     const tries = it.tries ? `${it.tries} ${it.tries > 1 ? "tries" : "try"}${it.passed ? ", passed" : ""}` : "";
@@ -94,9 +102,8 @@ export class Exercises {
 
   /** Sends the source that stands in the editor. */
   async checkSource() {
-    if (this.editor.isC) return this.student.refuse("An exercise is answered in assembler, and this source is in C.");
     this.check.disabled = true; // so that a click more checks nothing
-    await this.student.request({ ask: "check", exercise: this.name, text: this.editor.field.value });
+    await this.student.request({ ask: "check", exercise: this.name, ...this.editor.source });
     this.check.disabled = this.all[this.name].checking;
   }
 
@@ -105,9 +112,14 @@ export class Exercises {
     return this.student.write({ ask: "case", exercise: this.name });
   }
 
+  /** Another language was chosen: where nothing was written yet, one begins with its source. */
+  changeStart() {
+    if (this.all[this.name]?.starts.some(({ text }) => text === this.editor.field.value)) this.takeStart();
+  }
+
   /** Puts the source to begin with into the editor, and opens it. */
   takeStart() {
-    this.editor.put({ text: this.all[this.name].start, language: 0 });
+    this.editor.put(this.start);
     this.student.showSide("source");
   }
 }

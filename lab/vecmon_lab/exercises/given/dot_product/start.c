@@ -1,0 +1,7 @@
+#include <riscv_vector.h>
+
+/* first, second: where the rows are; count: how many bytes each has; the answer is the sum of the products */
+int32_t answer(const int8_t *first, const int8_t *second, size_t count)
+{
+    return 0;
+}

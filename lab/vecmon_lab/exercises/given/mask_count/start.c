@@ -1,0 +1,7 @@
+#include <riscv_vector.h>
+
+/* numbers: where the numbers are; count: how many there are; least, most: which count; the answer is how many do */
+size_t answer(const int16_t *numbers, size_t count, int16_t least, int16_t most)
+{
+    return 0;
+}
