@@ -85,6 +85,14 @@ def clang() -> Compiler:
     return found[0]
 
 
+@pytest.fixture(scope="session")
+def walled_clang(clang: Compiler) -> Compiler:
+    """The same with what makes the wall, where both are."""
+    if shutil.which("bwrap") is None:
+        leave_out(NO_WALL)
+    return clang
+
+
 def pytest_terminal_summary(terminalreporter: TerminalReporter) -> None:
     """Says how many tests were left out, and for want of what."""
     for what, reason in LEFT_OUT.items():

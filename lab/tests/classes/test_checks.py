@@ -13,8 +13,11 @@ import pytest_asyncio
 
 from support.class_tabs import Served, Tab, process, served
 from vecmon_lab import LabError
+from vecmon_lab.classes.builds import Builds
+from vecmon_lab.classes.languages import LANGUAGES
 from vecmon_lab.classes.store import Store
 from vecmon_lab.classes.view import Class
+from vecmon_lab.compilers.compiler import Compiler
 from vecmon_lab.exercises.exercise import OURS
 from vecmon_lab.machine.program import find_program
 
@@ -38,6 +41,9 @@ memory = [{ at = 0x10800, u8 = [77] }]
 expected.registers = ["a0"]
 """
 RIGHT, WRONG = "mul a0, a1, a1\nret", "addi a0, a1, 30\nret"  # which is right for six
+[C] = [number for number, language in enumerate(LANGUAGES) if language.name == "C, O2"]
+[PLAIN_C] = [number for number, language in enumerate(LANGUAGES) if language.name == "C, O0"]
+RIGHT_IN_C = "long answer(long a, long b)\n{\n    return b * b;\n}\n"
 SECRETS = ("5ec4e7", "6210791", str(0x5EC4E7**2), "private remark", "exercise.toml", "reference.s", "0x10800")
 
 
@@ -61,10 +67,10 @@ async def room(tmp_path: pathlib.Path, square: pathlib.Path) -> AsyncIterator[Se
         yield room
 
 
-async def check(tab: Tab, name: str, text: str) -> Any:
+async def check(tab: Tab, name: str, text: str, language: int = 0) -> Any:
     """What is told of an answer."""
     before = tab.view["exercises"][name]
-    told = await tab.ask("check", exercise=name, text=text)
+    told = await tab.ask("check", exercise=name, text=text, language=language)
     assert "error" not in told, told
     await tab.until(lambda view: any(view["exercises"][name][key] != before[key] for key in ("tries", "told")))
     return tab.view["exercises"][name]["told"]
@@ -74,7 +80,8 @@ async def test_a_seat_tries_until_it_passes(room: Served) -> None:
     """Hints come one by one; nothing of it is in the script."""
     tab, other = await room.sit("A1"), await room.sit("A2")
     own = tab.view["exercises"]["square"]
-    assert (own["text"], own["start"], own["cases"]) == ("Square `a1` into `a0`.", "ret\n", ["six", "another one"])
+    assert (own["text"], own["cases"]) == ("Square `a1` into `a0`.", ["six", "another one"])
+    assert own["starts"] == [{"text": "ret\n", "language": 0}]
     assert (own["hints"], own["tries"], own["told"], own["lesson"]) == ([], 0, {}, "")
     told = await check(tab, "square", "addi a0, a1, 1\nret")
     assert (told["cases"], told["number"], told["reason"]) == ([False, False], 0, "a0: expected 36, found 7")
@@ -287,3 +294,96 @@ async def test_bad_exercises_are_told(tmp_path: pathlib.Path, square: pathlib.Pa
     (tmp_path / "a b").rename(square)
     (square / "reference.s").write_text("j .\n")
     assert begin(square).endswith("100,000 ticks, of which an instruction takes one or more; it is at line 1")
+
+
+async def test_a_seat_answers_in_c(tmp_path: pathlib.Path, walled_clang: Compiler, square: pathlib.Path) -> None:
+    """What a function is given and returns is as in assembler; nothing of it is in the script, and a class goes on with it."""
+    async with served(tmp_path / "class", exercises=[square], builds=Builds(walled_clang)) as room:
+        tab, teacher = await room.sit("A1"), await room.sit("teacher")
+        told = await check(tab, "square", RIGHT_IN_C.replace("b * b", "a"), C)
+        assert told["cases"] == [False, False] and told["reason"] == "a0: expected 36, and it was left as it was"
+        wrong = RIGHT_IN_C.replace("b * b", "b +\n        b / *(volatile long *)b")
+        assert (await check(tab, "square", wrong, PLAIN_C))["reason"].startswith("line 4: The load at 0x1")
+        (status, page) = await room.get(tab.view["exercises"]["square"]["lesson"])
+        assert status == 200 and b"b / *(volatile long *)b" in page and b"The answer fails: line 4: " in page
+        assert b'"variables":[["a","long a",' in page
+        assert await check(tab, "square", RIGHT_IN_C, C) == {"cases": [True, True]}
+        for number, (text, language) in enumerate([(wrong, PLAIN_C), (RIGHT_IN_C, C)], 2):
+            told = await teacher.ask("answer", seat="A1", exercise="square", number=number)
+            assert (told["text"], told["language"]) == (text, language)
+        assert not (await room.check_replay())[0]
+    async with served(tmp_path / "class") as room:
+        tab, teacher = await room.sit("A1"), await room.sit("teacher")
+        assert (await teacher.ask("answer", seat="A1", exercise="square", number=2))["language"] == PLAIN_C
+        assert "takes no C" in (await tab.ask("check", exercise="square", text=RIGHT_IN_C, language=C))["error"]
+        assert await check(tab, "square", WRONG) == {"cases": [True, False]}
+
+
+async def test_a_start_in_c(tmp_path: pathlib.Path, square: pathlib.Path) -> None:
+    """It may be the only one, or beside the one in assembler; which of them comes first is the exercise's to say."""
+    (square / "start.c").write_text(RIGHT_IN_C)
+    (square / "exercise.toml").write_text(SQUARE.replace("start.s", "start.c"))
+    async with served(tmp_path / "class", exercises=[square, pathlib.Path("doubles")]) as room:
+        told = (await room.sit("A1")).view["exercises"]
+        assert told["square"]["starts"] == [{"text": RIGHT_IN_C, "language": C}]
+        assert [start["language"] for start in told["doubles"]["starts"]] == [0, C]
+
+
+@pytest.mark.parametrize(
+    "text, line, message",
+    [
+        (RIGHT_IN_C.replace("b * b", "c"), 3, "use of undeclared identifier 'c'"),
+        ("int main(void)\n{\n    return 0;\n}\n", 0, "the source has no function `answer`, which each case calls"),
+        (RIGHT_IN_C.replace("b * b", "other(b)"), 3, "call to undeclared"),
+        ("long other(long);\n" + RIGHT_IN_C.replace("b * b", "other(b)"), 0, "undefined symbol: other"),
+        ("char much[100 << 20] = {1};\n" + RIGHT_IN_C, 0, ""),
+        ("#include </etc/passwd>\n" + RIGHT_IN_C, 1, "'passwd' file not found"),
+        ('__asm__(".incbin \\"/etc/passwd\\"");\n' + RIGHT_IN_C, 0, ""),
+        (f'#include "{pathlib.Path(__file__)}"\n' + RIGHT_IN_C, 1, "'test_checks.py' file not found"),
+    ],
+    ids=["a name", "no function", "no declaration", "no definition", "too much", "a file", "its bytes", "the server's"],
+)
+async def test_mistakes_in_c_are_no_try(
+    tmp_path: pathlib.Path, walled_clang: Compiler, square: pathlib.Path, text: str, line: int, message: str
+) -> None:
+    """They have their lines, and no path of the server's; files of the system aren't there."""
+    async with served(tmp_path / "class", exercises=[square], builds=Builds(walled_clang)) as room:
+        tab = await room.sit("A1")
+        told = await check(tab, "square", text, C)
+        assert [*told] == ["mistakes"] and told["mistakes"][0]["line"] == line
+        assert told["mistakes"][0]["message"].startswith(message)
+        assert "root:" not in str(told) and "/etc" not in str(told) and str(tmp_path.parent) not in str(told)
+        assert str(pathlib.Path(__file__).parent) not in str(told)
+        own = tab.view["exercises"]["square"]
+        assert (own["tries"], own["hints"], own["passed"]) == (0, [], False) and not [*room.folder.glob("answers/*")]
+
+
+async def test_the_limits_of_an_exercise_hold_in_c(tmp_path: pathlib.Path, walled_clang: Compiler) -> None:
+    """Loops get vectors where the source asks for them alone, so a plain one takes too long; so does one without end."""
+    folder = OURS / "saturating_sum"
+    async with served(tmp_path / "class", exercises=[folder], builds=Builds(walled_clang)) as room:
+        tab = await room.sit("A1")
+        told = await check(tab, "saturating_sum", (folder / "reference.c").read_text(), C)
+        assert told["cases"] == [True, True, False, False, True]
+        assert "it takes more than 250 instructions" in told["reason"]
+        told = await check(tab, "saturating_sum", "void answer(void)\n{\n    for (;;)\n        ;\n}\n", C)
+        assert told["reason"].startswith("it hasn't ended after 20,000 ticks") and told["reason"].endswith("at line 3")
+        told = await check(tab, "saturating_sum", (folder / "good.c").read_text(), C)
+        assert all(told["cases"]) and told["taken"]["work"] == told["good"]["work"]
+        assert "more than 8,192 bytes" in str(await check(tab, "saturating_sum", RIGHT_IN_C + "/" * 8192, C))
+
+
+async def test_a_case_in_c_can_be_had_at_the_desk(
+    tmp_path: pathlib.Path, walled_clang: Compiler, square: pathlib.Path
+) -> None:
+    """A new machine begins at the function, with what the case gives."""
+    async with served(tmp_path / "class", exercises=[square], builds=Builds(walled_clang)) as room:
+        tab = await room.sit("A1")
+        wrong = RIGHT_IN_C.replace("b * b", "b + b")
+        assert (await check(tab, "square", wrong, C))["reason"] == "a0: expected 36, found 12"
+        assert (await tab.ask("case", exercise="square", text=wrong, language=C))["mistakes"] == []
+        state = tab.view["state"]
+        assert int(state["x"]["11"], 16) == 6 and state["labels"][state["pc"]] == ["answer"]
+        assert (await tab.do("step 2", "regs"))[1][0].split("x10=")[1].split()[0].endswith("0c")
+        script, _ = await room.check_replay()
+        assert script.startswith(b"1 enter\n") and b"E16" not in (await room.get("A/transcript"))[1]

@@ -9,8 +9,10 @@ import pytest
 from support.commands import Lab
 from support.drawn_inputs import DRAWS, Drawn
 from support.places import DOCS
-from vecmon_lab.exercises.answer import Attempt, read_answer, ready, settled
-from vecmon_lab.exercises.exercise import OURS, Results, read_exercise
+from vecmon_lab.compilers.compiled import compile_c
+from vecmon_lab.compilers.compiler import CHOICES, Compiler
+from vecmon_lab.exercises.answer import Answer, Attempt, read_answer, ready, settled
+from vecmon_lab.exercises.exercise import FILES, OURS, Results, read_exercise
 from vecmon_lab.exercises.grade import grade
 from vecmon_lab.exercises.outcome import difference
 from vecmon_lab.guest.guest import Guest, pokes
@@ -18,7 +20,8 @@ from vecmon_lab.machine.answers import ScalarRegisters
 from vecmon_lab.tables.table import read_table
 
 COURSE = [name for name, _ in read_table("course")]
-DRAWN, BEGIN = 250, 0x10000  # inputs of each exercise; where a source begins
+IN_C = [path for name in COURSE for path in (OURS / name / "reference.c", OURS / name / "good.c") if path.exists()]
+DRAWN = 250  # inputs of each exercise
 
 
 def test_the_course_has_all_exercises_of_the_lab() -> None:
@@ -37,9 +40,7 @@ def test_the_manual_lists_the_course() -> None:
 def test_an_exercise_is_whole(program: pathlib.Path, name: str) -> None:
     """It has a text, hints, a lesson, cases of which some are hidden; a start and three or more wrong answers fail."""
     exercise = settled(program, read_exercise(pathlib.Path(name)))
-    assert (
-        exercise.text and len(exercise.hints) >= 3 and set(exercise.files) == {"reference", "good", "start", "lesson"}
-    )
+    assert exercise.text and len(exercise.hints) >= 3 and set(exercise.files) == set(FILES)
     hidden = [case.is_hidden for case in exercise.cases]
     assert len(hidden) >= 4 and 1 < sum(hidden) < len(hidden) - 1
     assert not any(grade(program, exercise, exercise.files["good"]))
@@ -54,11 +55,25 @@ def test_an_exercise_is_whole(program: pathlib.Path, name: str) -> None:
         assert not any(reason.startswith(path.name) for reason in outcomes), outcomes  # it assembles
 
 
-def leave(guest: Guest, drawn: Drawn) -> Results:
-    """What the answer that was brought in leaves of an input."""
+@pytest.mark.parametrize("name", COURSE)
+def test_an_exercise_is_answered_in_c(program: pathlib.Path, clang: Compiler, name: str) -> None:
+    """The start has no mistake, and nothing to be warned of; it fails, the good answer passes, and wrong ones fail."""
+    exercise = settled(program, read_exercise(pathlib.Path(name)))
+    start = exercise.files["start_c"]
+    for choice in range(len(CHOICES)):
+        compiled = compile_c(start.read_text("utf-8"), clang, choice, exercise.folder, is_answer=True)
+        assert (compiled.mistakes, compiled.warnings) == ([], [])
+    assert not any(grade(program, exercise, exercise.folder / "good.c", is_own=True))
+    for path in (start, *exercise.folder.glob("wrong/*.c")):
+        outcomes = grade(program, exercise, path, is_own=True)
+        assert any(outcomes) and not any(reason.startswith(path.name) for reason in outcomes), outcomes
+
+
+def leave(guest: Guest, drawn: Drawn, begin: int) -> Results:
+    """What the answer that was brought in, and begins at an address, leaves of an input."""
     written = [command for place in drawn.memory for command in pokes(place.address, place.data)]
     registers = [f"set {name} {value:x}" for name, value in drawn.registers.items()]
-    guest.ask(*written, *registers, f"setpc {BEGIN:x}")
+    guest.ask(*written, *registers, f"setpc {begin:x}")
     stop = guest.go(100_000)
     assert stop and stop.kind == "ebreak", drawn
     x = guest.told("regs", ScalarRegisters).x
@@ -71,11 +86,24 @@ def leave(guest: Guest, drawn: Drawn) -> Results:
 @pytest.mark.parametrize("name", COURSE)
 def test_answers_do_what_the_text_says(program: pathlib.Path, name: str, answer: str) -> None:
     """For inputs made by chance, with and without vectors: as Python says."""
+    check_by_chance(program, name, read_answer(read_exercise(pathlib.Path(name)).files[answer]))
+
+
+@pytest.mark.parametrize("path", IN_C, ids=lambda path: f"{path.parent.name}/{path.name}")
+def test_answers_in_c_do_the_same(program: pathlib.Path, clang: Compiler, path: pathlib.Path) -> None:
+    """For the same inputs; two exercises have a reference in C as well."""
+    assert sum(each.name == "reference.c" for each in IN_C) == 2
+    check_by_chance(program, path.parent.name, read_answer(path, is_own=True))
+
+
+def check_by_chance(program: pathlib.Path, name: str, answer: Answer) -> None:
+    """An answer to an exercise leaves what Python says, for inputs that are always the same."""
     exercise, random = read_exercise(pathlib.Path(name)), Random(name)
-    with ready(program, read_answer(exercise.files[answer]), exercise, exercise.cases[0]) as guest:
+    assert answer.source and answer.source.program
+    with ready(program, answer, exercise, exercise.cases[0]) as guest:
         for _ in range(DRAWN):
             drawn = DRAWS[name](random)
-            found = leave(guest, drawn)
+            found = leave(guest, drawn, answer.source.program.entry)
             assert not difference(drawn.expected, Attempt(drawn.expected, found, False), drawn.registers), drawn
 
 

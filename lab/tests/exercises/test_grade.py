@@ -12,9 +12,11 @@ from collections.abc import Callable, Sequence
 
 import pytest
 
+from support.commands import Lab
 from support.images import MARCH, make_image
 from support.places import DATA, DOCS, EXAMPLES, SUM
 from vecmon_lab import LabError
+from vecmon_lab.compilers.compiler import Compiler
 from vecmon_lab.exercises.answer import ready, settled, source_answer
 from vecmon_lab.exercises.exercise import read_exercise
 from vecmon_lab.exercises.grade import grade
@@ -276,6 +278,73 @@ def test_twenty_four_answers_have_the_rows_that_each_has_alone() -> None:
     alone = [run_grade("strip_mined_copy", "--rows", answer(name)) for name in names]
     assert done.stdout == "".join(each.stdout for each in alone) * 6
     assert [each.returncode for each in alone] == [0, 1, 0, 1]
+
+
+IN_C = """\
+#include "vecmon.h"
+long answer(long a0, int32_t *places)
+{
+    put(places, 5);
+    places[4] = -5;
+    places[5] = 7;
+    __asm__("li t1, -1");
+    return 5;
+}
+"""
+
+
+@pytest.mark.parametrize(
+    "change, reason",
+    [
+        (("", ""), ""),
+        (("= 7", "= 8"), "element 1, i32 at 0x20014: expected 7, found 8"),
+        (("return 5", "return 5 / *(volatile long *)a0"), "line 8: The load at 0x1"),
+        (
+            ("return 5", "for (;;) ;"),
+            "it hasn't ended after 900 ticks, of which an instruction takes one or more; it is ",
+        ),
+        (("return 5", "exit(5)"), ""),
+        (("return 5", "return five"), "answer.c:8:12: use of undeclared identifier 'five'"),
+        (("answer", "main"), "answer.c: the source has no function `answer`, which each case calls"),
+        (("vecmon.h", "/etc/passwd"), "answer.c:1:10: 'passwd' file not found"),
+        (("vecmon.h", "exercise.toml"), "answer.c:1:10: 'exercise.toml' file not found"),
+    ],
+)
+def test_an_answer_in_c(echo: Echo, walled_clang: Compiler, change: tuple[str, str], reason: str) -> None:
+    """It is compiled behind the wall, where not even the files beside it are."""
+    told = echo(IN_C.replace(*change), "answer.c")
+    assert told.startswith(reason) if reason else not told
+
+
+@pytest.mark.by_command("grade")
+def test_no_c_is_graded_without_a_compiler_and_a_wall(
+    lab: Lab, tmp_path: pathlib.Path, monkeypatch: pytest.MonkeyPatch, walled_clang: Compiler
+) -> None:
+    """That is told in a line, and no answer fails for it."""
+    (tmp_path / "answer.c").write_text(IN_C)
+    monkeypatch.setattr(os, "geteuid", lambda: 0)
+    status, told, complaint = lab("grade", "strlen", tmp_path / "answer.c")
+    assert (status, told) == (2, b"") and "isn't compiled as root" in complaint
+    monkeypatch.setattr(os, "geteuid", lambda: 1000)
+    status, told, _ = lab("grade", "strlen", tmp_path / "answer.c")
+    assert status == 1 and b"answer.c: " in told
+    monkeypatch.setattr(shutil, "which", lambda name, path=None: None)
+    status, told, complaint = lab("grade", "strlen", tmp_path / "answer.c")
+    assert (status, told) == (2, b"") and "there is no compiler for C: apt-get install clang-19 lld-19" in complaint
+
+
+def test_an_exercise_may_be_in_c(program: pathlib.Path, tmp_path: pathlib.Path, clang: Compiler) -> None:
+    """Its files are one's own, and may have headers beside them."""
+    (tmp_path / "exercise.toml").write_text(
+        'reference = "reference.c"\n[[cases]]\nregisters = { a1 = 6 }\nexpected.registers = ["a0"]'
+    )
+    (tmp_path / "power.h").write_text("#define POWER(x) ((x) * (x))\n")
+    (tmp_path / "reference.c").write_text('#include "power.h"\nlong answer(long a, long b) { return POWER(b); }\n')
+    (case,) = settled(program, read_exercise(tmp_path)).cases
+    assert case.expected.registers == {"x10": 36}
+    (tmp_path / "power.h").unlink()
+    with pytest.raises(LabError, match=f"^{tmp_path.name}: reference.c:1:10: 'power.h' file not found"):
+        settled(program, read_exercise(tmp_path))
 
 
 LONG = """

@@ -9,6 +9,7 @@ import pytest
 
 from support.browser import CONTRAST
 from support.class_pages import Served, Tab
+from vecmon_lab.compilers.compiler import Compiler
 from vecmon_lab.exercises.exercise import OURS
 from vecmon_lab.tables.table import read_table
 
@@ -28,7 +29,7 @@ ANSWERS = "#scores button[aria-label^='Answers of seat A3 to']"
 def course(program: pathlib.Path, tmp_path_factory: pytest.TempPathFactory) -> Iterator[Served]:
     """A class with all exercises of the course."""
     words = [word for name in COURSE for word in ("--exercise", name)]
-    served = Served(tmp_path_factory.mktemp("course") / "class", program, *words)
+    served = Served(tmp_path_factory.mktemp("course") / "class", program, *words, takes_c=True)
     yield served
     served.end()
 
@@ -82,6 +83,35 @@ def test_an_exercise_is_solved(tabs: "Chrome", course: Served) -> None:
     assert "vse32.v v8, (x10)" in lesson.find_element("id", "step").text
     lesson.close()
     lesson.switch_to.window(tab.handle)
+
+
+def test_an_exercise_is_solved_in_c(tabs: "Chrome", course: Served, walled_clang: Compiler) -> None:
+    """Who chooses C has another source to begin with; a mistake, a wrong answer at the desk, and a right one."""
+    tab = Tab(tabs, course, "A6")
+    tab.wait("one('#exercise h2')")
+    tab.run("((choice) => (choice.value = arguments[0], choice.onchange()))(one('#exercise select'))", "saturating_sum")
+    tab.choose("#language", "C, O2")
+    start = tab.run("id('source').value")
+    assert "void answer(int16_t *sums, const int16_t *first," in start
+    tab.choose("#language", "C, O0")
+    assert tab.run("id('source').value") == start and tab.run("id('language').value") == "C, O0"
+    tab.choose("#language", "C, O2")
+    good = (OURS / "saturating_sum" / "good.c").read_text()
+    tab.run(TYPE, good.replace("(first, vl)", "(frist, vl)"))
+    tab.click("#exercise .main")
+    tab.wait("one('#mistakes button')?.textContent.startsWith('7:48: use of undeclared identifier')")
+    assert tab.run(VERDICT) == "Source has mistakes." and tab.text("#exercise [role=status]") == ""
+    assert "use of undeclared identifier" in tab.text("#editor .message")
+    check(tab, good.replace("vsadd", "vadd"), "It passes 2 of 5 cases.")
+    assert "no room: element 0, i16 at 0x20200: expected 32767, found -32768" in tab.text("#exercise .said")
+    tab.click("#exercise .verdict button")
+    tab.wait("id('step').textContent.includes('vsetvli x15, x13, e16, m8, ta, ma')")
+    assert "vl = __riscv_vsetvl_e16m8(count);" in tab.text("#listing") and tab.text("#run") == "stopped"
+    check(tab, good, "It passes all cases.")
+    assert "and a good answer takes" in tab.text("#exercise .verdict")
+    assert tab.front().execute_script(CONTRAST) == []
+    tab.run("((choice) => (choice.value = arguments[0], choice.onchange()))(one('#exercise select'))", "strlen")
+    assert "size_t answer(const uint8_t *text)" in tab.run("id('source').value")
 
 
 def test_what_passed_is_told(tabs: "Chrome", course: Served) -> None:

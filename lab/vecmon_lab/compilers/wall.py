@@ -32,7 +32,7 @@ def check_wall() -> None:
     if shutil.which("bwrap") is None:
         raise LabError("others' C is compiled behind bwrap alone, which isn't here: apt-get install bubblewrap")
     if os.geteuid() == 0:
-        raise LabError("others' C isn't compiled as root: serve the class as a user of its own")
+        raise LabError("others' C isn't compiled as root: begin this as another user")
 
 
 def answer_walled(words: Sequence[str], text: str) -> bytes:

@@ -12,7 +12,7 @@ export class Exercises {
     this.toggle = Object.assign(make("button", "student", "Exercise"), { hidden: true, onclick: () => this.open(!this.isOpen) });
     this.check = Object.assign(make("button", "main", "Check"), { title: "Checks the source (Ctrl Shift Enter)" });
     this.check.onclick = () => this.checkSource();
-    this.begin = Object.assign(make("button", "", "Begin"), { title: "Puts the source to begin with, in C where C is chosen, into Source" });
+    this.begin = Object.assign(make("button", "", "Begin"), { title: "Puts the source to begin with into Source; undo takes it back" });
     this.begin.onclick = () => this.takeStart();
     this.state = Object.assign(make("span", ""), { role: "status" });
     [this.text, this.hints, this.verdict] = ["text", "hints", "verdict"].map((kind) => make("div", kind));
