@@ -14,7 +14,7 @@ import pytest_asyncio
 from support.class_tabs import Served, Tab, process, served
 from vecmon_lab import LabError
 from vecmon_lab.classes.builds import Builds
-from vecmon_lab.classes.languages import LANGUAGES
+from vecmon_lab.classes.languages import LANGUAGES, C
 from vecmon_lab.classes.store import Store
 from vecmon_lab.classes.view import Class
 from vecmon_lab.compilers.compiler import Compiler
@@ -41,7 +41,6 @@ memory = [{ at = 0x10800, u8 = [77] }]
 expected.registers = ["a0"]
 """
 RIGHT, WRONG = "mul a0, a1, a1\nret", "addi a0, a1, 30\nret"  # which is right for six
-[C] = [number for number, language in enumerate(LANGUAGES) if language.name == "C, O2"]
 [PLAIN_C] = [number for number, language in enumerate(LANGUAGES) if language.name == "C, O0"]
 RIGHT_IN_C = "long answer(long a, long b)\n{\n    return b * b;\n}\n"
 SECRETS = ("5ec4e7", "6210791", str(0x5EC4E7**2), "private remark", "exercise.toml", "reference.s", "0x10800")
@@ -307,8 +306,10 @@ async def test_a_seat_answers_in_c(tmp_path: pathlib.Path, walled_clang: Compile
         (status, page) = await room.get(tab.view["exercises"]["square"]["lesson"])
         assert status == 200 and b"b / *(volatile long *)b" in page and b"The answer fails: line 4: " in page
         assert b'"variables":[["a","long a",' in page
+        odd = await check(tab, "square", RIGHT_IN_C.replace("return", "long c; return"), C)
+        assert odd["warnings"] == [{"line": 3, "column": 10, "message": "unused variable 'c' [-Wunused-variable]"}]
         assert await check(tab, "square", RIGHT_IN_C, C) == {"cases": [True, True]}
-        for number, (text, language) in enumerate([(wrong, PLAIN_C), (RIGHT_IN_C, C)], 2):
+        for number, (text, language) in [(2, (wrong, PLAIN_C)), (4, (RIGHT_IN_C, C))]:
             told = await teacher.ask("answer", seat="A1", exercise="square", number=number)
             assert (told["text"], told["language"]) == (text, language)
         assert not (await room.check_replay())[0]
@@ -384,6 +385,7 @@ async def test_a_case_in_c_can_be_had_at_the_desk(
         assert (await tab.ask("case", exercise="square", text=wrong, language=C))["mistakes"] == []
         state = tab.view["state"]
         assert int(state["x"]["11"], 16) == 6 and state["labels"][state["pc"]] == ["answer"]
-        assert (await tab.do("step 2", "regs"))[1][0].split("x10=")[1].split()[0].endswith("0c")
+        await tab.do("step 1")
+        assert int(tab.view["state"]["x"]["10"], 16) == 12 and "return b + b;" in str(tab.view["state"]["lines"])
         script, _ = await room.check_replay()
         assert script.startswith(b"1 enter\n") and b"E16" not in (await room.get("A/transcript"))[1]

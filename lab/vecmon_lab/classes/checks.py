@@ -25,7 +25,7 @@ from ..exercises.exercise import Exercise, read_exercise
 from .beside import Beside
 from .builds import Builds
 from .codes import new_code
-from .languages import NUMBERS, SourceText
+from .languages import NUMBERS, C, SourceText
 from .requests import BadRequest
 from .store import BadFolder, Store
 
@@ -292,4 +292,4 @@ def _source(done: Try) -> SourceText:
 def _starts(exercise: Exercise) -> list[Start]:
     """The sources that a student may begin with."""
     files = [exercise.files[key] for key in ("start", "start_c") if key in exercise.files]
-    return [Start(text=file.read_text("utf-8"), language=int(file.suffix == C_SUFFIX)) for file in files]
+    return [Start(text=file.read_text("utf-8"), language=C if file.suffix == C_SUFFIX else 0) for file in files]

@@ -19,6 +19,8 @@ LANGUAGES = [
     *(Language(f"C, {each.name}", f"{each.name}.c", number) for number, each in enumerate(CHOICES)),
 ]
 NUMBERS = {language.suffix: number for number, language in enumerate(LANGUAGES)}
+C = NUMBERS[f"{CHOICES[0].name}.c"]
+"""The number of C with the options that are meant where nothing else is said."""
 
 
 @dataclass(frozen=True)

@@ -80,7 +80,7 @@ class Compiler:
             own = [*_GCC, *CHOICES[choice].gcc]
         if is_answer:
             plain = _PLAIN_CLANG if self.is_clang else _PLAIN_GCC
-            own += ["-DANSWER", f"-Wl,--entry={FUNCTION}", *plain]
+            own += ["-DVECMON_ANSWER", f"-Wl,--entry={FUNCTION}", *plain]
         runtime = (
             f"-I{RUNTIME}",
             f"-fdebug-prefix-map={RUNTIME}=runtime",

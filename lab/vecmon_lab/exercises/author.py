@@ -37,7 +37,7 @@ def run(arguments: argparse.Namespace) -> int:
     is_fit = True
     for path, shall_pass in _answers(exercise):
         if path.suffix == C_SUFFIX and not find_compilers():
-            print(f"{path.relative_to(folder)}: it isn't tried, since there is no compiler for C")
+            print(f"{path.relative_to(exercise.folder)}: it isn't tried, since there is no compiler for C")
             continue
         outcomes = grade(program, exercise, path, is_own=True)
         is_fit &= any(outcomes) != shall_pass

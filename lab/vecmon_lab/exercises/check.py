@@ -12,7 +12,7 @@ import pathlib
 import pickle
 import resource
 import sys
-from collections.abc import Sequence
+from collections.abc import Iterable, Sequence
 from dataclasses import replace
 from typing import TypedDict
 
@@ -43,10 +43,11 @@ class Told(TypedDict, total=False):
     """Which cases pass; of the first that fails and isn't hidden its number and why; what an answer that passes takes.
 
     Rows have what is given there, expected and found, and notes what else holds there. Without cases the source has
-    mistakes, and wasn't tried.
+    mistakes, and wasn't tried. Warnings are a compiler's.
     """
 
     mistakes: list[Mistake]
+    warnings: list[Mistake]
     cases: list[bool]
     number: int
     reason: str
@@ -75,8 +76,10 @@ def check(
     except LabError as error:
         of_form = compiled.mistakes if compiled else all_mistakes(read_source(text), program)
         mistakes = of_form or [SourceError(1, 1, f"{error}")]
-        return {"mistakes": [{"line": it.line, "column": it.column, "message": it.message} for it in mistakes]}
+        return {"mistakes": _mistakes(mistakes)}
     told: Told = {"cases": [not reason for reason, _ in outcomes]}
+    if compiled and compiled.warnings:
+        told["warnings"] = _mistakes(compiled.warnings)
     for number, (case, (reason, done)) in enumerate(zip(exercise.cases, outcomes)):
         if reason and not case.is_hidden:
             expected, found = _compared(case.expected, done.found if done else case.expected)
@@ -92,6 +95,11 @@ def check(
         if mine and good:
             told.update({"taken": mine, "good": good})
     return told
+
+
+def _mistakes(errors: Iterable[SourceError]) -> list[Mistake]:
+    """Mistakes of a source, or warnings, as they are told."""
+    return [{"line": it.line, "column": it.column, "message": it.message} for it in errors]
 
 
 def lesson(program: pathlib.Path, exercise: Exercise, number: int, text: str, compiled: CompiledProgram | None) -> str:

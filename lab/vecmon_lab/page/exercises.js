@@ -92,12 +92,11 @@ export class Exercises {
   }
 
   /** Brings what was just told into sight. */
-  tell({ mistakes }) {
+  tell({ mistakes, warnings }) {
     this.awaited = "";
     this.reading.scrollTop = this.state.parentElement.offsetTop;
-    if (!mistakes) return;
-    this.student.showMistakes(mistakes);
-    this.student.showSide("source");
+    this.student.showMistakes(mistakes ?? [], warnings);
+    if (mistakes) this.student.showSide("source");
   }
 
   /** Sends the source that stands in the editor. */

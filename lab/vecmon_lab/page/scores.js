@@ -25,9 +25,9 @@ export class Scores {
     byId("machines").before(this.section);
   }
 
-  show({ exercises }) {
+  show({ exercises, languages }) {
     if (exercises === this.told) return;
-    this.told = exercises;
+    Object.assign(this, { told: exercises, languages });
     const names = Object.keys(exercises);
     this.section.hidden = !names.length;
     const seats = [...new Set(names.flatMap((name) => Object.keys(exercises[name].seats)))].sort();
@@ -45,17 +45,18 @@ export class Scores {
   /** Shows a seat's answers to an exercise, the last one first. */
   open(seat, name) {
     const { title, seats } = this.told[name];
-    Object.assign(this, { seat, name });
+    Object.assign(this, { seat, name, title });
     const { tries } = seats[seat];
     const option = (_, place) => Object.assign(make("option", "", `try ${place + 1}`), { value: place + 1 });
     this.which.replaceChildren(...Array.from({ length: tries }, option));
     this.which.value = `${tries}`;
-    put(this.what, `${this.teacher.withName(seat)}: ${title}`);
     return this.read(tries);
   }
 
   async read(number) {
     const answer = await this.teacher.request({ ask: "answer", seat: this.seat, exercise: this.name, number });
+    const language = answer?.language ? `, in ${this.languages[answer.language]}` : "";
+    put(this.what, `${this.teacher.withName(this.seat)}: ${this.title}${language}`);
     put(this.source, answer?.text ?? "");
     this.answer.hidden = false;
   }

@@ -251,13 +251,13 @@ export class Student {
 
   async assemble(request) {
     const { mistakes, warnings = [] } = (await this.request(request)) ?? {};
-    const also = warnings.map((each) => ({ ...each, message: `warning: ${each.message}` }));
-    this.showMistakes([...(mistakes ?? []), ...also]);
+    this.showMistakes(mistakes ?? [], warnings);
     return mistakes && this.showSide(mistakes.length ? "source" : "listing");
   }
 
   /** Lists what is told of the source below it, and shows it at its lines, until it becomes another one. */
-  showMistakes(told) {
+  showMistakes(mistakes, warnings = []) {
+    const told = [...mistakes, ...warnings.map((each) => ({ ...each, message: `warning: ${each.message}` }))];
     byId("mistakes").replaceChildren(...told.map((mistake) => this.mistake(mistake)));
     this.source.editor.tell(told);
   }

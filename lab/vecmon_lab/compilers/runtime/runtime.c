@@ -39,7 +39,7 @@ void *memset(void *to, int byte, size_t count)
     return to;
 }
 
-#ifndef ANSWER /* an answer to an exercise begins with a function of its own, and returns */
+#ifndef VECMON_ANSWER /* an answer to an exercise begins with a function of its own, and returns */
 int main(void);
 
 _Noreturn void _start(void)
