@@ -65,7 +65,7 @@ export class Exercises {
   /** The source to begin with: of two, the one of the language that is chosen, be it C by whatever options. */
   get start() {
     const [{ starts }, { language }] = [this.all[this.name], this.editor.source];
-    const own = starts.find((start) => start.language > 0 === language > 0);
+    const own = starts.find((start) => start.language > 0 === this.editor.isC);
     return own ? { ...own, language } : (starts[0] ?? { text: "", language: 0 });
   }
 
