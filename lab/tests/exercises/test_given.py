@@ -10,7 +10,7 @@ from support.commands import Lab
 from support.drawn_inputs import DRAWS, Drawn
 from support.places import DOCS
 from vecmon_lab.compilers.compiled import compile_c
-from vecmon_lab.compilers.compiler import CHOICES, Compiler
+from vecmon_lab.compilers.compiler import Compiler
 from vecmon_lab.exercises.answer import Answer, Attempt, read_answer, ready, settled
 from vecmon_lab.exercises.exercise import FILES, OURS, Results, read_exercise
 from vecmon_lab.exercises.grade import grade
@@ -60,9 +60,8 @@ def test_an_exercise_is_answered_in_c(program: pathlib.Path, clang: Compiler, na
     """The start has no mistake, and nothing to be warned of; it fails, the good answer passes, and wrong ones fail."""
     exercise = settled(program, read_exercise(pathlib.Path(name)))
     start = exercise.files["start_c"]
-    for choice in range(len(CHOICES)):
-        compiled = compile_c(start.read_text("utf-8"), clang, choice, exercise.folder, is_answer=True)
-        assert (compiled.mistakes, compiled.warnings) == ([], [])
+    compiled = compile_c(start.read_text("utf-8"), clang, 0, exercise.folder, is_answer=True)
+    assert (compiled.mistakes, compiled.warnings) == ([], [])
     assert not any(grade(program, exercise, exercise.folder / "good.c", is_own=True))
     for path in (start, *exercise.folder.glob("wrong/*.c")):
         outcomes = grade(program, exercise, path, is_own=True)
