@@ -221,6 +221,7 @@ async def test_one_check_at_a_time(room: Served) -> None:
     assert (await tab.ask("check", exercise="doubles", text=RIGHT))["error"] == "a check of this seat is under way"
     assert "error" in await tab.ask("check", exercise="nosuch", text=RIGHT)
     assert "error" in await tab.ask("check", exercise="square", text=5)
+    assert "languages have numbers" in (await tab.ask("check", exercise="square", text=RIGHT, language=99))["error"]
     assert "error" in await tab.ask("answer", seat="A1", exercise="square", number=1)  # which is the teacher's to ask
     await tab.until(lambda view: view["exercises"]["square"]["tries"] == 1)
 
