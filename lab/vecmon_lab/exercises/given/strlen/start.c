@@ -1,6 +1,7 @@
 #include <riscv_vector.h>
 
-/* text: where the string begins; the answer is its length */
+/* text: where the string begins
+ * it returns its length */
 size_t answer(const uint8_t *text)
 {
     return 0;
