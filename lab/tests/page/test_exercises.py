@@ -105,8 +105,8 @@ def test_an_exercise_is_solved_in_c(tabs: "Chrome", course: Served, walled_clang
     check(tab, good.replace("vsadd", "vadd"), "It passes 2 of 5 cases.")
     assert "no room: element 0, i16 at 0x20200: expected 32767, found -32768" in tab.text("#exercise .said")
     tab.click("#exercise .verdict button")
-    tab.wait("id('step').textContent.includes('vsetvli x15, x13, e16, m8, ta, ma')")
-    assert "vl = __riscv_vsetvl_e16m8(count);" in tab.text("#listing") and tab.text("#run") == "stopped"
+    tab.wait("id('log').textContent.includes('> set x13 6')")
+    assert "vl = __riscv_vsetvl_e16m8(count);" in tab.text("#machine") and tab.text("#run") == "stopped"
     check(tab, good, "It passes all cases.")
     assert "and a good answer takes" in tab.text("#exercise .verdict")
     assert tab.front().execute_script(CONTRAST) == []
