@@ -48,7 +48,10 @@ def _missing(module: str) -> str:
 
 
 def arguments_of(words: list[str]) -> argparse.Namespace:
-    """What the program's words are, with the function `run` of the command that they name; options stand anywhere."""
+    """What the program's words are, with the function `run` of the command that they name.
+
+    Options stand anywhere; but of a command that takes an image's own words, before the image.
+    """
     match words:
         case ["help", *more]:
             words = [*more[:1], "--help"]
@@ -63,6 +66,8 @@ def arguments_of(words: list[str]) -> argparse.Namespace:
         module = importlib.import_module(f"vecmon_lab.{place}")
         module.add_arguments(command)
         command.set_defaults(run=module.run)
+        if not command.allow_abbrev:
+            return command.parse_args(words[1:])
         return command.parse_intermixed_args(words[1:])
     parser = _Parser(prog="vecmon-lab", description="A front end for vecmon, the trainer machine for RISC-V vectors.")
     parser.add_argument("--version", action="store_true", help="tell the versions of the lab and of the program")

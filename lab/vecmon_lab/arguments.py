@@ -2,14 +2,42 @@
 
 import argparse
 import pathlib
-from collections.abc import Callable
+from collections.abc import Callable, Sequence
+from typing import Any
 
 from . import LabError
 
 
+class _Program(argparse.Action):
+    """Divides an image from the words behind it, which are `words` then."""
+
+    def __call__(
+        self,
+        parser: argparse.ArgumentParser,
+        namespace: argparse.Namespace,
+        values: str | Sequence[Any] | None,
+        option_string: str | None = None,
+    ) -> None:
+        words = list(values or ())
+        path, *namespace.words = words[1:] if words[0] == "--" else words
+        namespace.image = pathlib.Path(path)
+
+
+def add_program(parser: argparse.ArgumentParser, told: str = "an ELF file", is_needed: bool = True) -> None:
+    """An image, and all words behind it as the program's own, options too; and a file as its input."""
+    parser.allow_abbrev = False  # so that no word of the program's is looked up among the options
+    told = f"{told}; the words behind it are the program's, also with a dash"
+    metavar = "IMAGE" if is_needed else "[IMAGE]"
+    image = parser.add_argument("image", metavar=metavar, nargs=argparse.PARSER, action=_Program, help=told)
+    image.required = is_needed
+    parser.set_defaults(words=[])
+    told = "a file that is laid at the symbol input, and its size at input_size"
+    parser.add_argument("--in", dest="input", metavar="FILE", type=pathlib.Path, help=told)
+
+
 def add_image(parser: argparse.ArgumentParser) -> None:
     """The words of all commands that run an image to its end."""
-    parser.add_argument("image", metavar="IMAGE", type=pathlib.Path, help="an ELF file")
+    add_program(parser)
     parser.add_argument("--ticks", metavar="N", type=between(1, 1 << 63), help="how many ticks it has at most")
 
 

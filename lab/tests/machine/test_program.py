@@ -74,14 +74,30 @@ def test_wrong_words(words: list[str]) -> None:
         (["lesson", "--title", "T", "script", "hello=F", "-o", "page"], {"images": ["hello=F"], "title": "T"}),
         (["lesson", "script", "--title", "T", "hello=F"], {"images": ["hello=F"], "title": "T"}),
         (["grade", "E", "a.s", "--csv", "b.s"], {"answers": [pathlib.Path("a.s"), pathlib.Path("b.s")], "csv": True}),
-        (["run", "image", "--ticks", "5", "one", "two"], {"words": ["one", "two"], "ticks": 5}),
-        (["run", "image", "one", "--stats", "--", "--ticks", "--"], {"words": ["one", "--ticks", "--"], "ticks": None}),
         (["vectors", "vadd.vv", "--cases", "3", "vsub.vv"], {"names": ["vadd.vv", "vsub.vv"], "cases": 3}),
     ],
 )
 def test_options_stand_anywhere(words: list[str], told: dict[str, object]) -> None:
     arguments = vars(start.arguments_of(words))
     assert {name: arguments[name] for name in told} == told
+
+
+@pytest.mark.parametrize("command", ["run", "compare", "profile", "console", "gdb"])
+@pytest.mark.parametrize(
+    "words, given",
+    [
+        ([], []),
+        (["one", "--ticks", "-h"], ["one", "--ticks", "-h"]),
+        (["-o", "--", "--t", "--in=x", "-1", ""], ["-o", "--", "--t", "--in=x", "-1", ""]),
+    ],
+)
+def test_words_behind_an_image_are_the_program_s(command: str, words: list[str], given: list[str]) -> None:
+    """As qemu-riscv64 has them."""
+    befores: list[list[str]] = [[], ["--in", "file"], ["--in", "file", "--"]]
+    for before in befores:
+        arguments = start.arguments_of([command, *before, "image", *words])
+        assert (arguments.image, arguments.words) == (pathlib.Path("image"), given)
+        assert arguments.input == (pathlib.Path("file") if before else None)
 
 
 @pytest.mark.parametrize("words", [["run", "--trace"], ["lesson", "-o"], ["profile", "-o"]])
@@ -99,7 +115,7 @@ def test_an_output_that_is_an_input(
 
 def test_the_other_output_of_a_profile(monkeypatch: pytest.MonkeyPatch, tmp_path: pathlib.Path) -> None:
     (tmp_path / "sum.csv").write_bytes(SUM.read_bytes())
-    arguments = start.arguments_of(["profile", str(tmp_path / "sum.csv"), "-o", str(tmp_path / "sum.html")])
+    arguments = start.arguments_of(["profile", "-o", str(tmp_path / "sum.html"), str(tmp_path / "sum.csv")])
     with pytest.raises(LabError, match="sum.csv would be overwritten"):
         arguments.run(arguments)
 

@@ -186,12 +186,12 @@ def test_output_is_cut_alike_in_all_slices(lab: Lab, program: pathlib.Path, tmp_
 
 def test_a_program_without_an_end(lab: Lab, program: pathlib.Path, tmp_path: pathlib.Path) -> None:
     make_image(program, tmp_path / "forever", FOREVER)
-    status, output, _ = lab("compare", tmp_path / "forever", "--ticks", "6999")
+    status, output, _ = lab("compare", "--ticks", "6999", tmp_path / "forever")
     first = "keep, slices of 1,000:  no end in 7,000 ticks, pc=0000000000010000; 0 bytes: b''"
     assert (status, output.decode().splitlines()) == (124, alike(first))
 
 
-@pytest.mark.parametrize("words", [[], ["none"], [STOCK / "short"], [SUM, "--ticks", "none"]])
+@pytest.mark.parametrize("words", [[], ["none"], [STOCK / "short"], ["--ticks", "none", SUM]])
 def test_bad_input(lab: Lab, words: list[object]) -> None:
     status, output, told = lab("compare", *words)
     assert (status, output, told.count("\n")) == (2, b"", 1)

@@ -58,7 +58,7 @@ def test_the_table(lab: Lab) -> None:
 
 def test_a_program_without_vectors(lab: Lab, program: pathlib.Path, tmp_path: pathlib.Path) -> None:
     make_image(program, tmp_path / "loop", "loop: j loop")
-    status, output, told = lab("profile", tmp_path / "loop", "--ticks", "2000", "-o", tmp_path / "page.html")
+    status, output, told = lab("profile", "--ticks", "2000", "-o", tmp_path / "page.html", tmp_path / "loop")
     assert (status, told) == (124, "")
     assert output.decode().splitlines()[1].split() == "10000 jal x0, 0 2000 2000".split()
     assert output.decode().splitlines()[-1] == "2,000 instructions in 2,000 ticks; the ticks ran out at 10000"
@@ -73,7 +73,7 @@ def test_source_lines_that_cannot_be_read(lab: Lab) -> None:
 
 def test_the_csv_file(lab: Lab, program: pathlib.Path, tmp_path: pathlib.Path) -> None:
     make_image(program, tmp_path / "masked", MASKED)
-    assert lab("profile", tmp_path / "masked", "-o", tmp_path / "page.html")[0] == 0
+    assert lab("profile", "-o", tmp_path / "page.html", tmp_path / "masked")[0] == 0
     with (tmp_path / "page.csv").open(newline="", encoding="utf-8") as file:
         rows = list(csv.reader(file))
     assert rows[0] == HEAD and len(rows) == 10
@@ -84,7 +84,7 @@ def test_the_csv_file(lab: Lab, program: pathlib.Path, tmp_path: pathlib.Path) -
 @pytest.mark.parametrize("scheme", ["light", "dark"])
 def test_the_page(browser: "Chrome", lab: Lab, program: pathlib.Path, tmp_path: pathlib.Path, scheme: str) -> None:
     make_image(program, tmp_path / "<b>masked", MASKED)
-    assert lab("profile", tmp_path / "<b>masked", "-o", tmp_path / "page.html")[0] == 0
+    assert lab("profile", "-o", tmp_path / "page.html", tmp_path / "<b>masked")[0] == 0
     features = [{"name": "prefers-color-scheme", "value": scheme}]
     browser.execute_cdp_cmd("Emulation.setEmulatedMedia", {"features": features})
     browser.get((tmp_path / "page.html").as_uri())
@@ -99,7 +99,7 @@ def test_the_page(browser: "Chrome", lab: Lab, program: pathlib.Path, tmp_path: 
     assert abs(ticks[4] - 20 * ticks[3]) < 1 and max(ticks) == ticks[4] == ticks[5]
     browser.find_element("id", "by-ticks").click()
     assert [row[0] for row in browser.execute_script(TEXTS)[1:3]] == ["10010", "10014"]
-    assert lab("profile", SUM_DWARF4, "-o", tmp_path / "page.html")[0] == 0
+    assert lab("profile", "-o", tmp_path / "page.html", SUM_DWARF4)[0] == 0
     browser.refresh()
     rows = browser.execute_script(TEXTS)
     assert rows[1] == ["_start"] and rows[2][:3] == ["11190", "addi x2, x2, -16", "sum.c:30"]
@@ -111,8 +111,8 @@ def test_the_page(browser: "Chrome", lab: Lab, program: pathlib.Path, tmp_path: 
     [
         (["none"], "vecmon-lab: none: No such file or directory"),
         ([STOCK / "short"], f"vecmon-lab: {STOCK}/short: the machine refuses image (E09 Short)"),
-        ([SUM, "-o", "page.csv"], "vecmon-lab: -o names a page, FILE.html, and page.csv is none"),
-        ([SUM, "-o", STOCK / "none" / "page.html"], f"vecmon-lab: {STOCK}/none/page.csv: No such file or directory"),
+        (["-o", "page.csv", SUM], "vecmon-lab: -o names a page, FILE.html, and page.csv is none"),
+        (["-o", STOCK / "none" / "page.html", SUM], f"vecmon-lab: {STOCK}/none/page.csv: No such file or directory"),
     ],
 )
 def test_bad_input(lab: Lab, words: list[object], told: str) -> None:

@@ -84,25 +84,27 @@ def test_ticks_run_out(lab: Lab, program: pathlib.Path, tmp_path: pathlib.Path) 
     image = tmp_path / "forever"
     make_image(program, image, FOREVER)
     told = f"vecmon-lab: {image}: the ticks ran out at 10000\n"
-    assert lab("run", image, "--ticks", "5000000") == (124, b"", told)
-    assert lab("run", image, "--ticks", "1", "--quantum", "7", "--trace", tmp_path / "trace") == (124, b"", told)
+    assert lab("run", "--ticks", "5000000", image) == (124, b"", told)
+    assert lab("run", "--ticks", "1", "--quantum", "7", "--trace", tmp_path / "trace", image) == (124, b"", told)
     assert (tmp_path / "trace").read_text() == "10000     -                   jal x0, 0\n" * 7
-    status, _, told = lab("run", image, "--ticks", "14", "--quantum", "7", "--stats")
+    status, _, told = lab("run", "--ticks", "14", "--quantum", "7", "--stats", image)
     assert (status, told.splitlines()[0]) == (124, "14 instructions in 14 ticks")
 
 
 def test_a_full_buffer(lab: Lab, program: pathlib.Path, tmp_path: pathlib.Path) -> None:
     make_image(program, tmp_path / "writes", WRITES)
-    status, output, _ = lab("run", tmp_path / "writes", "--ticks", "100000")
+    status, output, _ = lab("run", "--ticks", "100000", tmp_path / "writes")
     assert (status, output) == (124, b"1234567\n" * 5000)
-    status, output, _ = lab("run", tmp_path / "writes", "--ticks", "1000", "--trace", tmp_path / "trace")
+    status, output, _ = lab("run", "--ticks", "1000", "--trace", tmp_path / "trace", tmp_path / "writes")
     assert (status, output) == (124, b"1234567\n" * 125)
 
 
 def test_arguments(lab: Lab, program: pathlib.Path, tmp_path: pathlib.Path) -> None:
     make_image(program, tmp_path / "arguments", ARGUMENTS)
     assert lab("run", tmp_path / "arguments") == (1, b"arguments\n", "")
-    assert lab("run", tmp_path / "arguments", "one", "--", "-2", "--") == (4, b"arguments\none\n-2\n--\n", "")
+    assert lab("run", tmp_path / "arguments", "one", "--stats", "--") == (4, b"arguments\none\n--stats\n--\n", "")
+    assert lab("compare", tmp_path / "arguments", "-2")[1].startswith(b"keep, slices of 1,000:  exit 2 ")
+    assert lab("profile", tmp_path / "arguments", "-2")[1].endswith(b"ticks; status 2\n")
 
 
 def test_output_comes_while_it_runs_and_ctrl_c_ends_it(program: pathlib.Path, tmp_path: pathlib.Path) -> None:
@@ -133,8 +135,8 @@ def test_output_comes_while_it_runs_and_ctrl_c_ends_it(program: pathlib.Path, tm
             [STOCK / "short"],
             f"vecmon-lab: {STOCK}/short: the machine refuses image (E09 Short): the file has less than",
         ),
-        ([SUM, "--trace", STOCK], f"vecmon-lab: {STOCK}: Is a directory"),
-        ([SUM, "--", "x" * 9000], f"vecmon-lab: {SUM}: arguments take 8,192 bytes of the stack at most"),
+        (["--trace", STOCK, SUM], f"vecmon-lab: {STOCK}: Is a directory"),
+        ([SUM, "x" * 9000], f"vecmon-lab: {SUM}: arguments take 8,192 bytes of the stack at most"),
     ],
 )
 def test_bad_input(lab: Lab, words: list[object], told: str) -> None:
@@ -174,7 +176,7 @@ def test_a_trace_beside_one_of_qemu(lab: Lab, tmp_path: pathlib.Path) -> None:
     A client of its gdb stub (-g) stepped it, and wrote down the program counter, and each scalar and vector register
     that changed, and vl and vtype; the addresses of its stack were moved to where this machine has its own.
     """
-    assert lab("run", SUM, "--trace", tmp_path / "trace")[0] == 0
+    assert lab("run", "--trace", tmp_path / "trace", SUM)[0] == 0
     ours, theirs = ((path.read_text().splitlines()) for path in (tmp_path / "trace", QEMU / "sum"))
     assert len(ours) == len(theirs) == 250
     machine, emulator = State(), State()
@@ -223,7 +225,7 @@ class State:
 
 def test_counts(lab: Lab) -> None:
     """Instructions and elements were counted by hand, in the listing that objdump makes of the program."""
-    status, output, told = lab("run", SUM, "--stats")
+    status, output, told = lab("run", "--stats", SUM)
     assert (status, output) == (0, b"328350\n")
     lines = [line.split() for line in told.splitlines()]
     assert lines[0] == "250 instructions in 721 ticks".split()

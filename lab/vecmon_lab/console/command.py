@@ -8,6 +8,8 @@ import pathlib
 import sys
 from collections.abc import Callable, Iterator
 
+from .. import LabError
+from ..arguments import add_program
 from ..guest.guest import QUANTUM, Guest, started
 from ..guest.symbols import Symbols
 from ..lessons.lesson import SOURCE_SUFFIXES
@@ -22,16 +24,15 @@ MARK = "vecmon> "
 def add_arguments(parser: argparse.ArgumentParser) -> None:
     """The words of `vecmon-lab console`."""
     told = "an image, or an assembler source (.s, .S); without one there is no program yet"
-    parser.add_argument("image", metavar="IMAGE", type=pathlib.Path, nargs="?", help=told)
+    add_program(parser, told, is_needed=False)
 
 
 def run(arguments: argparse.Namespace) -> int:
     """Carries out lines up to the end. Raises LabError and OSError where the image or the source isn't taken."""
-    path: pathlib.Path | None = arguments.image
     is_terminal = sys.stdin.isatty() and sys.stdout.isatty()
     is_able = is_terminal and os.environ.get("TERM", "dumb") != "dumb"
     screen = Screen(is_able and not os.environ.get("NO_COLOR"))
-    with _console(path, screen) as console:
+    with _console(arguments, screen) as console:
         prompt: Callable[[], str] = functools.partial(_plain_line, MARK if is_terminal else "")
         if is_able:
             from .prompt import terminal_prompt  # whose library takes a third of a second
@@ -51,14 +52,18 @@ def run(arguments: argparse.Namespace) -> int:
 
 
 @contextlib.contextmanager
-def _console(path: pathlib.Path | None, screen: Screen) -> Iterator[Console]:
-    """A console at a machine of its own with what the path names."""
+def _console(arguments: argparse.Namespace, screen: Screen) -> Iterator[Console]:
+    """A console at a machine of its own with what is named. Raises LabError where a source is given words or input."""
+    path: pathlib.Path | None = arguments.image
     if path is not None and path.suffix not in SOURCE_SUFFIXES:
-        with started(path, write=screen.write) as guest:
+        words = [path.name, *arguments.words]
+        with started(path, arguments=words, file=arguments.input, write=screen.write) as guest:
             symbols = Symbols.read(path)
             screen.say(*filter(None, [symbols.trouble]))
             yield Console(guest, screen, symbols)
         return
+    if arguments.words or arguments.input:
+        raise LabError("words and an input are for an image alone")
     with Session(find_program(), quantum=QUANTUM) as session:
         guest = Guest(session, write=screen.write)
         guest.ask("enter")

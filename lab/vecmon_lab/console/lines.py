@@ -159,6 +159,7 @@ class Console:
         else:
             self._screen.say(*lines if has_user else self._shown(answer, lines))
         if isinstance(answer, Loaded):
+            self._guest.ask(*self._guest.laid)
             self._symbols = self._image_symbols
         if words[0] in ("load", "setpc"):
             self.tell_place()

@@ -4,7 +4,7 @@ import contextlib
 import os
 import pathlib
 import struct
-from collections.abc import Callable, Iterator, Sequence
+from collections.abc import Callable, Iterator, Mapping, Sequence
 from typing import TypeVar
 
 from .. import LabError, mistakes_in
@@ -20,12 +20,14 @@ from ..machine.answers import (
     Memory,
     Output,
     Position,
+    Refused,
     Stop,
     read,
 )
 from ..machine.program import check_flags, find_program
 from ..machine.session import TOGETHER, Session
 from ..tables.table import read_table
+from .input import input_of
 
 IMAGE_BYTES, ARGUMENT_BYTES = 4_194_304, 8192  # of a file; of the stack's 16 KiB
 QUANTUM, MOST_SLICES = 1000, 1000  # the longest slices, as the program is alone; and how many one line grants
@@ -39,12 +41,14 @@ class Guest:
 
     pc: where it stands, by what `start`, `go` and `step` were answered, or `regs` to a `Stepper`
     ticks: how many of them `go` has granted, in whole slices
+    laid: the commands that `start` gave behind `load`, without the policy
     """
 
     def __init__(self, session: Session, user: int = 1, write: Callable[[bytes], object] | None = None) -> None:
         """A user of a session. `write` is given what the program writes, as it comes; else `output` answers it."""
         self.session, self.user = session, user
         self.pc = self.ticks = 0
+        self.laid: Sequence[str] = ()
         self._kept: list[bytes] = []
         self._hands_on, self._write = write is not None, write or self._kept.append
 
@@ -69,10 +73,13 @@ class Guest:
         looks = (f"peek {at:x} {min(LINE_BYTES, end - at)}" for at in range(address, end, LINE_BYTES))
         return b"".join(told.data for told in self.ask(*looks) if isinstance(told, Memory))
 
-    def start(self, image: str, policy: str = "keep", arguments: Sequence[str] = ()) -> None:
+    def start(
+        self, image: str, policy: str = "keep", arguments: Sequence[str] = (), data: Mapping[int, bytes] | None = None
+    ) -> None:
         """The user enters, and an image is loaded; arguments, the first of them its name, are laid on the stack.
 
-        Without arguments nothing is written there. Raises LabError where the image is refused, or they have no room.
+        Without arguments nothing is written there. data: bytes that are laid in memory, by their address. Raises
+        LabError where the image is refused, or they have no room.
         """
         block = _argument_block(arguments)
         _, loaded, _ = self.ask("enter", f"load {image}", f"policy {policy}")  # who is there already has E06
@@ -80,9 +87,12 @@ class Guest:
             reason = dict(read_table("image_faults")).get(str(loaded))
             raise LabError(f"the machine refuses {image} ({loaded}): {reason}")
         self.pc = loaded.pc
-        if arguments:
-            place = STACK_END - len(block)
-            self.ask(*pokes(place, block), f"set x2 {place:x}")
+        written = [command for address, part in (data or {}).items() for command in pokes(address, part)]
+        place = STACK_END - len(block)
+        self.laid = [*written, *((*pokes(place, block), f"set x2 {place:x}") if arguments else ())]
+        for command, answer in zip(self.laid, self.ask(*self.laid)):
+            if isinstance(answer, Refused):
+                raise LabError(f"the machine refuses to write from {command.split()[1]} on ({answer})")
 
     def go(self, ticks: int | None = None, is_interrupted: Callable[[], bool] = lambda: False) -> Stop | None:
         """The program runs to a stop; None where so many ticks, rounded up to slices, ran out, or it is interrupted.
@@ -186,20 +196,21 @@ def started(
     policy: str = "keep",
     quantum: int = QUANTUM,
     arguments: Sequence[str] = (),
+    file: pathlib.Path | None = None,
     write: Callable[[bytes], object] | None = None,
 ) -> Iterator[Guest]:
-    """The guest that an image is loaded for, on a machine of its own, until the context ends.
+    """The guest that an image is loaded for, on a machine of its own, until the context ends. file: its input.
 
     Raises LabError and OSError where the image can't be read or is refused, or there is no program.
     """
-    with path.open("rb") as file:
-        if len(file.read(IMAGE_BYTES + 1)) > IMAGE_BYTES:
+    with path.open("rb") as opened:
+        if len(opened.read(IMAGE_BYTES + 1)) > IMAGE_BYTES:
             raise LabError(f"{path} has more than {IMAGE_BYTES:,} bytes")
     with Session(find_program(), {"image": path}, quantum=quantum) as session:
         guest = Guest(session, write=write)
         with mistakes_in(path):
             check_flags(path)
-            guest.start("image", policy, arguments)
+            guest.start("image", policy, arguments, input_of(path, file) if file else {})
         yield guest
 
 

@@ -23,11 +23,13 @@ class Symbols:
     """The symbols of a file by name, and their places; empty where the file has no symbol table.
 
     addresses: of each name
+    sizes: of each name, 0 where the file doesn't tell it
     path: the file, whose source lines are read when one is asked for
     """
 
     addresses: Mapping[str, int] = field(default_factory=dict)
     path: pathlib.Path | None = None
+    sizes: Mapping[str, int] = field(default_factory=dict)
     _places: Sequence[tuple[int, int, str]] = ()  # addresses in rising order, each with its section's end, and its name
 
     @classmethod
@@ -40,10 +42,11 @@ class Symbols:
                 found = sorted(_symbols(ELFFile(file)))
             except Exception:  # pylint: disable=broad-except  # a damaged file makes pyelftools raise what its parts do
                 return cls()
-        addresses = {name: address for address, _, _, name in sorted(found, key=lambda symbol: symbol[1])}
+        ranked = sorted(found, key=lambda symbol: symbol[1])
+        addresses = {name: address for address, _, _, name, _ in ranked}
         # of several symbols at an address the last one names it
-        places = {address: (address, end, name) for address, _, end, name in found if address < end}
-        return cls(addresses, path, list(places.values()))
+        places = {address: (address, end, name) for address, _, end, name, _ in found if address < end}
+        return cls(addresses, path, {name: size for *_, name, size in ranked}, list(places.values()))
 
     @classmethod
     def of_labels(cls, labels: Mapping[str, Sequence[str]]) -> "Symbols":
@@ -51,7 +54,7 @@ class Symbols:
         places = sorted((int(digits, 16), names) for digits, names in labels.items())
         end = (max((address for address, _ in places), default=0) | PAGE_BYTES - 1) + 1
         addresses = {name: address for address, names in places for name in names}
-        return cls(addresses, None, [(address, end, names[-1]) for address, names in places])
+        return cls(addresses, None, {}, [(address, end, names[-1]) for address, names in places])
 
     def place(self, address: int) -> str:
         """An address by the last symbol at or before it in its section, as `main+0x8`; "" where there is none."""
@@ -60,6 +63,14 @@ class Symbols:
             return ""
         start, _, name = self._places[at]
         return name if address == start else f"{name}+{address - start:#x}"
+
+    def room(self, name: str) -> int:
+        """How many bytes a symbol has, as the file tells, or else up to the next one or its section's end."""
+        address = self.addresses[name]
+        at = bisect.bisect_left(self._places, address, key=lambda place: place[0])
+        if self.sizes.get(name) or not self._places[at : at + 1] or self._places[at][0] != address:
+            return self.sizes.get(name, 0)
+        return min(self._places[at][1], *(place for place, _, _ in self._places[at + 1 : at + 2])) - address
 
     def line(self, address: int) -> str:
         """The source line of an instruction, as `sum.c:12`; "" where the file doesn't tell it."""
@@ -88,8 +99,8 @@ class Symbols:
         return rows, ""
 
 
-def _symbols(elf: "ELFFile") -> Iterator[tuple[int, int, int, str]]:
-    """The address of each symbol, how much it tells, the end of its section or 0 outside of it, and its name."""
+def _symbols(elf: "ELFFile") -> Iterator[tuple[int, int, int, str, int]]:
+    """The address of each symbol, how much it tells, the end of its section or 0 outside of it, its name and its size."""
     allocated = [(at, each) for at, each in enumerate(elf.iter_sections()) if each["sh_flags"] & ALLOCATED]
     bounds = {at: (each["sh_addr"], each["sh_addr"] + each["sh_size"]) for at, each in allocated}
     for section in elf.iter_sections():
@@ -101,7 +112,8 @@ def _symbols(elf: "ELFFile") -> Iterator[tuple[int, int, int, str]]:
                 continue
             rank = 3 * (kind != "STT_NOTYPE") + (BINDINGS.index(bind) if bind in BINDINGS else 0)
             start, end = bounds.get(index, (0, 0))
-            yield symbol["st_value"], rank, end if start <= symbol["st_value"] < end else 0, symbol.name
+            end = end if start <= symbol["st_value"] < end else 0
+            yield symbol["st_value"], rank, end, symbol.name, symbol["st_size"]
 
 
 def source_rows(elf: "ELFFile") -> Iterator[tuple[int, str]]:

@@ -1,14 +1,14 @@
 """Compares an image's runs: with agnostic elements kept and as ones, and in slices of different lengths."""
 
 import argparse
+import functools
 import itertools
-import pathlib
 from collections.abc import Iterator, Sequence
-from contextlib import ExitStack
+from contextlib import AbstractContextManager, ExitStack
 
 from ..arguments import add_image
 from ..guest.changes import NAMES, Registers, Stepper
-from ..guest.guest import started
+from ..guest.guest import Guest, started
 from ..guest.symbols import Symbols
 from ..instructions.accesses import REGISTER_BYTES, vector_instruction
 from ..machine.answers import Stop
@@ -17,7 +17,8 @@ from .run import status_of
 
 POLICIES, QUANTUMS = ("keep", "ones"), (1000, 7, 1)
 SHOWN_BYTES, SHOWN_DIFFERENCES = 40, 4
-
+Begun = AbstractContextManager[Guest]
+"""A guest that an image is loaded for."""
 
 Outcome = tuple[Stop | None, str, bytes]
 """How a run ended, if it did; that in words, and what it wrote."""
@@ -34,24 +35,25 @@ def run(arguments: argparse.Namespace) -> int:
 
     Raises LabError and OSError for bad input.
     """
-    image, symbols = arguments.image, Symbols.read(arguments.image)
+    image, file, symbols = arguments.image, arguments.input, Symbols.read(arguments.image)
+    begin = functools.partial(started, image, arguments=[image.name, *arguments.words], file=file)
     ticks = -(-arguments.ticks // 7000) * 7000  # slices of each length come to the same ticks
     outcomes: dict[tuple[str, int], Outcome] = {}
     for policy, quantum in itertools.product(POLICIES, QUANTUMS):
-        outcome = outcomes[policy, quantum] = _outcome(image, policy, quantum, ticks)
+        outcome = outcomes[policy, quantum] = _outcome(begin(policy=policy, quantum=quantum), ticks)
         is_same = len(outcomes) > 1 and outcome == outcomes["keep", QUANTUMS[0]]
         print(f"{policy}, slices of {quantum:>5,}:  {'the same' if is_same else _told(*outcome[1:])}")
     if any(outcomes["keep", quantum] != outcomes["ones", quantum] for quantum in QUANTUMS):
-        for line in _parting(image, symbols, ticks):
+        for line in _parting([begin(policy=policy) for policy in POLICIES], symbols, ticks):
             print(line)
     if any(outcomes[policy, quantum] != outcomes[policy, QUANTUMS[0]] for policy, quantum in outcomes):
         print("the length of slices tells only where a vector store that is cut has stored over its own word")
     return 1 if len(set(outcomes.values())) > 1 else status_of(outcomes["keep", QUANTUMS[0]][0])
 
 
-def _outcome(image: pathlib.Path, policy: str, quantum: int, ticks: int) -> Outcome:
-    """A run of an image, with its name as its argument."""
-    with started(image, policy=policy, quantum=quantum, arguments=[image.name]) as guest:
+def _outcome(begun: Begun, ticks: int) -> Outcome:
+    """A run of an image."""
+    with begun as guest:
         stop = guest.go(ticks)
         return stop, str(stop) if stop else f"no end in {ticks:,} ticks, pc={guest.pc:016x}", guest.output()
 
@@ -62,11 +64,10 @@ def _told(end: str, output: bytes) -> str:
     return f"{end}; {len(output):,} bytes: {output[:SHOWN_BYTES]!r}{more}"
 
 
-def _parting(image: pathlib.Path, symbols: Symbols, ticks: int) -> Iterator[str]:
+def _parting(begun: Sequence[Begun], symbols: Symbols, ticks: int) -> Iterator[str]:
     """The first instruction that tells agnostic elements that are kept from ones, and what differs behind it."""
     with ExitStack() as stack:
-        guests = [stack.enter_context(started(image, policy=policy, arguments=[image.name])) for policy in POLICIES]
-        steppers = [Stepper(guest) for guest in guests]
+        steppers = [Stepper(stack.enter_context(each)) for each in begun]
         for _ in range(ticks):
             before = [stepper.registers.copy() for stepper in steppers]
             kept, _ = (stepper.step() for stepper in steppers)

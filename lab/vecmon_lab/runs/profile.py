@@ -34,12 +34,12 @@ def run(arguments: argparse.Namespace) -> int:
     image, page = arguments.image, arguments.page
     if page and page.suffix != ".html":
         raise LabError(f"-o names a page, FILE.html, and {page} is none")
-    check_output(page, image)
-    check_output(page and page.with_suffix(".csv"), image)
+    for output in (page, page and page.with_suffix(".csv")):
+        check_output(output, image, *filter(None, [arguments.input]))
     symbols = Symbols.read(image)
     if symbols.trouble:
         print(f"vecmon-lab: {symbols.trouble}", file=sys.stderr)
-    with started(image, arguments=[image.name]) as guest:
+    with started(image, arguments=[image.name, *arguments.words], file=arguments.input) as guest:
         counts, stop = count(guest, arguments.ticks)
         end = f"status {stop.number}" if stop and stop.kind == "exit" else guest.tell(stop, symbols.place(guest.pc))
     rows = [*_rows(counts, symbols)]

@@ -20,7 +20,6 @@ TICKS_RAN_OUT, BREAKPOINT, FAULT = 124, 133, 139  # as timeout says, and a shell
 def add_arguments(parser: argparse.ArgumentParser) -> None:
     """The words of `vecmon-lab run`."""
     add_image(parser)
-    parser.add_argument("words", metavar="ARG", nargs="*", default=[], help="its arguments; -- before one with a dash")
     parser.add_argument("--policy", choices=("keep", "ones"), default="keep", help="what becomes of agnostic elements")
     ticks = between(1, QUANTUM)
     parser.add_argument("--quantum", metavar="Q", type=ticks, default=QUANTUM, help="of a slice; else %(default)s")
@@ -31,9 +30,15 @@ def add_arguments(parser: argparse.ArgumentParser) -> None:
 def run(arguments: argparse.Namespace) -> int:
     """Runs the image; its status, or one that says how it stopped. Raises LabError and OSError for bad input."""
     image, symbols = arguments.image, Symbols.read(arguments.image)
-    check_output(arguments.trace, image)
-    words = [image.name, *arguments.words]
-    with started(image, policy=arguments.policy, quantum=arguments.quantum, arguments=words, write=write_out) as guest:
+    check_output(arguments.trace, image, *filter(None, [arguments.input]))
+    with started(
+        image,
+        policy=arguments.policy,
+        quantum=arguments.quantum,
+        arguments=[image.name, *arguments.words],
+        file=arguments.input,
+        write=write_out,
+    ) as guest:
         stop, counts = _carried_out(guest, arguments, symbols)
         if counts and arguments.stats:
             print("\n".join(stats(counts)), file=sys.stderr)

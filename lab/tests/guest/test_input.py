@@ -1,0 +1,66 @@
+"""A file laid at a program's symbols: what the program finds there; and images without them, or without room."""
+
+import pathlib
+import subprocess
+
+import pytest
+
+from support.commands import Lab
+from support.places import SUM
+from vecmon_lab.compilers.compiler import IMAGE, SOURCE, Compiler
+
+ECHO = """
+#include "vecmon.h"
+char input[300], behind = 7;
+size_t input_size;
+int main(void)
+{
+    for (size_t put_out = 0; put_out < input_size;)
+        put_out += put(input + put_out, input_size - put_out);
+    return behind;
+}
+"""
+
+
+@pytest.fixture
+def made(clang: Compiler, tmp_path: pathlib.Path, request: pytest.FixtureRequest) -> pathlib.Path:
+    """The image that clang makes of a source."""
+    (tmp_path / SOURCE).write_text(request.param)
+    subprocess.run(clang.words(0), cwd=tmp_path, check=True)
+    return tmp_path / IMAGE
+
+
+@pytest.mark.parametrize("made", [ECHO], indirect=True)
+@pytest.mark.parametrize("data", [b"", b"a line\n", bytes(range(256)) + b"\xff" * 44])
+def test_a_program_finds_the_file(lab: Lab, made: pathlib.Path, data: bytes) -> None:
+    (made.parent / "file").write_bytes(data)
+    assert lab("run", "--in", made.parent / "file", made, "word") == (7, data, "")
+    assert (
+        lab("compare", "--in", made.parent / "file", made)[1]
+        .split(b"\n")[0]
+        .split(b"; ")[1]
+        .startswith(f"{len(data)} bytes".encode())
+    )
+
+
+@pytest.mark.parametrize(
+    "made, size, told",
+    [
+        (ECHO, 301, "its symbol input has room for 300 bytes, and {file} has more"),
+        (ECHO, None, "No such file or directory"),
+        ("int main(void) { return 0; }", 5, "a file is laid at its symbols input and input_size, and it has no input"),
+        ("char input[9]; int main(void) { return 0; }", 5, "and it has no input_size"),
+        ("char input[9]; int input_size; int main(void) { return 0; }", 5, "has no room for 8 bytes, as a size_t has"),
+    ],
+    indirect=["made"],
+)
+def test_no_room(lab: Lab, made: pathlib.Path, size: int | None, told: str) -> None:
+    file = made.parent / "file"
+    if size is not None:
+        file.write_bytes(bytes(size))
+    status, output, complaint = lab("run", "--in", file, made)
+    assert (status, output, complaint.count("\n")) == (2, b"", 1) and told.format(file=file) in complaint
+
+
+def test_an_image_without_such_symbols(lab: Lab) -> None:
+    assert lab("run", "--in", SUM, SUM)[2].endswith("and it has no input\n")
