@@ -130,7 +130,7 @@ def test_the_registers_are_described(squares: Packets) -> None:
     target = ElementTree.fromstring(xml)
     assert target.findtext("architecture") == "riscv:rv64"
     registers = [(register.get("name"), register.get("bitsize")) for register in target.iter("reg")]
-    names = [*(f"x{number}" for number in range(32)), "pc", "vl", "vtype", "vstart", "vxrm", "vxsat"]
+    names = [*(f"x{number}" for number in range(32)), "pc", "vl", "vtype", "vstart", "vxrm", "vxsat", "vcsr"]
     assert registers == [(name, "64") for name in names] + [(f"v{number}", "256") for number in range(32)]
     for vector in target.iter("vector"):
         assert int(vector.get("type", "").removeprefix("uint")) * int(vector.get("count", "")) == 256
@@ -138,7 +138,7 @@ def test_the_registers_are_described(squares: Packets) -> None:
 
 
 def test_a_fault_and_how_to_go_on(squares: Packets) -> None:
-    assert squares.ask("?") == "S05"
+    assert squares.ask("?") == "S00"
     registers = squares.ask("g")
     assert registers == "".join(map(little, [0, 0, 0x7FFFEFC0, *[0] * 29, 0x10174]))
     squares.send("c")
@@ -187,7 +187,8 @@ def test_what_is_written_is_read_again(squares: Packets) -> None:
         ("Z0,11002,4", "E04"),
         ("z0,11000,4", "OK"),
         ("Z2,11000,4", ""),
-        ("p46", "E04"),
+        ("p47", "E04"),
+        ("P46=0500000000000000", "E04"),
         ("pxyz", "E04"),
         ("P21=0500000000000000", "E04"),
         ("P0=0500000000000000", "E04"),
@@ -344,6 +345,20 @@ def test_gdb_begins_anew(gdb: Callable[..., str]) -> None:
     assert "$1 = (void (*)()) 0x11190 <_start>" in told and told.endswith(
         "328350\n[Inferior 1 (Remote target) exited normally]\n"
     )
+
+
+def test_gdb_begins_anew_after_a_signal(gdb: Callable[..., str]) -> None:
+    again = f"target remote | exec {sys.executable} -m vecmon_lab gdb {SQUARES}"
+    told = gdb(SQUARES, "continue", again, "print $pc")
+    assert told.count("SIG") == 1 and "SIGTRAP" not in told and told.endswith("$1 = (void (*)()) 0x10174\n")
+
+
+def test_gdb_shows_vcsr(gdb: Callable[..., str], tmp_path: pathlib.Path, program: pathlib.Path) -> None:
+    """By the manual vxsat is bit 0 of vcsr, and vxrm bits 2 and 1."""
+    make_image(program, tmp_path / "image", "csrwi vxrm, 2\ncsrwi vxsat, 1\nvsetivli x0, 4, e8, m1, ta, ma\nebreak")
+    told = gdb(tmp_path / "image", "continue", "info registers vcsr", "info registers vxrm", "print $v31.b[0]")
+    shown = [" ".join(line.split()) for line in told.splitlines()]
+    assert shown[-3:] == ["vcsr 0x5 5", "vxrm 0x2 2", "$1 = 0"]
 
 
 def test_gdb_with_a_fault(gdb: Callable[..., str]) -> None:

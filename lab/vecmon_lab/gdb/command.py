@@ -10,6 +10,7 @@ import contextlib
 import pathlib
 import re
 
+from ..arguments import add_program
 from ..assembler.commands import refusal_in_words
 from ..guest.guest import Guest, started
 from ..instructions.accesses import LINE_BYTES
@@ -27,24 +28,28 @@ from ..machine.answers import (
 from ..machine.lines import BadLine, is_look, words_of
 from .packets import Link
 
+BEGUN = "S00"  # no signal: gdb would tell of one where the last machine was stopped by one
 INTERRUPTED, ILLEGAL, TRAPPED, MISALIGNED, UNMAPPED = "S02", "S04", "S05", "S0a", "S0b"  # SIGINT, ILL, TRAP, BUS, SEGV
 FAULTS = {0: MISALIGNED, 1: UNMAPPED, 2: ILLEGAL, 5: UNMAPPED, 7: UNMAPPED}  # by cause
 REFUSED, THERE_ALREADY = "E04", Refused("E13")
 PACKET_BYTES = 512  # so that what gdb writes at once, in two digits a byte, isn't too much for `poke`
 DESCRIPTION = pathlib.Path(__file__).with_name("registers.xml").read_text("ascii")
-PC, FIRST_CONTROL = 32, 33  # numbers of registers: x0 to x31, pc, the control registers, v0 to v31
+PC, FIRST_CONTROL = 32, 33  # numbers of registers: x0 to x31, pc, the control registers, v0 to v31, vcsr
 FIRST_VECTOR = FIRST_CONTROL + len(CONTROL)
+VCSR = FIRST_VECTOR + 32
 
 
 def add_arguments(parser: argparse.ArgumentParser) -> None:
     """The words of `vecmon-lab gdb`."""
-    parser.add_argument("image", metavar="IMAGE", type=pathlib.Path, help="the image that the machine loads")
+    add_program(parser, "the image that the machine loads")
 
 
 def run(arguments: argparse.Namespace) -> int:
     """Answers gdb until it goes away. Raises LabError and OSError where the image isn't taken."""
-    link = Link()
-    with started(arguments.image, write=lambda data: link.send(f"O{data.hex()}")) as guest:
+    link, words = Link(), [arguments.image.name, *arguments.words]
+    with started(
+        arguments.image, arguments=words, file=arguments.input, write=lambda data: link.send(f"O{data.hex()}")
+    ) as guest:
         target = Target(guest, link)
         with contextlib.suppress(EOFError, BrokenPipeError):
             while target.is_attached:
@@ -58,7 +63,7 @@ class Target:
     def __init__(self, guest: Guest, link: Link) -> None:
         self.is_attached = True
         self._guest, self._link = guest, link
-        self._last = TRAPPED  # the last stop
+        self._last = BEGUN  # the last stop
 
     def answer(self, packet: str) -> str:
         """The answer to a packet; output comes before it, by itself. Raises EOFError where gdb ends the program."""
@@ -127,12 +132,15 @@ class Target:
         """The register of a number."""
         if number < FIRST_VECTOR:
             return self._scalars()[number]
+        if number == VCSR:
+            control = self._guest.told("vcsr", ControlRegisters)
+            return (control.vxrm << 1 | control.vxsat).to_bytes(8, "little").hex()
         (told,) = self._guest.ask(f"vreg v{number - FIRST_VECTOR} 8")
         return told.data.hex() if isinstance(told, VectorRegister) else REFUSED
 
     def _write_register(self, number: int, digits: str) -> str:
         """Writes a register; the control registers can't be written from outside."""
-        if number >= FIRST_VECTOR:
+        if VCSR > number >= FIRST_VECTOR:
             return self._do(f"vset v{number - FIRST_VECTOR} {digits}")
         if number >= FIRST_CONTROL:
             return REFUSED
