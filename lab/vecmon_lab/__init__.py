@@ -1,8 +1,14 @@
 """A front end for vecmon: it speaks lines with the program, and shows what the machine told."""
 
 import contextlib
+import importlib
 from collections.abc import Iterator
+from typing import TYPE_CHECKING, Any
 
+if TYPE_CHECKING:
+    from .kernels.kernel import CallStopped, Kernel, Placed, PoliciesDiffer, Result
+
+__all__ = ["CallStopped", "Kernel", "LabError", "Placed", "PoliciesDiffer", "Result"]
 __version__ = "0.9.0"  # as CHANGELOG.md has it
 
 
@@ -17,3 +23,10 @@ def mistakes_in(what: object, *kinds: type[Exception]) -> Iterator[None]:
         yield
     except kinds or LabError as error:
         raise LabError(f"{what}: {error}") from error
+
+
+def __getattr__(name: str) -> Any:
+    """What `kernels` has is imported where it is asked for: no command needs it."""
+    if name not in __all__:
+        raise AttributeError(f"module {__name__} has no attribute {name}")
+    return getattr(importlib.import_module(f"{__name__}.kernels.kernel"), name)

@@ -1,0 +1,223 @@
+"""Functions called from Python: what they are given, what is read back, and what is told where a call doesn't return."""
+
+import array
+import pathlib
+import re
+import subprocess
+import sys
+from collections.abc import Iterator
+from typing import Any
+
+import pytest
+
+import vecmon_lab
+from support.places import EXAMPLES, SQUARES_DWARF5, TOP
+from vecmon_lab import CallStopped, Kernel, LabError, Placed, PoliciesDiffer
+from vecmon_lab.compilers.compiler import Compiler
+from vecmon_lab.kernels import kernel as kernels
+
+SOURCE = """
+fifth:  mv a0, a4
+        ret
+least:  lb a0, -1(a0)
+        ret
+first:  lb a0, 0(a0)
+        ret
+turned: beqz a1, done                   # each of a1 bytes from a0 on is turned round
+        lb t0, 0(a0)
+        not t0, t0
+        sb t0, 0(a0)
+        addi a0, a0, 1
+        addi a1, a1, -1
+        j turned
+done:   ret
+tail:   vsetivli x0, 4, e32, m1, ta, ma # the tail holds a 9 before, and then it is what the policy makes of it
+        vmv.v.i v8, 9
+        vsetivli x0, 2, e32, m1, ta, ma
+        vmv.v.i v8, 1
+        vsetivli x0, 4, e32, m1, ta, ma
+        vse32.v v8, (a0)
+        vmv.s.x v9, x0
+        vredsum.vs v9, v8, v9
+        vmv.x.s a0, v9
+        ret
+counts: la t0, count
+        ld a0, 0(t0)
+        addi a0, a0, 1
+        sd a0, 0(t0)
+        ret
+says:   mv a3, ra
+next:   mv a2, a1
+        li a0, 1
+        la a1, count
+        li a7, 64
+        ecall
+        mv a1, a2
+        addi a4, a4, -1
+        bnez a4, next
+        jr a3
+ends:   li a7, 93
+        ecall
+halts:  ebreak
+stays:  j stays
+        .data
+count:  .dword 0x30
+"""
+
+
+@pytest.fixture(scope="module")
+def kernel(tmp_path_factory: pytest.TempPathFactory) -> Iterator[Kernel]:
+    """The functions of the source."""
+    path = tmp_path_factory.mktemp("kernel") / "source.s"
+    path.write_text(SOURCE)
+    with Kernel(path) as kernel:
+        yield kernel
+
+
+@pytest.mark.parametrize("number", [0, 7, -1, -(1 << 63), (1 << 64) - 1])
+def test_numbers(kernel: Kernel, number: int) -> None:
+    result = kernel.call("fifth", 1, 2, 3, 4, number)
+    assert result.value == number % (1 << 64) and result.signed == number - (1 << 64 if number > 1 << 63 else 0)
+
+
+@pytest.mark.parametrize(
+    "given, left",
+    [
+        (b"\x00\x01\xfe", b"\xff\xfe\x01"),
+        (bytearray(b"\x80"), bytearray(b"\x7f")),
+        (array.array("h", [0, -2, 300]), array.array("h", [-1, 1, -301])),
+        (memoryview(array.array("q", [5, -1])), memoryview(array.array("q", [-6, 0]))),
+        (memoryview(b"\0\1\2\3").cast("B", (2, 2)), memoryview(b"\xff\xfe\xfd\xfc").cast("B", (2, 2))),
+        (b"", b""),
+        (bytes(range(256)) * 20, bytes(range(255, -1, -1)) * 20),
+    ],
+    ids=["bytes", "bytearray", "array", "memoryview", "rows", "empty", "two pages"],
+)
+@pytest.mark.parametrize("offset", [None, 0, 1, 4095])
+def test_arrays(kernel: Kernel, given: Any, left: Any, offset: int | None) -> None:
+    """A word that is turned round is -1 minus it."""
+    size, before = memoryview(given).nbytes, bytes(memoryview(given).cast("B")) if len(given) else b""
+    result = kernel.call("turned", Placed(given, offset), size)
+    assert type(result.arrays[0]) is type(given) and result.arrays[0] == left
+    assert (result.value - size) % 4096 == ((-size) % 4096 if offset is None else offset)
+    assert bytes(memoryview(given).cast("B") if len(given) else b"") == before
+
+
+def test_no_page_is_before_an_array_or_behind_it(kernel: Kernel) -> None:
+    assert kernel.call("least", Placed(b"ab", 1)).value == kernel.call("first", Placed(b"\0", 4095)).value == 0
+    with pytest.raises(
+        CallStopped, match=r"least.*may not read from 0xffffffff on: .* Array 1 is from 0x100000000 to "
+    ):
+        kernel.call("least", Placed(b"ab", 0))
+    with pytest.raises(CallStopped, match=r"first.*may not read from 0x100001000 on.* to 0x100001000\.$") as caught:
+        kernel.call("first", b"")
+    assert caught.value.stop and (caught.value.stop.kind, caught.value.stop.cause) == ("fault", 5)
+    with pytest.raises(CallStopped, match=r"turned\+0xc: sb x5, 0\(x10\): .*may not write"):
+        kernel.call("turned", Placed(b"a", permissions="r"), 1)
+
+
+def test_agnostic_elements(kernel: Kernel) -> None:
+    """Elements 2 and 3 keep their 9 under `keep`; under `ones` they are all ones, which is -1."""
+    before, kept = array.array("i", [0] * 4), array.array("i", [1, 1, 9, 9])
+    result = kernel.call("tail", before)
+    assert (result.value, result.arrays) == (20, [kept])
+    assert kernel.call("tail", before, policy="ones").arrays == [array.array("i", [1, 1, -1, -1])]
+    told = "tail: the result is 0x14 under keep, 0x0 under ones; array 1, byte 8: 09 under keep, ff under ones; 8 bytes"
+    with pytest.raises(PoliciesDiffer, match=re.escape(told)):
+        kernel.call("tail", before, policy="both")
+    assert kernel.call("fifth", 0, 0, 0, 0, 5, policy="both").value == 5
+
+
+def test_each_call_begins_anew(kernel: Kernel, monkeypatch: pytest.MonkeyPatch) -> None:
+    processes = set()
+    monkeypatch.setattr(kernels, "RENEWED_BYTES", 3000)
+    for _ in range(20):
+        assert kernel.call("counts").value == 0x31
+        processes.add(kernel._guest.session.process)
+    assert 1 < len(processes) < 20
+
+
+def test_output(kernel: Kernel) -> None:
+    """A write of 128 bytes, nine times: more than the machine holds at once."""
+    output = kernel.call("says", 0, 128, 0, 0, 9).output
+    assert len(output) == 9 * 128 and output[:8] == bytes([0x30, *[0] * 7])
+    assert kernel.call("fifth", 0, 0, 0, 0, 5).output == b""
+
+
+@pytest.mark.parametrize(
+    "symbol, told",
+    [
+        ("ends", "The program has ended with status 7, at "),
+        ("halts", "halts: ebreak: An ebreak stands at "),
+        ("stays", "stays: the ticks ran out at "),
+    ],
+)
+def test_calls_that_do_not_return(kernel: Kernel, symbol: str, told: str) -> None:
+    with pytest.raises(CallStopped, match=re.escape(told)):
+        kernel.call(symbol, 7, ticks=2000)
+    assert kernel.call("counts").value == 0x31
+
+
+@pytest.mark.parametrize(
+    "arguments, options, told",
+    [
+        ([0] * 9, {}, "a call has 8 arguments at most, and this one has 9"),
+        ([1 << 64], {}, "argument 1, 18446744073709551616, doesn't fit into 64 bits"),
+        ([0, 1.5], {}, "argument 2: memoryview: a bytes-like object is required, not 'float'"),
+        ([Placed(b"a", 4096)], {}, "argument 1: its offset in a page is 4096, and isn't from 0 to 4,095"),
+        ([Placed(b"a", permissions="rq")], {}, "fifth: map 100000000 1 rq: E04: rq isn't one of r, w, x, "),
+        ([bytes(1 << 20)], {}, "fifth: map 100000000 256 rw: E10: the user would have more than 256 pages"),
+        ([], {"policy": "none"}, "fifth: policy none: E04: none is no policy"),
+    ],
+)
+def test_what_cannot_be_called(kernel: Kernel, arguments: Any, options: Any, told: str) -> None:
+    with pytest.raises(LabError, match=f"^{re.escape(told)}"):
+        kernel.call("fifth", *arguments, **options)
+    assert kernel.call("fifth", 0, 0, 0, 0, 5).value == 5
+
+
+def test_programs_that_are_refused(kernel: Kernel, tmp_path: pathlib.Path) -> None:
+    with pytest.raises(LabError, match="has no symbol none$"):
+        kernel.call("none")
+    (tmp_path / "bad.s").write_text("add t0, t1 t2")
+    (tmp_path / "script").write_text("1 regs\n")
+    for name, told in (
+        ("bad.s", "bad.s:1:12: "),
+        ("script", "it is no image, and no source"),
+        ("none", "No such file"),
+    ):
+        with pytest.raises(LabError, match=f"^{tmp_path}/{name}: .*{told}"):
+            Kernel(tmp_path / name)
+    with pytest.raises(AttributeError, match="has no attribute Karnel"):
+        getattr(vecmon_lab, "Karnel")
+
+
+def test_an_image() -> None:
+    """`fill` stores squares: 37 of them are three groups of sixteen, the last one in part."""
+    with Kernel(SQUARES_DWARF5) as kernel:
+        result = kernel.call("fill", array.array("I", [0] * 37), 37, policy="both")
+        assert result.arrays == [array.array("I", [number * number for number in range(37)])]
+        with pytest.raises(CallStopped, match=r"next\+0x10: vse32.v v8, \(x10\): .* It stopped at element 4\."):
+            kernel.call("fill", array.array("I", [0] * 36), 37)
+
+
+def test_a_source_in_c(clang: Compiler, tmp_path: pathlib.Path) -> None:
+    (tmp_path / "double.c").write_text("long twice(int n) { return 2L * n; }\n")
+    with Kernel(tmp_path / "double.c", options="O0", compiler=clang.name) as kernel:
+        assert kernel.call("twice", -21).signed == -42
+    (tmp_path / "double.c").write_text("long twice(int n) { return 2L * m; }\n")
+    with pytest.raises(LabError, match="double.c:1:33: use of undeclared identifier 'm'$"):
+        Kernel(tmp_path / "double.c")
+    with pytest.raises(LabError, match="O9 aren't options"):
+        Kernel(tmp_path / "double.c", options="O9")
+
+
+def test_the_example(clang: Compiler, tmp_path: pathlib.Path) -> None:
+    folder = EXAMPLES / "tested"
+    command = [sys.executable, "-B", "-m", "pytest", "-q", "-p", "no:cacheprovider", "-c", "/dev/null", str(folder)]
+    run = subprocess.run(command, cwd=tmp_path, capture_output=True, text=True, check=False)
+    assert run.returncode == 0 and "2 passed" in run.stdout, run.stdout
+    page = (TOP / "docs" / "LAB.md").read_text("utf-8")
+    for path in folder.glob("*.[cp]*"):
+        text = path.read_text("utf-8")
+        assert f"\n{text[text.index('@settings') if path.suffix == '.py' else 0:]}```" in page

@@ -1,0 +1,1 @@
+"""A program's functions, called from Python."""

@@ -1,0 +1,263 @@
+"""A program's functions called from Python, as tests of vector kernels do: arrays go into memory, and are read back."""
+
+import array
+import os
+import pathlib
+import re
+from collections.abc import Iterator, Sequence
+from dataclasses import dataclass
+from typing import Any, TypeAlias
+
+from .. import LabError, mistakes_in
+from ..assembler.commands import refusal_in_words
+from ..compilers.compiled import compile_c
+from ..compilers.compiler import choice_of, find_compiler
+from ..exercises.answer import MOST_STEPS, Answer, read_answer
+from ..guest.guest import QUANTUM, STACK_END, Guest, pokes
+from ..guest.symbols import Symbols
+from ..instructions.accesses import LINE_BYTES, PAGE_BYTES
+from ..lessons.script import check_compiled
+from ..machine.answers import Memory, Output, Refused, ScalarRegisters, Stop
+from ..machine.program import find_program
+from ..machine.session import Session
+
+Array: TypeAlias = "bytes | bytearray | memoryview | array.array[Any]"
+
+ARRAYS = 0x1_0000_0000
+"""Where the first page of arrays is."""
+
+RETURN = STACK_END  # where there is no page: who returns is the one that can't be fetched there
+MOST_ARGUMENTS, FIRST_ARGUMENT = 8, 10  # in registers, x10 first
+RENEWED_BYTES = 2_000_000  # of a session's script, behind which another session takes its place
+
+_MAIN = "\nint main(void) { return 0; }\n"
+
+
+@dataclass(frozen=True)
+class Placed:
+    """An array, and where it lies in its pages, before and behind which there is no page.
+
+    offset: from the beginning of its first page on, 0 to 4,095; without one it ends where its last page does
+    permissions: what the program may do there: `r`, `w` or `rw`
+    """
+
+    data: Array
+    offset: int | None = None
+    permissions: str = "rw"
+
+
+@dataclass(frozen=True)
+class Result:
+    """What a call leaves.
+
+    value: what stands in a0, from 0 to 2^64 - 1
+    arrays: those of the call, in their order, each of the type that it was given in
+    output: what it wrote
+    """
+
+    value: int
+    arrays: Sequence[Array]
+    output: bytes
+
+    @property
+    def signed(self) -> int:
+        """The value as a number from -2^63 on."""
+        return self.value - (self.value >> 63 << 64)
+
+
+class CallStopped(LabError):
+    """A call that didn't return: it faulted, ended the program, stopped elsewhere, or its ticks ran out (no stop)."""
+
+    def __init__(self, text: str, stop: Stop | None) -> None:
+        super().__init__(text)
+        self.stop = stop
+
+
+class PoliciesDiffer(LabError):
+    """A call that leaves something else where agnostic elements become ones than where they are kept."""
+
+
+@dataclass(frozen=True)
+class _Place:
+    """Bytes from an address on, and the lines that lay them there."""
+
+    address: int
+    data: bytes
+    lines: Sequence[str]
+
+
+_Left = tuple[int, list[bytes], bytes]
+"""What a call leaves: a0, the bytes of the arrays, and the output."""
+
+
+class Kernel:
+    """The functions of a program: an image, or a source in assembler (.s, .S) or C (.c).
+
+    Each call has a machine on which the program was brought in anew: its variables are as it has them. `close`, or the
+    end of a `with`, ends the machine's process.
+    """
+
+    def __init__(self, path: str | os.PathLike[str], options: str = "O2", compiler: str | None = None) -> None:
+        """options, compiler: of a source in C, as `vecmon-lab lesson` has them. Raises LabError and OSError."""
+        self._path = pathlib.Path(path)
+        with mistakes_in(path):
+            answer, self._symbols = _read(self._path, options, compiler)
+        self._images = {"image": self._path} if answer.commands is None else {}
+        self._begin = ["load image"] if answer.commands is None else ["leave", "enter", *answer.commands]
+        self._begin.append(f"set x1 {RETURN:x}")
+        if "__global_pointer$" in self._symbols.addresses:
+            self._begin.append(f"set x3 {self._symbols.addresses['__global_pointer$']:x}")
+        self._guest = self._opened()
+
+    def __enter__(self) -> "Kernel":
+        return self
+
+    def __exit__(self, *error: object) -> None:
+        self.close()
+
+    def close(self) -> None:
+        """Ends the process."""
+        self._guest.session.close()
+
+    def call(
+        self, symbol: str, *arguments: "int | Array | Placed", policy: str = "keep", ticks: int = 1_000_000
+    ) -> Result:
+        """Calls a function with whole numbers and the addresses of arrays, eight at most, in a0 to a7.
+
+        An array that isn't `Placed` ends where a page does. policy: what becomes of agnostic elements, `keep` or
+        `ones`; `both` calls twice. Raises CallStopped, PoliciesDiffer, and LabError for what can't be called so.
+        """
+        if symbol not in self._symbols.addresses:
+            raise LabError(f"{self._path} has no symbol {symbol}")
+        values, places, given = _laid(arguments)
+        registers = [f"set x{FIRST_ARGUMENT + number} {value:x}" for number, value in enumerate(values)]
+        lines = [*(line for place in places for line in place.lines), *registers]
+        policies = ("keep", "ones") if policy == "both" else (policy,)
+        first, *others = [self._left(symbol, each, lines, places, ticks) for each in policies]
+        if others and first != others[0]:
+            raise PoliciesDiffer(f"{symbol}: {'; '.join(_differences(first, others[0]))}")
+        value, found, output = first
+        return Result(value, [_like(data, each) for data, each in zip(given, found)], output)
+
+    def _opened(self) -> Guest:
+        """A guest on a machine of its own, who has entered."""
+        guest = Guest(Session(find_program(), self._images, quantum=QUANTUM))
+        guest.ask("enter")
+        return guest
+
+    def _left(self, symbol: str, policy: str, lines: Sequence[str], places: Sequence[_Place], ticks: int) -> _Left:
+        """What a call leaves under a policy."""
+        if self._guest.session.size > RENEWED_BYTES:
+            self.close()
+            self._guest = self._opened()
+        guest = self._guest
+        before = [*self._begin, f"policy {policy}", *lines, f"setpc {self._symbols.addresses[symbol]:x}"]
+        looks = ["regs", *(look for place in places for look in _looks(place)), "out"]
+        answers = guest.ask(*before, f"step {MOST_STEPS}", *looks)
+        for command, answer in zip(before, answers):
+            if isinstance(answer, Refused):
+                raise LabError(f"{symbol}: {command[:60]}: {refusal_in_words(f'1 {command}', answer)[-1]}")
+        told, *found = answers[len(before) :]
+        stop = told if isinstance(told, Stop) and told.kind != "outfull" else None
+        output = found[-1].data if isinstance(found[-1], Output) else b""
+        if stop is None:
+            stop = guest.go(ticks)
+            output += guest.output()
+            found = guest.ask(*looks[:-1])
+        if stop is None or stop.pc != RETURN:
+            raise self._stopped(symbol if policy == "keep" else f"{symbol} under {policy}", stop, places)
+        (registers,) = (each for each in found if isinstance(each, ScalarRegisters))
+        parts = iter(each.data for each in found if isinstance(each, Memory))
+        return registers.x[FIRST_ARGUMENT], [_joined(place, parts) for place in places], output
+
+    def _stopped(self, what: str, stop: Stop | None, places: Sequence[_Place]) -> CallStopped:
+        """Why a call didn't return; of a fault in or beside an array also where that lies."""
+        text = f"{what}: " + self._guest.tell(stop, self._symbols.place(stop.pc if stop else self._guest.pc))
+        for number, place in enumerate(places, 1):
+            end = place.address + len(place.data)
+            if stop and stop.kind == "fault" and place.address - PAGE_BYTES <= stop.value < end + PAGE_BYTES:
+                text += f" Array {number} is from {place.address:#x} to {end:#x}."
+                break
+        return CallStopped(text, stop)
+
+
+def _read(path: pathlib.Path, options: str, compiler: str | None) -> tuple[Answer, Symbols]:
+    """The program in a file, and its symbols. Raises LabError and OSError."""
+    if path.suffix == ".c":
+        text = path.read_text("utf-8", "replace")
+        text += "" if re.search(r"\bmain\s*\(", text) else _MAIN
+        program = compile_c(text, find_compiler(compiler), choice_of(options), path.parent)
+        check_compiled(program, path.name)
+        return Answer(path, program.lines), Symbols.of_labels(program.names())
+    answer = read_answer(path.resolve())
+    if answer.source:
+        return answer, Symbols.of_labels(answer.source.labels)
+    if answer.commands is not None:
+        raise LabError("it is no image, and no source: the name of one ends in .c, .s or .S")
+    return answer, Symbols.read(path)
+
+
+def _laid(arguments: Sequence["int | Array | Placed"]) -> tuple[list[int], list[_Place], list[Array]]:
+    """The values of arguments as registers have them; the places of arrays; and the arrays as they were given."""
+    if len(arguments) > MOST_ARGUMENTS:
+        raise LabError(f"a call has {MOST_ARGUMENTS} arguments at most, and this one has {len(arguments)}")
+    values, places, given, page = list[int](), list[_Place](), list[Array](), ARRAYS
+    for number, argument in enumerate(arguments, 1):
+        if isinstance(argument, int):
+            if not -(1 << 63) <= argument < 1 << 64:
+                raise LabError(f"argument {number}, {argument}, doesn't fit into 64 bits")
+            values.append(argument % (1 << 64))
+            continue
+        placed = argument if isinstance(argument, Placed) else Placed(argument)
+        with mistakes_in(f"argument {number}", TypeError, LabError):
+            place, pages = _place(placed, page)
+        page += (pages + 1) * PAGE_BYTES
+        values.append(place.address)
+        places.append(place)
+        given.append(placed.data)
+    return values, places, given
+
+
+def _place(placed: Placed, page: int) -> tuple[_Place, int]:
+    """Where an array lies whose first page is at an address, and how many pages it has, one at least."""
+    data, offset = memoryview(placed.data).tobytes(), placed.offset
+    if offset is not None and not 0 <= offset < PAGE_BYTES:
+        raise LabError(f"its offset in a page is {offset}, and isn't from 0 to {PAGE_BYTES - 1:,}")
+    pages = max(1, -(-((offset or 0) + len(data)) // PAGE_BYTES))
+    address = page + (pages * PAGE_BYTES - len(data) if offset is None else offset)
+    return _Place(address, data, [f"map {page:x} {pages} {placed.permissions}", *pokes(address, data)]), pages
+
+
+def _looks(place: _Place) -> Iterator[str]:
+    """The looks at an array's bytes."""
+    for at in range(0, len(place.data), LINE_BYTES):
+        yield f"peek {place.address + at:x} {min(LINE_BYTES, len(place.data) - at)}"
+
+
+def _joined(place: _Place, parts: Iterator[bytes]) -> bytes:
+    """The bytes of an array, of what its looks show."""
+    return b"".join(next(parts) for _ in _looks(place))
+
+
+def _like(given: Array, data: bytes) -> Array:
+    """Bytes in the type of an array that was given."""
+    if isinstance(given, bytes | bytearray):
+        return type(given)(data)
+    if isinstance(given, array.array):
+        return array.array(given.typecode, data)
+    view = memoryview(given)
+    return memoryview(bytearray(data)).cast(view.format, view.shape or (1,)) if data else view
+
+
+def _differences(kept: _Left, ones: _Left) -> Iterator[str]:
+    """What a call leaves otherwise under `ones` than under `keep`."""
+    told = "{} under keep, {} under ones"
+    if kept[0] != ones[0]:
+        yield f"the result is {told.format(f'{kept[0]:#x}', f'{ones[0]:#x}')}"
+    for number, pair in enumerate(zip(kept[1], ones[1]), 1):
+        wrong = [at for at, (one, other) in enumerate(zip(*pair)) if one != other]
+        if wrong:
+            bytes_there = told.format(*(f"{data[wrong[0]]:02x}" for data in pair))
+            yield f"array {number}, byte {wrong[0]}: {bytes_there}; {len(wrong):,} bytes of it differ"
+    if kept[2] != ones[2]:
+        yield f"it writes {told.format(repr(kept[2][:40]), repr(ones[2][:40]))}"
