@@ -10,8 +10,8 @@ import pytest
 
 from support.places import EXAMPLES, SQUARES, STOCK, SUM, SUM_DWARF4, SUM_DWARF5, TOP, TOURS
 from support.terminal import END, INTERRUPT, UP, WHERE, Terminal
-from vecmon_lab.console.show import Screen
-from vecmon_lab.machine.answers import ControlRegisters, VectorRegister, read
+from vecmon_lab.console.show import Screen, change_rows, memory_rows, register_rows
+from vecmon_lab.machine.answers import ControlRegisters, Memory, ScalarRegisters, VectorRegister, read
 
 CONSOLE = [sys.executable, "-m", "vecmon_lab", "console"]
 STRIP_MINED = EXAMPLES / "strip_mined.s"
@@ -286,6 +286,119 @@ def test_source_lines_where_the_image_tells_them() -> None:
     assert "-gdwarf-4 helps" in shown([], SUM_DWARF5)[0]
 
 
+def test_until_a_register_changes_or_an_address_comes() -> None:
+    """In the first round eight elements are loaded into v9; a0 is 5 behind the subtraction at next+0x18."""
+    told = shown(["until v9", "until a0", "until 0x1002c", "breaks", "until t6", "until vl"], STRIP_MINED)
+    assert told[1:3] == ["   10020 next+0x8  vle32.v v9, (x12)", f"      v9.e32[0..7]={','.join(['00000064'] * 8)}"]
+    assert told[4:7] == [
+        "   10030 next+0x18  sub x10, x10, x5",
+        "      x10/a0=5",
+        "=> 10034 next+0x1c  slli x7, x5, 2",
+    ]
+    assert told[7] == "The program was stopped at 0x1002c." and "      x5/t0=5  x7/t2=20" in told[8]
+    assert told[-5] == "=> 1002c next+0x14  vse32.v v9, (x12)"
+    assert told[-4:] == ["An ebreak stands at 0x10044.", "=> 10044 next+0x2c  ebreak"] * 2
+    lines = ["leave", "until a0", "until 10000", "enter", "map 10000 1 rwx", "asm 10000 jal x0, 0", "setpc 10000"]
+    lines += [*(f"break {address:x}" for address in range(0x20000, 0x20040, 4)), "until 10004", "break 10000"]
+    assert (
+        shown([*lines, "unbreak 20000", "break 10000", "until a0", "1 state"])[2:4]
+        == ["E05: the user has not entered"] * 2
+    )
+    told = shown([*lines, "unbreak 20000", "break 10000", "until a0", "until 10000", "1 breaks"])
+    stands = ["A breakpoint stands at 0x10000; its instruction is the next one.", "=> 10000  jal x0, 0"]
+    assert told[-5:-1] == stands * 2
+    assert [line[:4] for line in told if line.startswith("E12")] == ["E12:"] * 2
+    assert told[-1].split()[:3] == ["1", "breaks", f"{0x10000:016x}"]
+
+
+def test_breakpoints_with_conditions() -> None:
+    lines = [
+        "break next+0x14 if x10 < 6",
+        "break next if vl == 8",
+        "break 10040 if a0 != a0",
+        "breaks",
+        "run",
+        "run",
+        "step 9",
+    ]
+    told = shown([*lines, "unbreak next+0x14", "break next+0x14", "breaks"], STRIP_MINED)
+    assert told[4:7] == ["10018 next if vl == 8", "1002c next+0x14 if x10 < 6", "10040 next+0x28 if a0 != a0"]
+    stops = [line[23:30] for line in told if line.startswith("A breakpoint")]
+    assert stops == ["0x10018", "0x1002c"]  # where vl is 8, in the second round; then a0 is 5
+    assert told[-3:] == ["10018 next if vl == 8", "1002c next+0x14", "10040 next+0x28 if a0 != a0"]
+    loaded = shown(["break _start+8 if a0 == 0", "load", "break _start+8", "breaks"], SUM)
+    assert loaded[-2:] == ["ok", "11198 _start+0x8"]
+    again = shown(["break next if a0 == d", f"source {STRIP_MINED}", "break next", "breaks"], STRIP_MINED)
+    assert again[-1] == "10018 next"
+
+
+@pytest.mark.parametrize(
+    "line, told",
+    [
+        ("break next if a0 = 5", "a0 = 5 is no condition: a0 == 5 or vl < 8 is one"),
+        ("break next if a0 == none", "there is no symbol none"),
+        ("break next if v8 == 5", "there is no symbol v8"),
+        ("break next if a0 == -5", "-5 is no register, no symbol and no value, which has hexadecimal digits alone"),
+        ("break none if a0 == 5", "there is no symbol none"),
+        ("break 2 if a0 == 5", "E04: 2 isn't divisible by 4: the last digit is 0, 4, 8 or c; the form is break ADDR"),
+        ("until", "the form is until PLACE"),
+        ("until 2", "E04: 2 isn't divisible by 4: the last digit is 0, 4, 8 or c; the form is break ADDR"),
+        ("until none", "there is no symbol none"),
+        ("list zz", "there is no symbol zz"),
+        ("list 0", "no source line is known of 0"),
+        ("list y", "no source line is known of 11040 y"),
+        ("changes all", "the form is changes"),
+        ("changes", "nothing has changed"),
+    ],
+)
+def test_new_lines_that_are_refused(line: str, told: str) -> None:
+    assert shown([line, "breaks", "1 state"], STRIP_MINED)[1:] == [told, "1 state stopped pc=0000000000010000"]
+
+
+def test_the_source_around_a_line(tmp_path: pathlib.Path) -> None:
+    text = STRIP_MINED.read_text().splitlines()
+    told = shown(["break next", "run", "list", "list 10000"], STRIP_MINED)
+    at = text.index(next(line for line in text if line.startswith("next:")))
+    marks = ["=>" if number == at else "  " for number in range(at - 4, at + 6)]
+    rows = [f"{mark} {number + 1:4}  {text[number]}".rstrip() for mark, number in zip(marks, range(at - 4, at + 6))]
+    assert rows == told[-20:-10] and not any(row.startswith("=>") for row in told[-10:-6])
+    image = tmp_path / "sum"
+    image.write_bytes(SUM_DWARF4.read_bytes())
+    assert shown(["list"], image)[1:] == ["the source sum.c lies neither beside sum nor here"]
+    (tmp_path / "sum.c").write_bytes((STOCK / "sum.c").read_bytes())
+    told = shown(["list"], image)[1:]
+    assert told[4] == "=>   30  {" and [int(row[2:7]) for row in told] == [*range(26, 36)]
+
+
+def test_a_run_s_changes_take_six_rows(tmp_path: pathlib.Path) -> None:
+    """Of e8, m8: 256 elements in eight registers, of 32 numbers with a comma each, in two rows a register."""
+    source = "vsetvli t0, x0, e8, m8, ta, ma\nvid.v v8\nebreak\n"
+    (tmp_path / "wide.s").write_text(source)
+    told = shown(["run", "changes"], tmp_path / "wide.s")
+    assert told[7:10] == ["      and 12 rows more: see changes", "=> 10008  ebreak", told[2]] and len(told) == 9 + 17
+    assert told[2:7] == told[9:14]
+    values = re.findall("(?<=[=,])[0-9a-f]{2}(?=,|$)", ",".join("".join(told[10:]).split()))
+    assert [int(value, 16) for value in values] == [*range(1, 256)]  # element 0 was 0 before
+
+
+@pytest.mark.parametrize("width", [38, 60, 96])
+@pytest.mark.parametrize("digits", [2, 8, 16])
+def test_no_number_is_broken(width: int, digits: int) -> None:
+    numbers = [f"{7 * number:0{digits}x}" for number in range(32)]
+    texts = ["x10/a0=7fffefc0", "vtype=e8,m8,ta,ma", f"v16.e8[0..31]={','.join(numbers)}", "vl=5"]
+    rows = [*change_rows(texts, width)]
+    assert max(map(len, rows)) <= width and "vtype=e8,m8,ta,ma" in " ".join(rows)
+    assert f"v16.e8[0..31]={','.join(numbers)}" in re.sub(" ", "", "".join(rows))
+    assert all(number in "\n".join(rows) for number in numbers)
+    (stored,) = ["".join(change_rows([f"[11040]={bytes(range(100)).hex()}"], width)).replace(" ", "")]
+    assert stored == f"[11040]={bytes(range(100)).hex()}"
+    rows = [*change_rows([f"[11040]={bytes(range(100)).hex()}"], width)]
+    assert all(len(row.split("=")[-1].strip()) % 2 == 0 for row in rows)
+    registers = ScalarRegisters(0, [(1 << 64) - 1] * 32)
+    assert max(map(len, register_rows(registers, width))) <= width
+    assert max(map(len, memory_rows(Memory(0x7FFFEFC0, bytes(40)), width))) <= width
+
+
 def test_from_a_pipe_the_library_is_not_imported() -> None:
     code = "import sys, vecmon_lab.__main__ as it; it.main(); sys.exit('prompt_toolkit' in sys.modules)"
     run = subprocess.run([sys.executable, "-c", code, "console"], cwd=TOP, input=b"vcsr\n", capture_output=True)
@@ -331,13 +444,26 @@ def test_ctrl_c_stops_the_program_and_not_the_machine(tmp_path: pathlib.Path, fo
         assert console.end()[0] == 0
 
 
+@pytest.mark.parametrize("lines", [["until s1"], ["until 0x0"], ["break loop if a7 == 0", "run"]])
+def test_ctrl_c_where_nothing_else_ends_it(tmp_path: pathlib.Path, forever: pathlib.Path, lines: list[str]) -> None:
+    with terminal(tmp_path, forever, TERM="dumb") as console:
+        for line in lines:
+            console.expect("vecmon> ")
+            console.type(f"{line}\n")
+        console.expect("ready")
+        console.type(INTERRUPT)
+        console.expect("The program was stopped at 0x1")
+        console.type(END)
+        assert console.end()[0] == 0
+
+
 def test_completion_pasted_lines_and_the_bar(tmp_path: pathlib.Path) -> None:
     with terminal(tmp_path, STRIP_MINED) as console:
         console.expect("vecmon> ")
         console.expect("pc 10000   vtype vill   vl 0   policy keep")
         console.type("unbr\t")
         console.expect("eak ")
-        console.type("ne\t")
+        console.type(" ne\t")
         console.expect("xt")
         console.type("\r")
         console.expect("E13: no breakpoint stands there")

@@ -1,28 +1,30 @@
 """What the console does with a line: commands of its own, and those of the monitor with names for numbers."""
 
+import contextlib
 import itertools
 import pathlib
 import re
 import signal
-import textwrap
 import threading
 from collections.abc import Iterable, Sequence
 
 from .. import LabError
 from ..assembler.commands import COMMANDS, help_on, refusal_in_words
-from ..guest.changes import Change, Stepper, vtype_text
+from ..guest.changes import NAMES, Carried, Change, Stepper, vtype_text
 from ..guest.guest import Guest
 from ..guest.symbols import Symbols
-from ..instructions.accesses import PAGE_BYTES
+from ..instructions.accesses import PAGE_BYTES, REGISTER_BYTES
 from ..instructions.reasons import describe_stop
 from ..lessons.script import read_source, send
 from ..machine.answers import (
     Addresses,
     Answer,
     ControlRegisters,
+    Done,
     Listing,
     Loaded,
     Memory,
+    Place,
     Position,
     Refused,
     ScalarRegisters,
@@ -34,14 +36,18 @@ from ..machine.lines import check_text, is_look
 from ..machine.program import find_program
 from ..machine.session import Session
 from ..tables.table import read_table
-from .show import ABI_NAMES, Screen, change_text, control_row, memory_rows, register_rows
+from .conditions import REGISTERS, Condition
+from .show import Screen, change_rows, change_text, control_row, memory_rows, register_rows
 
 STEPS = [str(number) for number in range(1, 257)]  # that the machine takes
-WIDTH = 96  # of a row of registers that changed
+MOST_ROWS = 6  # of what a run has changed
+LINES_BEFORE, LINES = 4, 10  # of a source, before the one that is asked for, and of all
 DIGITS = "[0-9a-fA-F]+"
 
 LEFT_OUT = {"dis": "{pc:x} {number}", "load": "image", "peek": "ADDR 16", "step": "1", "vreg": "vN {sew}"}
-REGISTERS = {name: number for number, name in ABI_NAMES.items()} | {"fp": "x8"}
+LEFT_OUT |= {"list": "{pc:x}"}
+PLACES = ("ADDR", "VALUE", "PLACE")  # words that a symbol may stand for; the last one may be a register too
+VECTORS = {f"v{number}": number for number in range(32)}
 CHOICES = {kind: words.split() for kind, words in read_table("choices")} | {"COMMAND": list(COMMANDS)}
 
 
@@ -55,6 +61,9 @@ class Console:
         self._stepper = Stepper(guest)
         self._interrupt = threading.Event()  # set by Ctrl-C
         self._has_mask = False  # whether v0 is the mask of the instruction that was stepped last
+        self._conditions: dict[int, Condition] = {}  # of breakpoints by their addresses
+        self._changes: list[str] = []  # of the last run
+        self._source: tuple[pathlib.Path, dict[int, int]] | None = None  # and the lines of its instructions
 
     def do(self, entry: str) -> None:
         """Carries out the lines of an entry, up to the one during which Ctrl-C comes; that stops the program alone."""
@@ -75,11 +84,14 @@ class Console:
             send(Guest(trial), commands, script)
         self._guest.ask("stop", "leave", *commands)
         self._symbols = Symbols.of_labels(script.labels)
+        self._source = path, {each.address: each.line for each in script.statements.values()}
+        self._conditions.clear()
         self._look()
 
     def choices(self, kind: str) -> Iterable[str]:
         """What may stand for a word of a command's form."""
-        return self._symbols.addresses if kind in ("ADDR", "VALUE") else CHOICES.get(kind, [])
+        registers = [*REGISTERS, *VECTORS] if kind == "PLACE" else []
+        return [*self._symbols.addresses, *registers] if kind in PLACES else CHOICES.get(kind, [])
 
     def bar(self) -> str:
         """Where the program stands, the vector type, vl and the policy."""
@@ -106,12 +118,22 @@ class Console:
                     self.is_open = False
                 case ["run"]:
                     self._run()
+                case ["until", place] if place in REGISTERS or place in VECTORS:
+                    self._until_changed(place)
+                case ["until", place]:
+                    self._until(place)
+                case ["break", text] if " if " in text:
+                    self._break_if(*text.split(" if ", 1))
+                case ["changes"]:
+                    self._screen.say(*self._changes or ["nothing has changed"], kind="changed")
+                case ["list", address]:
+                    self._list(int(address, 16) if re.fullmatch(DIGITS, address) else -1)
                 case ["source", path]:
                     self.source(pathlib.Path(path).expanduser())
                     self.tell_place()
                 case ["step", number] if self._state()[0] == "stopped" and number in STEPS:
                     self._step(int(number))
-                case [("quit" | "run" | "source") as name, *_]:
+                case [("quit" | "run" | "source" | "until" | "changes" | "list") as name, *_]:
                     raise LabError(f"the form is {COMMANDS[name].form}")
                 case words:
                     self._monitor(words)
@@ -134,7 +156,7 @@ class Console:
         """A register's number for its name; the digits of a symbol's address, as main or main+8, or of a number with 0x."""
         if kind == "xN":
             return REGISTERS.get(word, word)
-        if kind not in ("ADDR", "VALUE"):
+        if kind not in PLACES or kind == "PLACE" and (word in REGISTERS or word in VECTORS):
             return word
         name, _, offset = word.partition("+")
         address = self._symbols.addresses.get(name)
@@ -144,8 +166,8 @@ class Console:
             return word.removeprefix("0x")
         return f"{address + int(offset or '0', 16):x}"
 
-    def _monitor(self, words: Sequence[str]) -> None:
-        """Carries out a line of the monitor, whose user or operator may stand before it, and shows the answer."""
+    def _monitor(self, words: Sequence[str]) -> Answer:
+        """Carries out a line of the monitor, whose user or operator may stand before it; shows the answer."""
         has_user = len(words[0]) == 1 and words[0] in "12345678*"
         if not has_user:
             check_text(" ".join(words))
@@ -154,63 +176,181 @@ class Console:
         answer = read(lines)
         if not is_look(line):
             self._look()
+            self._keep_conditions()
         if isinstance(answer, Refused):
             self._screen.say(*refusal_in_words(line, answer), kind="refused")
         else:
             self._screen.say(*lines if has_user else self._shown(answer, lines))
         if isinstance(answer, Loaded):
             self._guest.ask(*self._guest.laid)
-            self._symbols = self._image_symbols
+            self._symbols, self._source = self._image_symbols, None
         if words[0] in ("load", "setpc"):
             self.tell_place()
+        return answer
 
     def _shown(self, answer: Answer, lines: Sequence[str]) -> Iterable[str]:
         """An answer, and its lines, as the console shows it."""
         registers = self._stepper.registers
         match answer:
             case ScalarRegisters():
-                return register_rows(answer)
+                return register_rows(answer, self._screen.width)
             case VectorRegister():
                 mask = int.from_bytes(registers.v[:32], "little") if self._has_mask else None
                 return self._screen.element_rows(answer, registers.control, mask)
             case ControlRegisters():
                 return [control_row(answer, self._guest.session.policy[self._guest.user])]
             case Memory():
-                return memory_rows(answer)
+                return memory_rows(answer, self._screen.width)
             case Listing(words):
                 return [f"{self._place(word.address)}  {word.text}" for word in words]
-            case Addresses(_, addresses):
-                return map(self._place, addresses)
+            case Addresses(name, addresses):
+                texts = {at: f" if {it.text}" for at, it in self._conditions.items() if name == "breaks"}
+                return [f"{self._place(address)}{texts.get(address, '')}" for address in addresses]
         return [line[2:] for line in lines]
 
     def _run(self) -> None:
         """The program runs to its next stop, or until Ctrl-C."""
         if self._state()[0] == "absent":
-            return self._monitor(["go"])
+            self._monitor(["go"])
+            return
+        self._tell_run(self._go())
+
+    def _until(self, place: str) -> None:
+        """As `_run`, also to an address."""
+        address = int(place, 16) if re.fullmatch(DIGITS, place) else -1
+        _, told = self._guest.ask("stop", "breaks")
+        is_new = not isinstance(told, Addresses) or address not in told.addresses
+        line = f"{self._guest.user} break {place}"
+        answer = read(self._guest.session.do(line)) if is_new else told
+        if isinstance(answer, Refused):
+            self._screen.say(*refusal_in_words(line, answer), kind="refused")
+            return
+        try:
+            stop = self._go(address)
+        finally:
+            self._guest.ask(*([f"unbreak {place}"] if is_new else []))
+        self._tell_run(None if is_new and stop == Stop("break", address) else stop)
+
+    def _go(self, address: int = -1) -> Stop | None:
+        """Runs the program to a stop; to a breakpoint only where its condition holds, or it is at an address."""
         self._guest.ask("stop")  # it may have gone on in slices of the operator's
-        stop = self._guest.go(None, self._interrupt.is_set)
+        while True:
+            stop = self._guest.go(None, self._interrupt.is_set)
+            if stop is None or stop.kind != "break" or stop.pc == address or self._holds(stop.pc):
+                return stop
+            if self._interrupt.is_set():
+                return None
+
+    def _tell_run(self, stop: Stop | None) -> None:
+        """Why the program stopped, and what has changed since it began."""
         self._has_mask = False
         self._screen.say(self._guest.explain(stop) if stop else describe_stop(Position("stopped", self._guest.pc)))
-        self._screen.say(*_change_rows(self._look()), kind="changed")
+        self._changes = rows = self._change_rows(self._look())
+        if len(rows) > MOST_ROWS:
+            rows = [*rows[: MOST_ROWS - 1], f"      and {len(rows) - MOST_ROWS + 1} rows more: see changes"]
+        self._screen.say(*rows, kind="changed")
         self.tell_place()
+
+    def _until_changed(self, name: str) -> None:
+        """Steps to the instruction that changes a register, which is shown with what it changed, or to another stop."""
+        if self._state()[0] == "absent":
+            self._monitor(["go"])
+            return
+        self._guest.ask("stop")
+        self._look()
+        before, breaks = self._value(name), self._guest.told("breaks", Addresses).addresses
+        while True:
+            carried = self._stepper.step()
+            is_changed, halt = self._value(name) != before, self._halt(breaks)
+            if carried.stop or is_changed or halt:
+                break
+        self._has_mask = carried.text.endswith("v0.t")
+        if carried.stop:
+            self._screen.say(self._guest.explain(carried.stop))
+        elif is_changed:
+            self._tell_step(carried)
+        elif halt:
+            self._screen.say(describe_stop(halt))
+        self.tell_place()
+
+    def _value(self, name: str) -> object:
+        """What a register holds, by what was looked at last."""
+        registers = self._stepper.registers
+        if name in VECTORS:
+            return bytes(registers.v[VECTORS[name] * REGISTER_BYTES :][:REGISTER_BYTES])
+        return registers.values()[NAMES.index(REGISTERS[name])]
+
+    def _halt(self, breaks: Sequence[int]) -> Place | None:
+        """What ends steps where the program stands, if anything does: Ctrl-C, or one of the breakpoints."""
+        pc = self._guest.pc
+        if self._interrupt.is_set():
+            return Position("stopped", pc)
+        return Stop("break", pc) if pc in breaks and self._holds(pc) else None
+
+    def _break_if(self, place: str, text: str) -> None:
+        """Sets a breakpoint with a condition."""
+        address = self._named(place.strip(), "ADDR")
+        condition = Condition.read(text, lambda word: self._named(word, "VALUE"))
+        if isinstance(self._monitor(["break", address]), Done):
+            self._conditions[int(address, 16)] = condition
+
+    def _holds(self, address: int) -> bool:
+        """Whether the condition of a breakpoint holds, if it has one."""
+        if address not in self._conditions:
+            return True
+        registers, control = self._guest.told("regs", ScalarRegisters), self._guest.told("vcsr", ControlRegisters)
+        return self._conditions[address].holds(dict(zip(NAMES, [*registers.x, *vars(control).values()])))
+
+    def _keep_conditions(self) -> None:
+        """Drops the conditions of breakpoints that aren't there any more."""
+        if self._conditions:
+            (told,) = self._guest.ask("breaks")
+            there = told.addresses if isinstance(told, Addresses) else []
+            self._conditions = {at: it for at, it in self._conditions.items() if at in there}
+
+    def _list(self, address: int) -> None:
+        """Shows the source around the line of an address. Raises LabError where it isn't known, and OSError."""
+        path, number = self._line(address)
+        here = None
+        with contextlib.suppress(LabError):
+            here = self._line(self._state()[1])
+        lines = path.read_text("utf-8", "replace").removesuffix("\n").split("\n")
+        first = max(0, number - 1 - LINES_BEFORE)
+        for at, line in enumerate(lines[first : first + LINES], first + 1):
+            self._screen.say(f"{'=>' if here == (path, at) else '  '} {at:4}  {line.expandtabs()}".rstrip())
+
+    def _line(self, address: int) -> tuple[pathlib.Path, int]:
+        """The source of an instruction, and the number of its line. Raises LabError where one isn't known."""
+        path, lines = self._source or (self._symbols.path, {})
+        name, _, number = self._symbols.line(address).rpartition(":")
+        if self._source and address in lines:
+            return self._source[0], lines[address]
+        if not path or not name:
+            raise LabError(f"no source line is known of {self._place(address)}")
+        for folder in (path.parent, pathlib.Path()):
+            if (folder / name).is_file():
+                return folder / name, int(number)
+        raise LabError(f"the source {name} lies neither beside {path.name} nor here")
 
     def _step(self, number: int) -> None:
         """Carries out instructions, up to a stop, a breakpoint or Ctrl-C; each is shown with what it changed."""
         breaks = self._guest.told("breaks", Addresses).addresses
         for count in range(number):
-            pc = self._guest.pc
-            if self._interrupt.is_set() or count and pc in breaks:
-                where = Position("stopped", pc) if self._interrupt.is_set() else Stop("break", pc)
-                self._screen.say(describe_stop(where))
+            if halt := self._halt(breaks if count else ()):
+                self._screen.say(describe_stop(halt))
                 break
             carried = self._stepper.step()
             self._has_mask = carried.text.endswith("v0.t")
             if carried.stop:
                 self._screen.say(self._guest.explain(carried.stop))
                 break
-            self._screen.say(f"   {self._place(pc)}  {carried.text}")
-            self._screen.say(*_change_rows(carried.changes), kind="changed")
+            self._tell_step(carried)
         self.tell_place()
+
+    def _tell_step(self, carried: Carried) -> None:
+        """Shows an instruction that was carried out, with what it changed."""
+        self._screen.say(f"   {self._place(carried.pc)}  {carried.text}")
+        self._screen.say(*self._change_rows(carried.changes), kind="changed")
 
     def _place(self, address: int) -> str:
         """An address, with the symbol before it."""
@@ -225,11 +365,9 @@ class Console:
         """Looks at all registers again, where the machine shows them; what has changed."""
         return self._stepper.look() if self._state()[0] == "stopped" else []
 
-
-def _change_rows(changes: Sequence[Change]) -> list[str]:
-    """What changed: scalar and control registers first, then each vector register, and memory, in rows of their own."""
-    rows = []
-    for _, group in itertools.groupby(changes, lambda change: (type(change), getattr(change, "register", 0))):
-        text = "  ".join(map(change_text, group))
-        rows += textwrap.wrap(text, WIDTH, initial_indent="      ", subsequent_indent="        ")
-    return rows
+    def _change_rows(self, changes: Sequence[Change]) -> list[str]:
+        """What changed: scalar and control registers first, then each vector register, and memory, in rows of their own."""
+        rows = list[str]()
+        for _, group in itertools.groupby(changes, lambda change: (type(change), getattr(change, "register", 0))):
+            rows += change_rows(map(change_text, group), self._screen.width)
+        return rows

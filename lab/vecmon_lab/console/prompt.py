@@ -2,6 +2,7 @@
 
 import os
 import pathlib
+import re
 from collections.abc import Callable, Iterable
 
 from prompt_toolkit import PromptSession
@@ -37,7 +38,7 @@ class _Names(Completer):
 
     def get_completions(self, document: Document, complete_event: CompleteEvent) -> Iterable[Completion]:
         """What the word before the cursor may be."""
-        *before, word = document.current_line_before_cursor.lstrip().split(" ")
+        *before, word = re.split(" +", document.current_line_before_cursor.lstrip())
         form = COMMANDS[before[0]].form.split() if before and before[0] in COMMANDS else ["COMMAND"]
         kind = form[len(before)] if len(before) < len(form) else ""
         if kind == "FILE":

@@ -1,7 +1,11 @@
 """What the console shows: the program's output, rows of text, registers by both names, and elements in the colour of how they lie."""
 
+import itertools
+import os
+import re
 import sys
-from collections.abc import Iterator
+import textwrap
+from collections.abc import Iterable, Iterator
 from fractions import Fraction
 
 from ..guest.changes import Change, RegisterChange, vtype_text
@@ -12,7 +16,7 @@ from ..tables.table import read_table
 
 COLOURS = {"tail": "2", "masked": "35", "changed": "33", "refused": "31"}
 ROUNDING = ["rnu", "rne", "rdn", "rod"]  # vxrm, the manual's section 3.8
-ELEMENTS_WIDTH = 72  # characters that the elements of a row take at most
+WIDTH, ELEMENTS_WIDTH = 96, 72  # characters of a row, and of the elements of one, at most
 
 ABI_NAMES = {number: name for name, number in reversed(read_table("registers"))}  # x8 is s0, which stands first
 
@@ -24,6 +28,16 @@ class Screen:
         self._has_colours = has_colours
         self._is_new_line = True
 
+    @property
+    def columns(self) -> int:
+        """How many characters the terminal has in a row; without one there is no end."""
+        return os.get_terminal_size(sys.stdout.fileno()).columns or WIDTH if sys.stdout.isatty() else sys.maxsize
+
+    @property
+    def width(self) -> int:
+        """How many characters a row of registers or memory has at most."""
+        return min(WIDTH, self.columns)
+
     def write(self, data: bytes) -> None:
         """Puts out what the program has put out, as it is."""
         sys.stdout.flush()
@@ -31,8 +45,13 @@ class Screen:
         self._is_new_line = data.endswith(b"\n")
 
     def say(self, *rows: str, kind: str = "") -> None:
-        """Puts out rows, in the colour of a kind."""
-        for row in rows:
+        """Puts out rows, in the colour of a kind; one that is too long for the terminal goes on below, behind a word."""
+        columns = self.columns
+        parts = (
+            [row] if len(row) <= columns or "\033" in row else textwrap.wrap(row, columns, subsequent_indent=" " * 8)
+            for row in rows
+        )
+        for row in itertools.chain.from_iterable(parts):
             print("" if self._is_new_line else "\n", self.paint(row, kind), sep="")
             self._is_new_line = True
         sys.stdout.flush()
@@ -47,7 +66,7 @@ class Screen:
         name, group = f"v{register.number}", max(1, int(Fraction(register.width, control.sew) * control.lmul))
         first = register.number % group * len(values)
         texts = [self.paint(value, _lie(first + place, control, mask)) for place, value in enumerate(values)]
-        room = 1 << (ELEMENTS_WIDTH // (register.width // 4 + 1)).bit_length() - 1
+        room = 1 << (min(ELEMENTS_WIDTH, self.width - 4) // (register.width // 4 + 1)).bit_length() - 1
         for row in range(0, len(texts), room):
             yield f"{'' if row else name:3} {' '.join(texts[row : row + room])}"
 
@@ -72,12 +91,36 @@ def change_text(change: Change) -> str:
     return text.replace(change.name, both_names(change.name), 1) if isinstance(change, RegisterChange) else text
 
 
-def register_rows(registers: ScalarRegisters) -> Iterator[str]:
-    """The program counter and the scalar registers, three to a row."""
+def change_rows(texts: Iterable[str], width: int) -> Iterator[str]:
+    """Changes in rows of so many characters; where one is too long for a row, it is divided between its numbers."""
+    row = ""
+    for text in texts:
+        pieces = [text] if len(text) <= width - 8 else _pieces(text, width - 8)
+        for piece, gap in zip(pieces, ["  ", *[""] * len(pieces)]):
+            if row and len(row) + len(gap + piece) > width:
+                yield row
+                row = f"        {piece}"
+            else:
+                row += gap + piece if row else f"      {piece}"
+    yield row
+
+
+def _pieces(text: str, most: int) -> list[str]:
+    """A change in pieces, of so many characters at most, that end behind a number or a name, or a byte's digits."""
+    if "," in text:
+        return re.findall("[^,=]+[,=]?", text)
+    name, _, digits = text.partition("=")
+    room = (most - len(name) - 1) // 2 * 2
+    return [f"{name}={digits[:room]}", *(digits[at : at + room] for at in range(room, len(digits), room))]
+
+
+def register_rows(registers: ScalarRegisters, width: int) -> Iterator[str]:
+    """The program counter and the scalar registers, three to a row at most."""
     named = {"pc": registers.pc} | {f"x{number}": value for number, value in enumerate(registers.x)}
     cells = [f"{both_names(name):8} {value:016x}" for name, value in named.items()]
-    for row in range(0, len(cells), 3):
-        yield "  ".join(cells[row : row + 3])
+    room = max(1, min(3, (width + 2) // 27))
+    for row in range(0, len(cells), room):
+        yield "  ".join(cells[row : row + room])
 
 
 def control_row(control: ControlRegisters, policy: str) -> str:
@@ -86,9 +129,10 @@ def control_row(control: ControlRegisters, policy: str) -> str:
     return f"{first} vxrm={control.vxrm} ({ROUNDING[control.vxrm]}) vxsat={control.vxsat} policy={policy}"
 
 
-def memory_rows(memory: Memory) -> Iterator[str]:
-    """The bytes, 16 to a row, as digits and as ASCII."""
-    for place in range(0, len(memory.data), ROW_BYTES):
-        row = memory.data[place : place + ROW_BYTES]
+def memory_rows(memory: Memory, width: int) -> Iterator[str]:
+    """The bytes, 16 to a row at most, as digits and as ASCII."""
+    room = max(each for each in (1, 2, 4, 8, ROW_BYTES) if each == 1 or 4 * each + 11 <= width)
+    for place in range(0, len(memory.data), room):
+        row = memory.data[place : place + room]
         text = "".join(chr(byte) if 32 <= byte < 127 else "." for byte in row)
-        yield f"{memory.address + place:8x}  {row.hex(' '):{3 * ROW_BYTES - 1}}  {text}"
+        yield f"{memory.address + place:8x}  {row.hex(' '):{3 * room - 1}}  {text}"
