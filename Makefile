@@ -14,7 +14,7 @@ program = crates/vecmon/out/vecmon
 
 lab_files = lab/vecmon_lab/py.typed $(filter-out %.pyc, $(wildcard lab/vecmon_lab/*.py lab/vecmon_lab/*.txt lab/vecmon_lab/*/*.* \
     lab/vecmon_lab/compilers/runtime/* lab/vecmon_lab/exercises/given/*/*.* lab/vecmon_lab/exercises/given/*/wrong/* \
-    lab/vecmon_lab/lessons/tours/* lab/examples/*.* lab/examples/*/*))
+    lab/vecmon_lab/lessons/tours/* lab/examples/*.* lab/examples/*/*.*))
 documents = README.md CHANGELOG.md CONTRIBUTING.md crates.txt crates/monitor_script/src/script.rt $(wildcard docs/*.md docs/*.csv docs/pictures/*)
 # Outside of the folders that are vecmon's alone, $(lab) and $(docdir)
 others = $(bindir)/vecmon $(bindir)/vecmon-lab $(mandir)/man1/vecmon.1 $(mandir)/man1/vecmon-lab.1 $(mandir)/man5/vecmon-commands.5 \
