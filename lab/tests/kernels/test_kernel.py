@@ -1,6 +1,7 @@
 """Functions called from Python: what they are given, what is read back, and what is told where a call doesn't return."""
 
 import array
+import asyncio
 import pathlib
 import re
 import subprocess
@@ -205,6 +206,12 @@ def test_a_source_in_c(clang: Compiler, tmp_path: pathlib.Path) -> None:
     (tmp_path / "double.c").write_text("long twice(int n) { return 2L * n; }\n")
     with Kernel(tmp_path / "double.c", options="O0", compiler=clang.name) as kernel:
         assert kernel.call("twice", -21).signed == -42
+
+    async def in_a_loop() -> int:
+        with Kernel(tmp_path / "double.c", options="O3-scalar") as kernel:
+            return kernel.call("twice", 1 << 30).value
+
+    assert asyncio.run(in_a_loop()) == 1 << 31
     (tmp_path / "double.c").write_text("long twice(int n) { return 2L * m; }\n")
     with pytest.raises(LabError, match="double.c:1:33: use of undeclared identifier 'm'$"):
         Kernel(tmp_path / "double.c")

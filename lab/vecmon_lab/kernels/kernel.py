@@ -1,10 +1,12 @@
 """A program's functions called from Python, as tests of vector kernels do: arrays go into memory, and are read back."""
 
 import array
+import numbers
 import os
 import pathlib
 import re
 from collections.abc import Iterator, Sequence
+from concurrent.futures import ThreadPoolExecutor
 from dataclasses import dataclass
 from typing import Any, TypeAlias
 
@@ -186,7 +188,9 @@ def _read(path: pathlib.Path, options: str, compiler: str | None) -> tuple[Answe
     if path.suffix == ".c":
         text = path.read_text("utf-8", "replace")
         text += "" if re.search(r"\bmain\s*\(", text) else _MAIN
-        program = compile_c(text, find_compiler(compiler), choice_of(options), path.parent)
+        with ThreadPoolExecutor(1) as thread:  # where another event loop, as a notebook's, isn't in the way
+            words = (text, find_compiler(compiler), choice_of(options), path.parent)
+            program = thread.submit(compile_c, *words).result()
         check_compiled(program, path.name)
         return Answer(path, program.lines), Symbols.of_labels(program.names())
     answer = read_answer(path.resolve())
@@ -203,10 +207,10 @@ def _laid(arguments: Sequence["int | Array | Placed"]) -> tuple[list[int], list[
         raise LabError(f"a call has {MOST_ARGUMENTS} arguments at most, and this one has {len(arguments)}")
     values, places, given, page = list[int](), list[_Place](), list[Array](), ARRAYS
     for number, argument in enumerate(arguments, 1):
-        if isinstance(argument, int):
+        if isinstance(argument, int | numbers.Integral):
             if not -(1 << 63) <= argument < 1 << 64:
                 raise LabError(f"argument {number}, {argument}, doesn't fit into 64 bits")
-            values.append(argument % (1 << 64))
+            values.append(int(argument) % (1 << 64))
             continue
         placed = argument if isinstance(argument, Placed) else Placed(argument)
         with mistakes_in(f"argument {number}", TypeError, LabError):
