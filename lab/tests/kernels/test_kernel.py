@@ -202,6 +202,18 @@ def test_an_image() -> None:
             kernel.call("fill", array.array("I", [0] * 36), 37)
 
 
+def test_counts() -> None:
+    """By fill.S: one instruction, ten in each of three rounds, four of them with groups of sixteen elements, and `ret`."""
+    with Kernel(SQUARES_DWARF5) as kernel:
+        zeros = array.array("I", [0] * 37)
+        result = kernel.call("fill", zeros, 37, counted=True)
+        assert result.counts and result.counts.instructions == 1 + 3 * 10 + 1
+        assert list(result.counts.elements) == [4 * 37, 0, 4 * (48 - 37)]
+        assert result.arrays == kernel.call("fill", zeros, 37).arrays and kernel.call("fill", zeros, 37).counts is None
+        with pytest.raises(CallStopped, match=r"It stopped at element 5\."):
+            kernel.call("fill", zeros, 38, counted=True)
+
+
 def test_a_source_in_c(clang: Compiler, tmp_path: pathlib.Path) -> None:
     (tmp_path / "double.c").write_text("long twice(int n) { return 2L * n; }\n")
     with Kernel(tmp_path / "double.c", options="O0", compiler=clang.name) as kernel:

@@ -22,6 +22,7 @@ from ..lessons.script import check_compiled
 from ..machine.answers import Memory, Output, Refused, ScalarRegisters, Stop
 from ..machine.program import find_program
 from ..machine.session import Session
+from ..runs.counts import Counts, count
 
 Array: TypeAlias = "bytes | bytearray | memoryview | array.array[Any]"
 
@@ -55,11 +56,13 @@ class Result:
     value: what stands in a0, from 0 to 2^64 - 1
     arrays: those of the call, in their order, each of the type that it was given in
     output: what it wrote
+    counts: of its instructions and their elements, where they were counted
     """
 
     value: int
     arrays: Sequence[Array]
     output: bytes
+    counts: Counts | None = None
 
     @property
     def signed(self) -> int:
@@ -122,12 +125,18 @@ class Kernel:
         self._guest.session.close()
 
     def call(
-        self, symbol: str, *arguments: "int | Array | Placed", policy: str = "keep", ticks: int = 1_000_000
+        self,
+        symbol: str,
+        *arguments: "int | Array | Placed",
+        policy: str = "keep",
+        ticks: int = 1_000_000,
+        counted: bool = False,
     ) -> Result:
         """Calls a function with whole numbers and the addresses of arrays, eight at most, in a0 to a7.
 
         An array that isn't `Placed` ends where a page does. policy: what becomes of agnostic elements, `keep` or
-        `ones`; `both` calls twice. Raises CallStopped, PoliciesDiffer, and LabError for what can't be called so.
+        `ones`; `both` calls twice. counted: whether instructions are counted; of `both`, those under `keep`. Raises
+        CallStopped, PoliciesDiffer, and LabError for what can't be called so.
         """
         if symbol not in self._symbols.addresses:
             raise LabError(f"{self._path} has no symbol {symbol}")
@@ -135,11 +144,11 @@ class Kernel:
         registers = [f"set x{FIRST_ARGUMENT + number} {value:x}" for number, value in enumerate(values)]
         lines = [*(line for place in places for line in place.lines), *registers]
         policies = ("keep", "ones") if policy == "both" else (policy,)
-        first, *others = [self._left(symbol, each, lines, places, ticks) for each in policies]
-        if others and first != others[0]:
-            raise PoliciesDiffer(f"{symbol}: {'; '.join(_differences(first, others[0]))}")
+        (first, counts), *others = [self._left(symbol, each, lines, places, ticks, counted) for each in policies]
+        if others and first != others[0][0]:
+            raise PoliciesDiffer(f"{symbol}: {'; '.join(_differences(first, others[0][0]))}")
         value, found, output = first
-        return Result(value, [_like(data, each) for data, each in zip(given, found)], output)
+        return Result(value, [_like(data, each) for data, each in zip(given, found)], output, counts)
 
     def _opened(self) -> Guest:
         """A guest on a machine of its own, who has entered."""
@@ -147,30 +156,32 @@ class Kernel:
         guest.ask("enter")
         return guest
 
-    def _left(self, symbol: str, policy: str, lines: Sequence[str], places: Sequence[_Place], ticks: int) -> _Left:
-        """What a call leaves under a policy."""
+    def _left(
+        self, symbol: str, policy: str, lines: Sequence[str], places: Sequence[_Place], ticks: int, counted: bool
+    ) -> tuple[_Left, Counts | None]:
+        """What a call leaves under a policy, and what was counted."""
         if self._guest.session.size > RENEWED_BYTES:
             self.close()
             self._guest = self._opened()
         guest = self._guest
         before = [*self._begin, f"policy {policy}", *lines, f"setpc {self._symbols.addresses[symbol]:x}"]
         looks = ["regs", *(look for place in places for look in _looks(place)), "out"]
-        answers = guest.ask(*before, f"step {MOST_STEPS}", *looks)
+        answers = guest.ask(*before, *([] if counted else [f"step {MOST_STEPS}", *looks]))
         for command, answer in zip(before, answers):
             if isinstance(answer, Refused):
                 raise LabError(f"{symbol}: {command[:60]}: {refusal_in_words(f'1 {command}', answer)[-1]}")
-        told, *found = answers[len(before) :]
-        stop = told if isinstance(told, Stop) and told.kind != "outfull" else None
-        output = found[-1].data if isinstance(found[-1], Output) else b""
+        found, counts = answers[len(before) :], None
+        stop = next((each for each in found if isinstance(each, Stop) and each.kind != "outfull"), None)
+        output = b"".join(each.data for each in found if isinstance(each, Output))
         if stop is None:
-            stop = guest.go(ticks)
+            counts, stop = count(guest, ticks) if counted else (None, guest.go(ticks))
             output += guest.output()
             found = guest.ask(*looks[:-1])
         if stop is None or stop.pc != RETURN:
             raise self._stopped(symbol if policy == "keep" else f"{symbol} under {policy}", stop, places)
         (registers,) = (each for each in found if isinstance(each, ScalarRegisters))
         parts = iter(each.data for each in found if isinstance(each, Memory))
-        return registers.x[FIRST_ARGUMENT], [_joined(place, parts) for place in places], output
+        return (registers.x[FIRST_ARGUMENT], [_joined(place, parts) for place in places], output), counts
 
     def _stopped(self, what: str, stop: Stop | None, places: Sequence[_Place]) -> CallStopped:
         """Why a call didn't return; of a fault in or beside an array also where that lies."""

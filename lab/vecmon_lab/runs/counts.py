@@ -42,6 +42,16 @@ class Counts:
     lengths: Counter[tuple[str, int]] = field(default_factory=Counter)
     ticks: int = 0
 
+    @property
+    def instructions(self) -> int:
+        """How many instructions were carried out."""
+        return sum(place.times for place in self.places.values())
+
+    @property
+    def elements(self) -> Sequence[int]:
+        """How many elements of groups were active, were masked off, and were of the tail."""
+        return [sum(numbers) for numbers in zip((0, 0, 0), *(place.elements for place in self.places.values()))]
+
     def add(self, carried: Carried, control: ControlRegisters, v0: bytes, vl: int) -> None:
         """Counts an instruction, by the control registers and v0 before it, and vl after it."""
         is_access = carried.word & 0x7F in VECTOR_ACCESSES

@@ -69,9 +69,8 @@ def _share(elements: Sequence[int]) -> str:
 
 def summary_of(counts: Counts, end: str) -> Iterator[str]:
     """What was carried out in all, and how it ended."""
-    places = counts.places.values()
-    elements = [sum(numbers) for numbers in zip(*(place.elements for place in places))]
-    yield f"{sum(place.times for place in places):,} instructions in {counts.ticks:,} ticks; {end}"
+    elements = counts.elements
+    yield f"{counts.instructions:,} instructions in {counts.ticks:,} ticks; {end}"
     if sum(elements):
         kinds = "{:,} elements {:,} were active, {:,} masked off and {:,} in the tail".format(sum(elements), *elements)
         yield f"{counts.lengths.total():,} vector instructions: of their {kinds}; {_share(elements)} did work"
