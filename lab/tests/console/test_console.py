@@ -399,6 +399,21 @@ def test_no_number_is_broken(width: int, digits: int) -> None:
     assert max(map(len, memory_rows(Memory(0x7FFFEFC0, bytes(40)), width))) <= width
 
 
+def test_rows_that_a_terminal_has_no_room_for(
+    monkeypatch: pytest.MonkeyPatch, capsys: pytest.CaptureFixture[str]
+) -> None:
+    monkeypatch.setattr(Screen, "columns", 38)
+    rows = [
+        "   10040 next+0x28  bne x10, x0, -40  (strip_mined.s:31)",
+        "short",
+        "x" * 50,
+        "\033[2m" + "0 " * 18 + "\033[0m",
+    ]
+    Screen(False).say(*rows)
+    told = capsys.readouterr().out.split("\n")
+    assert told == ["   10040 next+0x28  bne x10, x0, -40", "        (strip_mined.s:31)", *rows[1:], ""]
+
+
 def test_from_a_pipe_the_library_is_not_imported() -> None:
     code = "import sys, vecmon_lab.__main__ as it; it.main(); sys.exit('prompt_toolkit' in sys.modules)"
     run = subprocess.run([sys.executable, "-c", code, "console"], cwd=TOP, input=b"vcsr\n", capture_output=True)

@@ -47,10 +47,10 @@ class Screen:
     def say(self, *rows: str, kind: str = "") -> None:
         """Puts out rows, in the colour of a kind; one that is too long for the terminal goes on below, behind a word."""
         columns = self.columns
-        parts = (
-            [row] if len(row) <= columns or "\033" in row else textwrap.wrap(row, columns, subsequent_indent=" " * 8)
-            for row in rows
-        )
+        wrap = textwrap.TextWrapper(
+            columns, subsequent_indent=" " * 8, break_long_words=False, break_on_hyphens=False
+        ).wrap
+        parts = ([row] if len(row) <= columns or "\033" in row else wrap(row) for row in rows)
         for row in itertools.chain.from_iterable(parts):
             print("" if self._is_new_line else "\n", self.paint(row, kind), sep="")
             self._is_new_line = True
