@@ -8,7 +8,9 @@ from collections.abc import Iterator
 
 import pytest
 
+from support.images import make_image
 from support.places import EXAMPLES, SQUARES, STOCK, SUM, SUM_DWARF4, SUM_DWARF5, TOP, TOURS
+from support.sources import ARGUMENTS
 from support.terminal import END, INTERRUPT, UP, WHERE, Terminal
 from vecmon_lab.console.show import Screen, change_rows, memory_rows, register_rows
 from vecmon_lab.machine.answers import ControlRegisters, Memory, ScalarRegisters, VectorRegister, read
@@ -81,6 +83,15 @@ def test_a_fault_and_how_to_go_on() -> None:
     assert told[at + 10].split()[:9] == "11ff8 10 e0 0f 00 09 e8 0f 00".split()
     assert told[at + 11 : at + 14] == ["loaded pc=0000000000010174 pages=6", "=> 10174  auipc x1, 0", "ok"]
     assert "The program has ended with status 0, at 0x10180." in told
+
+
+def test_arguments_of_an_image(program: pathlib.Path, tmp_path: pathlib.Path) -> None:
+    make_image(program, tmp_path / "image", ARGUMENTS)
+    told = shown(["run", "load", "run"], tmp_path / "image", "one", "--help")
+    assert told[1:4] == ["image", "one", "--help"] and told.count("--help") == 2
+    assert sum(line.startswith("The program has ended with status 3, ") for line in told) == 2
+    run = carried_out([], STRIP_MINED, "one")
+    assert (run.returncode, run.stderr) == (2, b"vecmon-lab: words and an input are for an image alone\n")
 
 
 def test_what_each_step_changes() -> None:

@@ -16,6 +16,7 @@ import pytest
 from support.images import make_image
 from support.left_out import NO_GDB, leave_out
 from support.places import SQUARES, STOCK, SUM, SUM_DWARF4, SUM_DWARF5, TOP
+from support.sources import ARGUMENTS
 from support.terminal import MOST_SECONDS
 
 GDB = [sys.executable, "-m", "vecmon_lab", "gdb"]
@@ -44,9 +45,9 @@ break:  ebreak
 class Packets:
     """The other end of the pipe, as gdb has it."""
 
-    def __init__(self, image: pathlib.Path) -> None:
-        pipe = subprocess.PIPE
-        self.program = subprocess.Popen([*GDB, str(image)], cwd=TOP, stdin=pipe, stdout=pipe, stderr=pipe, bufsize=0)
+    def __init__(self, image: pathlib.Path, *words: str) -> None:
+        pipe, command = subprocess.PIPE, [*GDB, str(image), *words]
+        self.program = subprocess.Popen(command, cwd=TOP, stdin=pipe, stdout=pipe, stderr=pipe, bufsize=0)
         assert self.program.stdout
         self._source = self.program.stdout.fileno()
 
@@ -222,6 +223,14 @@ def test_sums_and_acknowledgements(squares: Packets) -> None:
     for _ in range(2):
         squares.send("p20")
         assert squares.packet() == little(0x10174)
+
+
+def test_arguments(tmp_path: pathlib.Path, program: pathlib.Path) -> None:
+    make_image(program, tmp_path / "image", ARGUMENTS)
+    with Packets(tmp_path / "image", "--help", "two") as packets:
+        packets.send("c")
+        assert packets.read(1) == b"+" and text(packets.packet()) == "image\n--help\ntwo\n"
+        assert packets.packet() == "W03"
 
 
 def test_an_interrupt(tmp_path: pathlib.Path, program: pathlib.Path) -> None:
