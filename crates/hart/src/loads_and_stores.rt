@@ -1,6 +1,6 @@
 //! Loads and stores (Unprivileged ISA 20191213, sections 2.6 and 5.3). Where their bytes are found at once they are
 //! carried out in line, with one look for all widths.
-ghost use Rattle.std.specs.Prelude.{◌≡◌, ℕ, ◌*◌, ◌%◌, ◌^◌, ◌<◌, ◌≤◌, ◌↔◌, IsOk, IfErr, OnErr, OnOk, Ok, Err, true};
+ghost use Rattle.std.specs.Prelude.{◌≡◌, ℕ, ◌*◌, ◌%◌, ◌^◌, ◌<◌, ◌≤◌, ◌↔◌, IsOk, IfErr, OnOk, Ok, Err, true};
 ghost use Rattle.std.specs.Prelude.{false, if◌then◌else◌, length, slice_index};
 ghost use Rattle.std.specs.Int.{byte_len, from_le_bytes, to_le_bytes, w64};
 ghost use Rattle.rv_model.specs.declared.memory.Access.TheVariants.{Load, Store};
@@ -90,16 +90,26 @@ fn load_anywhere<M: UserBytes>(op: LoadOp, addr: u64, memory: &M) -> Result<u64,
     Ok(loaded(op, &bytes))
 }
 
-/// Fills the buffer with eight bytes from an address on, if they are found at once. Answers whether they are; what a load
-/// reads is the first of them, whatever its width.
+/// Sets the value to the one that a load gives. Answers whether its bytes may be read. Whatever its width, it looks for
+/// eight bytes first.
 #[inline(always)]
-fn read_at_once<M: UserBytes>(op: LoadOp, addr: u64, memory: &M, bytes: &mut [u8; 8]) -> bool
-    ensures allowed { result ≡ true
-        → can_access Load (M.memory memory.now) addr (byte_len (load_width op)) ≡ true }
+fn load_value<M: UserBytes>(op: LoadOp, addr: u64, memory: &M, value: &mut u64) -> bool
+    ensures allowed { result ≡ can_access Load (M.memory memory.now) addr (byte_len (load_width op)) }
     ensures value { result ≡ true
-        → from_le_bytes (load_width op) bytes.new ≡ number_at (load_width op) (M.memory memory.now) addr }
+        → value.new ≡ extended op (number_at (load_width op) (M.memory memory.now) addr) }
 {
-    memory.read_at_once(addr, Access::Load, bytes)
+    let mut bytes = [0; 8];
+    if memory.read_at_once(addr, Access::Load, &mut bytes) {
+        *value = loaded(op, &bytes);
+        return true;
+    }
+    match load_anywhere(op, addr, memory) {
+        Ok(found) => {
+            *value = found;
+            true
+        }
+        Err(_) => false,
+    }
 }
 
 /// A load, which is refused where one of its bytes may not be read.
@@ -114,14 +124,11 @@ pub(crate) fn load<M: UserBytes>(
     ensures model { LeadsScalar (load_step op rd addr)
         scalar.old (M.memory memory.now) scalar.new (M.memory memory.now) result }
 {
-    let mut bytes = [0; 8];
-    if read_at_once(op, addr, memory, &mut bytes) {
-        return write_rd(rd, loaded(op, &bytes), scalar);
+    let mut value = 0;
+    if !load_value(op, addr, memory, &mut value) {
+        return fault(Cause::LoadAccess, addr, scalar);
     }
-    match load_anywhere(op, addr, memory) {
-        Ok(value) => write_rd(rd, value, scalar),
-        Err(_) => fault(Cause::LoadAccess, addr, scalar),
-    }
+    write_rd(rd, value, scalar)
 }
 
 /// The bytes that a store writes, of those of a register.
@@ -138,36 +145,36 @@ fn stored(op: StoreOp, bytes: &[u8; 8]) -> &[u8]
     }
 }
 
-/// Stores the lowest bytes of a value, wherever they lie, or changes nothing.
+/// Stores the lowest bytes of a value, wherever they lie, or changes nothing. Answers whether it stored them.
 #[inline(never)]
-fn store_anywhere<M: UserBytes>(
-    op: StoreOp,
-    addr: u64,
-    value: u64,
-    memory: &mut M,
-) -> Result<(), Fault>
-    ensures ok { IsOk result ↔ (can_access Store (M.memory memory.old) addr (byte_len (store_width op)) ≡ true) }
-    ensures value { OnOk result (M.memory memory.new
-        ≡ put_bytes (M.memory memory.old) addr (to_le_bytes (store_width op) value)) }
-    ensures others { OnOk result (memory.new ≡ M.with_memory memory.old (M.memory memory.new)) }
-    ensures unchanged { OnErr result (memory.new ≡ memory.old) }
-{
-    let bytes = value.to_le_bytes();
-    memory.write(addr, Access::Store, stored(op, &bytes))
-}
-
-/// Stores the lowest bytes of a value, if their place is found at once. Answers whether it is.
-#[inline(always)]
-fn write_at_once<M: UserBytes>(op: StoreOp, addr: u64, value: u64, memory: &mut M) -> bool
-    ensures allowed { result ≡ true
-        → can_access Store (M.memory memory.old) addr (byte_len (store_width op)) ≡ true }
+fn store_anywhere<M: UserBytes>(op: StoreOp, addr: u64, value: u64, memory: &mut M) -> bool
+    ensures allowed { result ≡ can_access Store (M.memory memory.old) addr (byte_len (store_width op)) }
     ensures value { result ≡ true → M.memory memory.new
         ≡ put_bytes (M.memory memory.old) addr (to_le_bytes (store_width op) value) }
     ensures others { result ≡ true → memory.new ≡ M.with_memory memory.old (M.memory memory.new) }
     ensures unchanged { result ≡ false → memory.new ≡ memory.old }
 {
     let bytes = value.to_le_bytes();
-    memory.write_at_once(addr, Access::Store, stored(op, &bytes))
+    match memory.write(addr, Access::Store, stored(op, &bytes)) {
+        Ok(()) => true,
+        Err(_) => false,
+    }
+}
+
+/// Stores the lowest bytes of a value, or changes nothing. Answers whether it stored them.
+#[inline(always)]
+fn store_value<M: UserBytes>(op: StoreOp, addr: u64, value: u64, memory: &mut M) -> bool
+    ensures allowed { result ≡ can_access Store (M.memory memory.old) addr (byte_len (store_width op)) }
+    ensures value { result ≡ true → M.memory memory.new
+        ≡ put_bytes (M.memory memory.old) addr (to_le_bytes (store_width op) value) }
+    ensures others { result ≡ true → memory.new ≡ M.with_memory memory.old (M.memory memory.new) }
+    ensures unchanged { result ≡ false → memory.new ≡ memory.old }
+{
+    let bytes = value.to_le_bytes();
+    if memory.write_at_once(addr, Access::Store, stored(op, &bytes)) {
+        return true;
+    }
+    store_anywhere(op, addr, value, memory)
 }
 
 /// A store of the lowest bytes of a value, which is refused where one of its bytes may not be written.
@@ -183,11 +190,8 @@ pub(crate) fn store<M: UserBytes>(
         scalar.old (M.memory memory.old) scalar.new (M.memory memory.new) result }
     ensures memory { memory.new ≡ M.with_memory memory.old (M.memory memory.new) }
 {
-    if write_at_once(op, addr, value, memory) {
-        return retire(scalar);
+    if !store_value(op, addr, value, memory) {
+        return fault(Cause::StoreAccess, addr, scalar);
     }
-    match store_anywhere(op, addr, value, memory) {
-        Ok(()) => retire(scalar),
-        Err(_) => fault(Cause::StoreAccess, addr, scalar),
-    }
+    retire(scalar)
 }
