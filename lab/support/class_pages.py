@@ -50,14 +50,16 @@ class Served:
             str(self.port),
             *([] if self.has_clock else ["--no-clock"]),
         ]
+        self._begin([*command, *self.words])
+
+    def _begin(self, command: Sequence[str]) -> None:
+        """Begins the server, which tells its port, and the code of one page."""
         environment = os.environ | {"VECMON": str(self.program), "PYTHONPATH": str(TOP)}
-        self.server = subprocess.Popen(
-            [*command, *self.words], stdout=subprocess.PIPE, stderr=self.log, text=True, env=environment
-        )
+        self.server = subprocess.Popen(command, stdout=subprocess.PIPE, stderr=self.log, text=True, env=environment)
         assert self.server.stdout
         told = re.search(r"http://127\.0\.0\.1:(\d+)/#(\S+)", self.server.stdout.readline())
         assert told, pathlib.Path(self.log.name).read_text()
-        self.port = int(told[1])
+        self.port, self.code = int(told[1]), told[2]
 
     @property
     def codes(self) -> dict[str, str]:
@@ -102,6 +104,27 @@ class Served:
         if self.server.stdout:
             self.server.stdout.close()
         self.log.close()
+
+
+class Explored(Served):
+    """One's own page for a source, served so."""
+
+    def __init__(self, folder: pathlib.Path, program: pathlib.Path, source: pathlib.Path, *words: str) -> None:
+        """folder: where a log goes beside it"""
+        self.source = source
+        super().__init__(folder, program, *words, takes_c=True)
+
+    def begin(self) -> None:
+        self._begin([*lab_command(True), "explore", str(self.source), *self.words])
+
+    def address(self, who: str) -> str:
+        """That of the page, which is one seat's."""
+        return f"http://127.0.0.1:{self.port}/#{self.code}"
+
+    def end(self) -> None:
+        self.server.terminate()  # so that its folder is removed
+        self.server.wait()
+        super().end()
 
 
 class Tab:

@@ -3,7 +3,7 @@
 Writes lesson.png, listings.png, student.png, teacher.png, wall.png, exercise.png, kernel.png and explore.png to the folder:
 Chromium's pictures of a lesson, of listings side by side and of classes, in light colours, 1280 pixels wide. In one class six students have each come to another
 place, and the teacher looks over the shoulder of the third, whose seat is on the wall as well. In another one a student's
-answer fails in a case, and in a third one sources in C are stepped.
+answer fails in a case, and in a third one, and on an own page, sources in C are stepped.
 """
 
 import base64
@@ -14,7 +14,7 @@ import tempfile
 from typing import TYPE_CHECKING
 
 from support.browser import start_browser
-from support.class_pages import Served, Tab
+from support.class_pages import Explored, Served, Tab
 from support.places import EXAMPLES, TOP
 from vecmon_lab.exercises.exercise import OURS
 from vecmon_lab.machine.program import find_program
@@ -25,6 +25,7 @@ if TYPE_CHECKING:
 WIDTH, HEIGHT, WALL_HEIGHT = 1280, 800, 720
 EXAMPLE = EXAMPLES / "strip_mined.s"
 MASKED = 22  # of the example's instructions, the masked one in the loop's second round
+GREY = EXAMPLES / "kernels" / "grey.c"
 COUNT_UP = ["addi x5, x5, 1", "jal x0, -4"]
 EXERCISE, WRONG = "clamped_magnitude", OURS / "clamped_magnitude" / "wrong" / "without_the_mask.s"
 ODD_GROUP = ["vsetivli x0, 8, e32, m2, ta, ma", "vadd.vv v3, v2, v4"]
@@ -108,11 +109,14 @@ def picture_exercise(browser: "Chrome", served: Served, folder: pathlib.Path) ->
     save(browser, folder / "exercise.png", HEIGHT)
 
 
-def picture_kernels(browser: "Chrome", served: Served, folder: pathlib.Path) -> None:
-    """The pages of two students with sources in C: the instructions beside their lines, and the line in the source."""
-    for seat, kernel, mark, name in (("A2", "saxpy", "__riscv_vmacc", "kernel"), ("A1", "grey", "vwmaccu", "explore")):
-        text = (EXAMPLES / "kernels" / f"{kernel}.c").read_text("ascii")
-        tab = Tab(browser, served, seat)
+def picture_kernels(browser: "Chrome", served: Served, own: Served, folder: pathlib.Path) -> None:
+    """A student's page, and one's own: in C the instructions beside their lines, and the line in the source."""
+    for page, kernel, mark, name in (
+        (served, "saxpy", "__riscv_vmacc", "kernel"),
+        (own, GREY.stem, "vwmaccu", "explore"),
+    ):
+        text = (GREY.parent / f"{kernel}.c").read_text("ascii")
+        tab = Tab(browser, page, "A2" if page is served else "A1")
         give_room(browser, HEIGHT)
         tab.choose("#language", "C, O2")
         tab.run("(id('source').value = arguments[0], id('assemble').click())", text)
@@ -139,15 +143,17 @@ def main(folder: pathlib.Path) -> None:
         save(browser, folder / "listings.png", HEIGHT)
         served = Served(pathlib.Path(room) / "class", find_program())
         course = Served(pathlib.Path(room) / "course", find_program(), "--exercise", EXERCISE)
+        own = Explored(pathlib.Path(room) / "own", find_program(), GREY, "--cc", "clang-19")
         kernels = Served(pathlib.Path(room) / "kernels", find_program(), "--cc", "clang-19", clock=True, takes_c=True)
         try:
-            picture_kernels(browser, kernels, folder)
+            picture_kernels(browser, kernels, own, folder)
             picture_exercise(browser, course, folder)
             picture_class(browser, served, folder)
         finally:
             browser.quit()
             served.end()
             course.end()
+            own.end()
             kernels.end()
 
 

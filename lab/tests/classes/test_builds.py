@@ -22,6 +22,7 @@ from vecmon_lab.compilers.compiler import Compiler
 
 pytestmark = pytest.mark.asyncio
 [C] = [number for number, language in enumerate(LANGUAGES) if language.name == "C, O2"]
+[STOCK] = [number for number, language in enumerate(LANGUAGES) if language.name == "assembler, stock"]
 PLAIN_SUM = (EXAMPLES / "kernels" / "plain_sum.c").read_text("ascii")
 EMPTY = "int main(void)\n{\n    return 0;\n}\n"
 ENDLESS = "#if __INCLUDE_LEVEL__ < 100\n#include __FILE__\n#include __FILE__\n#endif\n"
@@ -82,6 +83,32 @@ async def test_a_kernel(tmp_path: pathlib.Path, builds: Builds) -> None:
         assert status == 200 and home.read("A3/A3.O2.c").decode() == PLAIN_SUM
         assert "total += from[i];" in home.read("A3/A3.html").decode()
         assert "takes no C" in (await tab.ask("source", text=EMPTY, language=C))["error"]
+
+
+MACRO = "        .macro twice of\n        add \\of, \\of, \\of\n        .endm\n        li a0, 3\n        twice a0\n        ebreak\n"
+
+
+async def test_a_stock_assembler(tmp_path: pathlib.Path, builds: Builds) -> None:
+    """It takes what the lab's own doesn't, which is the first choice all the same, and reads no files."""
+    async with served(tmp_path / "class", builds=builds) as room:
+        tab = await room.sit("A1")
+        assert LANGUAGES[0].choice is None and (await tab.ask("source", text=MACRO))["mistakes"]
+        assert (await tab.ask("source", text=MACRO, language=STOCK))["mistakes"] == []
+        assert sorted(tab.view["state"]["starts"].values()) == [0, 4, 5, 6]
+        await tab.ask("step-line")
+        await tab.ask("step-line")
+        assert tab.view["state"]["x"]["10"] == "6"
+        told = await tab.ask("source", text='nop\n.incbin "/etc/passwd"\n', language=STOCK)
+        assert [each["line"] for each in told["mistakes"]] == [2] and "/etc" not in str(told["mistakes"])
+        script, _ = await room.check_replay()
+        assert b"root:".hex().encode() not in script
+    assert (tmp_path / "class" / "A1.written.stock.s").read_text() == MACRO
+    async with served(tmp_path / "class") as room:
+        tab = await room.sit("A1")
+        assert "error" not in await tab.ask("again") and len(tab.view["state"]["starts"]) == 4
+        assert tab.view["against"] == []
+        told = await tab.ask("listings", text=EMPTY, language=C, other=0)
+        assert "by options that the page has" in told["error"]
 
 
 LOOPS = """\

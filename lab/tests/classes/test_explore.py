@@ -1,11 +1,13 @@
 """`explore`: one's own page for a source, served to this computer alone."""
 
 import asyncio
+import json
 import pathlib
 import re
 import shutil
 import signal
 import subprocess
+from typing import Any
 
 import aiohttp
 import pytest
@@ -52,11 +54,38 @@ async def test_the_command(clang: Compiler, tmp_path: pathlib.Path) -> None:
             assert told["mistakes"] == [] and tab.view["state"]["run"] == "stopped"
             await tab.do("go")
             await tab.until(lambda view: view["stop"].startswith("exit 0"))
+            other = tab.view["against"].index(f"{clang.name} O0")
+            told = await tab.ask("listings", text=source["text"], language=source["language"], other=other)
+            listings = await _listings(session, f"{found[1]}listings/{told['listings']}")
+            assert [each["name"] for each in listings] == [f"{clang.name} O1", f"{clang.name} O0"]
+            grey = GREY.read_text("ascii").split("\n")
+            stores = [row for each in listings for row in each["rows"] if row[3].startswith("vse8.v")]
+            assert all("vse8" in grey[line - 1] for _, line, *_ in stores)
+            assert [row[5] for row in stores] == [45, 45], "pixels, by each compiler"
+            told = await tab.ask("listings", text="int main(void)\n{", language=1, other=other)
+            async with session.get(f"{found[1]}listings/{told['listings']}") as answer:
+                assert answer.status == 404 and f"{clang.name} O2:2:2: " in await answer.text()
+            async with session.get(f"{found[1]}listings/{found[2]}") as answer:
+                assert answer.status == 404 and "no such page" in await answer.text()
+            for number, text in ((len(tab.view["against"]), "int x;"), (-1, "int x;")):
+                assert "error" in await tab.ask("listings", text=text, language=1, other=number)
+            assert "error" in await tab.ask("listings", text="nop", language=0, other=0)
         child.send_signal(signal.SIGTERM)
         assert await asyncio.wait_for(child.wait(), SECONDS) == 0 and not list(tmp_path.iterdir())
     finally:
         if child.returncode is None:
             child.kill()
+
+
+async def _listings(session: aiohttp.ClientSession, address: str) -> list[dict[str, Any]]:
+    """The listings of a page."""
+    async with session.get(address) as answer:
+        page = await answer.text()
+        assert answer.status == 200 and "script-src 'sha256-" in answer.headers["Content-Security-Policy"], page
+    data = re.search(r'<script type="application/json" id="data">(.*)</script>', page)
+    assert data
+    listings: list[dict[str, Any]] = json.loads(data[1])["listings"]
+    return listings
 
 
 def _with_program(environment: dict[str, str]) -> dict[str, str]:
@@ -70,6 +99,7 @@ def test_what_it_refuses(lab: Lab, clang: Compiler, tmp_path: pathlib.Path, monk
     status, _, told = lab("explore", tmp_path / "kernel.txt")
     assert status == 2 and told.endswith("kernel.txt: the name of a source ends in .c or .s\n")
     assert lab("explore", GREY, "--cc", "@file")[0] == 2
+    assert "stock is for assembler" in lab("explore", GREY, "--options", "stock")[2]
     monkeypatch.setattr("os.geteuid", lambda: 0)
     status, _, told = lab("explore", GREY)
     assert status == 2 and ("as root" in told or "bubblewrap" in told) and told.count("\n") == 1

@@ -5,6 +5,7 @@ import pytest
 from vecmon_lab import LabError
 from vecmon_lab.classes.languages import LANGUAGES, SourceText
 from vecmon_lab.classes.requests import (
+    Compare,
     Lines,
     LookOver,
     Renew,
@@ -29,6 +30,11 @@ SHARED: list[tuple[dict[str, object], bool, Request]] = [
     ),
     ({"ask": "source", "text": "nop"}, False, Source(SourceText("nop"))),
     ({"ask": "source", "text": "int x;", "language": 2}, False, Source(SourceText("int x;", 2))),
+    (
+        {"ask": "listings", "text": "int x;", "language": 2, "other": 5},
+        False,
+        Compare(SourceText("int x;", 2), 5),
+    ),
     ({"ask": "clock", "machine": "A", "on": True, "ms": 10}, True, SetClock("A", {"on": True, "ms": 10})),
     ({"ask": "clock", "machine": "A", "on": 0, "slices": 1000}, True, SetClock("A", {"on": False, "slices": 1000})),
     ({"ask": "rights", "machine": "A", "own_slices": False}, True, SetRights("A", False)),
@@ -66,6 +72,7 @@ def test_requests(message: dict[str, object], is_teacher: bool, request_: Reques
         ({"ask": "source", "text": "", "language": len(LANGUAGES)}, False, "languages have numbers from 0"),
         ({"ask": "draft", "text": "", "number": 0, "language": -1}, False, "languages have numbers from 0"),
         ({"ask": "give", "text": "", "language": "@file"}, True, "languages have numbers from 0"),
+        ({"ask": "listings", "text": "", "language": 1, "other": "clang @file"}, False, "options have whole numbers"),
         ({"ask": "clock", "machine": "A", "slices": 0}, True, "slices of the clock is 1 to 1000"),
         ({"ask": "clock", "machine": "A", "on": "yes"}, True, "on of the clock is 0 to 1"),
     ],

@@ -1,6 +1,7 @@
 """Sources in C: what their images become, what compilers say of them, and six kernels beside the same in Python."""
 
 import pathlib
+import re
 import struct
 import subprocess
 import sys
@@ -10,7 +11,7 @@ import pytest
 from support.places import EXAMPLES
 from vecmon_lab import LabError
 from vecmon_lab.compilers.compiled import compile_c, program_of
-from vecmon_lab.compilers.compiler import CHOICES, Compiler, find_compiler
+from vecmon_lab.compilers.compiler import CHOICES, Compiler, choice_for, choice_of, find_compiler
 from vecmon_lab.compilers.inside import Message, read_messages
 from vecmon_lab.guest.guest import Guest
 from vecmon_lab.machine.session import Session
@@ -48,7 +49,7 @@ def test_a_kernel(session: Session, clang: Compiler, name: str) -> None:
     assert run(session, clang, (KERNELS / f"{name}.c").read_text("ascii")) == (OUTPUTS[name], 0)
 
 
-@pytest.mark.parametrize("choice", range(len(CHOICES)))
+@pytest.mark.parametrize("choice", [at for at, each in enumerate(CHOICES) if each.source == "source.c"])
 def test_all_options_give_the_same(session: Session, clang: Compiler, choice: int) -> None:
     assert run(session, clang, (KERNELS / "plain_sum.c").read_text("ascii"), choice) == (OUTPUTS["plain_sum"], 0)
 
@@ -116,6 +117,9 @@ def test_messages() -> None:
         "In file included from source.c:1:",
         "clang-19: error: linker command failed with exit code 1 (use -v to see invocation)",
         "error: unable to open output file 'image': 'Disk quota exceeded'",
+        "source.s: Assembler messages:",
+        "source.s:2: Error: illegal operands `vadd.vv v1,v2'",
+        "source.s:3: Warning: odd",
     ]
     assert read_messages("\n".join([*told, told[0]])) == [
         Message(3, 12, True, "use of undeclared identifier 'x'"),
@@ -123,6 +127,8 @@ def test_messages() -> None:
         Message(0, 0, False, "runtime.c:5: odd"),
         Message(0, 0, True, "undefined symbol: f"),
         Message(0, 0, True, "unable to open output file 'image': 'Disk quota exceeded'"),
+        Message(2, 1, True, "illegal operands `vadd.vv v1,v2'"),
+        Message(3, 1, False, "odd"),
     ]
 
 
@@ -168,11 +174,74 @@ def test_words_are_a_closed_list() -> None:
     for compiler in (clang, gcc):
         for choice in range(len(CHOICES)):
             assert compiler.words(choice)[0] == compiler.name
-            assert compiler.words(choice)[-2] == "source.c"
+            sources = compiler.words(choice)[-2:]
+            assert "source.s" in sources if choice == choice_of("stock") else sources[0] == "source.c"
         for choice in (-1, len(CHOICES)):
             with pytest.raises(LabError, match="options have numbers"):
                 compiler.words(choice)
     assert clang.has_vectors and gcc.has_vectors and not Compiler("riscv64-linux-gnu-gcc").has_vectors
+
+
+DOUBLES = """\
+## Doubles by a macro
+# Three times.
+        .macro double to, from
+        vadd.vv \\to, \\from, \\from
+        .endm
+        .text
+        j start  # where it begins, if nothing says `_start`
+        .balign 64
+start:  vsetivli zero, 8, e32, m1, ta, ma
+# The numbers 0 to 7.
+        vid.v v1
+        .rept 3
+        double v1, v1
+        .endr
+        la a1, numbers
+        vse32.v v1, (a1)
+        li a7, 64
+        li a0, 1
+        li a2, 8 * 4
+        ecall
+        li a7, 93
+        li a0, 5
+        ecall
+#> peek numbers 20
+        .bss
+        .balign 64
+numbers: .zero 8 * 4
+"""
+
+
+def test_a_source_for_a_stock_assembler(session: Session, clang: Compiler) -> None:
+    """Its lines stand at its instructions, those of a macro's too; it begins at `_start`, or with its first one."""
+    stock, expected = choice_of("stock"), struct.pack("<8i", *range(0, 64, 8))
+    assert run(session, clang, DOUBLES, stock) == (expected, 5)
+    program = compile_c(DOUBLES, clang, stock, KERNELS)
+    assert sorted(program.addresses())[:4] == [7, 9, 11, 12]
+    start, told = program.labels["start"], program.source_lines(DOUBLES)
+    assert [told[f"{start + at:x}"].split()[0] for at in (0, 4, 8)] == ["9", "11", "12"]
+    assert program.entry < start and not program.variables
+    begun = DOUBLES.replace("start:", "_start:").replace("j start", "j _start")
+    assert (other := compile_c(begun, clang, stock, KERNELS)).entry == other.labels["_start"] == start
+    again = DOUBLES.replace("start:", ".globl _start\n_start:").replace("j start", "ebreak")
+    assert run(session, clang, again, stock) == (expected, 5)
+
+
+def test_mistakes_for_a_stock_assembler(clang: Compiler) -> None:
+    program = compile_c("nop\n vadd.vv v1, v2\n fadd.s f1, f2, f3\n", clang, choice_of("stock"), KERNELS)
+    assert not program.lines and [mistake.line for mistake in program.mistakes] == [2, 3]
+    (mistake,) = compile_c("call missing\n", clang, choice_of("stock"), KERNELS).mistakes
+    assert mistake.line == 0 and mistake.message == "undefined symbol: missing"
+
+
+def test_options_fit_a_file() -> None:
+    kernel, source = pathlib.Path("kernel.c"), pathlib.Path("kernel.s")
+    assert choice_for(kernel, "O0") == choice_of("O0") and choice_for(source, "stock") == choice_of("stock")
+    assert choice_for(source, "O0") is None and choice_for(pathlib.Path("script"), "O0") is None
+    for path in (kernel, pathlib.Path("script")):
+        with pytest.raises(LabError, match="stock is for assembler"):
+            choice_for(path, "stock")
 
 
 @pytest.mark.parametrize("name", ["/bin/sh", "@file", "", "clang-19 -fplugin=x"])
@@ -197,3 +266,16 @@ def test_a_lesson_of_a_source_with_mistakes(clang: Compiler, tmp_path: pathlib.P
     words = ["lesson", str(source), "--cc", clang.name]
     done = subprocess.run([sys.executable, "-m", "vecmon_lab", *words], capture_output=True, text=True)
     assert (done.returncode, done.stderr) == (2, "vecmon-lab: wrong.c:3:15: expected expression\n")
+
+
+def test_a_lesson_of_a_source_for_a_stock_assembler(clang: Compiler, tmp_path: pathlib.Path) -> None:
+    """Which the lab's own assembler doesn't take; sentences and set-up are as they are there."""
+    source, page = tmp_path / "doubles.s", tmp_path / "page.html"
+    source.write_text(DOUBLES, "ascii")
+    words = [sys.executable, "-m", "vecmon_lab", "lesson", str(source), "-o", str(page)]
+    done = subprocess.run(words, capture_output=True, text=True)
+    assert (done.returncode, done.stderr) == (2, "vecmon-lab: doubles.s:3:9: there is no directive .macro\n")
+    subprocess.run([*words, "--cc", clang.name, "--options", "stock"], check=True)
+    text = page.read_text("utf-8")
+    assert "<title>Doubles by a macro" in text and "The numbers 0 to 7." in text and "Three times." in text
+    assert '"12  .rept 3"' in text and re.search(r"1 peek [0-9a-f]{5} 20", text)

@@ -13,7 +13,8 @@ import pytest
 
 from support.left_out import NO_WALL, leave_out
 from vecmon_lab import LabError
-from vecmon_lab.compilers.compiler import Compiler
+from vecmon_lab.compilers import wall
+from vecmon_lab.compilers.compiler import Compiler, choice_of
 from vecmon_lab.compilers.debug import image_of
 from vecmon_lab.compilers.wall import SECONDS, answer_walled, check_wall
 
@@ -21,17 +22,35 @@ MAIN = "int main(void) { return 0; }\n"
 SECRET = "root:"  # as a file of the system begins that isn't a program's
 
 
-Ask = Callable[[str], dict[str, Any]]
+Ask = Callable[..., dict[str, Any]]
+FORKS = """
+import os, time
+from vecmon_lab.compilers import inside
+
+def fork(compiler, choice):
+    made = 0
+    try:
+        while made < 500:
+            if os.fork() == 0:
+                time.sleep(60)
+            made += 1
+    except OSError:
+        pass
+    return [inside.Message(made, 0, True, "processes")]
+
+inside.compile_source = fork
+inside.main()
+"""
 
 
 @pytest.fixture
 def answer(clang: Compiler) -> Ask:
-    """What asks for what is behind the wall."""
+    """What asks for what is behind the wall of a text, by options of this name."""
     if shutil.which("bwrap") is None:
         leave_out(NO_WALL)
 
-    def ask(text: str) -> dict[str, Any]:
-        told: dict[str, Any] = json.loads(answer_walled([clang.name, "0"], text))
+    def ask(text: str, options: str = "O2") -> dict[str, Any]:
+        told: dict[str, Any] = json.loads(answer_walled([clang.name, f"{choice_of(options)}"], text))
         return told
 
     return ask
@@ -59,6 +78,34 @@ def test_files_of_the_system_are_not_there(answer: Ask, line: str) -> None:
     text = json.dumps(told)
     assert told["image"] is None and told["messages"]
     assert SECRET not in text and SECRET.encode().hex() not in text and os.sep + "etc" not in text
+
+
+@pytest.mark.parametrize("line", ['.incbin "/etc/passwd"', '.include "/etc/passwd"', '.incbin "/proc/self/environ"'])
+def test_a_stock_assembler_reads_no_files(answer: Ask, line: str) -> None:
+    told = answer(f"_start: nop\n {line}\n", "stock")
+    assert told["image"] is None and [message[0] for message in told["messages"]] == [2]
+    assert SECRET not in json.dumps(told) and SECRET.encode().hex() not in json.dumps(told)
+    assert answer("_start: nop\n", "stock")["image"]
+
+
+@pytest.mark.parametrize("text", [".rept 100000000\n.dword 1\n.endr\n", '.incbin "/dev/zero"\n', ".fill 1 << 40\n"])
+def test_what_takes_a_stock_assembler_too_much_ends(answer: Ask, text: str) -> None:
+    begun = time.monotonic()
+    try:
+        told = answer(text, "stock")
+        assert told["image"] is None and told["messages"]
+    except LabError as error:
+        assert "was stopped" in str(error)
+    assert time.monotonic() - begun < SECONDS + 5
+
+
+def test_processes_without_end(answer: Ask, monkeypatch: pytest.MonkeyPatch) -> None:
+    """Of 500 that are begun few are: root's count too, which otherwise nothing bounds."""
+    monkeypatch.setattr(wall, "MODULE", ("-c", FORKS))
+    [(made, *_)] = answer(MAIN)["messages"]
+    assert 4 < made < wall.PROCESSES == 32
+    monkeypatch.undo()
+    assert answer(MAIN)["image"], "and they end with what began them"
 
 
 @pytest.mark.parametrize(

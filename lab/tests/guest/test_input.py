@@ -7,7 +7,7 @@ import pytest
 
 from support.commands import Lab
 from support.places import SUM
-from vecmon_lab.compilers.compiler import IMAGE, SOURCE, Compiler
+from vecmon_lab.compilers.compiler import C_SOURCE, IMAGE, Compiler
 
 ECHO = """
 #include "vecmon.h"
@@ -25,7 +25,7 @@ int main(void)
 @pytest.fixture
 def made(clang: Compiler, tmp_path: pathlib.Path, request: pytest.FixtureRequest) -> pathlib.Path:
     """The image that clang makes of a source."""
-    (tmp_path / SOURCE).write_text(request.param)
+    (tmp_path / C_SOURCE).write_text(request.param)
     subprocess.run(clang.words(0), cwd=tmp_path, check=True)
     return tmp_path / IMAGE
 

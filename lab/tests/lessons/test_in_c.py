@@ -16,7 +16,7 @@ from vecmon_lab.compilers.compiled import compile_c, memory_rows
 from vecmon_lab.compilers.compiler import CHOICES, Compiler, choice_of
 from vecmon_lab.lessons.frames import make_frames
 from vecmon_lab.lessons.listings import listing_of
-from vecmon_lab.lessons.script import read_c
+from vecmon_lab.lessons.script import read_compiled
 from vecmon_lab.lessons.tour import KERNEL, TOURS, tours
 
 KERNELS = EXAMPLES / "kernels"
@@ -70,6 +70,7 @@ def test_listings_side_by_side(lab: Lab, clang: Compiler, tmp_path: pathlib.Path
     ("words", "told"),
     [
         (["saxpy.c", "--against", "O7"], "O7 aren't options"),
+        (["saxpy.c", "--against", "stock"], "stock is for assembler"),
         (["saxpy.c", "--against", "clang-1:O2"], "clang-1 is no compiler that is here"),
     ],
 )
@@ -94,7 +95,7 @@ def test_what_has_no_intrinsics_says_so() -> None:
 def test_memory_shows_where_variables_lie(clang: Compiler, program: pathlib.Path) -> None:
     text = (KERNELS / "saxpy.c").read_text("ascii")
     compiled = compile_c(text, clang, 0, KERNELS)
-    memory = make_frames(read_c(text, "x", compiled), program)[-1].states["1"]["memory"]
+    memory = make_frames(read_compiled(text, "x", compiled, True), program)[-1].states["1"]["memory"]
     first, expected = compiled.labels["y"], struct.pack("<37i", *(1000 + 2 * i for i in range(37)))
     rows = {f"{row:x}" for row in range(first & -16, first + len(expected), 16)}
     assert rows <= memory.keys()

@@ -7,7 +7,8 @@ from typing import TYPE_CHECKING
 
 import pytest
 
-from support.class_pages import Served, Tab
+from support.browser import CONTRAST
+from support.class_pages import Explored, Served, Tab
 from support.left_out import NO_WALL, leave_out
 from support.places import EXAMPLES
 from vecmon_lab.compilers.compiler import Compiler
@@ -152,3 +153,59 @@ def test_a_source_is_handed_on(tabs: "Chrome", with_c: Served, tmp_path: pathlib
     other.run("id('open').hidden = false")
     other.keys("#open", str(file))
     other.wait(f"{TEXT} === arguments[0] && id('language').selectedOptions[0].text === 'C, O1'", SAXPY)
+
+
+def test_a_stock_assembler(tabs: "Chrome", with_c: Served, tmp_path: pathlib.Path) -> None:
+    """Its source is compiled, and coloured as assembler; links and files have its name."""
+    tab, text = Tab(tabs, with_c, "A3"), "        .rept 2\n        addi a0, a0, 4\n        .endr\n        ebreak\n"
+    put_in(tab, text, "assembler, stock")
+    assert tab.text("#assemble") == "Compile" and "are left" in tab.text("#left")
+    tab.wait("all('#editor .colours .register').length === 2")
+    tab.click("#assemble")
+    tab.wait("id('editor').hidden && one('#listing .next')")
+    tab.click("#step-line")
+    tab.wait("one('#listing .next').textContent.includes('ebreak')")
+    tab.click("#show-source")
+    tab.click("#link")
+    link = tab.front().current_url.partition("#")[2]
+    other = Tab(tabs, with_c, "A4")
+    other.run(f"void (location.hash = {link!r})")
+    other.wait(f"{TEXT} === arguments[0] && id('language').selectedOptions[0].text === 'assembler, stock'", text)
+    for name, language in (
+        ("a.stock.s", "assembler, stock"),
+        ("a.s", "assembler"),
+        ("a.c", "C, O2"),
+        ("a.O0.c", "C, O0"),
+    ):
+        file = tmp_path / name
+        file.write_text(name)
+        other.run("id('open').hidden = false")
+        other.keys("#open", str(file))
+        other.wait(
+            f"{TEXT} === arguments[0] && id('language').selectedOptions[0].text === arguments[1]", name, language
+        )
+    assert other.run("id('against').hidden"), "only an own page puts listings side by side"
+
+
+def test_listings_side_by_side(tabs: "Chrome", clang: Compiler, program: pathlib.Path, tmp_path: pathlib.Path) -> None:
+    """They open in a tab of their own, of what stands in the editor, with both profiles."""
+    if shutil.which("bwrap") is None:
+        leave_out(NO_WALL)
+    page = Explored(tmp_path / "page", program, EXAMPLES / "kernels" / "plain_sum.c", "--cc", clang.name)
+    tab = Tab(tabs, page, "A1")
+    tab.click("#show-source")
+    before = set(tabs.window_handles)
+    tab.choose("#against", f"{clang.name} O2-scalar")
+    tab.wait("id('against').selectedIndex === 0")
+    while not (opened := set(tabs.window_handles) - before):
+        pass
+    tabs.switch_to.window(opened.pop())
+    tab.handle = tabs.current_window_handle
+    heads = "all('#rows > thead th').map((head) => head.innerText)"
+    tab.wait(f"{heads}.length === 2")
+    one, other = tab.run(heads)
+    assert one.startswith(f"{clang.name} O2\n") and other.startswith(f"{clang.name} O2-scalar\n")
+    assert "did work" in one and "did work" not in other and "status 0" in one and "status 0" in other
+    assert tab.run("all('#rows .text').some((text) => text.textContent.includes('vadd.vv'))")
+    assert tabs.execute_script(CONTRAST) == []
+    page.end()

@@ -2,6 +2,7 @@
 
 import asyncio
 import os
+from collections.abc import Sequence
 
 from ..compilers.compiled import IMAGE_BYTES, CompiledProgram, read_answer, words_for
 from ..compilers.compiler import Compiler, find_compiler
@@ -22,22 +23,30 @@ class Builds:
     """What compiles: as many sources at once as there are cores; who comes later waits.
 
     no_c: why no C is taken; "" where it is
+    compiler, others: of sources, and those beside whose words its own may be shown
     """
 
     def __init__(self, compiler: Compiler | None = None, no_c: str = NO_COMPILER, most: int = IMAGE_BYTES) -> None:
         """most: bytes of an image that aren't zeros"""
-        self._compiler, self._most = compiler, most
+        self.compiler, self._most = compiler, most
+        self.others: Sequence[Compiler] = ()
         self.no_c = "" if compiler else no_c
         self._places = asyncio.Semaphore(os.cpu_count() or 1)
         self._busy = set[str]()
 
-    async def compile(self, seat: str, text: str, choice: int, is_answer: bool = False) -> CompiledProgram:
-        """The program of a seat's source, which may be to answer an exercise, with its mistakes. Raises LabError."""
-        if self._compiler is None:
+    async def compile(
+        self, seat: str, text: str, choice: int, other: Compiler | None = None, is_answer: bool = False
+    ) -> CompiledProgram:
+        """The program of a seat's source, with its mistakes, by the compiler or another one. Raises LabError.
+
+        is_answer: whether it is to answer an exercise
+        """
+        compiler = other or self.compiler
+        if compiler is None:
             raise BadRequest(f"this class takes no C: {self.no_c}")
         if seat in self._busy:
             raise BadRequest("a source of this seat is being compiled")
-        words = words_for(text, self._compiler, choice, is_answer)
+        words = words_for(text, compiler, choice, is_answer)
         self._busy.add(seat)
         try:
             async with self._places:

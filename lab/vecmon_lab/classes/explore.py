@@ -8,7 +8,7 @@ import tempfile
 
 from .. import LabError
 from ..arguments import between
-from ..compilers.compiler import CHOICES
+from ..compilers.compiler import CHOICES, choice_for, find_compilers
 from ..machine.program import find_program
 from .builds import Builds, walled_compiler
 from .command import listening_at
@@ -27,7 +27,7 @@ def add_arguments(parser: argparse.ArgumentParser) -> None:
         "source", metavar="FILE", type=pathlib.Path, help="a source in C (.c) or assembler (.s) to begin with"
     )
     parser.add_argument("--port", metavar="P", type=between(0, 65535), default=0, help="else one that is free")
-    parser.add_argument("--cc", metavar="NAME", help="the compiler of sources in C, as clang-19")
+    parser.add_argument("--cc", metavar="NAME", help="the compiler, as clang-19")
     names = [choice.name for choice in CHOICES]
     parser.add_argument("--options", choices=names, default=names[0], help="those of the compiler; else %(default)s")
     parser.add_argument("--quantum", metavar="N", type=int, help="the ticks of a slice, 1 to 1000; else 100")
@@ -38,6 +38,7 @@ def run(arguments: argparse.Namespace) -> int:
     os.umask(0o077)
     source = read(arguments.source, arguments.options)
     builds = Builds(walled_compiler(arguments.cc))
+    builds.others = find_compilers()
     with tempfile.TemporaryDirectory(prefix="vecmon-") as folder:
         store = Store(pathlib.Path(folder) / "own", find_program(), quantum=arguments.quantum)
         members = Class(store, PATIENCE, builds=builds)
@@ -47,9 +48,8 @@ def run(arguments: argparse.Namespace) -> int:
 
 
 def read(path: pathlib.Path, options: str) -> SourceText:
-    """The source of a file, in C with these options or in assembler. Raises LabError where it is neither."""
-    suffix = {".c": f"{options}.c", ".s": "s", ".S": "s"}.get(path.suffix)
-    numbers = {language.suffix: number for number, language in enumerate(LANGUAGES)}
-    if suffix is None:
+    """The source of a file, which these options may be for. Raises LabError where they aren't, or it is none."""
+    if path.suffix not in (".c", ".s", ".S"):
         raise LabError(f"{path}: the name of a source ends in .c or .s")
-    return SourceText(path.read_text("utf-8", "replace"), numbers[suffix])
+    choices = [language.choice for language in LANGUAGES]
+    return SourceText(path.read_text("utf-8", "replace"), choices.index(choice_for(path, options)))

@@ -1,13 +1,13 @@
-"""The languages of a class's sources: the lab's assembler, and C with options of its compiler. A number chooses one."""
+"""The languages of sources: the lab's assembler, C by options of a compiler, and a stock assembler; by their numbers."""
 
 from dataclasses import dataclass
 
-from ..compilers.compiler import CHOICES
+from ..compilers.compiler import C_SOURCE, CHOICES
 
 
 @dataclass(frozen=True)
 class Language:
-    """A language: its name on pages, the suffix of files, and in C the number of the compiler's options."""
+    """A language: its name on pages, the suffix of files, and the number of the compiler's options, if that takes it."""
 
     name: str
     suffix: str
@@ -16,7 +16,10 @@ class Language:
 
 LANGUAGES = [
     Language("assembler", "s"),
-    *(Language(f"C, {each.name}", f"{each.name}.c", number) for number, each in enumerate(CHOICES)),
+    *(
+        Language(f"{'C' if it.source == C_SOURCE else 'assembler'}, {it.name}", f"{it.name}.{it.source[-1]}", number)
+        for number, it in enumerate(CHOICES)
+    ),
 ]
 NUMBERS = {language.suffix: number for number, language in enumerate(LANGUAGES)}
 C = NUMBERS[f"{CHOICES[0].name}.c"]
@@ -37,5 +40,5 @@ class SourceText:
 
     @property
     def choice(self) -> int | None:
-        """The number of the compiler's options; None for a source in assembler."""
+        """The number of the compiler's options; None for a source in the lab's assembler."""
         return LANGUAGES[self.language].choice

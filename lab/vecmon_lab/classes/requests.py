@@ -35,7 +35,7 @@ class Source:
 
 @dataclass(frozen=True)
 class StepLine:
-    """Steps until another line of a source in C begins."""
+    """Steps until another line of a compiled source begins."""
 
 
 @dataclass(frozen=True)
@@ -120,6 +120,14 @@ class Give:
 
 
 @dataclass(frozen=True)
+class Compare:
+    """A source in C that is to stand beside what others make of it, by their number."""
+
+    source: SourceText
+    other: int
+
+
+@dataclass(frozen=True)
 class Check:
     """A source that is checked as an answer to an exercise."""
 
@@ -167,7 +175,7 @@ class Reset:
     seat: str
 
 
-StudentRequest = Lines | Source | StepLine | Draft | ReadVersion | SetName | Check | TryCase
+StudentRequest = Lines | Source | StepLine | Draft | ReadVersion | SetName | Compare | Check | TryCase
 TeacherRequest = Give | Write | Reset | SetClock | SetRights | Renew | LookOver | PutOnWall | ShowCodes | ReadAnswer
 Request = StudentRequest | TeacherRequest
 
@@ -190,6 +198,8 @@ def read_request(message: Mapping[str, object], is_teacher: bool) -> Request:
             return Draft(_source(message), _number(message))
         case "name", _:
             return SetName(_name(message, "seat"), _name(message, "name"))
+        case "listings", False:
+            return Compare(_source(message), _number(message, "other"))
         case "check", False:
             return Check(_name(message, "exercise"), _source(message))
         case "case", False:
@@ -271,11 +281,11 @@ def _sentence(message: Mapping[str, object]) -> str:
     return text
 
 
-def _number(message: Mapping[str, object]) -> int:
-    """The number that a message has."""
-    number = message.get("number")
+def _number(message: Mapping[str, object], name: str = "number") -> int:
+    """The number that a message has by a name."""
+    number = message.get(name)
     if not isinstance(number, int):
-        raise BadRequest("sources, versions and answers have whole numbers")
+        raise BadRequest("sources, versions, answers and options have whole numbers")
     return number
 
 

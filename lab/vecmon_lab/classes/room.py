@@ -70,7 +70,7 @@ class Room:
     """A machine, its seats, and its clock.
 
     `changed` is called with the names of seats that have news; `watched` answers whom somebody looks at; `keep` keeps
-    notes beside the script, and answers whether that went well; `compile` makes a program of a seat's source in C.
+    notes beside the script, and answers whether that went well; `compile` makes a program of a seat's source by a compiler.
     """
 
     def __init__(self, letter: str, session: Session, file: ScriptFile, makers: Beside) -> None:
@@ -191,7 +191,7 @@ class Room:
     async def _program(self, seat: Seat, source: SourceText, is_answer: bool) -> Program:
         """The program of a source, with all its mistakes, which needs no turn of the machine's."""
         if source.choice is not None:
-            return await self.compile(seat.name, source.text, source.choice, is_answer)
+            return await self.compile(seat.name, source.text, source.choice, is_answer=is_answer)
         loop, vecmon = asyncio.get_running_loop(), pathlib.Path(self.session.command[0])
         program = await loop.run_in_executor(self._assembler, read_source, source.text)
         if not program.mistakes:
@@ -229,7 +229,7 @@ class Room:
         return in_order(mistakes)
 
     async def step_line(self, seat: Seat) -> None:
-        """Steps a program until it stands at another line of its source in C, or stops, or for LINE_BLOCKS blocks of code.
+        """Steps a program until it stands at another line of its compiled source, or stops, or for LINE_BLOCKS blocks of code.
 
         Raises BadRequest where there is no such source, or the program doesn't stand still.
         """
@@ -248,7 +248,7 @@ class Room:
 
         async with seat.turn, self._lock:
             if not isinstance(seat.program, CompiledProgram) or seat.state["run"] != "stopped":
-                raise BadRequest("lines are stepped where the program of a source in C stands still")
+                raise BadRequest("lines are stepped where the program of a compiled source stands still")
             self._check_share(seat, [f"{seat.digit} step {LINE_BLOCKS}"] * LINE_BLOCKS)
             await self._hop(_Work(), carry_out, seat)
 

@@ -48,7 +48,7 @@ class Server:
     def __init__(self, members: Class, names: set[str]) -> None:
         """names: hosts that the page may be opened under, besides all numeric addresses."""
         self.members, self.names = members, {"localhost", *names}
-        self._page, self._lesson = Page("class"), Page("lesson")
+        self._page, self._lesson, self._listings = Page("class"), Page("lesson"), Page("listings")
         self._spoke: set[web.RequestHandler] = set()  # connections that have made a whole request
         self._is_ending = False
         self._nameless = asyncio.Semaphore(UNKNOWN)  # had by sockets without a code
@@ -63,7 +63,8 @@ class Server:
         application.router.add_get("/{machine:[A-L]}/{what:script|transcript}", self._get_file)
         application.router.add_get("/{seat:[A-L][1-8]}/home", self._get_home)
         application.router.add_get("/{table:seats|exercises}.csv", self._get_table)
-        application.router.add_get(r"/lesson/{ticket:[\w-]+}", self._get_lesson)
+        application.router.add_get(r"/lesson/{ticket:[\w-]+}", partial(self._get_ticket, self._lesson))
+        application.router.add_get(r"/listings/{ticket:[\w-]+}", partial(self._get_ticket, self._listings))
         application.router.add_get("/{machine:[A-L]}.{number:[1-9][0-9]*}/{what:script|transcript}", self._get_file)
         return application
 
@@ -132,14 +133,15 @@ class Server:
         table = self.members.table if request.match_info["table"] == "seats" else self.members.exercise_table
         return web.Response(body=table(), content_type="text/csv", charset="utf-8")
 
-    async def _get_lesson(self, request: web.Request) -> web.Response:
-        """A lesson of an answer, which has a policy of its own; who knows its ticket was told it at a seat."""
+    async def _get_ticket(self, kind: Page, request: web.Request) -> web.Response:
+        """A lesson of an answer, or listings, with a policy of their own; who knows the ticket was told it at a seat."""
+        make = self.members.checks.lesson if kind is self._lesson else self.members.comparisons.page
         try:
-            page = await self.members.checks.lesson(request.match_info["ticket"])
+            page = await make(request.match_info["ticket"])
         except LabError as error:
             await asyncio.sleep(WRONG_CODE_SECONDS)
             raise web.HTTPNotFound(text=str(error)) from error
-        request["policy"] = self._lesson.policy
+        request["policy"] = kind.policy
         return web.Response(body=page, content_type="text/html", charset="utf-8")
 
     async def _get_file(self, request: web.Request) -> web.Response:

@@ -3,7 +3,7 @@
 A3.s: the text, a second or two after it was typed; A3.written.s: that which stands in the machine, or nothing;
 A3.written.json: what a compiler made of it
 sources/A3.17.typed.s: version 17, and why it is one: it was typed, written into memory, or given; its time is the file's
-A source in C has the suffix .O2.c, which names its options, in place of .s.
+A source that is compiled has the suffix .O2.c, which names its options, or .stock.s, in place of .s.
 """
 
 import re

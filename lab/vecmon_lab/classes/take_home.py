@@ -14,7 +14,7 @@ from ..assembler.source import assemble
 from ..compilers.compiled import CompiledProgram
 from ..lessons.frames import make_frames
 from ..lessons.page import lesson_page
-from ..lessons.script import Script, Step, add_line, read_c, read_source
+from ..lessons.script import Script, Step, add_line, read_compiled, read_source
 from ..machine.lines import words_of
 from .live import is_servers
 from .names import NAMES
@@ -55,7 +55,8 @@ def archive(store: Store, seat: str) -> bytes:
     with contextlib.suppress(LabError):  # a source that isn't finished
         written, program = kept_program(store, seat)
         if isinstance(program, CompiledProgram):
-            named, said = read_c(written.text, seat, program), program.source_lines(written.text)
+            named = read_compiled(written.text, seat, program, written.suffix.endswith(".c"))
+            said = program.source_lines(written.text)
         else:
             text = written.text or own.text
             named, said = read_source(text, seat), assemble(text).source_lines(text)

@@ -20,11 +20,13 @@ from .beside import Beside
 from .builds import Builds
 from .checks import Checks, ExerciseTable, ExerciseView
 from .codes import TEACHER, WALL
+from .comparisons import Comparisons
 from .languages import LANGUAGES, SourceText
 from .names import NAMES, as_csv, checked_name
 from .requests import (
     BadRequest,
     Check,
+    Compare,
     Draft,
     Give,
     Lines,
@@ -77,6 +79,7 @@ class Message(TypedDict, total=False):
     warnings: list[Mistake]
     text: str
     language: int
+    listings: str
     error: str
     done: Answers
     words: list[str]
@@ -100,6 +103,7 @@ class StudentView(TypedDict):
     share: Share
     languages: list[str]
     no_c: str
+    against: list[str]
     source: SourceView
     exercises: dict[str, ExerciseView]
     again: bool
@@ -190,6 +194,7 @@ class Class:
         builds: what compiles sources in C
         """
         self.has_spares, self.builds = has_spares, builds or Builds()
+        self.comparisons = Comparisons(self.builds, store.program)
         self.store, self.codes = store, store.codes
         self.names = store.read(NAMES, dict[str, str])  # by seat
         self.address = ""  # where students reach the class, with a slash at its end
@@ -371,6 +376,7 @@ class Class:
             "share": {"used": seat.used, "of": SEAT_BYTES},
             "languages": [language.name for language in LANGUAGES],
             "no_c": self.builds.no_c,
+            "against": self.comparisons.names,
             "source": self._source_view(seat),
             "exercises": self.checks.of(seat.name),
             "again": seat.program is not None,
@@ -457,6 +463,8 @@ class Class:
                 name = tab.who if tab.who != TEACHER else tab.shoulder.name if tab.shoulder else ""
                 version = self.sources[self.seat(name).name].version(number)
                 return {"text": version.text, "language": version.language}
+            case Compare(source, other):
+                return {"listings": self.comparisons.ask(tab.who, source, other)}
             case Check(name, source):
                 self.checks.begin(self.seat(tab.who).name, name, source)
             case TryCase(name, source):

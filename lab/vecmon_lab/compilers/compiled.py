@@ -1,4 +1,4 @@
-"""A C source compiled to lines of the monitor, which bring its image in; they are carried out again without a compiler."""
+"""A source compiled to lines of the monitor, which bring its image in; they are carried out again without a compiler."""
 
 import bisect
 import json
@@ -14,7 +14,7 @@ from .. import LabError
 from ..assembler.source import Program, SourceError
 from ..guest.guest import STACK_END, STACK_POINTER, pokes
 from ..instructions.accesses import PAGE_BYTES, ROW_BYTES
-from .compiler import FUNCTION, SOURCE, Compiler
+from .compiler import FUNCTION, OWN_SOURCES, Compiler
 from .debug import MOST_BYTES, MOST_ROWS, MOST_SEGMENTS, MOST_SYMBOLS
 from .inside import MESSAGE_LETTERS, MOST_MESSAGES
 from .variables import Variable, read_variables
@@ -90,7 +90,7 @@ def compile_c(
 def words_for(text: str, compiler: Compiler, choice: int, is_answer: bool = False) -> list[str]:
     """The words of `inside` for a source. Raises LabError where that is too long."""
     if len(text.encode("utf-8", "replace")) > SOURCE_BYTES:
-        raise LabError(f"a source in C has {SOURCE_BYTES:,} bytes at most")
+        raise LabError(f"a source that is compiled has {SOURCE_BYTES:,} bytes at most")
     return [compiler.name, f"{choice}", *[FUNCTION] * is_answer]
 
 
@@ -152,7 +152,7 @@ def memory_rows(variables: Sequence[Sequence[Any]]) -> list[int]:
 def _own_line(line: str) -> int:
     """The number of a line of the source; 0 for one of another file."""
     file, _, number = line.rpartition(":")
-    return int(number) if file == SOURCE else 0
+    return int(number) if file in OWN_SOURCES else 0
 
 
 def _pages(segments: Iterable[tuple[int, str, int]]) -> dict[int, str]:

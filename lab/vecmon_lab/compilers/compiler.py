@@ -10,8 +10,9 @@ from .. import LabError
 from ..machine.program import MARCH
 
 RUNTIME = pathlib.Path(__file__).parent / "runtime"
-SOURCE, IMAGE = "source.c", "image"
-"""The names that a source and its image always have."""
+C_SOURCE, ASSEMBLER_SOURCE, IMAGE = "source.c", "source.s", "image"
+OWN_SOURCES = (C_SOURCE, ASSEMBLER_SOURCE)
+"""The names that sources and their image always have."""
 
 FUNCTION = "answer"
 """The function that begins an image which is to answer an exercise; others begin with `main`."""
@@ -26,11 +27,15 @@ _GCC = ("-no-pie", "-Wl,--no-relax", "-fno-diagnostics-show-caret", "-fmax-error
 
 @dataclass(frozen=True)
 class Choice:
-    """Options that a page offers by their name; clang and gcc have words of their own for some."""
+    """Options that a page offers by their name; clang and gcc have words of their own for some.
+
+    source: the name that a source for them always has, of which the last letter is its language
+    """
 
     name: str
     clang: Sequence[str]
     gcc: Sequence[str]
+    source: str = C_SOURCE
 
 
 _PLAIN_CLANG, _PLAIN_GCC = ("-fno-vectorize", "-fno-slp-vectorize"), ("-fno-tree-vectorize",)
@@ -41,6 +46,7 @@ CHOICES = [
     Choice("O3", ("-O3",), ("-O3",)),
     Choice("O2-scalar", ("-O2", *_PLAIN_CLANG), ("-O2", *_PLAIN_GCC)),
     Choice("O3-scalar", ("-O3", *_PLAIN_CLANG), ("-O3", *_PLAIN_GCC)),
+    Choice("stock", ("-Wno-unused-command-line-argument",), (), ASSEMBLER_SOURCE),
 ]
 
 
@@ -71,21 +77,30 @@ class Compiler:
 
         is_answer: to an exercise, whose loops have vectors where the source asks for them alone
         """
-        if not 0 <= choice < len(CHOICES):
-            raise LabError(f"options have numbers from 0 to {len(CHOICES) - 1}")
+        source = source_of(choice)
         if self.is_clang:
-            linker = f"-fuse-ld=lld{self.name.removeprefix('clang')}"
-            own = [*_CLANG, linker, *CHOICES[choice].clang]
+            linker = (f"-fuse-ld=lld{self.name.removeprefix('clang')}", "-Wl,--threads=1")
+            own = [*_CLANG, *linker, *CHOICES[choice].clang]
         else:
             own = [*_GCC, *CHOICES[choice].gcc]
+        if source == ASSEMBLER_SOURCE:
+            own.append("-Wl,--entry=0")
         if is_answer:
             plain = _PLAIN_CLANG if self.is_clang else _PLAIN_GCC
             own += ["-DVECMON_ANSWER", f"-Wl,--entry={FUNCTION}", *plain]
-        runtime = (
+        folder = (
             f"-I{RUNTIME}",
             f"-fdebug-prefix-map={RUNTIME}=runtime",
         )  # so that an image is the same in each folder
-        return [self.name, *_ALL, *_TOLD, *own, *runtime, "-o", IMAGE, SOURCE, str(RUNTIME / "runtime.c")]
+        linked = (source, str(RUNTIME / "runtime.c")) if source == C_SOURCE else (source,)
+        return [self.name, *_ALL, *_TOLD, *own, *folder, "-o", IMAGE, *linked]
+
+
+def source_of(choice: int) -> str:
+    """The name of a source for options of this number. Raises LabError where there are none."""
+    if not 0 <= choice < len(CHOICES):
+        raise LabError(f"options have numbers from 0 to {len(CHOICES) - 1}")
+    return CHOICES[choice].source
 
 
 def choice_of(name: str) -> int:
@@ -96,10 +111,21 @@ def choice_of(name: str) -> int:
     return names.index(name)
 
 
+def choice_for(path: pathlib.Path, name: str) -> int | None:
+    """The number of a file's options by their name; None where no compiler takes it. Raises LabError where they don't fit."""
+    choice = choice_of(name)
+    if CHOICES[choice].source == C_SOURCE:
+        return choice if path.suffix == ".c" else None
+    if path.suffix not in (".s", ".S"):
+        raise LabError(f"{path}: {name} is for assembler, and the name of such a source ends in .s")
+    return choice
+
+
 def find_compilers() -> list[Compiler]:
     """The compilers that there are, the newest clang first."""
     clangs = [Compiler(f"clang-{version}") for version in range(LEAST_CLANG + 12, LEAST_CLANG - 1, -1)]
     gccs = [Compiler(f"riscv64-linux-gnu-gcc{ending}") for ending in ("-16", "-15", "-14", "")]
+    gccs.append(Compiler("riscv64-unknown-elf-gcc"))
     return [each for each in (*clangs, *gccs) if _is_there(each)]
 
 
@@ -122,6 +148,6 @@ def _is_there(compiler: Compiler) -> bool:
 
 
 def _version(name: str) -> int:
-    """The version that a program's name ends in; 0 where it has none."""
-    found = re.search(r"-(\d+)$", name)
+    """The version that a program's name ends in, or the name of what it is a link to; 0 where it has none."""
+    found = re.search(r"-(\d+)[.\d]*$", str(pathlib.Path("/usr/bin", name).resolve()))
     return int(found[1]) if found else 0

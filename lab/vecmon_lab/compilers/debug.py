@@ -14,6 +14,7 @@ if TYPE_CHECKING:
     from elftools.elf.elffile import ELFFile
 
 MOST_SEGMENTS, MOST_BYTES, MOST_SYMBOLS, MOST_ROWS = 64, 1 << 20, 2000, 20_000
+_CODE = 4  # SHF_EXECINSTR: the section has instructions
 _RIGHTS = {"r": 4, "w": 2, "x": 1}  # by the bits of p_flags
 
 
@@ -46,14 +47,18 @@ class Image(TypedDict):
 
 
 def image_of(path: pathlib.Path) -> Image:
-    """What an image has, as far as its debug data can be read. Raises ValueError where it has too much."""
+    """What an image has, as far as its debug data can be read. Raises ValueError where it has too much.
+
+    One that doesn't tell its entry begins at `_start`, or at its first code.
+    """
     from elftools.elf.elffile import ELFFile
 
     symbols = list(Symbols.read(path).addresses.items())
     with path.open("rb") as file:
         elf = ELFFile(file)
+        code = [section["sh_addr"] for section in elf.iter_sections() if section["sh_flags"] & _CODE]
         return {
-            "entry": elf.header["e_entry"],
+            "entry": elf.header["e_entry"] or dict(symbols).get("_start", min(code, default=0)),
             "segments": list(_segments(elf)),
             "symbols": {name[:NAME_LETTERS]: address for name, address in symbols[:MOST_SYMBOLS]},
             "rows": _rows(elf),

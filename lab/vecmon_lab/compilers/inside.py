@@ -4,6 +4,7 @@
 `messages`, and `image` where there is one (`debug.py`).
 """
 
+import importlib
 import json
 import os
 import pathlib
@@ -13,7 +14,7 @@ import subprocess
 import sys
 from typing import NamedTuple
 
-from .compiler import FUNCTION, IMAGE, SOURCE, Compiler
+from .compiler import FUNCTION, IMAGE, OWN_SOURCES, Compiler, source_of
 from .debug import image_of
 
 COMPLAINT_BYTES, MOST_MESSAGES, MESSAGE_LETTERS = 1 << 16, 100, 400
@@ -25,7 +26,7 @@ LIMITS = {
     resource.RLIMIT_CORE: 0,
 }
 
-_MESSAGE = re.compile(r"(?:([^:\s]+):(\d+):(\d+): )?(?:[^:\s]+: )?(fatal error|error|warning): (.*)")
+_MESSAGE = re.compile(r"(?:([^:\s]+):(\d+):(?:(\d+):)? )?(?:[^:\s]+: )?(fatal error|[Ee]rror|[Ww]arning): (.*)")
 _FOLDERS = re.compile(r"(?:/[\w.+-]+)+/")
 
 
@@ -46,10 +47,10 @@ def read_messages(complaint: str) -> list[Message]:
             file, number, column, kind, text = found.groups()
             if text.startswith("linker command failed"):  # which has said why
                 continue
-            is_own = file == SOURCE
+            is_own = file in OWN_SOURCES
             text = text if is_own or not file else f"{file}:{number}: {text}"
-            place = (int(number), int(column)) if is_own else (0, 0)
-            messages.append(Message(*place, kind != "warning", _FOLDERS.sub("", text)[:MESSAGE_LETTERS]))
+            place = (int(number), int(column or 1)) if is_own else (0, 0)
+            messages.append(Message(*place, kind.lower() != "warning", _FOLDERS.sub("", text)[:MESSAGE_LETTERS]))
     return list(dict.fromkeys(messages))[:MOST_MESSAGES]
 
 
@@ -60,6 +61,7 @@ def compile_source(compiler: Compiler, choice: int, is_answer: bool) -> list[Mes
         command, stdin=subprocess.DEVNULL, stdout=subprocess.DEVNULL, stderr=subprocess.PIPE
     ) as child:
         assert child.stderr
+        importlib.import_module("elftools.elf.elffile")  # which is at hand then when the image is
         complaint = child.stderr.read(COMPLAINT_BYTES)
         child.stderr.close()  # whoever has more to say ends here
         is_done = child.wait() == 0
@@ -75,7 +77,7 @@ def main() -> None:
     for limit, most in LIMITS.items():
         resource.setrlimit(limit, (most, most))
     compiler, choice, is_answer = Compiler(sys.argv[1]), int(sys.argv[2]), sys.argv[3:] == [FUNCTION]
-    pathlib.Path(SOURCE).write_bytes(sys.stdin.buffer.read())
+    pathlib.Path(source_of(choice)).write_bytes(sys.stdin.buffer.read())
     messages, image = compile_source(compiler, choice, is_answer), None
     try:
         if not any(message.is_error for message in messages):

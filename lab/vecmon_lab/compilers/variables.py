@@ -6,7 +6,7 @@ from itertools import islice
 from typing import TYPE_CHECKING, Any, NamedTuple
 
 from .c_types import declaration, shape
-from .compiler import SOURCE
+from .compiler import C_SOURCE
 from .entries import NAME_LETTERS, entry_at, name_of, ranges_of
 from .locations import CODE_END, MOST_BYTES, Location, Sum, location
 
@@ -48,7 +48,7 @@ def variables_of(elf: "ELFFile") -> list[Variable]:
     try:
         debug = elf.get_dwarf_info() if elf.has_dwarf_info() else None
         for unit in debug.iter_CUs() if debug else ():
-            if name_of(unit.get_top_DIE()) == SOURCE:
+            if name_of(unit.get_top_DIE()) == C_SOURCE:
                 found += islice(_Unit(debug, unit).variables(), MOST_VARIABLES - len(found))
     except Exception:  # pylint: disable=broad-except  # damaged data makes pyelftools raise what its parts do
         pass

@@ -17,14 +17,22 @@ from .. import LabError
 
 LAB = pathlib.Path(__file__).resolve().parents[2]
 SECONDS, ANSWER_BYTES, FOLDER_BYTES = 20, 4 << 20, 64 << 20  # by the clock; of what is answered; of all files there
+PROCESSES = 32  # and threads
 PLACE = "/lab"  # where the lab's own files are within
 MODULE = ("-m", "vecmon_lab.compilers.inside")
 TOO_MUCH = "the compiler was stopped, since it, or what it made, took too much"
 
-_EMPTY = ("--unshare-all", "--die-with-parent", "--new-session", "--clearenv")
+_SPACES = ("--unshare-ipc", "--unshare-pid", "--unshare-net", "--unshare-uts", "--unshare-cgroup-try")
+_EMPTY = (*_SPACES, "--die-with-parent", "--new-session", "--clearenv")
 _SYSTEM = ("--ro-bind", "/usr", "/usr", "--symlink", "usr/lib", "/lib", "--symlink", "usr/lib64", "/lib64")
-_FOLDER = ("--dev", "/dev", "--remount-ro", "/dev", "--size", f"{FOLDER_BYTES}", "--tmpfs", "/tmp", "--chdir", "/tmp")
+_TEMPORARY = ("--perms", "1777", "--size", f"{FOLDER_BYTES}", "--tmpfs", "/tmp", "--chdir", "/tmp")
+_FOLDER = ("--dev", "/dev", "--remount-ro", "/dev", *_TEMPORARY)
 _VARIABLES = ("--setenv", "PATH", "/usr/bin", "--setenv", "PYTHONPATH", PLACE, "--setenv", "LC_ALL", "C.UTF-8")
+
+
+_PYTHON = ("/usr/bin/prlimit", f"--nproc={PROCESSES}", "/usr/bin/python3", "-B")
+_NOBODY = ("/usr/bin/setpriv", "--reuid=65534", "--regid=65534", "--clear-groups", "/usr/bin/unshare", "--user")
+_INSIDE = ("--unshare-user-try", "--", *_PYTHON) if os.geteuid() else ("--", *_NOBODY, *_PYTHON)  # root's don't count
 
 
 def check_wall() -> None:
@@ -42,8 +50,8 @@ def answer_walled(words: Sequence[str], text: str) -> bytes:
 
 async def answer_beside(words: Sequence[str], text: str) -> bytes:
     """As `answer_walled`, beside all else that an event loop does."""
-    own = ("--ro-bind", f"{LAB / 'vecmon_lab'}", f"{PLACE}/vecmon_lab")
-    command = ["bwrap", *_EMPTY, *_SYSTEM, *own, *_FOLDER, *_VARIABLES, "--", "/usr/bin/python3", "-B", *MODULE, *words]
+    own = ("--perms", "755", "--dir", PLACE, "--ro-bind", f"{LAB / 'vecmon_lab'}", f"{PLACE}/vecmon_lab")
+    command = ["bwrap", *_EMPTY, *_SYSTEM, *own, *_FOLDER, *_VARIABLES, *_INSIDE, *MODULE, *words]
     return await _answer(command, text, pathlib.Path("/"), {"PATH": os.environ.get("PATH", os.defpath)})
 
 

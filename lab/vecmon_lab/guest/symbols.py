@@ -7,8 +7,6 @@ from collections.abc import Iterator, Mapping, Sequence
 from dataclasses import dataclass, field
 from typing import TYPE_CHECKING
 
-from ..instructions.accesses import PAGE_BYTES
-
 if TYPE_CHECKING:
     from elftools.elf.elffile import ELFFile
 
@@ -51,6 +49,8 @@ class Symbols:
     @classmethod
     def of_labels(cls, labels: Mapping[str, Sequence[str]]) -> "Symbols":
         """The labels of a source, by their addresses in hexadecimal digits, up to the end of the last one's page."""
+        from ..instructions.accesses import PAGE_BYTES  # which an image doesn't need, and which reads tables
+
         places = sorted((int(digits, 16), names) for digits, names in labels.items())
         end = (max((address for address, _ in places), default=0) | PAGE_BYTES - 1) + 1
         addresses = {name: address for address, names in places for name in names}

@@ -8,12 +8,12 @@ from collections.abc import Mapping
 from .. import LabError
 from ..arguments import check_output
 from ..compilers.compiled import compile_c
-from ..compilers.compiler import CHOICES, choice_of, find_compiler
+from ..compilers.compiler import CHOICES, choice_for, find_compiler
 from ..machine.program import find_program, images_of
 from .frames import make_frames
 from .listings import Listing, listing_of, listings_page
 from .page import lesson_page
-from .script import check_compiled, read_c, read_script, read_source
+from .script import check_compiled, read_compiled, read_script, read_source
 
 SOURCE_SUFFIXES, C_SUFFIX = (".s", ".S"), ".c"
 
@@ -26,7 +26,7 @@ def add_arguments(parser: argparse.ArgumentParser) -> None:
     parser.add_argument("images", metavar="NAME=PATH", nargs="*", default=[], help="images that it loads by name")
     parser.add_argument("-o", dest="output", metavar="FILE", type=pathlib.Path, help="the page; else standard output")
     parser.add_argument("--title", help="the title; else the line of the file that begins with ##, else its name")
-    parser.add_argument("--cc", metavar="NAME", help="the compiler of a source in C, as clang-19")
+    parser.add_argument("--cc", metavar="NAME", help="the compiler, as clang-19")
     names = [choice.name for choice in CHOICES]
     parser.add_argument("--options", choices=names, default=names[0], help="those of the compiler; else %(default)s")
     against = "listings side by side in place of a lesson: by --options, and by these, of another compiler"
@@ -50,9 +50,10 @@ def _lesson(arguments: argparse.Namespace, images: Mapping[str, pathlib.Path]) -
     """The page of a lesson. Raises LabError for a source with mistakes, or where there is no compiler for it."""
     path: pathlib.Path = arguments.script
     text = path.read_text("utf-8", "replace")
-    if path.suffix == C_SUFFIX:
-        choice = choice_of(arguments.options)
-        script = read_c(text, path.name, compile_c(text, find_compiler(arguments.cc), choice, path.parent))
+    choice = choice_for(path, arguments.options)
+    if choice is not None:
+        program = compile_c(text, find_compiler(arguments.cc), choice, path.parent)
+        script = read_compiled(text, path.name, program, path.suffix == C_SUFFIX)
     else:
         script = read_source(text, path.name) if path.suffix in SOURCE_SUFFIXES else read_script(text)
     frames = make_frames(script, find_program(), images, arguments.quantum)
@@ -68,7 +69,8 @@ def _listings(arguments: argparse.Namespace) -> str:
         raise LabError(f"--against is for a source in C, and {path} is none")
     name, _, options = arguments.against.rpartition(":")
     for cc, each in ((arguments.cc, arguments.options), (name or arguments.cc, options)):
-        compiler, choice = find_compiler(cc), choice_of(each)
+        compiler, choice = find_compiler(cc), choice_for(path, each)
+        assert choice is not None, "a source in C has options"
         program = compile_c(text, compiler, choice, path.parent)
         check_compiled(program, f"{compiler.title(choice)}: {path.name}")
         listings.append(listing_of(program, compiler.title(choice), machine))

@@ -1,12 +1,15 @@
 """What compilers make of a source in C: under each line its instructions, how often they were carried out, and with how
 many elements; listings side by side, as one page."""
 
+import json
+import os
 import pathlib
+import sys
 from collections.abc import Sequence
 from dataclasses import dataclass
 from itertools import islice, pairwise
 
-from ..compilers.compiled import CompiledProgram
+from ..compilers.compiled import CompiledProgram, read_answer
 from ..guest.guest import Guest
 from ..machine.answers import Listing as Words
 from ..machine.session import Session
@@ -58,3 +61,10 @@ def listing_of(program: CompiledProgram, name: str, machine: pathlib.Path) -> Li
 def listings_page(title: str, text: str, listings: Sequence[Listing]) -> str:
     """The page of some listings of a source that has this text, in HTML."""
     return lone_page("listings", title, {"lines": text.split("\n"), "listings": [vars(each) for each in listings]})
+
+
+if __name__ == "__main__":
+    os.nice(10)
+    source, made = json.load(sys.stdin)
+    sides = [listing_of(read_answer(told.encode("utf-8")), name, pathlib.Path(sys.argv[1])) for name, told in made]
+    sys.stdout.write(listings_page("Side by side", source, sides))

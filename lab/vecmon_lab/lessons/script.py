@@ -83,20 +83,21 @@ def read_source(text: str, name: str) -> Script:
     return _script_of(program, [line.strip() for line in text.split("\n")], name)
 
 
-def read_c(text: str, name: str, program: CompiledProgram) -> Script:
-    """The lesson of a source in C, for user 1, as a compiler made it. Raises LabError where it has mistakes.
+def read_compiled(text: str, name: str, program: CompiledProgram, is_c: bool) -> Script:
+    """The lesson of a source, for user 1, as a compiler made it. Raises LabError where it has mistakes.
 
-    Its lines that begin with `//` are as those of an assembler source that begin with `#`.
+    In C lines that begin with `//` are as those of an assembler source that begin with `#`.
     """
     check_compiled(program, name)
     lines = [line.strip() for line in text.split("\n")]
-    lines = [f"#{line[2:]}" if line.startswith("//") else line.replace("#", " #", 1) for line in lines]
+    if is_c:
+        lines = [f"#{line[2:]}" if line.startswith("//") else line.replace("#", " #", 1) for line in lines]
     script, said = _script_of(program, lines, name), program.source_lines(text)
     return replace(script, said=said, starts=program.line_starts(), variables=program.variables)
 
 
 def check_compiled(program: CompiledProgram, name: str) -> None:
-    """Raises LabError with the first mistake of a source in C that has any."""
+    """Raises LabError with the first mistake of a compiled source that has any."""
     for error in program.mistakes:
         raise _mistake(name, error) if error.line else LabError(f"{name}: {error.message}")
 

@@ -42,7 +42,7 @@ export class Editor {
   }
 
   get isC() {
-    return this.source.language > 0;
+    return this.language.selectedOptions[0]?.text.startsWith("C") ?? false;
   }
 
   /** Puts in another source, which can be undone. */

@@ -24,9 +24,10 @@ export function sourceOf(hash, languages) {
   }
 }
 
-/** The suffix of a file for a language: `s`, or `O2.c` with C's options. */
-export const suffixOf = (language, languages) => (language ? `${namesOf(languages)[language].split(" ")[1]}.c` : "s");
+/** The suffix of a file for a language: `s`, `stock.s`, or `O2.c` with C's options. */
+export const suffixOf = (language, languages) =>
+  namesOf(languages)[language].split(", ").reverse().join(".").replace("C", "c").replace("assembler", "s");
 
 /** The language of a file by its name, whose suffix may be one of these; else the first C, or assembler. */
 export const languageOf = (name, languages) =>
-  Math.max(namesOf(languages).indexOf(`C, ${/\.([\w-]+)\.c$/.exec(name)?.[1]}`), Number(name.endsWith(".c")));
+  Math.max(namesOf(languages).findLastIndex((_, number) => name.endsWith(`.${suffixOf(number, languages)}`)), Number(name.endsWith(".c")));

@@ -65,11 +65,12 @@ export class Source {
     this.sent.delete(keyOf(source));
   }
 
-  /** Shows what the button does to a source in this language, and in C what is left of the seat's share. */
+  /** Shows what the button does to a source in this language, and where that is compiled what is left of the seat's share. */
   showLanguage({ of, used } = this.share ?? {}) {
     this.share = of && { of, used };
-    const left = of && this.editor.isC ? `${(of - used).toLocaleString("en")} bytes of this seat's share of the script are left.` : "";
-    put(byId("assemble"), this.editor.isC ? "Compile" : "Write into memory");
+    const isCompiled = this.editor.source.language > 0;
+    const left = of && isCompiled ? `${(of - used).toLocaleString("en")} bytes of this seat's share of the script are left.` : "";
+    put(byId("assemble"), isCompiled ? "Compile" : "Write into memory");
     put(byId("left"), left);
   }
 

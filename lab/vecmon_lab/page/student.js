@@ -72,6 +72,7 @@ export class Student {
     on("new", "click", () => this.beginAnew("New machine", NEW_MACHINE));
     on("images", "change", () => this.beginAnew("Load", [`load ${byId("images").value}`]));
     on("assemble", "click", () => this.write());
+    on("against", "change", () => this.write({ ask: "listings", other: byId("against").selectedIndex - 1 }));
     on("link", "click", () => this.link());
     on("name", "change", () => this.request({ ask: "name", name: byId("name").value }));
     on("home", "click", () => this.takeHome());
@@ -123,6 +124,8 @@ export class Student {
     const side = run === "absent" ? "source" : "listing";
     if (side !== this.side) this.showSide((this.side = side));
     offerLanguages(byId("language"), view);
+    offerLanguages(byId("against"), { languages: ["Side by side …", ...view.against], no_c: "" });
+    Object.assign(byId("against"), { hidden: !view.against.length, selectedIndex: 0 });
     this.showSource(view);
     this.exercises.show(view.exercises, view.source);
     byId("log").ariaLive = "polite";
@@ -250,7 +253,8 @@ export class Student {
   }
 
   async assemble(request) {
-    const { mistakes, warnings = [] } = (await this.request(request)) ?? {};
+    const { mistakes, warnings = [], listings } = (await this.request(request)) ?? {};
+    if (listings) open(`listings/${listings}`);
     this.showMistakes(mistakes ?? [], warnings);
     return mistakes && this.showSide(mistakes.length ? "source" : "listing");
   }

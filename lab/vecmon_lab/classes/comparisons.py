@@ -1,0 +1,50 @@
+"""Two listings of a source in C side by side: it is compiled behind the wall, and runs in a process beside the class."""
+
+import json
+import pathlib
+
+from .. import LabError
+from ..compilers.compiler import C_SOURCE, CHOICES
+from ..lessons.script import check_compiled
+from .beside import Beside
+from .builds import Builds
+from .codes import new_code
+from .languages import SourceText
+from .requests import BadRequest
+
+MOST = 20  # that are kept of those that were asked for
+
+
+class Comparisons:
+    """What was asked for last; a page is made when it is fetched.
+
+    names: what a source may stand beside, of which a number chooses: compilers with their options; none in a class
+    """
+
+    def __init__(self, builds: Builds, program: pathlib.Path) -> None:
+        self._builds, self._program, self._beside = builds, program, Beside(1)
+        choices = [choice for choice, it in enumerate(CHOICES) if it.source == C_SOURCE]
+        self._others = [(compiler, choice) for compiler in builds.others for choice in choices]
+        self.names = [compiler.title(choice) for compiler, choice in self._others]
+        self._asked: dict[str, tuple[str, SourceText, int]] = {}
+
+    def ask(self, seat: str, source: SourceText, other: int) -> str:
+        """What opens the page of a source by its own options and by others. Raises BadRequest."""
+        if not source.suffix.endswith(".c") or not 0 <= other < len(self._others):
+            raise BadRequest("listings stand side by side of a source in C, by options that the page has")
+        ticket = new_code()
+        self._asked = dict([*self._asked.items(), (ticket, (seat, source, other))][-MOST:])
+        return ticket
+
+    async def page(self, ticket: str) -> bytes:
+        """The page that was asked for, in HTML. Raises LabError where it wasn't, or the source has mistakes."""
+        if ticket not in self._asked:
+            raise LabError("there is no such page, or not any more: ask once more")
+        (seat, source, other), listings = self._asked[ticket], list[tuple[str, str]]()
+        for compiler, choice in ((self._builds.compiler, source.choice), self._others[other]):
+            assert compiler and choice is not None
+            program = await self._builds.compile(seat, source.text, choice, compiler)
+            check_compiled(program, compiler.title(choice))
+            listings.append((compiler.title(choice), program.told.decode("utf-8", "replace")))
+        script = json.dumps([source.text, listings]).encode("ascii")
+        return await self._beside.run("lessons.listings", str(self._program), script=script)
