@@ -1,5 +1,5 @@
 -- What the rows have more after one instruction.
-use Rattle.std.proofs.Common.{◌≡◌, ◌+◌, ◌-◌, refl, ℕ, Bool, true, false, List, Option, Some, None, if◌then◌else◌, ap, ◌∙◌, sym, subst, zero-add}
+use Rattle.std.proofs.Common.{◌≡◌, ◌+◌, ◌-◌, refl, ℕ, Bool, true, false, List, Option, None, if◌then◌else◌, ap, ◌∙◌, sym, subst, zero-add}
 use Rattle.rv_model.specs.declared.memory.Access.TheVariants.{Fetch}
 use Rattle.rv_model.specs.declared.step.step_end.Cause.TheVariants.{FetchAccess}
 use Rattle.rv_model.specs.declared.step.step_end.StepEnd.{StepEnd}
@@ -13,9 +13,9 @@ use Rattle.recording.specs.declared.class.Class.TheVariants.{Plain}
 use Rattle.recording.specs.declared.found.Found.{Found}
 use Rattle.recording.specs.declared.found.Left.{Left}
 use Rattle.recording.specs.declared.key.Key.TheVariants.{Word}
-use Rattle.recording.specs.Found.{IsFound, both_of, counted_by, ran_by}
+use Rattle.recording.specs.Found.{Finds, both_of, counted_by, ran_by}
 use Rattle.recording.specs.Runs.{carried_out, counted, is_counted, key_beside, once_more, share, word_of}
-use Rattle.recording.specs.Sums.{HasMore, Key, Row, Sums, more_of, no_more}
+use Rattle.recording.specs.Sums.{HasMore, Key, Row, Sums, more_of, no_more, plain}
 use Rattle.recording.proofs.Actives.{all_are_active, no_elements}
 use Rattle.recording.proofs.TableTotals.{composed, none_more}
 
@@ -28,14 +28,12 @@ counted_if counts key sums beside number asked = if counts then more_of key sums
 abbrev if_counted : Bool → ((Sums → ℕ) → (Key → Bool) → ℕ) → (Sums → ℕ) → (Key → Bool) → ℕ
 if_counted counts more number asked = if counts then more number asked else 0
 
-pub not_counted : (found : Option Found) (left : Left) (key : Key) (rows : List Row) → is_counted left.end ≡ false → HasMore (counted_by found left key) rows rows
+pub not_counted : (found : Found) (left : Left) (key : Key) (rows : List Row) → is_counted left.end ≡ false → HasMore (counted_by found left key) rows rows
 not_counted found left key rows isnt = subst (λ (b : Bool). HasMore (if_counted b (ran_by found left key)) rows rows) (sym isnt) (none_more rows)
 
-pub is_then_counted : (found seen : Option Found) (left : Left) (key : Key) (old new : List Row) → found ≡ seen → is_counted left.end ≡ true
-    → HasMore (ran_by seen left key) old new → HasMore (counted_by found left key) old new
-is_then_counted found seen left key old new same is more =
-    subst (λ (b : Bool). HasMore (if_counted b (ran_by found left key)) old new) (sym is)
-    (subst (λ (f : Option Found). HasMore (ran_by f left key) old new) (sym same) more)
+pub is_then_counted : (found : Found) (left : Left) (key : Key) (old new : List Row) → is_counted left.end ≡ true
+    → HasMore (ran_by found left key) old new → HasMore (counted_by found left key) old new
+is_then_counted found left key old new is more = subst (λ (b : Bool). HasMore (if_counted b (ran_by found left key)) old new) (sym is) more
 
 pub both_counted : (key : Key) (made sums : Sums) (told beside : Option Key) (old mid new : List Row) → made ≡ sums → told ≡ beside
     → HasMore (more_of key made) old mid → HasMore (once_more told) mid new → HasMore (both_of key sums beside) old new
@@ -44,8 +42,12 @@ both_counted key made sums told beside old mid new e f one two =
     (subst (λ (a : Sums). HasMore (more_of key a) old mid) e one) (subst (λ (b : Option Key). HasMore (once_more b) mid new) f two)
 
 -- a plain instruction is counted in its row alone
-pub plain_counted : (key : Key) (made sums : Sums) (old new : List Row) → made ≡ sums → HasMore (more_of key made) old new → HasMore (both_of key sums None) old new
-plain_counted key made sums old new e one = both_counted key made sums None None old new new e refl one (none_more new)
+pub plain_counted : (found : Found) (left : Left) (key : Key) (made : Sums) (old new : List Row) → found.class ≡ Plain → made ≡ plain left.ticks
+    → HasMore (more_of key made) old new → HasMore (ran_by found left key) old new
+plain_counted found left key made old new class e one =
+    subst (λ (k : Class). HasMore (both_of key (carried_out left.ticks (body k found.mask found.start left.conf) (tail_end k left.conf)) (key_beside k found.conf found.pc left.pc)) old new) (sym class)
+    (both_counted key made (carried_out left.ticks (body Plain found.mask found.start left.conf) (tail_end Plain left.conf)) None None old new new
+    (e ∙ sym (no_elements found.mask found.start left.ticks)) refl one (none_more new))
 
 -- a key is counted in its row, which may be a new one
 pub counted_in : (more : (Sums → ℕ) → (Key → Bool) → ℕ) (old mid new : List Row) → HasMore no_more old mid → HasMore more mid new → HasMore more old new
@@ -109,19 +111,15 @@ module _ (s : HartState) (word : ℕ) (k : Class) (mask : List ℕ) (start : ℕ
       (subst (λ (d : Configuration). HasMore (counted end (Word s.scalar.pc word) sums (key_beside k d s.scalar.pc next.scalar.pc)) old new) conf_is
       (subst (λ (p : ℕ). HasMore (counted end (Word s.scalar.pc word) sums (key_beside k c p next.scalar.pc)) old new) pc_is more)))
 
--- by what was found, unless the instruction is plain
-pub share_by : (found : Option Found) (s next : HartState) (word : ℕ) (k : Class) (left : Left) (old new : List Row) → IsFound k s.scalar.pc s.vector found
+-- by what was found
+pub share_by : (found : Found) (s next : HartState) (word : ℕ) (k : Class) (left : Left) (old new : List Row) → Finds k s.scalar.pc s.vector found
     → k ≡ class_of (scan table word) → step 256 s ≡ ends_after left.ticks left.end next → left.conf ≡ next.vector.conf → left.pc ≡ next.scalar.pc
     → (can_access Fetch s.memory s.scalar.pc 4 ≡ true → word ≡ word_of s)
     → HasMore (counted_by found left (Word s.scalar.pc word)) old new → HasMore (share s) old new
-share_by (Some found) s next word k left old new is class made conf pc word_is more =
+share_by found s next word k left old new is class made conf pc word_is more =
     share_is s word found.class found.mask found.start old new (is.class_is ∙ class) (λ e. is.mask_is (ap (λ (j : Class). is_unmasked j) (sym is.class_is) ∙ e)) is.start_is
     next left.ticks left.end found.conf found.pc made is.conf_is is.pc_is word_is
     (subst (λ (d : Configuration).
     HasMore (counted left.end (Word s.scalar.pc word) (carried_out left.ticks (body found.class found.mask found.start d) (tail_end found.class d)) (key_beside found.class found.conf found.pc next.scalar.pc)) old new) conf
     (subst (λ (p : ℕ).
     HasMore (counted left.end (Word s.scalar.pc word) (carried_out left.ticks (body found.class found.mask found.start left.conf) (tail_end found.class left.conf)) (key_beside found.class found.conf found.pc p)) old new) pc more))
-share_by None s next word k left old new is class made conf pc word_is more =
-    let mask : List ℕ = register_of s.vector.file 0 in
-    share_is s word Plain mask s.vector.vstart old new (sym is ∙ class) (λ e. refl) refl next left.ticks left.end s.vector.conf s.scalar.pc made refl refl word_is
-    (subst (λ (sums : Sums). HasMore (counted left.end (Word s.scalar.pc word) sums None) old new) (sym (no_elements mask s.vector.vstart left.ticks)) more)

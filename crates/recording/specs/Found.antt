@@ -1,15 +1,14 @@
 -- What is counted of an instruction by what it found and left.
-use Rattle.std.specs.Prelude.{ℕ, ◌≡◌, ◌+◌, Bool, false, Option, Some, None, if◌then◌else◌}
+use Rattle.std.specs.Prelude.{ℕ, ◌≡◌, ◌+◌, Bool, false, Option, if◌then◌else◌}
 use Rattle.rv_model.specs.declared.vector.state.VState.{VState}
 use Rattle.rv_model.specs.vector.Groups.{register_of}
 use Rattle.recording.specs.Classes.{Class, body, is_unmasked, tail_end}
-use Rattle.recording.specs.declared.class.Class.TheVariants.{Plain}
 use Rattle.recording.specs.declared.found.Found.{Found}
 use Rattle.recording.specs.declared.found.Left.{Left}
 use Rattle.recording.specs.Runs.{carried_out, is_counted, key_beside, once_more}
-use Rattle.recording.specs.Sums.{Key, Sums, more_of, plain}
+use Rattle.recording.specs.Sums.{Key, Sums, more_of}
 
--- what an instruction of this class finds, unless it is plain
+-- what an instruction of this class finds
 pub record Finds (k : Class) (pc : ℕ) (v : VState) (found : Found) : Type 0 where
   pub class_is : found.class ≡ k
   pub pc_is : found.pc ≡ pc
@@ -17,21 +16,16 @@ pub record Finds (k : Class) (pc : ℕ) (v : VState) (found : Found) : Type 0 wh
   pub start_is : found.start ≡ v.vstart
   pub mask_is : is_unmasked k ≡ false → found.mask ≡ register_of v.file 0
 
-abbrev pub IsFound : Class → ℕ → VState → Option Found → Type 0
-IsFound k pc v None = k ≡ Plain
-IsFound k pc v (Some found) = Finds k pc v found
-
 -- this of a word, and once beside it
 abbrev pub both_of : Key → Sums → Option Key → (Sums → ℕ) → (Key → Bool) → ℕ
 both_of key sums beside number asked = more_of key sums number asked + once_more beside number asked
 
 -- what is counted of an instruction that ran
-abbrev pub ran_by : Option Found → Left → Key → (Sums → ℕ) → (Key → Bool) → ℕ
-ran_by None left key = both_of key (plain left.ticks) None
-ran_by (Some found) left key =
+abbrev pub ran_by : Found → Left → Key → (Sums → ℕ) → (Key → Bool) → ℕ
+ran_by found left key =
     both_of key (carried_out left.ticks (body found.class found.mask found.start left.conf) (tail_end found.class left.conf))
     (key_beside found.class found.conf found.pc left.pc)
 
 -- of any
-abbrev pub counted_by : Option Found → Left → Key → (Sums → ℕ) → (Key → Bool) → ℕ
+abbrev pub counted_by : Found → Left → Key → (Sums → ℕ) → (Key → Bool) → ℕ
 counted_by found left key number asked = if is_counted left.end then ran_by found left key number asked else 0

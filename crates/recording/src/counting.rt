@@ -15,7 +15,7 @@ use crate::alone::Alone;
 use crate::class::Class;
 use crate::elements::with_elements;
 use crate::fault::CountFault;
-use crate::found::{Found, Left};
+use crate::found::{Found, Left, is_plain};
 use crate::key::Key;
 use crate::row::Row;
 use crate::sums::Sums;
@@ -109,7 +109,7 @@ fn count_found(rows: &mut [Row], index: usize, found: &Found, left: &Left) -> Re
 fn count_instruction(
     rows: &mut [Row],
     index: usize,
-    found: &Option<Found>,
+    found: &Found,
     left: &Left,
 ) -> Result<(), CountFault>
     requires { index < length rows.old }
@@ -119,13 +119,11 @@ fn count_instruction(
     if !is_counted(left.end) {
         return Ok(());
     }
-    match found {
-        Some(found) => count_found(rows, index, found, left),
-        None => {
-            count_at(rows, index, Sums::plain(left.ticks));
-            Ok(())
-        }
+    if is_plain(found.class) {
+        count_at(rows, index, Sums::plain(left.ticks));
+        return Ok(());
     }
+    count_found(rows, index, found, left)
 }
 
 /// Carries out one instruction and counts it: how it ended, and its ticks.
@@ -141,7 +139,8 @@ pub(crate) fn count_one<M: UserBytes>(
     let pc = alone.scalar.pc;
     let word = word_at(&alone.memory, pc);
     let index = row_of(&mut *rows, Key::Word { pc, word })?;
-    let found = Found::of(rows[index].class, pc, &alone.vectors.seat.state);
+    let mut found = Found::none();
+    found.note(rows[index].class, pc, &alone.vectors.seat.state);
     let (end, ticks) = alone.step();
     let left = Left {
         end,

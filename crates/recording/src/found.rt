@@ -2,7 +2,7 @@
 ghost use Rattle.std.specs.Prelude.{◌≡◌, false, true};
 ghost use Rattle.rv_model.specs.vector.Groups.{register_of};
 ghost use Rattle.recording.specs.Classes.{is_unmasked};
-ghost use Rattle.recording.specs.Found.{IsFound};
+ghost use Rattle.recording.specs.Found.{Finds};
 ghost use Rattle.recording.specs.declared.class.Class.TheVariants.{Plain};
 
 use crate::class::Class;
@@ -21,56 +21,53 @@ pub(crate) struct Found {
 
 /// Whether the instructions of a class neither have elements nor link.
 #[inline(always)]
-fn is_plain(class: Class) -> bool
+pub(crate) fn is_plain(class: Class) -> bool
     ensures { result ≡ true → class ≡ Plain }
 {
     matches!(class, Class::Plain)
 }
 
-/// v0, where an instruction of a class is masked.
+/// Whether the instructions of a class are masked.
 #[inline(always)]
-fn found_mask(class: Class, state: &VState) -> [u8; VLENB]
-    ensures { is_unmasked class ≡ false → result ≡ register_of state.now.file 0 }
+fn is_masked(class: Class) -> bool
+    ensures { is_unmasked class ≡ false → result ≡ true }
 {
-    match class {
-        Class::Length { unmasked: false } => mask_register(&state.file),
-        Class::Length { unmasked: true }
-        | Class::Plain
-        | Class::Link
-        | Class::MaskBytes
-        | Class::Elements { count: _ }
-        | Class::Registers { count: _ } => [0; VLENB],
-    }
+    matches!(class, Class::Length { unmasked: false })
+}
+
+/// Sets the mask to v0.
+#[inline(never)]
+fn keep_mask(mask: &mut [u8; VLENB], state: &VState)
+    ensures { mask.new ≡ register_of state.now.file 0 }
+{
+    *mask = mask_register(&state.file);
 }
 
 impl Found {
-    /// What an instruction of a class finds.
+    /// Nothing yet.
     #[inline(always)]
-    fn new(class: Class, pc: u64, state: &VState) -> Found
-        ensures pc { result.pc ≡ pc }
-        ensures class { result.class ≡ class }
-        ensures conf { result.conf ≡ state.now.conf }
-        ensures start { result.start ≡ state.now.vstart }
-        ensures mask { is_unmasked class ≡ false → result.mask ≡ register_of state.now.file 0 }
-    {
+    pub(crate) fn none() -> Found {
         Found {
-            pc,
-            class,
-            conf: state.conf,
-            start: usize::from(state.vstart),
-            mask: found_mask(class, state),
+            pc: 0,
+            class: Class::Plain,
+            conf: VConf::vill(),
+            start: 0,
+            mask: [0; VLENB],
         }
     }
 
-    /// The same, unless the instruction is plain.
+    /// Notes what an instruction of a class finds.
     #[inline(always)]
-    pub(crate) fn of(class: Class, pc: u64, state: &VState) -> Option<Found>
-        ensures { IsFound class pc state.now result }
+    pub(crate) fn note(&mut self, class: Class, pc: u64, state: &VState)
+        ensures { Finds class pc state.now self.new }
     {
-        if is_plain(class) {
-            return None;
+        self.pc = pc;
+        self.class = class;
+        self.conf = state.conf;
+        self.start = usize::from(state.vstart);
+        if is_masked(class) {
+            keep_mask(&mut self.mask, state);
         }
-        Some(Found::new(class, pc, state))
     }
 }
 
