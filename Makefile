@@ -1,4 +1,4 @@
-# Installs the program that `rt ci` or `rt run` has built, the lab, manual pages and documents: it builds no program.
+# Installs the programs that `rt ci` or `rt run` has built, the lab, manual pages and documents: it builds no program.
 #
 #     make install|uninstall [prefix=/usr/local] [bindir=..] [mandir=..] [docdir=..] [DESTDIR=..]
 #
@@ -11,23 +11,27 @@ docdir = $(prefix)/share/doc/vecmon
 lab = $(prefix)/share/vecmon
 completions = $(prefix)/share/bash-completion/completions
 program = crates/vecmon/out/vecmon
+recorder = crates/vecmon_record/out/vecmon_record
 
 lab_files = lab/vecmon_lab/py.typed $(filter-out %.pyc, $(wildcard lab/vecmon_lab/*.py lab/vecmon_lab/*.txt lab/vecmon_lab/*/*.* \
     lab/vecmon_lab/compilers/runtime/* lab/vecmon_lab/exercises/given/*/*.* lab/vecmon_lab/exercises/given/*/wrong/* \
     lab/vecmon_lab/lessons/tours/* lab/examples/*.* lab/examples/*/*.*))
 documents = README.md CHANGELOG.md CONTRIBUTING.md crates.txt crates/monitor_script/src/script.rt $(wildcard docs/*.md docs/*.csv docs/pictures/*)
 # Outside of the folders that are vecmon's alone, $(lab) and $(docdir)
-others = $(bindir)/vecmon $(bindir)/vecmon-lab $(mandir)/man1/vecmon.1 $(mandir)/man1/vecmon-lab.1 $(mandir)/man5/vecmon-commands.5 \
-    $(completions)/vecmon $(completions)/vecmon-lab
+others = $(bindir)/vecmon $(bindir)/vecmon-record $(bindir)/vecmon-lab $(mandir)/man1/vecmon.1 $(mandir)/man1/vecmon-record.1 \
+    $(mandir)/man1/vecmon-lab.1 $(mandir)/man5/vecmon-commands.5 $(completions)/vecmon $(completions)/vecmon-record \
+    $(completions)/vecmon-lab
 copy = install -D -m 644
 link = ln -s -f -n --relative
 page = umask 022; packaging/manual_page $(1) $(2) $(3) docs/$(4) > "$(DESTDIR)$(mandir)/man$(2)/$(1).$(2)"
 
 install:
 	@test -x "$(program)" || { echo 'make install: there is no $(program): `cd crates/vecmon && rt run < stdin` builds it, in a quarter of an hour or more' >&2; exit 2; }
+	@test -x "$(recorder)" || { echo 'make install: there is no $(recorder): `cd crates/vecmon_record && rt run < stdin` builds it' >&2; exit 2; }
 	@command -v lowdown > /dev/null || { echo 'make install: there is no lowdown, which makes the manual pages' >&2; exit 2; }
 	install -d "$(DESTDIR)$(mandir)/man1" "$(DESTDIR)$(mandir)/man5" "$(DESTDIR)$(docdir)/examples"
 	install -D -m 755 "$(program)" packaging/vecmon-lab -t "$(DESTDIR)$(bindir)"
+	install -m 755 "$(recorder)" "$(DESTDIR)$(bindir)/vecmon-record"
 	sed -i 's,\.\./share/vecmon,$(shell realpath -m --relative-to="$(bindir)" "$(lab)"),' "$(DESTDIR)$(bindir)/vecmon-lab"
 	for file in $(lab_files); do $(copy) $$file "$(DESTDIR)$(lab)/$$file" || exit; done
 	for file in $(documents); do $(copy) $$file "$(DESTDIR)$(docdir)/$$file" || exit; done
@@ -37,10 +41,11 @@ install:
 	$(link) "$(DESTDIR)$(lab)/lab/vecmon_lab/exercises/given" "$(DESTDIR)$(docdir)/examples/exercises"
 	$(link) "$(DESTDIR)$(lab)/lab/vecmon_lab/lessons/tours" "$(DESTDIR)$(docdir)/examples/tour"
 	$(call page,vecmon,1,'trainer machine for the RISC-V vector extension',PROGRAM.md)
+	$(call page,vecmon-record,1,'counts what a program does on the machine of vecmon',RECORDER.md)
 	$(call page,vecmon-lab,1,'front end of vecmon with lessons and classes',LAB.md)
 	$(call page,vecmon-commands,5,'scripts and commands of vecmon',COMMANDS.md)
 	$(copy) packaging/completion "$(DESTDIR)$(completions)/vecmon"
-	$(link) "$(DESTDIR)$(completions)/vecmon" "$(DESTDIR)$(completions)/vecmon-lab"
+	for name in vecmon-record vecmon-lab; do $(link) "$(DESTDIR)$(completions)/vecmon" "$(DESTDIR)$(completions)/$$name"; done
 	$(MAKE) -s list
 
 # Writes FILES: the path of each file and link from $(prefix) on.

@@ -1,7 +1,6 @@
 pub mod CommandLine
 pub mod ImageFiles
 pub mod ImageWords
-pub mod KnownBytes
 pub mod ProgramRuns
 pub mod Statuses
 pub use Rattle.monitor_machine.specs.Images
@@ -9,3 +8,4 @@ pub use Rattle.monitor_machine.specs.MachineState
 pub use Rattle.monitor_machine.specs.NewFaults
 pub use Rattle.monitor_script.specs.EndedLines
 pub use Rattle.monitor_script.specs.FailedWrites
+pub use Rattle.program_files.specs.KnownBytes

@@ -1,17 +1,15 @@
 //! The files of images.
-ghost use Rattle.std.specs.Prelude.{◌≡◌, ◌≤◌, ◌⊎◌, IfErr, IfOk, length, map};
-ghost use Rattle.std.specs.Io.KnownBytes.{Consumes, IsAtEnd};
+ghost use Rattle.std.specs.Prelude.{◌≡◌, ◌⊎◌, IfErr, IfOk, map};
 ghost use Rattle.std.specs.List.{AllZip, Any};
 ghost use Rattle.monitor_machine.specs.Images.{named_images};
 ghost use Rattle.vec_monitor.specs.ImageFiles.{named_file, IsFileOf};
 ghost use Rattle.vec_monitor.specs.declared.program_fault.ProgramFault.TheVariants.{ImageRead, NoMemory};
 
 use crate::image_words::ImagePath;
-use crate::inputs::Inputs;
 use crate::program_fault::ProgramFault;
 use monitor_machine::{Image, MAX_IMAGE};
+use program_files::{Inputs, ReadFault, read_file};
 use std::alloc::{AllocError, Allocator};
-use std::io::Read;
 
 /// The file of an image, by the image's name.
 #[derive(Drop)]
@@ -23,40 +21,6 @@ pub struct ImageFile<'a, A: Allocator> {
 /// The most bytes that are read of a file: one more than an image may have.
 const MOST_READ: usize = MAX_IMAGE + 1;
 
-/// The most bytes of a read.
-const PIECE: usize = 4096;
-
-/// The bytes that a file gives, up to its end or up to one more than an image may have. A read that
-/// fails isn't tried again, not even one that was interrupted.
-fn read_bytes<'a, F: Read, A: Allocator>(
-    file: &mut F,
-    alloc: A,
-    name: &'a str,
-) -> Result<Vec<u8, A>, ProgramFault<'a>>
-    ensures given { IfOk result (λ bytes.
-        Consumes (F.remaining file.old) (F.remaining file.new) bytes.items) }
-    ensures most { IfOk result (λ bytes. length bytes.items ≤ 4194305) }
-    ensures whole { IfOk result (λ bytes.
-        length bytes.items ≤ 4194304 → IsAtEnd (F.remaining file.new)) }
-    ensures refused { IfErr result (λ fault. (fault ≡ NoMemory) ⊎ (fault ≡ ImageRead name.entry)) }
-{
-    let mut bytes = Vec::new(alloc);
-    let mut left = MOST_READ;
-    let mut piece = [0; PIECE];
-    while left > 0 {
-        let room = left.min(PIECE);
-        let Ok(count) = file.read(&mut piece[..room]) else {
-            return Err(ProgramFault::ImageRead(name));
-        };
-        if count == 0 {
-            return Ok(bytes);
-        }
-        bytes.extend_from_slice(&piece[..count])?;
-        left -= count;
-    }
-    Ok(bytes)
-}
-
 /// Reads the file of an image. Refused where the file can't be opened or read, and for want of
 /// memory.
 fn read_image<'a, I: Inputs, A: Allocator>(
@@ -67,12 +31,14 @@ fn read_image<'a, I: Inputs, A: Allocator>(
     ensures file { IfOk result (IsFileOf (I.file_bytes inputs.now) image.entry) }
     ensures refused { IfErr result (λ fault. (fault ≡ NoMemory) ⊎ (fault ≡ ImageRead image.entry.name)) }
 {
-    let name = image.name;
-    let Ok(mut file) = inputs.open(image.path) else {
-        return Err(ProgramFault::ImageRead(name));
-    };
-    let bytes = read_bytes(&mut file, alloc, name)?;
-    Ok(ImageFile { name, bytes })
+    match read_file(inputs, alloc, image.path, MOST_READ) {
+        Ok(bytes) => Ok(ImageFile {
+            name: image.name,
+            bytes,
+        }),
+        Err(ReadFault::NoMemory) => Err(ProgramFault::NoMemory),
+        Err(ReadFault::Unreadable) => Err(ProgramFault::ImageRead(image.name)),
+    }
 }
 
 /// Reads the files of the images, in their order, up to the first that can't be read.

@@ -15,11 +15,11 @@ ghost use Rattle.vec_monitor.specs.declared.program_fault.ProgramFault.TheVarian
 use crate::command_line::{Options, UsageFault};
 use crate::image_files::{borrowed_images, read_images};
 use crate::image_words::image_paths;
-use crate::inputs::Inputs;
 use crate::program_fault::{ProgramFault, STATUS_DONE};
 use crate::words::options;
 use monitor_machine::Machine;
 use monitor_script::{ReaderSource, RunFault, Sink, WriterSink, run};
+use program_files::Inputs;
 use std::alloc::{Allocator, Global};
 use std::io::{self, Read};
 

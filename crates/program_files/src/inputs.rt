@@ -1,8 +1,8 @@
-//! Where the program reads: files by their paths, and standard input.
+//! Where a program reads: files by their paths, and standard input.
 ghost use Rattle.std.specs.Prelude.{ℕ, List, Option, None, IfOk};
 ghost use Rattle.std.specs.Io.KnownBytes.{Keeps};
 
-use monitor_script::DeviceFault;
+use devices::DeviceFault;
 use std::fs;
 use std::io::Read;
 use std::rt::Files;

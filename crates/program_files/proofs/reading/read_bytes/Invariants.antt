@@ -1,12 +1,12 @@
 use Rattle.std.proofs.Common.{◌≡◌, ◌+◌, length}
 use Rattle.std.specs.Io.KnownBytes.{Consumes}
-use Rattle.vec_monitor.proofs.image_files.read_bytes.Given as goal
+use Rattle.program_files.proofs.reading.read_bytes.Given as goal
 
 -- what the reader gave so far has been kept, and left bytes more may come
 abbrev pub invariant-loop-left : goal.invariant-loop-left
 invariant-loop-left g l = record {
   given : Consumes (g.F.Read.remaining l.fn.file) (g.F.Read.remaining l.file) l.bytes.items;
-  most : l.left + length l.bytes.items ≡ 4194305;
+  most : l.left + length l.bytes.items ≡ l.most;
 }
 
 abbrev pub decreases-loop-left : goal.decreases-loop-left

@@ -1,0 +1,73 @@
+-- Lines that are laid one after another
+use Rattle.std.proofs.Common.{◌≡◌, ℕ, ◌+◌, Bool, true, false, List, [], ◌∷◌, Option, Ok, Err, sym, ap, ◌∙◌}
+use Rattle.std.specs.Prelude.{Result, if◌then◌else◌}
+use Rattle.rv_model.specs.step.Hart.{HartState}
+use Rattle.rv_model.specs.declared.vector.types.VType.{VType}
+use Rattle.rv_model.specs.memory.Memory.{Memory}
+use Rattle.rv_model.specs.step.Hart.{hart_state}
+use Rattle.rv_model.specs.text.Lines.{pieces}
+use Rattle.rv_model.specs.vector.Groups.{Configuration}
+use Rattle.recording.specs.declared.alone.Alone.{Alone}
+use Rattle.recording.specs.Machines.{state_of}
+use Rattle.first_state.specs.declared.fault.RegistersFault.{RegistersFault}
+use Rattle.first_state.specs.declared.fault.RegistersFault.TheVariants as fault
+use Rattle.first_state.specs.declared.laying.Lengths.{Lengths}
+use Rattle.first_state.specs.Laid.{after_line, configured, is_configuration, laid, state_with, with_registers}
+use Rattle.first_state.specs.Lines.{line_setting}
+
+-- what a line leaves, if it is laid
+abbrev pub LeavesIf : Bool → List ℕ → HartState → HartState → Type 0
+LeavesIf is_laid line s t = (number : ℕ) (others : HartState → Result HartState ℕ)
+    → after_line number (line_setting line) s others ≡ (if is_laid then others t else Err number)
+
+-- what is left once a line is laid, or refused
+pub laid_more : (number : ℕ) (line : List ℕ) (lines rest : List (List ℕ)) (s t : HartState) (is_laid : Bool) → lines ≡ line ∷ rest
+    → LeavesIf is_laid line s t → is_laid ≡ true → laid number lines s ≡ laid (number + 1) rest t
+unfolding laid
+laid_more number line lines rest s t is_laid e h on =
+    ap (λ (ls : List (List ℕ)). laid number ls s) e ∙ h number (laid (number + 1) rest)
+    ∙ ap (λ (b : Bool). if b then laid (number + 1) rest t else Err number) on
+
+pub laid_none : (number : ℕ) (line : List ℕ) (lines rest : List (List ℕ)) (s t : HartState) (is_laid : Bool) → lines ≡ line ∷ rest
+    → LeavesIf is_laid line s t → is_laid ≡ false → laid number lines s ≡ Err number
+unfolding laid
+laid_none number line lines rest s t is_laid e h off =
+    ap (λ (ls : List (List ℕ)). laid number ls s) e ∙ h number (laid (number + 1) rest)
+    ∙ ap (λ (b : Bool). if b then laid (number + 1) rest t else Err number) off
+
+-- no line is left
+pub laid_all : (number : ℕ) (lines : List (List ℕ)) (s : HartState) → lines ≡ [] → laid number lines s ≡ Ok s
+unfolding laid
+laid_all number lines s none = ap (λ (ls : List (List ℕ)). laid number ls s) none
+
+-- ---- all lines, and the length and type that they leave
+
+-- the length and type of a machine, beside it
+pub own_lengths : {M : Type 0} (memory : M → Memory) (alone : Alone M) (lengths : Lengths) → lengths.vl ≡ alone.vectors.seat.state.conf.vl
+    → lengths.vtype ≡ alone.vectors.seat.state.conf.vtype → state_of memory alone ≡ state_with memory alone lengths
+own_lengths memory alone lengths vl vtype =
+    sym (ap (λ (l : ℕ). state_with memory alone (record { vl = l; vtype = lengths.vtype })) vl
+    ∙ ap (λ (t : Option VType). state_with memory alone (record { vl = alone.vectors.seat.state.conf.vl; vtype = t })) vtype)
+
+-- a length and type that are laid over it
+pub lengths_laid : {M : Type 0} (memory : M → Memory) (alone : Alone M) (lengths : Lengths) (conf : Configuration)
+    → conf ≡ record { vl = lengths.vl; vtype = lengths.vtype }
+    → state_with memory alone lengths ≡ hart_state alone.scalar (record alone.vectors.seat.state { conf = conf }) (memory alone.memory) alone.policy alone.output.items
+lengths_laid memory alone lengths conf is =
+    ap (λ (c : Configuration). hart_state alone.scalar (record alone.vectors.seat.state { conf = c }) (memory alone.memory) alone.policy alone.output.items) (sym is)
+
+-- a state, if its length is one of its type
+abbrev the_choice : Bool → HartState → Result HartState RegistersFault
+the_choice b x = if b then Ok x else Err fault.Length
+
+pub registers_laid : (text : List ℕ) (s from t end : HartState) → s ≡ from → laid 1 (pieces text) from ≡ Ok t
+    → is_configuration t.vector.conf.vl t.vector.conf.vtype ≡ true → t ≡ end → with_registers text s ≡ Ok end
+registers_laid text s from t end begins lines fits ends =
+    ap (λ (x : HartState). configured (laid 1 (pieces text) x)) begins ∙ ap configured lines
+    ∙ ap (λ (b : Bool). the_choice b t) fits ∙ ap (λ (x : HartState). Ok x) ends
+
+pub registers_refused : (text : List ℕ) (s from t : HartState) → s ≡ from → laid 1 (pieces text) from ≡ Ok t
+    → is_configuration t.vector.conf.vl t.vector.conf.vtype ≡ false → with_registers text s ≡ Err fault.Length
+registers_refused text s from t begins lines fits =
+    ap (λ (x : HartState). configured (laid 1 (pieces text) x)) begins ∙ ap configured lines
+    ∙ ap (λ (b : Bool). the_choice b t) fits

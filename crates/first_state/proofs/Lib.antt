@@ -1,0 +1,3 @@
+pub mod LaidLines
+pub mod Pages
+pub mod Texts

@@ -1,0 +1,48 @@
+-- A page that was mapped is there, and bytes that are placed one after another
+use Rattle.std.proofs.Common.{◌≡◌, ℕ, suc, ◌+◌, ◌*◌, ◌/◌, ◌<◌, ◌≤◌, Bool, true, cond, List, ◌∷◌, length, get_or, drop, Ok, Err, sym, ap, ◌∙◌, arith, drop-cons}
+use Rattle.std.proofs.lemmas.List.{drop_all}
+use Rattle.rv_model.specs.declared.memory.Access.TheVariants.{Monitor}
+use Rattle.rv_model.specs.declared.memory.Permissions.{Permissions}
+use Rattle.rv_model.specs.memory.Memory.{Memory, can_access, can_access_byte, with_pages}
+use Rattle.rv_model.specs.memory.Sizes.{page_size}
+use Rattle.rv_model.proofs.memory_lemmas.Memory.{allows_each_byte, is_within_true, maps_permissions}
+use Rattle.first_state.specs.Placed.{and_then, placed, with_byte}
+use Rattle.first_state.specs.declared.fault.PlaceFault.{PlaceFault}
+
+byte_is_there : (m : Memory) (addr x : ℕ) (allowed : Permissions) → x ≡ addr → can_access_byte Monitor (with_pages m (addr / page_size) 1 allowed) x ≡ true
+byte_is_there m addr x allowed e =
+    maps_permissions Monitor m (addr / page_size) 1 allowed x
+    ∙ ap (λ (b : Bool). cond b true (can_access_byte Monitor m x)) (is_within_true (page_size * (addr / page_size)) (page_size * 1) x (omega (arith, e)) (omega (arith, e)))
+
+-- a byte of a page that was mapped
+pub page_is_there : (m : Memory) (addr page : ℕ) (allowed : Permissions) → page ≡ addr / page_size → can_access Monitor (with_pages m page 1 allowed) addr 1 ≡ true
+page_is_there m addr page allowed e =
+    ap (λ (p : ℕ). can_access Monitor (with_pages m p 1 allowed) addr 1) e
+    ∙ (allows_each_byte Monitor (with_pages m (addr / page_size) 1 allowed) addr 1).1 (λ k l. byte_is_there m addr (addr + k) allowed (omega (arith, l)))
+
+-- ---- one byte more
+
+-- the bytes from place i on begin with the one there
+begins_with : (i b : ℕ) (bytes : List ℕ) → i < length bytes → b ≡ get_or bytes i 0 → drop i bytes ≡ b ∷ drop (i + 1) bytes
+begins_with i b bytes l is =
+    let next : suc i ≡ i + 1 = omega arith in
+    drop-cons bytes i 0 l ∙ ap (λ (n : ℕ). get_or bytes i 0 ∷ drop n bytes) next ∙ ap (λ (x : ℕ). x ∷ drop (i + 1) bytes) (sym is)
+
+-- what is left once it is placed
+pub placed_more : (allowed : Permissions) (at i b : ℕ) (bytes : List ℕ) (m n : Memory) → i < length bytes → b ≡ get_or bytes i 0
+    → with_byte allowed at b m ≡ Ok n → placed allowed at (drop i bytes) m ≡ placed allowed (at + 1) (drop (i + 1) bytes) n
+unfolding placed
+placed_more allowed at i b bytes m n l is done =
+    ap (λ (bs : List ℕ). placed allowed at bs m) (begins_with i b bytes l is) ∙ ap (and_then (placed allowed (at + 1) (drop (i + 1) bytes))) done
+
+-- or where it isn't
+pub placed_none : (allowed : Permissions) (at i b : ℕ) (bytes : List ℕ) (m : Memory) (fault : PlaceFault) → i < length bytes → b ≡ get_or bytes i 0
+    → with_byte allowed at b m ≡ Err fault → placed allowed at (drop i bytes) m ≡ Err fault
+unfolding placed
+placed_none allowed at i b bytes m fault l is done =
+    ap (λ (bs : List ℕ). placed allowed at bs m) (begins_with i b bytes l is) ∙ ap (and_then (placed allowed (at + 1) (drop (i + 1) bytes))) done
+
+-- no byte is left
+pub placed_all : (allowed : Permissions) (at i : ℕ) (bytes : List ℕ) (m : Memory) → length bytes ≤ i → placed allowed at (drop i bytes) m ≡ Ok m
+unfolding placed
+placed_all allowed at i bytes m l = ap (λ (bs : List ℕ). placed allowed at bs m) (drop_all i bytes l)

@@ -1,0 +1,17 @@
+use Rattle.std.proofs.Common.{◌≡◌, ◌+◌, ◌≤◌, [], suc, length}
+use Rattle.std.specs.Option.{option_map_or}
+use Rattle.rv_model.specs.text.Lines.{pieces}
+use Rattle.first_state.specs.Laid.{laid, state_with}
+use Rattle.first_state.proofs.registers.lay_lines.Given as goal
+
+-- the lines that are left come to the same as all
+abbrev pub invariant-loop-rest : goal.invariant-loop-rest
+invariant-loop-rest g l = record {
+  laid : laid l.number (option_map_or (λ rest. pieces rest.now) l.rest []) (state_with g.M.UserBytes.memory l.alone l.lengths)
+      ≡ laid 1 (pieces l.text) (state_with g.M.UserBytes.memory l.fn.alone l.fn.lengths);
+  memory : l.alone.memory ≡ l.fn.alone.memory;
+  few : l.number + option_map_or (λ rest. suc (length rest.now)) l.rest 0 ≤ length l.text + 2;
+}
+
+abbrev pub decreases-loop-rest : goal.decreases-loop-rest
+decreases-loop-rest g l = option_map_or (λ rest. suc (length rest.now)) l.rest 0

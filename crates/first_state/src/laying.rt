@@ -1,0 +1,38 @@
+//! A register's value laid over a machine.
+ghost use Rattle.std.specs.Prelude.{◌≡◌};
+ghost use Rattle.first_state.specs.Laid.{state_with, with_setting};
+
+use crate::setting::Setting;
+use recording::Alone;
+use rv_model::VType;
+use vector_memory::UserBytes;
+
+/// A vector length, and a vector type that needn't allow it.
+#[derive(Clone, Copy)]
+pub(crate) struct Lengths {
+    pub(crate) vl: u16,
+    pub(crate) vtype: Option<VType>,
+}
+
+/// Gives a register its value. The length and type stand beside the machine, since they needn't fit yet.
+pub(crate) fn lay<M: UserBytes>(alone: &mut Alone<M>, lengths: &mut Lengths, setting: &Setting)
+    ensures state { state_with M.memory alone.new lengths.new
+        ≡ with_setting setting.now (state_with M.memory alone.old lengths.old) }
+    ensures memory { alone.new.memory ≡ alone.old.memory }
+{
+    match setting {
+        Setting::Scalar { register, value } => alone.scalar.write(*register, *value),
+        Setting::Vector { register, bytes } => alone
+            .vectors
+            .seat
+            .state
+            .file
+            .set_register(*register, bytes),
+        Setting::Counter(addr) => alone.scalar.pc = *addr,
+        Setting::Length(vl) => lengths.vl = *vl,
+        Setting::Kind(vtype) => lengths.vtype = *vtype,
+        Setting::Start(vstart) => alone.vectors.seat.state.vstart = *vstart,
+        Setting::Rounding(mode) => alone.vectors.seat.state.vxrm = *mode,
+        Setting::Saturation(flag) => alone.vectors.seat.state.vxsat = *flag,
+    }
+}

@@ -1,0 +1,84 @@
+//! The bytes of the only user of a machine.
+ghost use Rattle.std.specs.Prelude.{◌≡◌, length};
+ghost use Rattle.rv_model.specs.machine.Setup.{user_count};
+
+use rv_model::{Access, Fault, User};
+use std::alloc::{Allocator, Global};
+use user_mem::{NoMemory, Pool};
+use vector_memory::UserBytes;
+
+/// The bytes of a machine's only user, the first of a pool. Only `new` takes memory.
+#[derive(Drop)]
+pub struct OwnBytes<A: Allocator = Global> {
+    pub(crate) pool: Pool<A>,
+}
+
+/// The user of the pool that the bytes are of.
+pub(crate) fn own_user() -> User
+    ensures { result ≡ 1 }
+{
+    User::at_index(0)
+}
+
+/// The pool has a memory for each user: a law, which does nothing.
+pub(crate) fn own_memory_law<A: Allocator>(memory: &OwnBytes<A>)
+    ensures { length memory.now.pool ≡ user_count }
+{
+    let _ = memory.pool.pages(own_user());
+}
+
+impl<A: Allocator> OwnBytes<A> {
+    ghost use Rattle.std.specs.Prelude.{IfOk};
+    ghost use Rattle.std.specs.FinMap.{empty};
+    ghost use Rattle.first_state.specs.OwnMemory.{own_memory};
+
+    /// No page.
+    pub(crate) fn new(alloc: A) -> Result<Self, NoMemory>
+        ensures { IfOk result (λ bytes. own_memory bytes ≡ empty) }
+    {
+        let pool = Pool::new(alloc)?;
+        Ok(OwnBytes { pool })
+    }
+}
+
+impl<A: Allocator> UserBytes for OwnBytes<A> {
+    ghost use Rattle.std.proofs.Common.{ap};
+    ghost use Rattle.first_state.specs.OwnMemory.{own_memory, with_own_memory};
+    ghost use Rattle.first_state.specs.Replaced.{same_memory, later_memory};
+
+    ghost memory = { own_memory };
+
+    ghost with_memory = { with_own_memory };
+
+    ghost with_memory_same = { λ m. ap (λ p. record m { pool = p }) (same_memory m.pool 1) };
+
+    ghost with_memory_twice = { λ m one two.
+        ap (λ p. record m { pool = p }) (later_memory m.pool 1 one two) };
+
+    #[inline(always)]
+    fn check(&self, addr: u64, len: usize, access: Access) -> Result<(), Fault> {
+        self.pool.check(own_user(), addr, len, access)
+    }
+
+    #[inline(always)]
+    fn read(&self, addr: u64, access: Access, bytes: &mut [u8]) -> Result<(), Fault> {
+        self.pool.read(own_user(), addr, access, bytes)
+    }
+
+    #[inline(always)]
+    fn read_at_once(&self, addr: u64, access: Access, bytes: &mut [u8]) -> bool {
+        self.pool.read_at_once(own_user(), addr, access, bytes)
+    }
+
+    #[tactic(auto, using(crate::specs::Replaced::own_memory_there))]
+    #[inline(always)]
+    fn write_at_once(&mut self, addr: u64, access: Access, bytes: &[u8]) -> bool {
+        self.pool.write_at_once(own_user(), addr, access, bytes)
+    }
+
+    #[tactic(auto, using(crate::specs::Replaced::own_memory_there))]
+    #[inline(always)]
+    fn write(&mut self, addr: u64, access: Access, bytes: &[u8]) -> Result<(), Fault> {
+        self.pool.write(own_user(), addr, access, bytes)
+    }
+}

@@ -1,0 +1,99 @@
+//! Bytes placed in the memory of a machine.
+ghost use Rattle.std.specs.Prelude.{◌≡◌, ◌<◌, Err, Ok, MatchResult, OnOk, length, true};
+ghost use Rattle.recording.specs.Machines.{state_of};
+ghost use Rattle.rv_model.specs.machine.Setup.{user_count};
+ghost use Rattle.rv_model.specs.declared.memory.Access.TheVariants.{Monitor};
+ghost use Rattle.rv_model.specs.memory.Memory.{can_access};
+ghost use Rattle.rv_model.specs.memory.Sizes.{address_end};
+ghost use Rattle.first_state.specs.OwnMemory.{own_memory};
+ghost use Rattle.first_state.specs.Placed.{in_memory, placed, with_byte, with_page_of};
+
+use crate::fault::PlaceFault;
+use crate::own_bytes::{OwnBytes, own_memory_law, own_user};
+use recording::Alone;
+use rv_model::{ADDRESS_END, Access, PAGE_SIZE, Permissions};
+use std::alloc::Allocator;
+
+/// Maps the page of an address with zeros, unless it is there.
+#[tactic(auto, using(crate::specs::Replaced::own_memory_there, crate::proofs::Pages::page_is_there))]
+fn map_page_of<A: Allocator>(
+    memory: &mut OwnBytes<A>,
+    addr: u64,
+    permissions: Permissions,
+) -> Result<(), PlaceFault>
+    ensures page { MatchResult result
+        (λ _. with_page_of permissions addr (own_memory memory.old) ≡ Ok (own_memory memory.new))
+        (λ fault. with_page_of permissions addr (own_memory memory.old) ≡ Err fault) }
+    ensures mapped { OnOk result (can_access Monitor (own_memory memory.new) addr 1 ≡ true) }
+    ensures below { OnOk result (addr < address_end) }
+    ensures users { length memory.new.pool ≡ user_count }
+{
+    own_memory_law(&*memory);
+    if addr >= ADDRESS_END {
+        return Err(PlaceFault::Range);
+    }
+    if memory
+        .pool
+        .check(own_user(), addr, 1, Access::Monitor)
+        .is_ok()
+    {
+        return Ok(());
+    }
+    match memory
+        .pool
+        .map(own_user(), addr / PAGE_SIZE, 1, permissions)
+    {
+        Ok(()) => Ok(()),
+        Err(_) => Err(PlaceFault::Quota),
+    }
+}
+
+/// Puts a byte at an address, whose page is mapped if it isn't there.
+#[tactic(auto, using(crate::specs::Replaced::own_memory_there))]
+fn place_byte<A: Allocator>(
+    memory: &mut OwnBytes<A>,
+    addr: u64,
+    permissions: Permissions,
+    byte: u8,
+) -> Result<(), PlaceFault>
+    ensures placed { MatchResult result
+        (λ _. with_byte permissions addr byte (own_memory memory.old) ≡ Ok (own_memory memory.new))
+        (λ fault. with_byte permissions addr byte (own_memory memory.old) ≡ Err fault) }
+    ensures below { OnOk result (addr < address_end) }
+{
+    map_page_of(memory, addr, permissions)?;
+    let Ok(()) = memory
+        .pool
+        .write(own_user(), addr, Access::Monitor, &[byte])
+    else {
+        unreachable!();
+    };
+    Ok(())
+}
+
+/// Places bytes in a machine's memory from an address on, whatever their pages allow a program. Pages that aren't there
+/// are mapped, with zeros and these permissions.
+///
+/// `Range` where a byte has no address below `ADDRESS_END`, `Quota` where there would be more than `PAGE_QUOTA` pages,
+/// whichever of both is met first. Then some of the bytes are placed.
+pub fn place_bytes<A: Allocator>(
+    alone: &mut Alone<OwnBytes<A>>,
+    addr: u64,
+    permissions: Permissions,
+    bytes: &[u8],
+) -> Result<(), PlaceFault>
+    ensures placed { MatchResult result
+        (λ _. placed permissions addr bytes.now (own_memory alone.old.memory) ≡ Ok (own_memory alone.new.memory))
+        (λ fault. placed permissions addr bytes.now (own_memory alone.old.memory) ≡ Err fault) }
+    ensures others { state_of own_memory alone.new
+        ≡ in_memory (state_of own_memory alone.old) (own_memory alone.new.memory) }
+{
+    let mut at = addr;
+    for byte in bytes {
+        if let Err(fault) = place_byte(&mut alone.memory, at, permissions, *byte) {
+            return Err(fault);
+        }
+        at += 1;
+    }
+    Ok(())
+}

@@ -1,0 +1,128 @@
+//! A text of registers laid over a machine.
+ghost use Rattle.std.specs.Prelude.{◌≡◌, ◌<◌, ◌∷◌, [], ℕ, Result, Err, Ok, IfSome, MatchOption, MatchResult, false, true, if◌then◌else◌, length, position};
+ghost use Rattle.std.specs.Option.{option_map_or};
+ghost use Rattle.rv_model.specs.text.Lines.{is_newline, pieces};
+ghost use Rattle.rv_model.specs.step.Hart.{HartState};
+ghost use Rattle.recording.specs.Machines.{state_of};
+ghost use Rattle.first_state.specs.Laid.{after_line, is_configuration, laid, state_with, with_registers};
+ghost use Rattle.first_state.specs.Lines.{line_setting};
+
+use crate::fault::RegistersFault;
+use crate::laying::{Lengths, lay};
+use crate::lines::line_setting;
+use recording::Alone;
+use rv_model::VConf;
+use vector_memory::UserBytes;
+
+/// The place of the first newline, if there is one.
+fn first_newline(text: &[u8]) -> Option<usize>
+    ensures first { result ≡ position is_newline text.now }
+    ensures bound { IfSome result (λ end. end < length text.now) }
+{
+    text.iter().position(|byte| *byte == b'\n')
+}
+
+/// The line before the first newline, and what follows that newline, if there is one.
+#[tactic(auto, using(crate::proofs::Texts::lines_with_a_newline, crate::proofs::Texts::lines_without_a_newline))]
+fn cut(text: &[u8]) -> (&[u8], Option<&[u8]>)
+    ensures pieces { pieces text.now ≡ result.0.now ∷ option_map_or (λ rest. pieces rest.now) result.1 [] }
+    ensures shorter { IfSome result.1 (λ rest. length rest.now < length text.now) }
+{
+    match first_newline(text) {
+        Some(end) => (&text[..end], Some(&text[end + 1..])),
+        None => (text, None),
+    }
+}
+
+/// Gives a register what a line says. Answers whether it says something of the kind; else nothing changes.
+fn lay_line<M: UserBytes>(alone: &mut Alone<M>, lengths: &mut Lengths, line: &[u8]) -> bool
+    ensures laid { (number : ℕ) (others : HartState → Result HartState ℕ)
+        → after_line number (line_setting line.now) (state_with M.memory alone.old lengths.old) others
+        ≡ if result then others (state_with M.memory alone.new lengths.new) else Err number }
+    ensures memory { alone.new.memory ≡ alone.old.memory }
+{
+    match line_setting(line) {
+        Some(Some(setting)) => {
+            lay(alone, lengths, &setting);
+            true
+        }
+        Some(None) => true,
+        None => false,
+    }
+}
+
+/// Gives registers what the lines of a text say, in their order. Refused with the number of the first line, from 1 on,
+/// that gives no register a value that it can have.
+fn lay_lines<M: UserBytes>(
+    alone: &mut Alone<M>,
+    lengths: &mut Lengths,
+    text: &[u8],
+) -> Result<(), usize>
+    ensures laid { MatchResult result
+        (λ _. laid 1 (pieces text.now) (state_with M.memory alone.old lengths.old) ≡ Ok (state_with M.memory alone.new lengths.new))
+        (λ number. laid 1 (pieces text.now) (state_with M.memory alone.old lengths.old) ≡ Err number) }
+    ensures memory { alone.new.memory ≡ alone.old.memory }
+{
+    let mut rest = Some(text);
+    let mut number = 1;
+    while let Some(lines) = rest {
+        let (line, others) = cut(lines);
+        if !lay_line(alone, lengths, line) {
+            return Err(number);
+        }
+        number += 1;
+        rest = others;
+    }
+    Ok(())
+}
+
+/// The length and type, if a `vset` leaves them.
+fn configuration(lengths: Lengths) -> Option<VConf>
+    ensures { MatchOption result (is_configuration lengths.vl lengths.vtype ≡ false)
+        (λ c. (is_configuration lengths.vl lengths.vtype ≡ true) × (c ≡ record { vl = lengths.vl; vtype = lengths.vtype })) }
+{
+    match lengths.vtype {
+        None => {
+            if lengths.vl == 0 {
+                Some(VConf::vill())
+            } else {
+                None
+            }
+        }
+        Some(vtype) => {
+            if vtype.is_supported() && lengths.vl <= vtype.vlmax() {
+                Some(VConf::new(lengths.vl, vtype))
+            } else {
+                None
+            }
+        }
+    }
+}
+
+/// Gives registers what the lines of a text say: `pc`, `x1` to `x31`, `vl`, `vtype`, `vstart`, `vxrm` or `vxsat` and a
+/// number in hexadecimal digits, or `v0` to `v31` and the 64 digits of its bytes, byte 0 first, between spaces. A later
+/// line of a register hides an earlier one, and a line without words gives nothing. Registers that aren't named stay.
+///
+/// Refused with the number of the first line, from 1 on, that is none of these or has a value that the register can't
+/// have, and else where the length in the end isn't one that a `vset` leaves with the type. Then registers that lines
+/// name have any value.
+pub fn lay_registers<M: UserBytes>(alone: &mut Alone<M>, text: &[u8]) -> Result<(), RegistersFault>
+    ensures laid { MatchResult result
+        (λ _. with_registers text.now (state_of M.memory alone.old) ≡ Ok (state_of M.memory alone.new))
+        (λ fault. with_registers text.now (state_of M.memory alone.old) ≡ Err fault) }
+    ensures memory { alone.new.memory ≡ alone.old.memory }
+{
+    let conf = alone.vectors.seat.state.conf;
+    let mut lengths = Lengths {
+        vl: conf.vl(),
+        vtype: conf.vtype(),
+    };
+    if let Err(number) = lay_lines(alone, &mut lengths, text) {
+        return Err(RegistersFault::Line(number));
+    }
+    let Some(conf) = configuration(lengths) else {
+        return Err(RegistersFault::Length);
+    };
+    alone.vectors.seat.state.conf = conf;
+    Ok(())
+}

@@ -1,0 +1,83 @@
+//! The machine that a run begins with.
+ghost use Rattle.std.specs.Prelude.{◌≡◌, ◌↔◌, None, Some, IfErr, IfOk, IsOk, OnErr, OnOk};
+ghost use Rattle.rv_model.specs.scalar.Registers.{initial_scalar, with_register};
+ghost use Rattle.rv_model.specs.vector.State.{initial_vector};
+ghost use Rattle.recording.specs.Machines.{state_of};
+ghost use Rattle.first_state.specs.Loaded.{entered, load_fault, loaded};
+ghost use Rattle.first_state.specs.OwnMemory.{own_memory};
+
+use crate::fault::LoadFault;
+use crate::own_bytes::{OwnBytes, own_memory_law, own_user};
+use arrayvec::ArrayVec;
+use elf_load::{check, place};
+use recording::{Alone, OneSeat};
+use rv_model::{Policy, Reg, Scalar, Seat, VState};
+use std::alloc::Allocator;
+use user_mem::NoMemory;
+
+/// The number of the register that holds the stack pointer.
+const STACK_POINTER: u32 = 2;
+
+/// The stack pointer of a program that begins.
+const STACK_TOP: u64 = 0x7fff_efc0;
+
+/// A vector state that wasn't used yet.
+fn new_seat() -> OneSeat
+    ensures { result.seat.state ≡ initial_vector }
+{
+    OneSeat {
+        seat: Seat {
+            state: VState::new(),
+            dirty: false,
+        },
+    }
+}
+
+/// The machine of a user who has just entered: no memory, and all registers 0.
+pub fn enter<A: Allocator>(alloc: A, policy: Policy) -> Result<Alone<OwnBytes<A>>, NoMemory>
+    ensures { IfOk result (λ alone. state_of own_memory alone ≡ entered policy) }
+{
+    let memory = OwnBytes::new(alloc)?;
+    Ok(Alone {
+        scalar: Scalar::new(),
+        memory,
+        vectors: new_seat(),
+        output: ArrayVec::new(),
+        policy,
+    })
+}
+
+/// The registers of a program that begins at an entry.
+#[tactic(auto, unfolding(rv_model::specs::scalar::Registers::initial_scalar))]
+fn first_registers(entry: u64) -> Scalar
+    ensures { result ≡ with_register 2 0x7fffefc0 (record initial_scalar { pc = entry }) }
+{
+    let mut scalar = Scalar::new();
+    scalar.pc = entry;
+    scalar.write(Reg::new(STACK_POINTER), STACK_TOP);
+    scalar
+}
+
+/// Begins the machine anew with the memory of an image, as the monitor's `load` does; the policy stays. A refused
+/// image changes nothing.
+#[tactic(auto, using(crate::specs::Replaced::own_memory_there))]
+pub fn load<A: Allocator>(alone: &mut Alone<OwnBytes<A>>, image: &[u8]) -> Result<(), LoadFault>
+    ensures accepted { IsOk result ↔ (load_fault image.now ≡ None) }
+    ensures refused { IfErr result (λ fault. load_fault image.now ≡ Some fault) }
+    ensures ok { OnOk result (state_of own_memory alone.new ≡ loaded image.now alone.old.policy) }
+    ensures policy { alone.new.policy ≡ alone.old.policy }
+    ensures err { OnErr result (state_of own_memory alone.new ≡ state_of own_memory alone.old) }
+{
+    own_memory_law(&alone.memory);
+    let plan = match check(image) {
+        Ok(plan) => plan,
+        Err(fault) => return Err(LoadFault::Elf(fault)),
+    };
+    let Ok(entry) = place(&plan, own_user(), &mut alone.memory.pool) else {
+        return Err(LoadFault::Quota);
+    };
+    alone.scalar = first_registers(entry);
+    alone.vectors = new_seat();
+    alone.output.clear();
+    Ok(())
+}

@@ -1,0 +1,34 @@
+-- What the program reads of clap's matches.
+use Rattle.std.proofs.Common.{◌≡◌, ◌∙◌, ap, sym, true, List, [], Option, Some, None, codes}
+use Rattle.std.specs.Prelude.{unwrap_or, option_map}
+use Rattle.std.specs.Borrow.{Bor}
+use Rattle.std.specs.Option.{UnwrapsOrElse}
+use Rattle.clap.specs.Words.{Text, app_of, found_of, is_simple, matched_of, HasMatchesOf, all_of, first_of, first_value, matches_of, raw_values, rows_of}
+use Rattle.clap.specs.Words.{fault_of, is_simple_and_free}
+use Rattle.clap.specs.Walk.{texts}
+use Rattle.clap.proofs.WalkLemmas.{first_value-rows, raw_values-rows}
+use Rattle.clap.specs.declared.builder.command.Command.{Command}
+use Rattle.clap.specs.declared.parser.matches.ArgMatches.{ArgMatches}
+use Rattle.vec_recorder.specs.CommandLine.{command_line, word_of, words_fault}
+
+pub rows_by : (c : Command) (m : ArgMatches) (words : List Text) → app_of c ≡ command_line → HasMatchesOf (app_of c) words m
+    → rows_of (found_of m) ≡ matches_of command_line words
+rows_by c m words is matched = (matched (ap is_simple is)).0 ∙ ap (λ a. matches_of a words) is
+
+pub word_read : (m : ArgMatches) (words : List Text) (name : Text) → rows_of (found_of m) ≡ matches_of command_line words
+    → first_value (found_of m) name ≡ word_of name words
+word_read m words name rows = first_value-rows (found_of m) name ∙ ap (first_of name) rows
+
+pub memory_read : (m : ArgMatches) (words : List Text) → rows_of (found_of m) ≡ matches_of command_line words
+    → option_map raw_values (matched_of (found_of m) (codes "memory")) ≡ all_of (codes "memory") (matches_of command_line words)
+memory_read m words rows = raw_values-rows (found_of m) (codes "memory") ∙ ap (all_of (codes "memory")) rows
+
+-- the words that were found, or none
+pub texts_in : (P : Bor (List (Bor Text)) → Type 0) (o : Option (Bor (List (Bor Text)))) (d : Bor (List (Bor Text))) (words : Option (List Text))
+    → option_map (λ s. texts s.now) o ≡ words → UnwrapsOrElse o P d → ((b : Bor (List (Bor Text))) → P b → b.now ≡ []) → texts d.now ≡ unwrap_or words []
+texts_in P None d words e h empty = ap texts (empty d h) ∙ ap (λ ws. unwrap_or ws []) e
+texts_in P (Some s) d words e h empty = ap (λ (b : Bor (List (Bor Text))). texts b.now) h ∙ ap (λ ws. unwrap_or ws []) e
+
+-- clap takes the words
+pub taken_by : (c : Command) (words : List Text) → app_of c ≡ command_line → (is_simple_and_free (app_of c) ≡ true → fault_of (app_of c) words ≡ []) → words_fault words ≡ []
+taken_by c words is free = sym (ap (λ a. fault_of a words) is) ∙ free (ap is_simple_and_free is)

@@ -1,0 +1,3 @@
+mod CommandLineLaws
+mod MemoryWordLaws
+mod RunLaws

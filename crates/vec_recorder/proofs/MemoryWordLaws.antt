@@ -1,0 +1,70 @@
+-- Words of memory, divided at their first two colons.
+use Rattle.std.proofs.Common.{◌≡◌, ◌∙◌, ◌<◌, ◌+◌, ◌++◌, [], ◌∷◌, ℕ, List, ap, arith, false, length, refl, subst, sym, take, true}
+use Rattle.std.specs.Prelude.{nat_lt, None, Some}
+use Rattle.std.specs.Borrow.{Bor}
+use Rattle.std.specs.List.{AllZip, Any, after_first, before_first, position_or_len, slice_index_or}
+use Rattle.std.proofs.lemmas.Bool.Decides.{nat_tests}
+use Rattle.std.proofs.lemmas.List.{get_or-map, length-map, take_more}
+use Rattle.clap.specs.Walk.{Text, texts}
+use Rattle.rv_model.specs.commands.Arguments.{address, permissions}
+use Rattle.vec_recorder.specs.MemoryWords.{Parts, NamesNone, IsMemoryAt, IsMemoryOf, are_memory, has_colon, is_colon, parts_behind, parts_of}
+use Rattle.vec_recorder.specs.declared.memory_words.MemoryPath.{MemoryPath}
+
+no_colon : (word : Text) → position_or_len is_colon word ≡ length word → has_colon word ≡ false
+no_colon word is = grind (arith, nat_tests)
+
+a_colon : (word : Text) → position_or_len is_colon word < length word → has_colon word ≡ true
+a_colon word lt = grind (arith, nat_tests)
+
+pub undivided : (word : Text) → position_or_len is_colon word ≡ length word → NamesNone word
+undivided word is = rw (no_colon word is) refl
+
+behind : (word first rest : Text) → position_or_len is_colon word < length word → first ≡ before_first is_colon word → rest ≡ after_first is_colon word
+    → parts_of word ≡ parts_behind first rest
+behind word first rest lt first_is rest_is = rw (a_colon word lt, first_is, rest_is) refl
+
+pub divided_once : (word first rest : Text) → position_or_len is_colon word < length word → first ≡ before_first is_colon word → rest ≡ after_first is_colon word
+    → position_or_len is_colon rest ≡ length rest → NamesNone word
+divided_once word first rest lt first_is rest_is none =
+    let none_behind : parts_behind first rest ≡ None = rw (no_colon rest none) refl in
+    ap are_memory (behind word first rest lt first_is rest_is ∙ none_behind)
+
+-- a word with both colons
+pub divided_twice : (word first rest second path : Text) → position_or_len is_colon word < length word → first ≡ before_first is_colon word
+    → rest ≡ after_first is_colon word → position_or_len is_colon rest < length rest → second ≡ before_first is_colon rest → path ≡ after_first is_colon rest
+    → parts_of word ≡ Some (record { address = first; permissions = second; path = path })
+divided_twice word first rest second path lt first_is rest_is also second_is path_is =
+    behind word first rest lt first_is rest_is ∙ rw (a_colon rest also, second_is, path_is) refl
+
+pub no_address : (word : Text) (parts : Parts) → parts_of word ≡ Some parts → address parts.address ≡ None → NamesNone word
+no_address word parts divided none = ap are_memory divided ∙ rw none refl
+
+pub no_permissions : (word : Text) (parts : Parts) (addr : ℕ) → parts_of word ≡ Some parts → address parts.address ≡ Some addr
+    → permissions parts.permissions ≡ None → NamesNone word
+no_permissions word parts addr divided some none = ap are_memory divided ∙ rw (some, none) refl
+
+-- ---- lists of words
+
+zip_push : {A B : Type 0} (R : A → B → Type 0) (xs : List A) (ys : List B) (x : A) (y : B) → AllZip R xs ys → R x y → AllZip R (xs ++ x ∷ []) (ys ++ y ∷ [])
+zip_push R [] [] x y all one = (one, tt)
+zip_push R [] (z ∷ zs) x y all one = absurd all
+zip_push R (z ∷ zs) [] x y all one = absurd all
+zip_push R (a ∷ xs) (b ∷ ys) x y all one = (all.0, zip_push R xs ys x y all.1 one)
+
+pub zip_next : {A B : Type 0} (R : A → B → Type 0) (xs : List A) (ys : List B) (i : ℕ) (d : A) (y : B) → i < length xs → AllZip R (take i xs) ys → R (slice_index_or xs i d) y
+    → AllZip R (take (i + 1) xs) (ys ++ y ∷ [])
+zip_next R xs ys i d y lt all one = subst (λ zs. AllZip R zs (ys ++ y ∷ [])) (sym (take_more xs i d lt)) (zip_push R (take i xs) ys (slice_index_or xs i d) y all one)
+
+pub some_names_none : (words : List (Bor Text)) (k : ℕ) (d : Bor Text) → k < length words → NamesNone (slice_index_or words k d).now → Any NamesNone (texts words)
+some_names_none words k d lt none =
+    let text = (slice_index_or words k d).now in
+    let at : slice_index_or (texts words) k text ≡ text = get_or-map (λ (word : Bor Text). word.now) words k d text lt in
+    let counted : length (texts words) ≡ length words = grind (arith, length-map) in
+    (k, text, omega arith, at, none)
+
+-- where each word names memory, none names none
+pub zip_texts : (words : List (Bor Text)) (paths : List MemoryPath) → AllZip IsMemoryAt words paths → AllZip IsMemoryOf (texts words) paths
+zip_texts [] [] all = tt
+zip_texts [] (p ∷ ps) all = absurd all
+zip_texts (w ∷ ws) [] all = absurd all
+zip_texts (w ∷ ws) (p ∷ ps) all = (all.0, zip_texts ws ps all.1)

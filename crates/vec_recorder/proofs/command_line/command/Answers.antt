@@ -1,0 +1,17 @@
+use Rattle.std.proofs.Common.{ap, ap₂, ◌≡◌, ◌∙◌}
+use Rattle.std.specs.Prelude.{codes}
+use Rattle.std.proofs.lemmas.Result.{IfOk-weaker}
+use Rattle.clap.specs.Words.{app_of, new_app, with_rule}
+use Rattle.clap.specs.Simple.{app_of_fields}
+use Rattle.vec_recorder.proofs.command_line.command.Goals as goal
+
+pub returns : goal.returns
+returns c =
+    let new_is : app_of c.after_help.result ≡ new_app (codes "vecmon-record") =
+    ap app_of_fields c.after_help.ensures ∙ (ap app_of_fields c.about.ensures ∙ c.new.ensures.app) in
+    let first = c.in_ok-arg.ensures.shape c.policy.ensures.local ∙ ap₂ with_rule new_is c.policy.ensures.rule in
+    let second = c.in_ok-arg-2.ensures.shape c.ticks.ensures.local ∙ ap₂ with_rule first c.ticks.ensures.rule in
+    let third = c.in_ok-arg-3.ensures.shape c.memory.ensures.local ∙ ap₂ with_rule second c.memory.ensures.rule in
+    let fourth = c.in_ok-arg-4.ensures.shape c.registers.ensures.local ∙ ap₂ with_rule third c.registers.ensures.rule in
+    let fifth = c.in_ok-arg-5.ensures.shape c.counts.ensures.local ∙ ap₂ with_rule fourth c.counts.ensures.rule in
+    IfOk-weaker c.arg-6.result _ _ (λ command added. added.shape c.image.ensures.local ∙ ap₂ with_rule fifth c.image.ensures.rule) c.arg-6.ensures

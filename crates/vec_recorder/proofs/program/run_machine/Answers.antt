@@ -1,0 +1,26 @@
+use Rattle.std.proofs.Common.{ap, ◌∙◌, ◌++◌, List, ℕ, flat_map, sym}
+use Rattle.devices.proofs.Moves.{moved}
+use Rattle.recording.specs.Machines.{state_of}
+use Rattle.recording.specs.Runs.{ran}
+use Rattle.first_state.specs.OwnMemory.{own_memory}
+use Rattle.vec_recorder.specs.RecordLines.{row_line}
+use Rattle.vec_recorder.proofs.RunLaws.{counted, end_is}
+use Rattle.vec_recorder.proofs.program.run_machine.Goals as goal
+
+pub returns-clause-counts : goal.returns-clause-counts
+returns-clause-counts g c =
+    let s = state_of own_memory c.args.alone.now in
+    let counts = counted (ran c.args.ticks s).found c.args.rows.now c.count.new.rows c.write_counts.new.rows c.requires c.in_ok-end.ensures.rows c.write_counts.ensures.same in
+    rw c.in-Some.is (record {
+      before = c.in-Ok.record;
+      after = c.write_counts.new.record;
+      made = c.in-Ok.ensures;
+      says = record {
+        rows = c.write_counts.new.rows;
+        counts = counts;
+        taken = moved g.R.Made.Sink.took _ _ _ _
+            (ap (λ (l : List ℕ). flat_map row_line c.write_counts.new.rows ++ l)
+            (end_is c.args.ticks s (state_of own_memory c.count.new.alone) c.write_counts.new.rows c.in_ok-end.end counts c.in_ok-end.ensures.machine c.in_ok-end.ensures.end))
+            c.in-Ok-write_counts.ensures.text;
+      };
+    })

@@ -1,0 +1,74 @@
+-- The words of the command line, as clap's own definitions take them, and what they ask for.
+use Rattle.std.specs.Prelude.{◌≡◌, ◌≢◌, ◌^◌, ⊤, ℕ, List, [], Option, Some, None, codes, unwrap_or}
+use Rattle.clap.specs.Words.{App, IsAmong, Kinds, Rule, Text, all_of, fault_of, first_of, kind_of, matches_of, new_app, new_rule, with_rule}
+use Rattle.clap.specs.declared.builder.ArgAction.TheVariants.{Append}
+use Rattle.clap.specs.declared.error.kind.ErrorKind.{ErrorKind}
+use Rattle.clap.specs.declared.error.kind.ErrorKind.TheVariants.{DisplayHelp, OutOfMemory}
+use Rattle.rv_model.specs.commands.Arguments.{number_between, policy_word as policy_of}
+use Rattle.rv_model.specs.declared.vector.policy.Policy.{Policy}
+use Rattle.rv_model.specs.declared.vector.policy.Policy.TheVariants.{Keep}
+use Rattle.vec_recorder.specs.declared.command_line.UsageFault.{UsageFault}
+use Rattle.vec_recorder.specs.declared.command_line.UsageFault.TheVariants.{Help, Usage, NoMemory}
+
+-- an option with a value
+abbrev pub option_rule : Text → Rule
+option_rule name = record (new_rule name) { long = Some name; value_names = 1 }
+
+-- `--policy POLICY`, `--ticks N`, `--memory ADDR:PERMS:FILE`, `--registers FILE`, `--counts FILE`
+abbrev pub policy_rule : Rule
+policy_rule = option_rule (codes "policy")
+
+abbrev pub ticks_rule : Rule
+ticks_rule = option_rule (codes "ticks")
+
+abbrev pub memory_rule : Rule
+memory_rule = record (option_rule (codes "memory")) { action = Some Append }
+
+abbrev pub registers_rule : Rule
+registers_rule = option_rule (codes "registers")
+
+abbrev pub counts_rule : Rule
+counts_rule = option_rule (codes "counts")
+
+-- `[IMAGE]`
+abbrev pub image_rule : Rule
+image_rule = record (new_rule (codes "image")) { value_names = 1 }
+
+-- `vecmon-record [--policy POLICY] [--ticks N] [--memory ADDR:PERMS:FILE]... [--registers FILE] [--counts FILE] [IMAGE]`
+abbrev pub command_line : App
+command_line =
+    with_rule (with_rule (with_rule (with_rule (with_rule (with_rule (new_app (codes "vecmon-record")) policy_rule) ticks_rule) memory_rule) registers_rule) counts_rule) image_rule
+
+-- the word that clap gives to the option of a name, or to IMAGE, the program's name first
+abbrev pub word_of : Text → List Text → Option Text
+word_of name words = first_of name (matches_of command_line words)
+
+-- the words that clap gives to `--memory`
+abbrev pub memory_words : List Text → List Text
+memory_words words = unwrap_or (all_of (codes "memory") (matches_of command_line words)) []
+
+-- the policy that a word asks for, if it is one; without a word agnostic elements keep what they have
+abbrev pub asked_policy : Option Text → Option Policy
+asked_policy None = Some Keep
+asked_policy (Some word) = policy_of word
+
+-- the most ticks that a word asks for, if it is a number from 1 to 2^63; without a word 2^63, which no run comes to
+abbrev pub asked_ticks : Option Text → Option ℕ
+asked_ticks None = Some (2 ^ 63)
+asked_ticks (Some word) = number_between 1 (2 ^ 63) word
+
+-- the kinds of error that clap has for the words; none where it takes them
+abbrev pub words_fault : List Text → Kinds
+words_fault words = fault_of command_line words
+
+-- the fault for a kind of clap's error
+abbrev pub IsFaultOf : ErrorKind → UsageFault → Type 0
+IsFaultOf kind (Help e) = (kind ≡ DisplayHelp) × (kind_of e ≡ DisplayHelp)
+IsFaultOf kind (Usage e) = (kind ≢ DisplayHelp) × (kind ≢ OutOfMemory) × (kind_of e ≡ kind)
+IsFaultOf kind NoMemory = kind ≡ OutOfMemory
+
+-- a fault of the words has clap's error of one of these kinds: of the kind help where help is asked for
+abbrev pub IsRefusedFor : Kinds → UsageFault → Type 0
+IsRefusedFor kinds (Help e) = (kind_of e ≡ DisplayHelp) × IsAmong (kind_of e) kinds
+IsRefusedFor kinds (Usage e) = (kind_of e ≢ DisplayHelp) × IsAmong (kind_of e) kinds
+IsRefusedFor kinds NoMemory = ⊤

@@ -1,0 +1,6 @@
+pub mod Beginning
+pub mod CommandLine
+pub mod MemoryWords
+pub mod RecordLines
+pub mod Recorded
+pub mod Statuses

@@ -1,0 +1,62 @@
+-- What the program did with its words: the machine that a run began with, what it put out, and what was counted of it.
+use Rattle.std.specs.Prelude.{◌≡◌, ◌%◌, ◌^◌, ◌++◌, ⊤, ℕ, Bool, List, [], Option, None, Some, codes, flat_map}
+use Rattle.std.specs.List.{AllZip}
+use Rattle.clap.specs.Walk.{Text}
+use Rattle.recording.specs.Runs.{put_out, ran, shares}
+use Rattle.recording.specs.Sums.{OfEach, is_word, total}
+use Rattle.recording.specs.declared.key.Key.{Key}
+use Rattle.recording.specs.declared.row.Row.{Row}
+use Rattle.rv_model.specs.declared.vector.policy.Policy.{Policy}
+use Rattle.rv_model.specs.step.Hart.{HartState}
+use Rattle.vec_recorder.specs.Beginning.{Begins}
+use Rattle.vec_recorder.specs.CommandLine.{asked_policy, asked_ticks, memory_words, word_of, words_fault}
+use Rattle.vec_recorder.specs.MemoryWords.{IsMemoryOf}
+use Rattle.vec_recorder.specs.RecordLines.{last_line, row_line}
+use Rattle.vec_recorder.specs.declared.memory_words.MemoryPath.{MemoryPath}
+
+-- These rows have what is counted of all instructions of a run, for each set of keys, as far as 64 bits tell.
+abbrev pub AreCountsOf : List HartState → List Row → Type 0
+AreCountsOf found rows = (asked : Key → Bool) → OfEach (λ number. total number asked rows % 2 ^ 64 ≡ shares found number asked % 2 ^ 64)
+
+-- the last line of a run's counts, by its number of ticks and the state that it began with
+abbrev pub end_of : ℕ → HartState → List ℕ
+end_of ticks s =
+    let run = ran ticks s in
+    last_line run.state.scalar.pc run.end (shares run.found (λ sums. sums.times) is_word % 2 ^ 64) (shares run.found (λ sums. sums.ticks) is_word % 2 ^ 64)
+
+-- The counts of a run are the lines of such rows, and the last line.
+pub record AreCounted (took : List ℕ → Type 0) (ticks : ℕ) (s : HartState) : Type 0 where
+  pub rows : List Row
+  pub counts : AreCountsOf (ran ticks s).found rows
+  pub taken : took (flat_map row_line rows ++ end_of ticks s)
+
+-- A file was made at a path and took what is said.
+pub record IsWritten {F : Type 0} (is_made : Text → F → Type 0) (took : F → List ℕ → F → Type 0) (path : Text) (Says : (List ℕ → Type 0) → Type 0) : Type 0 where
+  pub before : F
+  pub after : F
+  pub made : is_made path before
+  pub says : Says (λ told. took before told after)
+
+-- the counts of a run, in the file at a path, if there is one
+abbrev pub AreKept : {F : Type 0} → (Text → F → Type 0) → (F → List ℕ → F → Type 0) → Option Text → ℕ → HartState → Type 0
+AreKept is_made took None ticks s = ⊤
+AreKept is_made took (Some path) ticks s = IsWritten is_made took path (λ told. AreCounted told ticks s)
+
+-- The run that words ask for was carried out: it put this out, and its counts were kept.
+pub record RecordedBy {F : Type 0} (file_bytes : Text → Option (List ℕ)) (is_made : Text → F → Type 0) (took : F → List ℕ → F → Type 0) (put : List ℕ → Type 0) (policy_word ticks_word : Option Text) (memory : List Text) (registers counts image : Option Text) : Type 0 where
+  pub policy : Policy
+  pub policy_is : asked_policy policy_word ≡ Some policy
+  pub ticks : ℕ
+  pub ticks_are : asked_ticks ticks_word ≡ Some ticks
+  pub memories : List MemoryPath
+  pub memories_are : AllZip IsMemoryOf memory memories
+  pub state : HartState
+  pub begins : Begins file_bytes policy image memories registers state
+  pub output : put (flat_map put_out (ran ticks state).found)
+  pub counted : AreKept is_made took counts ticks state
+
+-- clap took the words, and the run that they ask for was carried out
+pub record Recorded {F : Type 0} (file_bytes : Text → Option (List ℕ)) (is_made : Text → F → Type 0) (took : F → List ℕ → F → Type 0) (words : List Text) (put : List ℕ → Type 0) : Type 0 where
+  pub accepted : words_fault words ≡ []
+  pub run : RecordedBy file_bytes is_made took put (word_of (codes "policy") words) (word_of (codes "ticks") words) (memory_words words)
+      (word_of (codes "registers") words) (word_of (codes "counts") words) (word_of (codes "image") words)

@@ -1,0 +1,49 @@
+-- The statuses that the program ends with (docs/RECORDER.md).
+use Rattle.std.specs.Prelude.{◌≡◌, ◌≢◌, ◌⊎◌, ℕ, List, [], None, codes}
+use Rattle.std.specs.List.{Any}
+use Rattle.clap.specs.Words.{IsAmong, Text}
+use Rattle.clap.specs.declared.error.kind.ErrorKind.{ErrorKind}
+use Rattle.clap.specs.declared.error.kind.ErrorKind.TheVariants.{DisplayHelp}
+use Rattle.recording.specs.declared.fault.CountFault.{CountFault}
+use Rattle.recording.specs.declared.fault.CountFault.TheVariants as count
+use Rattle.vec_recorder.specs.CommandLine.{asked_policy, asked_ticks, memory_words, word_of, words_fault}
+use Rattle.vec_recorder.specs.MemoryWords.{NamesNone}
+use Rattle.vec_recorder.specs.declared.program_fault.ProgramFault.{ProgramFault}
+use Rattle.vec_recorder.specs.declared.program_fault.ProgramFault.TheVariants.{NoText, Usage, Policy, Ticks, MemoryWord, Counts, TableFull, Output, NoMemory}
+
+-- of the words 2, of what a run begins with 4, of what is written 5, of memory 6
+abbrev pub program_status : ProgramFault → ℕ
+program_status NoText = 2
+program_status (Usage e) = 2
+program_status Policy = 2
+program_status Ticks = 2
+program_status (MemoryWord word) = 2
+program_status (Counts path) = 5
+program_status TableFull = 5
+program_status Output = 5
+program_status NoMemory = 6
+program_status _ = 4
+
+-- why a run isn't counted to its end
+abbrev pub count_fault : CountFault → ProgramFault
+count_fault count.TableFull = TableFull
+count_fault count.Output = Output
+
+-- the words ask for no policy, no number of ticks, or for memory that there can't be
+abbrev pub AskForNone : List Text → Type 0
+AskForNone words = (asked_policy (word_of (codes "policy") words) ≡ None)
+    ⊎ ((asked_ticks (word_of (codes "ticks") words) ≡ None) ⊎ Any NamesNone (memory_words words))
+
+-- clap has a fault in the words that is no call for help, or takes them and they ask for what isn't there
+abbrev pub MayBeRefused : List Text → Type 0
+MayBeRefused words = ((kind : ErrorKind) × IsAmong kind (words_fault words) × (kind ≢ DisplayHelp))
+    ⊎ ((words_fault words ≡ []) × AskForNone words)
+
+-- clap has nothing but such faults in the words, or takes them and they ask for what isn't there
+abbrev pub AreRefused : List Text → Type 0
+AreRefused words = ((words_fault words ≢ []) × (IsAmong DisplayHelp (words_fault words) → ⊥))
+    ⊎ ((words_fault words ≡ []) × AskForNone words)
+
+-- a fault of what a run begins with, or of memory
+abbrev pub IsOfBeginning : ProgramFault → Type 0
+IsOfBeginning fault = (program_status fault ≡ 4) ⊎ (program_status fault ≡ 6)

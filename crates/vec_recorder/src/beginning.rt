@@ -1,0 +1,153 @@
+//! The machine that a run begins with.
+ghost use Rattle.std.specs.Prelude.{◌≡◌, ◌≤◌, ◌∷◌, [], IfErr, IfOk, OnOk, option_map};
+ghost use Rattle.program_files.specs.KnownBytes.{AreKnownAs};
+ghost use Rattle.recording.specs.Machines.{state_of};
+ghost use Rattle.first_state.specs.OwnMemory.{own_memory};
+ghost use Rattle.first_state.specs.Placed.{in_memory};
+ghost use Rattle.vec_recorder.specs.Beginning.{AreLaid, ArePlaced, Begins, IsLoaded};
+ghost use Rattle.vec_recorder.specs.Statuses.{IsOfBeginning};
+
+use crate::memory_words::MemoryPath;
+use crate::program_fault::ProgramFault;
+use first_state::{OwnBytes, enter, lay_registers, load, place_bytes};
+use program_files::{Inputs, ReadFault, read_file};
+use recording::Alone;
+use rv_model::Policy;
+use std::alloc::Global;
+
+/// The most bytes of an image, as the monitor takes them.
+const MAX_IMAGE: usize = 4_194_304;
+
+/// The most bytes of a file of memory: those of all pages that a user may have.
+const MAX_MEMORY: usize = 1_048_576;
+
+/// The most bytes of a file of registers.
+const MAX_REGISTERS: usize = 65_536;
+
+/// All bytes of the file at a path. Refused where it can't be opened or read, has more than `most`,
+/// and for want of memory.
+fn read_whole<'a, I: Inputs>(
+    inputs: &I,
+    alloc: Global,
+    path: &'a str,
+    most: usize,
+) -> Result<Vec<u8>, ProgramFault<'a>>
+    requires { most ≤ 4194304 }
+    ensures bytes { IfOk result (λ bytes. AreKnownAs (I.file_bytes inputs.now path.entry.now) bytes.items) }
+    ensures refused { IfErr result IsOfBeginning }
+{
+    let bytes = match read_file(inputs, alloc, path, most + 1) {
+        Ok(bytes) => bytes,
+        Err(ReadFault::NoMemory) => return Err(ProgramFault::NoMemory),
+        Err(ReadFault::Unreadable) => return Err(ProgramFault::Read(path)),
+    };
+    if bytes.len() > most {
+        return Err(ProgramFault::TooLong(path));
+    }
+    Ok(bytes)
+}
+
+/// A machine of this policy, empty or with the image at a path.
+fn loaded_machine<'a, I: Inputs>(
+    inputs: &I,
+    alloc: Global,
+    policy: Policy,
+    image: Option<&'a str>,
+) -> Result<Alone<OwnBytes>, ProgramFault<'a>>
+    ensures state { IfOk result (λ alone. IsLoaded (I.file_bytes inputs.now) policy
+        (option_map (λ path. path.now) image.entry) (state_of own_memory alone)) }
+    ensures refused { IfErr result IsOfBeginning }
+{
+    let Ok(mut alone) = enter(alloc, policy) else {
+        return Err(ProgramFault::NoMemory);
+    };
+    let Some(path) = image else {
+        return Ok(alone);
+    };
+    let bytes = read_whole(inputs, alloc, path, MAX_IMAGE)?;
+    match load(&mut alone, bytes.as_slice()) {
+        Ok(()) => Ok(alone),
+        Err(fault) => Err(ProgramFault::Image(path, fault)),
+    }
+}
+
+/// Places the bytes of a file in memory.
+fn place_file<'a, I: Inputs>(
+    inputs: &I,
+    alloc: Global,
+    alone: &mut Alone<OwnBytes>,
+    memory: MemoryPath<'a>,
+) -> Result<(), ProgramFault<'a>>
+    ensures placed { OnOk result (ArePlaced (I.file_bytes inputs.now) (memory.entry ∷ [])
+        (own_memory alone.old.memory) (own_memory alone.new.memory)) }
+    ensures others { state_of own_memory alone.new
+        ≡ in_memory (state_of own_memory alone.old) (own_memory alone.new.memory) }
+    ensures refused { IfErr result IsOfBeginning }
+{
+    let bytes = read_whole(inputs, alloc, memory.path, MAX_MEMORY)?;
+    match place_bytes(alone, memory.addr, memory.permissions, bytes.as_slice()) {
+        Ok(()) => Ok(()),
+        Err(fault) => Err(ProgramFault::Memory(memory.path, fault)),
+    }
+}
+
+/// Places the bytes of files in memory, in their order.
+fn place_files<'a, I: Inputs>(
+    inputs: &I,
+    alloc: Global,
+    alone: &mut Alone<OwnBytes>,
+    memories: &[MemoryPath<'a>],
+) -> Result<(), ProgramFault<'a>>
+    ensures placed { OnOk result (ArePlaced (I.file_bytes inputs.now) memories.now
+        (own_memory alone.old.memory) (own_memory alone.new.memory)) }
+    ensures others { state_of own_memory alone.new
+        ≡ in_memory (state_of own_memory alone.old) (own_memory alone.new.memory) }
+    ensures refused { IfErr result IsOfBeginning }
+{
+    for memory in memories {
+        place_file(inputs, alloc, alone, *memory)?;
+    }
+    Ok(())
+}
+
+/// Lays the registers of the file at a path over a machine, if there is one.
+fn lay_file<'a, I: Inputs>(
+    inputs: &I,
+    alloc: Global,
+    alone: &mut Alone<OwnBytes>,
+    registers: Option<&'a str>,
+) -> Result<(), ProgramFault<'a>>
+    ensures laid { OnOk result (AreLaid (I.file_bytes inputs.now) (option_map (λ path. path.now) registers.entry)
+        (state_of own_memory alone.old) (state_of own_memory alone.new)) }
+    ensures refused { IfErr result IsOfBeginning }
+{
+    let Some(path) = registers else {
+        return Ok(());
+    };
+    let text = read_whole(inputs, alloc, path, MAX_REGISTERS)?;
+    match lay_registers(alone, text.as_slice()) {
+        Ok(()) => Ok(()),
+        Err(fault) => Err(ProgramFault::Registers(path, fault)),
+    }
+}
+
+/// The machine that a run begins with: of this policy, with an image, files of memory and registers.
+/// The files are read in this order.
+pub(crate) fn first_machine<'a, I: Inputs>(
+    inputs: &I,
+    alloc: Global,
+    policy: Policy,
+    image: Option<&'a str>,
+    memories: &[MemoryPath<'a>],
+    registers: Option<&'a str>,
+) -> Result<Alone<OwnBytes>, ProgramFault<'a>>
+    ensures begins { IfOk result (λ alone. Begins (I.file_bytes inputs.now) policy
+        (option_map (λ path. path.now) image.entry) memories.now
+        (option_map (λ path. path.now) registers.entry) (state_of own_memory alone)) }
+    ensures refused { IfErr result IsOfBeginning }
+{
+    let mut alone = loaded_machine(inputs, alloc, policy, image)?;
+    place_files(inputs, alloc, &mut alone, memories)?;
+    lay_file(inputs, alloc, &mut alone, registers)?;
+    Ok(alone)
+}

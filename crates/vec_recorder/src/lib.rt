@@ -1,0 +1,21 @@
+//! The recorder: the program by the words of its command line, over a machine of one user that runs
+//! alone and is counted.
+#![tactic(auto)]
+
+mod beginning;
+mod command_line;
+mod memory_words;
+mod numbers;
+mod outputs;
+mod program;
+mod program_fault;
+mod record_lines;
+mod words;
+
+pub use command_line::{Options, UsageFault};
+pub use outputs::Outputs;
+pub use program::{record, record_into, report};
+pub use program_fault::{
+    ProgramFault, STATUS_BEGINNING, STATUS_DONE, STATUS_NO_MEMORY, STATUS_USAGE, STATUS_WRITE,
+};
+pub use words::options;

@@ -1,0 +1,70 @@
+//! What the words of options with one value mean.
+ghost use Rattle.std.specs.Prelude.{◌≡◌, ◌^◌, MatchResult, None, Some, option_map};
+ghost use Rattle.rv_model.specs.commands.Arguments.{decimal_number, number_between};
+ghost use Rattle.rv_model.specs.lending.Text.{capped};
+ghost use Rattle.vec_recorder.specs.CommandLine.{asked_policy, asked_ticks};
+ghost use Rattle.vec_recorder.specs.declared.program_fault.ProgramFault.TheVariants as program_fault;
+
+use crate::program_fault::ProgramFault;
+use rv_model::Policy;
+use rv_model::text::digits;
+
+/// The most ticks of a run; no run comes to so many.
+const MOST_TICKS: u64 = 1 << 63;
+
+/// Larger numbers are read as this one.
+const CAP: u128 = 1 << 64;
+
+/// A decimal number without a leading zero, or [`CAP`] in place of a larger one.
+fn decimal_number(word: &[u8]) -> Option<u128>
+    ensures { result ≡ capped (2 ^ 64) (decimal_number word.now) }
+{
+    if let [] | [b'0', _, ..] = word {
+        return None;
+    }
+    digits(10, CAP, word)
+}
+
+/// A decimal number from 1 to [`MOST_TICKS`].
+fn ticks_number(word: &[u8]) -> Option<u64>
+    ensures { result ≡ number_between 1 (2 ^ 63) word.now }
+{
+    let value = decimal_number(word)?;
+    if value >= 1 && value <= u128::from(MOST_TICKS) {
+        Some(value as u64)
+    } else {
+        None
+    }
+}
+
+/// The policy that a word asks for.
+pub(crate) fn policy<'a>(word: Option<&str>) -> Result<Policy, ProgramFault<'a>>
+    ensures { MatchResult result
+        (λ policy. asked_policy (option_map (λ word. word.now) word.entry) ≡ Some policy)
+        (λ fault. (fault ≡ program_fault.Policy)
+        × (asked_policy (option_map (λ word. word.now) word.entry) ≡ None)) }
+{
+    let Some(word) = word else {
+        return Ok(Policy::Keep);
+    };
+    match monitor_cmds::policy(word.as_bytes()) {
+        Some(policy) => Ok(policy),
+        None => Err(ProgramFault::Policy),
+    }
+}
+
+/// The most ticks that a word asks for.
+pub(crate) fn ticks<'a>(word: Option<&str>) -> Result<u64, ProgramFault<'a>>
+    ensures { MatchResult result
+        (λ ticks. asked_ticks (option_map (λ word. word.now) word.entry) ≡ Some ticks)
+        (λ fault. (fault ≡ program_fault.Ticks)
+        × (asked_ticks (option_map (λ word. word.now) word.entry) ≡ None)) }
+{
+    let Some(word) = word else {
+        return Ok(MOST_TICKS);
+    };
+    match ticks_number(word.as_bytes()) {
+        Some(ticks) => Ok(ticks),
+        None => Err(ProgramFault::Ticks),
+    }
+}

@@ -1,0 +1,193 @@
+//! The lines of a file of counts.
+ghost use Rattle.std.specs.Prelude.{IsPermutation, ◌≡◌, ◌++◌, ◌+◌, ◌≤◌, length, flat_map, OnOk};
+ghost use Rattle.std.specs.Option.{option_and_then};
+ghost use Rattle.rv_model.specs.commands.Running.{running_line};
+ghost use Rattle.rv_model.specs.machine.UserMachine.{stop_of};
+ghost use Rattle.vec_recorder.specs.RecordLines.{
+  end_line,
+  jump_line,
+  last_line,
+  length_line,
+  row_line,
+  spaced,
+  word_line,
+};
+
+use devices::{DeviceFault, Sink, write_all};
+use monitor_cmds::{Reply, push_decimal, push_hex8, push_hex16, push_stop};
+use recording::{Key, Row, Sums};
+use rv_model::{StepEnd, Stop};
+
+/// Adds a number after a space.
+#[tactic(auto, unfolding(crate::specs::RecordLines::spaced))]
+fn push_number(reply: &mut Reply, number: u64)
+    requires { length reply.old + 21 ≤ 4096 }
+    ensures text { reply.new ≡ reply.old ++ spaced number }
+    ensures bound { length reply.new ≤ length reply.old + 21 }
+{
+    reply.push(b" ");
+    push_decimal(reply, number);
+}
+
+/// Adds the line of a word at an address.
+#[tactic(auto, unfolding(crate::specs::RecordLines::word_line))]
+fn push_word(reply: &mut Reply, pc: u64, word: u32, sums: &Sums)
+    requires { length reply.old + 134 ≤ 4096 }
+    ensures { reply.new ≡ reply.old ++ word_line pc word sums.now }
+{
+    reply.push(b"at ");
+    push_hex16(reply, pc);
+    reply.push(b" ");
+    push_hex8(reply, word);
+    push_number(reply, sums.times);
+    push_number(reply, sums.ticks);
+    push_number(reply, sums.active);
+    push_number(reply, sums.masked);
+    push_number(reply, sums.tail);
+    reply.push(b"\n");
+}
+
+/// Adds the line of a vector type and length.
+#[tactic(auto, unfolding(crate::specs::RecordLines::length_line))]
+fn push_length(reply: &mut Reply, vtype: u64, vl: u16, sums: &Sums)
+    requires { length reply.old + 62 ≤ 4096 }
+    ensures { reply.new ≡ reply.old ++ length_line vtype vl sums.now }
+{
+    reply.push(b"vl ");
+    push_hex16(reply, vtype);
+    push_number(reply, u64::from(vl));
+    push_number(reply, sums.times);
+    reply.push(b"\n");
+}
+
+/// Adds the line of a jump.
+#[tactic(auto, unfolding(crate::specs::RecordLines::jump_line))]
+fn push_jump(reply: &mut Reply, pc: u64, target: u64, sums: &Sums)
+    requires { length reply.old + 60 ≤ 4096 }
+    ensures { reply.new ≡ reply.old ++ jump_line pc target sums.now }
+{
+    reply.push(b"call ");
+    push_hex16(reply, pc);
+    reply.push(b" ");
+    push_hex16(reply, target);
+    push_number(reply, sums.times);
+    reply.push(b"\n");
+}
+
+/// Adds the line of a row, if anything was counted in it.
+#[tactic(auto, unfolding(crate::specs::RecordLines::row_line))]
+fn push_row(reply: &mut Reply, row: &Row)
+    requires { length reply.old + 134 ≤ 4096 }
+    ensures { reply.new ≡ reply.old ++ row_line row.now }
+{
+    if row.sums.times == 0 {
+        return;
+    }
+    match row.key {
+        Some(Key::Word { pc, word }) => push_word(reply, pc, word, &row.sums),
+        Some(Key::Length { vtype, vl }) => push_length(reply, vtype, vl, &row.sums),
+        Some(Key::Jump { pc, target }) => push_jump(reply, pc, target, &row.sums),
+        None => {}
+    }
+}
+
+/// Where the line of a row stands: words by their addresses, then lengths by their types, then jumps.
+fn place_of(row: &Row) -> (u8, u64, u64) {
+    match row.key {
+        Some(Key::Word { pc, word }) => (0, pc, u64::from(word)),
+        Some(Key::Length { vtype, vl }) => (1, vtype, u64::from(vl)),
+        Some(Key::Jump { pc, target }) => (2, pc, target),
+        None => (3, 0, 0),
+    }
+}
+
+/// Sorts the rows by where their lines stand.
+pub(crate) fn sort_rows(rows: &mut [Row])
+    ensures { IsPermutation rows.old rows.new }
+{
+    rows.sort_unstable_by_key(|row| place_of(row));
+}
+
+/// Writes the lines of the rows.
+pub(crate) fn write_rows<K: Sink>(sink: &mut K, rows: &[Row]) -> Result<(), DeviceFault>
+    ensures { OnOk result (K.took sink.old (flat_map row_line rows.now) sink.new) }
+{
+    let mut reply = Reply::new();
+    for row in rows {
+        reply.clear();
+        push_row(&mut reply, row);
+        write_all(sink, reply.as_slice())?;
+    }
+    Ok(())
+}
+
+/// Why the program stops after an instruction that ended so.
+fn stop_of(end: StepEnd) -> Option<Stop>
+    ensures { result ≡ stop_of end }
+{
+    match end {
+        StepEnd::Ran | StepEnd::Cut => None,
+        StepEnd::Exit(status) => Some(Stop::Exit(status)),
+        StepEnd::Ebreak => Some(Stop::Ebreak),
+        StepEnd::Fault {
+            cause,
+            pc: _,
+            value,
+        } => Some(Stop::Fault { cause, value }),
+        StepEnd::OutputFull => Some(Stop::OutputFull),
+    }
+}
+
+/// Adds that a program still runs, and where it stands.
+#[tactic(auto, unfolding(rv_model::specs::commands::Running::running_line))]
+fn push_running(reply: &mut Reply, pc: u64)
+    requires { length reply.old + 27 ≤ 4096 }
+    ensures text { reply.new ≡ reply.old ++ running_line pc }
+    ensures bound { length reply.new ≡ length reply.old + 27 }
+{
+    reply.push(b"running pc=");
+    push_hex16(reply, pc);
+}
+
+/// Adds why a program stopped, and where it stands; it still runs where its ticks were used up.
+fn push_end(reply: &mut Reply, pc: u64, stop: Option<Stop>)
+    requires { length reply.old + 75 ≤ 4096 }
+    ensures text { reply.new ≡ reply.old ++ end_line pc stop }
+    ensures bound { length reply.new ≤ length reply.old + 75 }
+{
+    match stop {
+        Some(stop) => push_stop(reply, pc, stop),
+        None => push_running(reply, pc),
+    }
+}
+
+/// Adds the last line.
+#[tactic(auto, unfolding(crate::specs::RecordLines::last_line))]
+fn push_last(reply: &mut Reply, pc: u64, end: Option<StepEnd>, sums: &Sums)
+    requires { length reply.old + 118 ≤ 4096 }
+    ensures { reply.new ≡ reply.old ++ last_line pc end sums.now.times sums.now.ticks }
+{
+    let stop = match end {
+        Some(end) => stop_of(end),
+        None => None,
+    };
+    push_end(reply, pc, stop);
+    push_number(reply, sums.times);
+    push_number(reply, sums.ticks);
+    reply.push(b"\n");
+}
+
+/// Writes the last line: how the program ended and where it stands, and how many instructions were
+/// carried out in how many ticks.
+pub(crate) fn write_last<K: Sink>(
+    sink: &mut K,
+    pc: u64,
+    end: Option<StepEnd>,
+    sums: &Sums,
+) -> Result<(), DeviceFault>
+    ensures { OnOk result (K.took sink.old (last_line pc end sums.now.times sums.now.ticks) sink.new) }
+{
+    let mut reply = Reply::new();
+    push_last(&mut reply, pc, end, sums);
+    write_all(sink, reply.as_slice())
+}

@@ -1,0 +1,82 @@
+"""The recorder under test: where it is, what a run of it gives, and what stands in a file of counts."""
+
+import os
+import pathlib
+import subprocess
+from collections.abc import Mapping, Sequence
+from dataclasses import dataclass
+from typing import TypeVar
+
+from tests.program import TOP, lines_of
+
+Value = TypeVar("Value")
+BUILT = TOP / "crates/vecmon_record/out/vecmon_record"
+
+
+@dataclass(frozen=True)
+class Recorded:
+    """What a run of the recorder gave, and its counts, if it wrote some."""
+
+    stdout: bytes
+    stderr: str
+    status: int
+    counts: str
+
+
+@dataclass(frozen=True)
+class Counts:
+    """What stands in a file of counts.
+
+    words: by address and word how often, ticks, and elements that were active, masked off and of the tail
+    lengths: by vtype and vl how often; calls: by where a jump stands and where it leads how often
+    end: why the program stopped and where, as the monitor says it; instructions, ticks: of all the run
+    """
+
+    words: Mapping[tuple[int, int], tuple[int, ...]]
+    lengths: Mapping[tuple[int, int], int]
+    calls: Mapping[tuple[int, int], int]
+    end: str
+    instructions: int
+    ticks: int
+
+
+def built_recorder() -> pathlib.Path:
+    """The recorder that VECMON_RECORD names; else the one beside VECMON; else the one that is built in this checkout."""
+    named, monitor = os.environ.get("VECMON_RECORD"), os.environ.get("VECMON")
+    beside = pathlib.Path(monitor).with_name("vecmon-record") if monitor else BUILT
+    return pathlib.Path(named or beside).absolute()
+
+
+def record(folder: pathlib.Path, *words: object, more: Sequence[int] = ()) -> Recorded:
+    """Runs the recorder in a folder with `--counts counts` before other words. `more`: descriptors that it is given."""
+    counts = folder / "counts"
+    counts.unlink(missing_ok=True)
+    command = [str(built_recorder()), "--counts", "counts", *map(str, words)]
+    ran = subprocess.run(command, cwd=folder, capture_output=True, check=False, pass_fds=more)
+    told = counts.read_text("ascii") if counts.exists() else ""
+    return Recorded(ran.stdout, ran.stderr.decode(), ran.returncode, told)
+
+
+def read_counts(text: str) -> Counts:
+    """What stands in a file of counts. Raises ValueError for a line that isn't one, or a key with two lines."""
+    words = dict[tuple[int, int], tuple[int, ...]]()
+    lengths, calls = dict[tuple[int, int], int](), dict[tuple[int, int], int]()
+    *rows, last = lines_of(text)
+    for row in rows:
+        match row.split(" "):
+            case ["at", pc, word, *numbers] if len(numbers) == 5:
+                _enter(words, (int(pc, 16), int(word, 16)), tuple(map(int, numbers)))
+            case ["vl", vtype, vl, times]:
+                _enter(lengths, (int(vtype, 16), int(vl)), int(times))
+            case ["call", pc, target, times]:
+                _enter(calls, (int(pc, 16), int(target, 16)), int(times))
+            case _:
+                raise ValueError(f"no line of counts: {row}")
+    end, instructions, ticks = last.rsplit(" ", 2)
+    return Counts(words, lengths, calls, end, int(instructions), int(ticks))
+
+
+def _enter(rows: dict[tuple[int, int], Value], key: tuple[int, int], value: Value) -> None:
+    if key in rows:
+        raise ValueError(f"two lines of {key}")
+    rows[key] = value

@@ -1,0 +1,59 @@
+"""What the recorder counts, by the monitor's own steps: one instruction after another, by the registers before it."""
+
+import pathlib
+from collections import Counter
+from dataclasses import replace
+
+from tests.recordings.recorder import Counts
+from vecmon_lab.guest.changes import Carried, Stepper
+from vecmon_lab.guest.guest import started
+from vecmon_lab.instructions.accesses import REGISTER_BYTES
+from vecmon_lab.instructions.words import VECTOR_ACCESSES
+from vecmon_lab.machine.answers import ControlRegisters
+from vecmon_lab.runs.counts import elements_of
+
+JAL, JALR = 0x6F, 0x67
+LINKS = (1, 5)  # the registers that hold where a call returns to
+
+
+def stepped(image: pathlib.Path, policy: str = "keep", most: int | None = None) -> tuple[Counts, bytes]:
+    """What is counted of an image until it stops, or until so many instructions; and what it puts out."""
+    words = dict[tuple[int, int], tuple[int, ...]]()
+    lengths, calls = Counter[tuple[int, int]](), Counter[tuple[int, int]]()
+    instructions = 0
+    with started(image, policy=policy) as guest:
+        stepper, end = Stepper(guest, is_brief=True), ""
+        while not end and instructions != most:
+            found, v0 = stepper.registers.control, bytes(stepper.registers.v[:REGISTER_BYTES])
+            carried = stepper.step()
+            end = f"{carried.stop}" if carried.stop else ""
+            if carried.stop is None or carried.stop.kind == "exit":
+                instructions += 1
+                numbers, has_elements = _numbers(carried, found, stepper.registers.control.vl, v0)
+                key = carried.pc, carried.word
+                words[key] = tuple(map(sum, zip(words.get(key, (0,) * 5), numbers)))
+                lengths.update([(found.vtype, found.vl)] if has_elements else [])
+                calls.update([(carried.pc, guest.pc)] if _links(carried.word) else [])
+        end = end or f"running pc={guest.pc:016x}"
+        ticks = sum(numbers[1] for numbers in words.values())
+        return Counts(words, lengths, calls, end, instructions, ticks), guest.output()
+
+
+def _numbers(carried: Carried, found: ControlRegisters, vl: int, v0: bytes) -> tuple[tuple[int, ...], bool]:
+    """Once, ticks, and elements, by what an instruction found and the length that it left; and whether it has any.
+
+    A load or store takes a tick for each element of its body, and a fault-only-first load one for the element that it
+    tried in vain.
+    """
+    is_access = carried.word & 0x7F in VECTOR_ACCESSES
+    elements = elements_of(carried.word, replace(found, vl=vl) if is_access else found, v0)
+    if elements is None:
+        return (1, 1, 0, 0, 0), False
+    ticks = max(1, len(elements.active) + elements.masked + (vl < found.vl)) if is_access else 1
+    return (1, ticks, len(elements.active), elements.masked, elements.tail), True
+
+
+def _links(word: int) -> bool:
+    """Whether an instruction is a jump that links, or that returns by a link."""
+    rd, rs1 = word >> 7 & 31, word >> 15 & 31
+    return word & 0x7F == JAL and rd in LINKS or word & 0x7F == JALR and (rd in LINKS or rs1 in LINKS)

@@ -1,0 +1,43 @@
+"""The examples of the recorder's page, which is its manual page too, carried out as they stand there."""
+
+import os
+import pathlib
+import re
+import subprocess
+
+from tests.program import TOP, difference
+from tests.recordings.recorder import built_recorder
+
+PAGE = (TOP / "docs/RECORDER.md").read_text("utf-8")
+SESSIONS = [block for block in re.findall(r"^```sh\n(.*?)^```$", PAGE, re.MULTILINE | re.DOTALL) if block[:2] == "$ "]
+
+
+def test_examples(tmp_path: pathlib.Path) -> None:
+    """Behind a `$ ` stands a command, and below it what it says."""
+    (tmp_path / "vecmon-record").symlink_to(built_recorder())
+    environment = {**os.environ, "PATH": f"{tmp_path}:{os.environ['PATH']}"}
+    for session in SESSIONS:
+        told = ""
+        for line in re.findall(r"^\$ (.*)\n", session, re.MULTILINE):
+            ran = subprocess.run(
+                line,
+                shell=True,
+                cwd=tmp_path,
+                env=environment,
+                stdout=subprocess.PIPE,
+                stderr=subprocess.STDOUT,
+                check=False,
+            )
+            told += f"$ {line}\n{ran.stdout.decode()}"
+        assert not difference(told, session), difference(told, session)
+
+
+def test_there_are_examples() -> None:
+    assert len(SESSIONS) == 2
+
+
+def test_words_of_the_page_are_those_of_help() -> None:
+    ran = subprocess.run([built_recorder(), "--help"], capture_output=True, check=True)
+    words = re.compile(r"--[a-z]+")
+    synopsis = PAGE.split("```text\n", 1)[1].split("```", 1)[0]
+    assert set(words.findall(ran.stdout.decode())) - {"--help"} == set(words.findall(synopsis))

@@ -1,0 +1,143 @@
+"""What the recorder refuses, with its statuses and messages; and what it can't write."""
+
+import os
+import pathlib
+import subprocess
+
+import pytest
+
+from tests.program import TOP
+from tests.recordings.recorder import built_recorder, record
+
+GOOD = TOP / "tests/command_lines/data/images/sum"
+NO_LINE = "line {}: no register and a value that it can have"
+
+
+def refused(folder: pathlib.Path, *words: object) -> tuple[int, str]:
+    """The status of a run that does nothing, and what it says without the recorder's name."""
+    ran = record(folder, *words)
+    assert ran.stdout == b"" and not ran.counts
+    return ran.status, ran.stderr.removeprefix("vecmon-record: ").rstrip("\n")
+
+
+@pytest.mark.parametrize(
+    "words, message",
+    [
+        (["--policy", "none"], "--policy needs keep or ones"),
+        (["--ticks", "0"], "--ticks needs a number from 1 to 9223372036854775808"),
+        (["--ticks", "9223372036854775809"], "--ticks needs a number from 1 to 9223372036854775808"),
+        (["--ticks", "1x"], "--ticks needs a number from 1 to 9223372036854775808"),
+        (["--memory", "1000"], "--memory needs ADDR:PERMS:FILE, not 1000"),
+        (["--memory", "1000:rw"], "--memory needs ADDR:PERMS:FILE, not 1000:rw"),
+        (["--memory", "1000:wr:file"], "--memory needs ADDR:PERMS:FILE, not 1000:wr:file"),
+        (["--memory", "0x1000:rw:file"], "--memory needs ADDR:PERMS:FILE, not 0x1000:rw:file"),
+        (["--memory", "0:r:file", "--memory", ":r:file"], "--memory needs ADDR:PERMS:FILE, not :r:file"),
+    ],
+)
+def test_words(tmp_path: pathlib.Path, words: list[str], message: str) -> None:
+    assert refused(tmp_path, *words, "there is no such image") == (2, message)
+
+
+@pytest.mark.parametrize("words", [["--log", "file"], ["--ticks"], ["one", "two"], ["--ticks", "1", "--ticks", "2"]])
+def test_words_that_clap_refuses(tmp_path: pathlib.Path, words: list[str]) -> None:
+    status, message = refused(tmp_path, *words)
+    assert status == 2 and message.startswith("error: ") and message.endswith("For more information, try '--help'.")
+
+
+def test_help(tmp_path: pathlib.Path) -> None:
+    ran = record(tmp_path, "--help")
+    assert ran.status == 0 and not ran.stderr and not ran.counts
+    for word in ("--policy", "--ticks", "--memory", "--registers", "--counts", "IMAGE"):
+        assert word in ran.stdout.decode()
+
+
+@pytest.mark.parametrize(
+    "data, message",
+    [
+        pytest.param(b"", "image: bad image: Short", id="empty"),
+        pytest.param(bytes(64), "image: bad image: Magic", id="zeros"),
+        pytest.param(GOOD.read_bytes()[:100], "image: bad image: HeaderTable", id="cut"),
+        pytest.param(bytes(4_194_305), "image: too many bytes", id="long"),
+    ],
+)
+def test_images(tmp_path: pathlib.Path, data: bytes, message: str) -> None:
+    (tmp_path / "image").write_bytes(data)
+    assert refused(tmp_path, "image") == (4, message)
+
+
+def test_files_that_are_not_there(tmp_path: pathlib.Path) -> None:
+    assert refused(tmp_path, "image") == (4, "cannot read image")
+    assert refused(tmp_path, "--memory", "0:r:file", GOOD) == (4, "cannot read file")
+    assert refused(tmp_path, "--registers", ".", GOOD) == (4, "cannot read .")
+
+
+@pytest.mark.parametrize(
+    "place, size, message",
+    [
+        ("fffffffff000", 4097, "bytes end past address 2^48"),
+        ("ffffffffffffffff", 1, "bytes end past address 2^48"),
+        ("1000", 256 * 4096 + 1, "too many bytes"),
+        ("1001", 256 * 4096, "bytes take too many pages"),
+    ],
+)
+def test_memory(tmp_path: pathlib.Path, place: str, size: int, message: str) -> None:
+    (tmp_path / "file").write_bytes(bytes(size))
+    assert refused(tmp_path, "--memory", f"{place}:rw:file") == (4, f"file: {message}")
+
+
+def test_the_most_memory(tmp_path: pathlib.Path) -> None:
+    """All 256 pages of a user, the last one of which ends where addresses do."""
+    (tmp_path / "file").write_bytes(bytes(255 * 4096))
+    (tmp_path / "page").write_bytes(bytes(4096))
+    ran = record(tmp_path, "--memory", "0:x:file", "--memory", "fffffffff000:r:page")
+    assert ran.counts == "fault cause=2 pc=0000000000000000 value=0000000000000000 0 0\n"
+
+
+@pytest.mark.parametrize(
+    "text, message",
+    [
+        ("x0 1", NO_LINE.format(1)),
+        ("x32 1", NO_LINE.format(1)),
+        ("x1 1\nx2\n", NO_LINE.format(2)),
+        ("x1 1 2", NO_LINE.format(1)),
+        ("x1 g", NO_LINE.format(1)),
+        ("x1 10000000000000000", NO_LINE.format(1)),
+        ("v1 00", NO_LINE.format(1)),
+        ("pc 2", NO_LINE.format(1)),
+        ("vstart 100", NO_LINE.format(1)),
+        ("vxrm 4", NO_LINE.format(1)),
+        ("vxsat 2", NO_LINE.format(1)),
+        ("\nvtype 100", NO_LINE.format(2)),
+        ("vl 1", "vl is no length of vtype"),
+        ("vtype 18\nvl 5", "vl is no length of vtype"),
+        ("vtype 8000000000000000\nvl 1", "vl is no length of vtype"),
+        pytest.param("x1 1\n" * 14000, "too many bytes", id="long"),
+    ],
+)
+def test_registers(tmp_path: pathlib.Path, text: str, message: str) -> None:
+    (tmp_path / "file").write_text(text, "ascii")
+    assert refused(tmp_path, "--registers", "file") == (4, f"file: {message}")
+
+
+def test_counts_that_can_not_be_written(tmp_path: pathlib.Path) -> None:
+    """A folder isn't written, and a device takes nothing; nothing runs without the file."""
+    for path, output in (("/", b""), ("/dev/full", record(tmp_path, GOOD).stdout)):
+        command = [str(built_recorder()), "--counts", path, str(GOOD)]
+        ran = subprocess.run(command, capture_output=True, check=False)
+        assert (ran.returncode, ran.stderr.decode()) == (5, f"vecmon-record: cannot write {path}\n")
+        assert ran.stdout == output
+
+
+def test_output_that_can_not_be_written(tmp_path: pathlib.Path) -> None:
+    with open("/dev/full", "wb") as full:
+        command = [str(built_recorder()), "--counts", "counts", str(GOOD)]
+        ran = subprocess.run(command, cwd=tmp_path, stdout=full, stderr=subprocess.PIPE, check=False)
+    assert (ran.returncode, ran.stderr.decode()) == (5, "vecmon-record: cannot write output\n")
+
+
+def test_there_is_no_memory(tmp_path: pathlib.Path) -> None:
+    """With 8 MB of addresses there is no room for the rows."""
+    command = f"ulimit -v 8000; exec {built_recorder()} --counts counts {GOOD}"
+    ran = subprocess.run(["sh", "-c", command], cwd=tmp_path, capture_output=True, check=False)
+    assert (ran.returncode, ran.stderr.decode()) == (6, "vecmon-record: out of memory\n")
+    assert not os.path.exists(tmp_path / "counts")
