@@ -30,19 +30,19 @@ use std::io;
 
 /// Sorts the rows, and writes them as the counts of a run that ended so and stands there.
 fn write_counts<C: Sink>(
-    record: &mut C,
+    file: &mut C,
     rows: &mut [Row],
     pc: u64,
     end: Option<StepEnd>,
 ) -> Result<(), DeviceFault>
     ensures same { IsPermutation rows.old rows.new }
-    ensures text { OnOk result (C.took record.old (flat_map row_line rows.new ++ last_line pc end
+    ensures text { OnOk result (C.took file.old (flat_map row_line rows.new ++ last_line pc end
         (total (λ sums. sums.times) is_word rows.new % 2 ^ 64)
-        (total (λ sums. sums.ticks) is_word rows.new % 2 ^ 64)) record.new) }
+        (total (λ sums. sums.ticks) is_word rows.new % 2 ^ 64)) file.new) }
 {
     sort_rows(&mut *rows);
-    write_rows(record, &*rows)?;
-    write_last(record, pc, end, &totals(rows))
+    write_rows(file, &*rows)?;
+    write_last(file, pc, end, &totals(rows))
 }
 
 /// Carries out a run, and keeps its counts in the file at a path, if there is one.

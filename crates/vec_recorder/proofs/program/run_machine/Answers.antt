@@ -13,7 +13,7 @@ returns-clause-counts g c =
     let counts = counted (ran c.args.ticks s).found c.args.rows.now c.count.new.rows c.write_counts.new.rows c.requires c.in_ok-end.ensures.rows c.write_counts.ensures.same in
     rw c.in-Some.is (record {
       before = c.in-Ok.record;
-      after = c.write_counts.new.record;
+      after = c.write_counts.new.file;
       made = c.in-Ok.ensures;
       says = record {
         rows = c.write_counts.new.rows;
