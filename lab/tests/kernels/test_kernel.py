@@ -4,6 +4,7 @@ import array
 import asyncio
 import pathlib
 import re
+import signal
 import subprocess
 import sys
 from collections.abc import Iterator
@@ -15,6 +16,7 @@ import vecmon_lab
 from support.places import EXAMPLES, SQUARES_DWARF5, TOP
 from vecmon_lab import CallStopped, Kernel, LabError, Placed, PoliciesDiffer
 from vecmon_lab.compilers.compiler import Compiler
+from vecmon_lab.guest.guest import Guest
 from vecmon_lab.kernels import kernel as kernels
 
 SOURCE = """
@@ -136,6 +138,14 @@ def test_each_call_begins_anew(kernel: Kernel, monkeypatch: pytest.MonkeyPatch) 
         assert kernel.call("counts").value == 0x31
         processes.add(kernel._guest.session.process)
     assert 1 < len(processes) < 20
+
+
+def test_an_interrupt(kernel: Kernel) -> None:
+    with pytest.MonkeyPatch.context() as patch:
+        patch.setattr(Guest, "_slices", lambda *_: signal.raise_signal(signal.SIGINT))
+        with pytest.raises(KeyboardInterrupt):
+            kernel.call("stays")
+    assert kernel.call("counts").value == 0x31
 
 
 def test_output(kernel: Kernel) -> None:

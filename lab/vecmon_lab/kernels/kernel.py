@@ -113,6 +113,7 @@ class Kernel:
         if "__global_pointer$" in self._symbols.addresses:
             self._begin.append(f"set x3 {self._symbols.addresses['__global_pointer$']:x}")
         self._guest = self._opened()
+        self._is_stopped = True  # and not left by an interrupt where it may run
 
     def __enter__(self) -> "Kernel":
         return self
@@ -160,10 +161,10 @@ class Kernel:
         self, symbol: str, policy: str, lines: Sequence[str], places: Sequence[_Place], ticks: int, counted: bool
     ) -> tuple[_Left, Counts | None]:
         """What a call leaves under a policy, and what was counted."""
-        if self._guest.session.size > RENEWED_BYTES:
+        if self._guest.session.size > RENEWED_BYTES or not self._is_stopped:
             self.close()
             self._guest = self._opened()
-        guest = self._guest
+        guest, self._is_stopped = self._guest, False
         before = [*self._begin, f"policy {policy}", *lines, f"setpc {self._symbols.addresses[symbol]:x}"]
         looks = ["regs", *(look for place in places for look in _looks(place)), "out"]
         answers = guest.ask(*before, *([] if counted else [f"step {MOST_STEPS}", *looks]))
@@ -177,6 +178,7 @@ class Kernel:
             counts, stop = count(guest, ticks) if counted else (None, guest.go(ticks))
             output += guest.output()
             found = guest.ask(*looks[:-1])
+        self._is_stopped = True
         if stop is None or stop.pc != RETURN:
             raise self._stopped(symbol if policy == "keep" else f"{symbol} under {policy}", stop, places)
         (registers,) = (each for each in found if isinstance(each, ScalarRegisters))
