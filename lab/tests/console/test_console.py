@@ -410,6 +410,15 @@ def test_no_number_is_broken(width: int, digits: int) -> None:
     assert max(map(len, memory_rows(Memory(0x7FFFEFC0, bytes(40)), width))) <= width
 
 
+@pytest.mark.parametrize("columns, rooms", [(12, (2, 1, 1, 1)), (38, (8, 4, 2, 2)), (120, (16, 8, 8, 4))])
+def test_elements_in_a_row(monkeypatch: pytest.MonkeyPatch, columns: int, rooms: tuple[int, ...]) -> None:
+    """The name and four columns stand before elements of so many bits, which have a digit for four and a space."""
+    monkeypatch.setattr(Screen, "columns", columns)
+    for width, room in zip((8, 16, 32, 64), rooms):
+        rows = [*Screen(False).element_rows(VectorRegister(8, width, bytes(32)), ControlRegisters(), None)]
+        assert {len(row.removeprefix("v8").split()) for row in rows} == {min(room, 256 // width)}
+
+
 def test_rows_that_a_terminal_has_no_room_for(
     monkeypatch: pytest.MonkeyPatch, capsys: pytest.CaptureFixture[str]
 ) -> None:

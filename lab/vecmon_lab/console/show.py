@@ -66,7 +66,8 @@ class Screen:
         name, group = f"v{register.number}", max(1, int(Fraction(register.width, control.sew) * control.lmul))
         first = register.number % group * len(values)
         texts = [self.paint(value, _lie(first + place, control, mask)) for place, value in enumerate(values)]
-        room = 1 << (min(ELEMENTS_WIDTH, self.width - 4) // (register.width // 4 + 1)).bit_length() - 1
+        most = max(1, min(ELEMENTS_WIDTH, self.width - 4) // (register.width // 4 + 1))
+        room = 1 << most.bit_length() - 1
         for row in range(0, len(texts), room):
             yield f"{'' if row else name:3} {' '.join(texts[row : row + room])}"
 
