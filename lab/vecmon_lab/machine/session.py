@@ -401,11 +401,10 @@ class Session(contextlib.AbstractContextManager["Session"]):
         began = time.monotonic()
         try:
             answers = self._answers_to(lines)
-            for line, answer in zip(lines, answers):
-                if not is_look(line):
-                    self._record(line, answer)
-                    self._spend(began)
-                    began = time.monotonic()
+            done = [(line, "\n".join(answer)) for line, answer in zip(lines, answers) if not is_look(line)]
+            if done:
+                self._record(*zip(*done))
+                self._spend(began)
         except BaseException:
             self.close()
             raise
@@ -511,10 +510,12 @@ class Session(contextlib.AbstractContextManager["Session"]):
         seconds = time.monotonic() - began
         self.spent, self.total = self.spent + seconds, self.total + seconds
 
-    def _record(self, line: str, answer: Sequence[str]) -> None:
-        """Adds a line to the script, and takes up its answer."""
-        self._take_up([line], ["\n".join(answer)])
-        self._script += line.encode("ascii") + b"\n"  # each line there has its mark, also for a spare's thread
+    def _record(self, lines: Sequence[str], answers: Sequence[str]) -> None:
+        """Adds lines to the script, and takes up their answers."""
+        self._take_up(lines, answers)
+        self._script += "\n".join([*lines, ""]).encode(
+            "ascii"
+        )  # each line there has its mark, also for a spare's thread
 
     def _take_up(self, lines: Sequence[str], answers: Sequence[str]) -> None:
         """Adds answers to the digest; follows the policies of their lines' users."""
