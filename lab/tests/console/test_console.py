@@ -87,9 +87,11 @@ def test_a_fault_and_how_to_go_on() -> None:
 
 def test_arguments_of_an_image(program: pathlib.Path, tmp_path: pathlib.Path) -> None:
     make_image(program, tmp_path / "image", ARGUMENTS)
-    told = shown(["run", "load", "run"], tmp_path / "image", "one", "--help")
-    assert told[1:4] == ["image", "one", "--help"] and told.count("--help") == 2
+    told = shown(["run", "2 enter", "2 load image", "load", "step", "run"], tmp_path / "image", "x" * 40, "--help")
+    assert told[1:4] == ["image", "x" * 40, "--help"] and told.count("--help") == 2
     assert sum(line.startswith("The program has ended with status 3, ") for line in told) == 2
+    step = told.index("   10000  ld x8, 0(x2)")
+    assert told[step + 1 : step + 3] == ["      x8/s0=3", "=> 10004  addi x9, x2, 8"]
     run = carried_out([], STRIP_MINED, "one")
     assert (run.returncode, run.stderr) == (2, b"vecmon-lab: words and an input are for an image alone\n")
 

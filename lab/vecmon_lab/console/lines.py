@@ -174,6 +174,8 @@ class Console:
         line = " ".join(words if has_user else [str(self._guest.user), *words])
         lines = self._guest.session.do(line)
         answer = read(lines)
+        if isinstance(answer, Loaded) and line[0] == str(self._guest.user):
+            self._guest.ask(*self._guest.laid)
         if not is_look(line):
             self._look()
             self._keep_conditions()
@@ -182,7 +184,6 @@ class Console:
         else:
             self._screen.say(*lines if has_user else self._shown(answer, lines))
         if isinstance(answer, Loaded):
-            self._guest.ask(*self._guest.laid)
             self._symbols, self._source = self._image_symbols, None
         if words[0] in ("load", "setpc"):
             self.tell_place()

@@ -94,20 +94,21 @@ def change_text(change: Change) -> str:
 
 def change_rows(texts: Iterable[str], width: int) -> Iterator[str]:
     """Changes in rows of so many characters; where one is too long for a row, it is divided between its numbers."""
-    row = ""
-    for text in texts:
-        pieces = [text] if len(text) <= width - 8 else _pieces(text, width - 8)
-        for piece, gap in zip(pieces, ["  ", *[""] * len(pieces)]):
-            if row and len(row) + len(gap + piece) > width:
-                yield row
-                row = f"        {piece}"
-            else:
-                row += gap + piece if row else f"      {piece}"
+    pieces = [(number, piece) for text in texts for number, piece in enumerate(_pieces(text, width - 8))]
+    row = " " * 4
+    for number, piece in pieces:
+        if not row.isspace() and len(row) + len(piece) + 2 * (number == 0) > width:
+            yield row
+            row = " " * 8 + piece
+        else:
+            row += piece if number else f"  {piece}"
     yield row
 
 
 def _pieces(text: str, most: int) -> list[str]:
     """A change in pieces, of so many characters at most, that end behind a number or a name, or a byte's digits."""
+    if len(text) <= most:
+        return [text]
     if "," in text:
         return re.findall("[^,=]+[,=]?", text)
     name, _, digits = text.partition("=")
