@@ -316,7 +316,6 @@ def test_an_answer_in_c(echo: Echo, walled_clang: Compiler, change: tuple[str, s
     assert told.startswith(reason) if reason else not told
 
 
-@pytest.mark.by_command("grade")
 def test_no_c_is_graded_without_a_compiler_and_a_wall(
     lab: Lab, tmp_path: pathlib.Path, monkeypatch: pytest.MonkeyPatch, walled_clang: Compiler
 ) -> None:
