@@ -1,5 +1,5 @@
 //! The files of images.
-ghost use Rattle.std.specs.Prelude.{◌≡◌, ◌⊎◌, IfErr, IfOk, map};
+ghost use Rattle.std.specs.Prelude.{◌≡◌, ◌≤◌, ◌⊎◌, IfErr, IfOk, length, map};
 ghost use Rattle.std.specs.List.{AllZip, Any};
 ghost use Rattle.monitor_machine.specs.Images.{named_images};
 ghost use Rattle.vec_monitor.specs.ImageFiles.{named_file, IsFileOf};
@@ -29,6 +29,7 @@ fn read_image<'a, I: Inputs, A: Allocator>(
     image: ImagePath<'a>,
 ) -> Result<ImageFile<'a, A>, ProgramFault<'a>>
     ensures file { IfOk result (IsFileOf (I.file_bytes inputs.now) image.entry) }
+    ensures most { IfOk result (λ file. length file.bytes.items ≤ 4194305) }
     ensures refused { IfErr result (λ fault. (fault ≡ NoMemory) ⊎ (fault ≡ ImageRead image.entry.name)) }
 {
     match read_file(inputs, alloc, image.path, MOST_READ) {
