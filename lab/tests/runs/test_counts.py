@@ -8,10 +8,13 @@ import pytest
 from support.images import make_image
 from support.places import SUM
 from support.sources import CHANGES
-from vecmon_lab.guest.guest import started
+from vecmon_lab import LabError
+from vecmon_lab.guest.changes import Stepper
+from vecmon_lab.guest.guest import Guest, started
 from vecmon_lab.machine.answers import ControlRegisters
+from vecmon_lab.machine.recorder import Beginning
 from vecmon_lab.machine.session import Session
-from vecmon_lab.runs.counts import Place, count, elements_of
+from vecmon_lab.runs.counts import beginning_at, beginning_of, count, elements_of, ticks_of
 
 TYPES = {"e8 m1": 0, "e8 mf2": 7, "e16 m1": 8, "e32 m1": 16, "e32 m2": 17, "e64 m8": 27}
 
@@ -65,27 +68,67 @@ def _word(session: Session, text: str) -> int:
 
 
 def test_ticks_are_those_of_slices(program: pathlib.Path, tmp_path: pathlib.Path) -> None:
-    """A slice of one tick is granted as often as ticks are counted."""
+    """A slice of one tick is granted as often as ticks are counted, and as often as the steps of a trace take them."""
     source = re.sub(r"vse32.v v10.*", "li a7, 93\n        ecall", re.sub(r"\|.*", "", CHANGES))
     make_image(program, tmp_path / "rows", source)
     for image in (SUM, tmp_path / "rows"):
         with started(image, quantum=1) as guest:
             guest.go()
-        with started(image) as stepped:
-            counts, stop = count(stepped)
-            assert stop is not None and stop.kind == "exit"
-            assert counts.ticks == guest.ticks
+        counts = count(Beginning(image))
+        assert counts.stop is not None and counts.stop.kind == "exit"
+        assert counts.ticks == guest.ticks == _ticks_of_steps(image)
+
+
+def _ticks_of_steps(image: pathlib.Path) -> int:
+    """The ticks of all steps to a stop, without those of the last one that stops at an ebreak or a fault."""
+    ticks = 0
+    with started(image) as guest:
+        stepper = Stepper(guest)
+        while True:
+            control, v0 = stepper.registers.control, bytes(stepper.registers.v[:32])
+            carried = stepper.step()
+            ticks += ticks_of(carried.word, control, v0, stepper.registers.control.vl)
+            if carried.stop:
+                return ticks
 
 
 def test_counts_of_a_program() -> None:
     """250 instructions are what QEMU 7.2 carries out, too. The loop at 1123c has 6 strips of 16 and one of 4."""
-    with started(SUM) as guest:
-        counts, _ = count(guest)
-    assert sum(place.times for place in counts.places.values()) == 250
-    assert counts.places[0x11240] == Place("vle32.v v10, (x11)", times=7, ticks=100, elements=(100, 0, 12))
-    assert counts.places[0x11248] == Place("vadd.vv v8, v8, v10", times=7, ticks=7, elements=(100, 0, 12))
-    assert counts.places[0x111E0] == Place("vs2r.v v16, (x11)", times=6, ticks=384, elements=(384, 0, 0))
-    assert counts.places[0x1124C] == Place("sub x10, x10, x12", times=7, ticks=7)
+    counts = count(beginning_of(SUM, ["sum"]))
+    places = {
+        place.address: (counts.texts[place.word], place.times, place.ticks, *place.elements) for place in counts.places
+    }
+    assert sum(place.times for place in counts.places) == counts.instructions == 250
+    assert places[0x11240] == ("vle32.v v10, (x11)", 7, 100, 100, 0, 12)
+    assert places[0x11248] == ("vadd.vv v8, v8, v10", 7, 7, 100, 0, 12)
+    assert places[0x111E0] == ("vs2r.v v16, (x11)", 6, 384, 384, 0, 0)
+    assert places[0x1124C] == ("sub x10, x10, x12", 7, 7, 0, 0, 0)
     assert counts.ticks == 250 + 93 + 378
     assert counts.lengths["e32,m2,ta,ma", 4] == counts.lengths["e32,m2,tu,ma", 4] == 1
     assert counts.lengths["e64,m4,ta,ma", 16] == 13 and counts.lengths.total() == 43
+
+
+def test_a_run_that_begins_where_a_guest_stands(session: Session) -> None:
+    """Three elements of eight are added under a mask of 5, of which 4 is left: what was set before is there."""
+    guest, lines = Guest(session), ["1 enter", "1 map 10000 1 rx", "1 asm 10000 vadd.vi v8, v8, 1, v0.t"]
+    lines += ["1 asm 10004 ebreak", "1 asm 10008 vsetivli x0, 3, e32, m1, ta, ma", "1 setpc 10008", "1 step 1"]
+    lines += ["1 vset v0 " + "05" + "00" * 31, "1 setpc 10000", "1 policy ones"]
+    session.do_all(lines)
+    counts = count(beginning_at(guest, lines))
+    assert [(place.address, place.times, list(place.elements)) for place in counts.places] == [(0x10000, 1, [2, 1, 5])]
+    assert counts.lengths == {("e32,m1,ta,ma", 3): 1} and counts.stop and counts.stop.kind == "ebreak"
+
+
+def test_what_faults_at_once_has_no_place(program: pathlib.Path, tmp_path: pathlib.Path) -> None:
+    make_image(program, tmp_path / "faults", "nop\n.word 0")
+    counts = count(Beginning(tmp_path / "faults"))
+    assert [(place.address, place.times) for place in counts.places] == [(0x10000, 1)]
+
+
+def test_a_recorder_that_is_not_there(monkeypatch: pytest.MonkeyPatch) -> None:
+    monkeypatch.setenv("VECMON_RECORD", "none")
+    with pytest.raises(LabError, match="^there is no program none; counts and runs need it, "):
+        count(Beginning(SUM))
+    monkeypatch.setenv("VECMON_RECORD", "/bin/true")
+    with pytest.raises(LabError, match="^vecmon-record tells no counts: "):
+        count(Beginning(SUM))

@@ -44,7 +44,8 @@ def test_the_table(lab: Lab) -> None:
     status, output, told = lab("profile", SUM_DWARF4)
     lines = output.decode().splitlines()
     assert (status, told, b"328350" in output) == (0, "", False)
-    assert cells(lines[0]) == " ".join(HEAD).split()
+    tables = output.decode().split("\n\n")
+    assert cells(tables[3].splitlines()[0]) == " ".join(HEAD).split()
     assert "11240 _start+0xb0 sum.c:22 vle32.v v10, (x11) 7 100 100 0 12 89 %".split() in map(cells, lines)
     assert "1124c _start+0xbc sum.c:20 sub x10, x10, x12 7 7".split() in map(cells, lines)
     assert "111e0 _start+0x50 sum.c:35 vs2r.v v16, (x11) 6 384 384 0 0 100 %".split() in map(cells, lines)
@@ -60,7 +61,12 @@ def test_a_program_without_vectors(lab: Lab, program: pathlib.Path, tmp_path: pa
     make_image(program, tmp_path / "loop", "loop: j loop")
     status, output, told = lab("profile", "--ticks", "2000", "-o", tmp_path / "page.html", tmp_path / "loop")
     assert (status, told) == (124, "")
-    assert output.decode().splitlines()[1].split() == "10000 jal x0, 0 2000 2000".split()
+    tables = [[line.split() for line in table.splitlines()] for table in output.decode().split("\n\n")]
+    assert [table[1] for table in tables[:3]] == [
+        "10000 10000 2000 2000 2000 100 %".split(),
+        "10000 0 2000 2000 100 %".split(),
+        "10000 jal x0, 0 2000 2000".split(),
+    ]
     assert output.decode().splitlines()[-1] == "2,000 instructions in 2,000 ticks; the ticks ran out at 10000"
 
 
@@ -81,6 +87,62 @@ def test_the_csv_file(lab: Lab, program: pathlib.Path, tmp_path: pathlib.Path) -
     assert rows[5] == ["10010", "", "", "addi x5, x5, -1", "20", "20", "", "", "", ""]
 
 
+CALLS = f"""
+# Twice a function of 3 + 4 x 2 instructions, of which the loop has 8, and once one that calls it 3 times.
+        jal ra, short
+        jal ra, short
+        jal ra, long
+        li a0, 0
+        {EXIT}
+short:  li t1, 4
+again:  addi t1, t1, -1
+        bnez t1, again
+        mv t2, t1
+        ret
+long:   mv s0, ra
+        li s1, 3
+twice:  jal ra, short
+        addi s1, s1, -1
+        bnez s1, twice
+        mv ra, s0
+        ret
+"""
+
+
+def test_loops_functions_and_calls(lab: Lab, program: pathlib.Path, tmp_path: pathlib.Path) -> None:
+    """Without symbols a function begins where a call leads. `short` has 5 times 11 of 74 instructions."""
+    make_image(program, tmp_path / "calls", CALLS)
+    status, output, told = lab("profile", tmp_path / "calls")
+    tables = [[line.split() for line in table.splitlines()[1:]] for table in output.decode().split("\n\n")]
+    assert (status, told) == (0, "")
+    assert tables[0] == ["1001c 10020 20 40 40 54 %".split(), "10034 1003c 3 9 9 12 %".split()]
+    assert tables[1] == ["10018 5 55 55 74 %".split(), "1002c 1 13 13 18 %".split(), "10000 0 6 6 8 %".split()]
+    assert tables[2] == ["1002c 10018 3".split(), "10000 10018 2".split(), "10000 1002c 1".split()]
+
+
+def test_source_lines(lab: Lab) -> None:
+    """What the rows of a line have together, by the listing."""
+    tables = [table.splitlines() for table in lab("profile", SUM_DWARF4)[1].decode().split("\n\n")]
+    assert tables[0][1].split() == "111d4 111f4 _start+0x44 sum.c:34-35 6 54 432 60 % 672 0 0 100 %".split()
+    assert tables[0][2].split() == "1123c 11258 _start+0xac sum.c:20-23 7 56 149 21 % 200 0 24 89 %".split()
+    assert tables[1][1].split()[:5] == "_start 0 250 721 100".split()
+    assert "sum.c:22 7 100 14 % 100 0 12 89 %".split() in map(cells, tables[2])
+    assert tables[2][-1] == "and 6 more, which -o FILE.html shows"
+
+
+def test_one_beside_another(lab: Lab, program: pathlib.Path, tmp_path: pathlib.Path) -> None:
+    """A loop of 5 rounds in place of 20, so 30 ticks less in the one function that there is."""
+    make_image(program, tmp_path / "long", MASKED)
+    make_image(program, tmp_path / "short", MASKED.replace("li t0, 20", "li t0, 5"))
+    status, output, told = lab("profile", "--against", tmp_path / "long", tmp_path / "short")
+    lines = output.decode().splitlines()
+    assert (status, told) == (0, "") and lines[0].split() == ["function", "ticks", "against", "change"]
+    assert lines[1].split() == ["10000", "17", "47", "-30"]
+    assert lines[-4].startswith("17 instructions in 17 ticks") and lines[-2].startswith("long: 47 instructions in 47 ")
+    lines = lab("profile", "--against", SUM_DWARF4, SUM_DWARF4)[1].decode().splitlines()
+    assert lines[0].split()[0] == "source" and {line.split()[-1] for line in lines[1:11]} == {"0"}
+
+
 @pytest.mark.parametrize("scheme", ["light", "dark"])
 def test_the_page(browser: "Chrome", lab: Lab, program: pathlib.Path, tmp_path: pathlib.Path, scheme: str) -> None:
     make_image(program, tmp_path / "<b>masked", MASKED)
@@ -91,6 +153,10 @@ def test_the_page(browser: "Chrome", lab: Lab, program: pathlib.Path, tmp_path: 
     assert browser.get_log("browser") == [] and browser.execute_script(CONTRAST) == []
     assert browser.title == "Profile of <b>masked" and browser.find_elements("css selector", "h1 b") == []
     rows = browser.execute_script(TEXTS)
+    heads = browser.execute_script("return [...document.querySelectorAll('h2')].map((head) => head.textContent)")
+    assert heads[:2] == ["Loops", "Functions"]
+    loop = browser.execute_script("return document.querySelector('#parts tbody tr').innerText").split()
+    assert loop == "10010 10014 20 40 40 85 %".split()
     assert len(rows) == 10 and rows[5][:5] == ["10010", "addi x5, x5, -1", "", "20", "20"]
     assert rows[3] == ["10008", "vadd.vi v8, v8, 1, v0.t", "", "1", "1", "", "2", "1", "5", "25 %", ""]
     active, masked, tail = browser.execute_script(WIDTHS, "#rows tr:nth-child(3) .elements span")
@@ -124,4 +190,4 @@ def test_bad_input(lab: Lab, words: list[object], told: str) -> None:
 def test_statuses(lab: Lab, program: pathlib.Path, tmp_path: pathlib.Path, source: str, ends: int) -> None:
     make_image(program, tmp_path / "stops", source)
     status, output, told = lab("profile", tmp_path / "stops")
-    assert (status, told) == (ends, "") and output.startswith(b"address  place")
+    assert (status, told) == (ends, "") and output.startswith(b"function  called" if ends < 139 else b"")

@@ -11,7 +11,7 @@ import pytest
 from support.commands import Lab
 from support.images import MARCH, make_image
 from support.places import DATA, SORT, SQUARES, SQUARES_DWARF5, STOCK, SUM, TOP
-from support.sources import ARGUMENTS, FOREVER, WRITES
+from support.sources import ARGUMENTS, EXIT, FOREVER, WRITES
 from vecmon_lab.guest.changes import vtype_text
 
 QEMU = DATA / "qemu"  # what qemu-riscv64 7.2.22 of Debian 12 told
@@ -27,7 +27,7 @@ def test_stock_programs(lab: Lab) -> None:
     """As QEMU has it, which also carries out 509,200 instructions of the second one."""
     assert lab("run", SUM) == (0, b"328350\n", "")
     assert lab("run", SORT) == (42, (QEMU / "sortgcc").read_bytes(), "")
-    assert lab("run", "--policy", "ones", "--quantum", "1", SUM, "one", "two") == (0, b"328350\n", "")
+    assert lab("run", "--policy", "ones", SUM, "one", "two") == (0, b"328350\n", "")
 
 
 def test_a_fault(lab: Lab) -> None:
@@ -85,9 +85,9 @@ def test_ticks_run_out(lab: Lab, program: pathlib.Path, tmp_path: pathlib.Path) 
     make_image(program, image, FOREVER)
     told = f"vecmon-lab: {image}: the ticks ran out at 10000\n"
     assert lab("run", "--ticks", "5000000", image) == (124, b"", told)
-    assert lab("run", "--ticks", "1", "--quantum", "7", "--trace", tmp_path / "trace", image) == (124, b"", told)
+    assert lab("run", "--ticks", "7", "--trace", tmp_path / "trace", image) == (124, b"", told)
     assert (tmp_path / "trace").read_text() == "10000     -                   jal x0, 0\n" * 7
-    status, _, told = lab("run", "--ticks", "14", "--quantum", "7", "--stats", image)
+    status, _, told = lab("run", "--ticks", "14", "--stats", image)
     assert (status, told.splitlines()[0]) == (124, "14 instructions in 14 ticks")
 
 
@@ -97,6 +97,27 @@ def test_a_full_buffer(lab: Lab, program: pathlib.Path, tmp_path: pathlib.Path) 
     assert (status, output) == (124, b"1234567\n" * 5000)
     status, output, _ = lab("run", "--ticks", "1000", "--trace", tmp_path / "trace", tmp_path / "writes")
     assert (status, output) == (124, b"1234567\n" * 125)
+
+
+def test_commands_carry_out_the_same(lab: Lab, program: pathlib.Path, tmp_path: pathlib.Path) -> None:
+    """1,000 times eight instructions write seven bytes, which doesn't divide 1,024; one before that, and two behind."""
+    source = WRITES.replace("5000", "1000").replace("1234567", "123456").replace("li a2, 8", "li a2, 7")
+    make_image(program, tmp_path / "pieces", source.replace("loop:   j loop", EXIT))
+    status, output, told = lab("run", "--stats", "--trace", tmp_path / "trace", tmp_path / "pieces")
+    assert (status, output) == (7, b"123456\n" * 1000) and told.startswith("8,003 instructions in 8,003 ticks\n")
+    assert len((tmp_path / "trace").read_text().splitlines()) == 8003
+    assert lab("run", tmp_path / "pieces") == (7, output, "")
+    assert lab("profile", tmp_path / "pieces")[1].endswith(b"8,003 instructions in 8,003 ticks; status 7\n")
+
+
+def test_a_run_that_is_long(lab: Lab, program: pathlib.Path, tmp_path: pathlib.Path) -> None:
+    """Six million instructions: two that load a number, a loop of two, and two to exit."""
+    make_image(
+        program, tmp_path / "long", f"lui t0, 0x2fb\naddi t0, t0, -0x10\nloop: addi t0, t0, -1\nbnez t0, loop\n{EXIT}"
+    )
+    rounds = (0x2FB << 12) - 0x10
+    status, _, told = lab("run", "--stats", tmp_path / "long")
+    assert (status, told.splitlines()[0]) == (0, f"{4 + 2 * rounds:,} instructions in {4 + 2 * rounds:,} ticks")
 
 
 def test_arguments(lab: Lab, program: pathlib.Path, tmp_path: pathlib.Path) -> None:
@@ -121,8 +142,6 @@ def test_output_comes_while_it_runs_and_ctrl_c_ends_it(program: pathlib.Path, tm
     [
         ([], "vecmon-lab run: the following arguments are required: IMAGE; --help says more"),
         (["--ticks", "0", SUM], "vecmon-lab run: argument --ticks: 0 is no number from 1 to 9223372036854775808; "),
-        (["--quantum", "1001", SUM], "vecmon-lab run: argument --quantum: 1001 is no number from 1 to 1000; "),
-        (["--quantum", "-1", SUM], "vecmon-lab run: argument --quantum: "),
         (["--policy", "none", SUM], "vecmon-lab run: argument --policy: invalid choice: 'none' "),
         (["--dance", SUM], "vecmon-lab run: unrecognized arguments: --dance"),
         (["none"], "vecmon-lab: none: No such file or directory"),
@@ -150,6 +169,13 @@ def test_no_program(lab: Lab, monkeypatch: pytest.MonkeyPatch) -> None:
     status, output, told = lab("run", SUM)
     assert (status, output, told.count("\n")) == (2, b"", 1)
     assert told.startswith("vecmon-lab: VECMON=none is no program; ")
+
+
+def test_no_recorder(lab: Lab, monkeypatch: pytest.MonkeyPatch) -> None:
+    monkeypatch.setenv("VECMON_RECORD", "none")
+    status, output, told = lab("run", SUM)
+    assert (status, output, told.count("\n")) == (2, b"", 1)
+    assert told.startswith("vecmon-lab: there is no program none; counts and runs need it, ")
 
 
 def test_standard_output_that_is_full() -> None:

@@ -28,7 +28,6 @@ from .outcome import outcome
 
 NAME = pathlib.Path("answer")
 MOST_SHOWN, BEFORE = 48, 4  # numbers of a row; and of them before the first wrong one
-MEASURED_TICKS = 2000  # of a case: what an answer takes is told only where it ends in so many
 CPU_SECONDS = 10
 Row = TypedDict("Row", {"where": str, "first": int, "numbers": list[str], "more": int, "wrong": list[int]})
 """Numbers that stand one behind another: where, the number of the first one that is shown, how many more there are
@@ -91,9 +90,8 @@ def check(
     if all(told["cases"]) and "good" in exercise.files:
         with contextlib.suppress(LabError):  # as one in C, where there is no compiler
             good = good or _taken(program, read_answer(exercise.files["good"], is_own=True), exercise)
-        mine = _taken(program, answer, exercise)
-        if mine and good:
-            told.update({"taken": mine, "good": good})
+        if good:
+            told.update({"taken": _taken(program, answer, exercise), "good": good})
     return told
 
 
@@ -136,19 +134,19 @@ def _notes(exercise: Exercise, case: Case) -> list[str]:
     return [junk] * exercise.junk + [agnostic] * (case.policy == "ones")
 
 
-def _taken(program: pathlib.Path, answer: Answer, exercise: Exercise) -> Taken | None:
-    """What an answer takes; None where it takes too long to be counted."""
-    from ..runs.counts import count  # which is for answers that pass
+def _taken(program: pathlib.Path, answer: Answer, exercise: Exercise) -> Taken:
+    """What an answer takes that passes."""
+    from ..runs.counts import beginning_at, count  # which is for answers that pass
 
     instructions, elements = 0, [0, 0, 0]
     for case in exercise.cases:
         if not case.is_hidden:
             with ready(program, answer, exercise, case) as guest:
-                counts, stop = count(guest, MEASURED_TICKS)
-            if stop is None:
-                return None
-            instructions += sum(place.times for place in counts.places.values())
-            elements = list(map(sum, zip(elements, *(place.elements for place in counts.places.values()))))
+                lines = guest.session.script.decode("ascii").splitlines()
+                image = answer.path if answer.commands is None else None
+                counts = count(beginning_at(guest, lines, image), exercise.limits.ticks)
+            instructions += counts.instructions
+            elements = [sum(pair) for pair in zip(elements, counts.elements)]
     return {"instructions": instructions, "work": round(100 * elements[0] / max(1, sum(elements)))}
 
 

@@ -119,11 +119,11 @@ class Registers:
 class Stepper:
     """Steps a guest, and tells what each instruction changed. Whoever changes the guest otherwise calls `look` then.
 
-    registers: as they are now; where it is brief, it looks at the control registers and v0 alone
+    registers: as they are now
     """
 
-    def __init__(self, guest: Guest, is_brief: bool = False) -> None:
-        self.guest, self._is_brief = guest, is_brief
+    def __init__(self, guest: Guest) -> None:
+        self.guest = guest
         self.registers = Registers([0] * 32, ControlRegisters(), bytearray(32 * REGISTER_BYTES))
         self.look()
 
@@ -146,9 +146,7 @@ class Stepper:
         instruction = vector_instruction(word, before.control.vtype)
         targets = [operand for operand in instruction.operands if operand.noun == "destination"] if instruction else []
         looks, spans = _looks(word, targets), list[Span]()
-        if self._is_brief:
-            looks = [look for look in looks if look in ("vcsr", "vreg v0 64")]
-        elif text:
+        if text:
             spans = stored_spans(word, before.x, before.control, before.v)
         peeks = [f"peek {address:x} {length}" for address, length in spans]
         stop, answers = self.guest.step_between(peeks, looks + peeks)

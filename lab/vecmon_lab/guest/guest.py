@@ -24,9 +24,8 @@ from ..machine.answers import (
     Stop,
     read,
 )
-from ..machine.program import check_flags, find_program
+from ..machine.program import check_flags, find_program, image_refusal
 from ..machine.session import TOGETHER, Session
-from ..tables.table import read_table
 from .input import input_of
 
 IMAGE_BYTES, ARGUMENT_BYTES = 4_194_304, 8192  # of a file; of the stack's 16 KiB
@@ -81,11 +80,10 @@ class Guest:
         Without arguments nothing is written there. data: bytes that are laid in memory, by their address. Raises
         LabError where the image is refused, or they have no room.
         """
-        block = _argument_block(arguments)
+        block = argument_block(arguments)
         _, loaded, _ = self.ask("enter", f"load {image}", f"policy {policy}")  # who is there already has E06
         if not isinstance(loaded, Loaded):
-            reason = dict(read_table("image_faults")).get(str(loaded))
-            raise LabError(f"the machine refuses {image} ({loaded}): {reason}")
+            raise LabError(image_refusal(image, str(loaded)))
         self.pc = loaded.pc
         written = [command for address, part in (data or {}).items() for command in pokes(address, part)]
         place = STACK_END - len(block)
@@ -203,15 +201,21 @@ def started(
 
     Raises LabError and OSError where the image can't be read or is refused, or there is no program.
     """
-    with path.open("rb") as opened:
-        if len(opened.read(IMAGE_BYTES + 1)) > IMAGE_BYTES:
-            raise LabError(f"{path} has more than {IMAGE_BYTES:,} bytes")
+    check_image(path)
     with Session(find_program(), {"image": path}, quantum=quantum) as session:
         guest = Guest(session, write=write)
         with mistakes_in(path):
-            check_flags(path)
             guest.start("image", policy, arguments, input_of(path, file) if file else {})
         yield guest
+
+
+def check_image(path: pathlib.Path) -> None:
+    """Raises LabError and OSError where an image can't be read, is too large, or is compiled for another machine."""
+    with path.open("rb") as opened:
+        if len(opened.read(IMAGE_BYTES + 1)) > IMAGE_BYTES:
+            raise LabError(f"{path} has more than {IMAGE_BYTES:,} bytes")
+    with mistakes_in(path):
+        check_flags(path)
 
 
 def pokes(address: int, data: bytes) -> Iterator[str]:
@@ -220,7 +224,7 @@ def pokes(address: int, data: bytes) -> Iterator[str]:
         yield f"poke {address + at:x} {data[at : at + LINE_BYTES].hex()}"
 
 
-def _argument_block(arguments: Sequence[str]) -> bytes:
+def argument_block(arguments: Sequence[str]) -> bytes:
     """What the RISC-V ABI has on the stack when a program begins: how many arguments, their addresses, 0; no variables
     of an environment, 0; no auxiliary entries, 0 and 0; and the arguments, each ended by a zero byte.
 

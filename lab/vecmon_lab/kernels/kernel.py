@@ -22,7 +22,7 @@ from ..lessons.script import check_compiled
 from ..machine.answers import Memory, Output, Refused, ScalarRegisters, Stop
 from ..machine.program import find_program
 from ..machine.session import Session
-from ..runs.counts import Counts, count
+from ..runs.counts import Counts, beginning_at, count
 
 Array: TypeAlias = "bytes | bytearray | memoryview | array.array[Any]"
 
@@ -167,15 +167,16 @@ class Kernel:
         guest, self._is_stopped = self._guest, False
         before = [*self._begin, f"policy {policy}", *lines, f"setpc {self._symbols.addresses[symbol]:x}"]
         looks = ["regs", *(look for place in places for look in _looks(place)), "out"]
-        answers = guest.ask(*before, *([] if counted else [f"step {MOST_STEPS}", *looks]))
+        counts = self._counted(before, ticks) if counted else None
+        answers = guest.ask(*before, f"step {MOST_STEPS}", *looks)
         for command, answer in zip(before, answers):
             if isinstance(answer, Refused):
                 raise LabError(f"{symbol}: {command[:60]}: {refusal_in_words(f'1 {command}', answer)[-1]}")
-        found, counts = answers[len(before) :], None
+        found = answers[len(before) :]
         stop = next((each for each in found if isinstance(each, Stop) and each.kind != "outfull"), None)
         output = b"".join(each.data for each in found if isinstance(each, Output))
         if stop is None:
-            counts, stop = count(guest, ticks) if counted else (None, guest.go(ticks))
+            stop = guest.go(ticks)
             output += guest.output()
             found = guest.ask(*looks[:-1])
         self._is_stopped = True
@@ -184,6 +185,13 @@ class Kernel:
         (registers,) = (each for each in found if isinstance(each, ScalarRegisters))
         parts = iter(each.data for each in found if isinstance(each, Memory))
         return (registers.x[FIRST_ARGUMENT], [_joined(place, parts) for place in places], output), counts
+
+    def _counted(self, commands: Sequence[str], ticks: int) -> Counts:
+        """What a call carries out that begins behind these commands."""
+        guest = self._guest
+        guest.ask(*commands)
+        lines = [f"{guest.user} {command}" for command in commands]
+        return count(beginning_at(guest, lines, self._images.get("image")), ticks)
 
     def _stopped(self, what: str, stop: Stop | None, places: Sequence[_Place]) -> CallStopped:
         """Why a call didn't return; of a fault in or beside an array also where that lies."""

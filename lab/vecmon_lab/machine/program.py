@@ -1,4 +1,4 @@
-"""Where the program vecmon and its images are."""
+"""Where the programs vecmon and vecmon-record and their images are."""
 
 import os
 import pathlib
@@ -6,11 +6,18 @@ import shutil
 import subprocess
 
 from .. import LabError, mistakes_in
+from ..tables.table import read_table
 
-BUILT = pathlib.Path(__file__).resolve().parents[3] / "crates" / "vecmon" / "out" / "vecmon"
+_CRATES = pathlib.Path(__file__).resolve().parents[3] / "crates"
+BUILT, BUILT_RECORDER = _CRATES / "vecmon" / "out" / "vecmon", _CRATES / "vecmon_record" / "out" / "vecmon_record"
+RECORDER = "vecmon-record"
 HOW_TO_BUILD = (
     "it is built with its proofs by `cd crates/vecmon && rt run < stdin`, in a quarter of an hour or more, and without "
     "them by `python3 tools/unproved_build.py vecmon OUT`, in a minute or two, which VECMON=OUT then names"
+)
+HOW_TO_BUILD_RECORDER = (
+    "counts and runs need it, and it stands beside vecmon in a package; in a clone it is built by `cd crates/vecmon_record && rt "
+    "run`, or without its proofs by `python3 tools/unproved_build.py vecmon_record OUT`, which VECMON_RECORD=OUT then names"
 )
 MARCH = "-march=rv64im_zicsr_zve64x_zvl256b"
 """The compiler's word for what the machine has, as docs/COMPILING.md has it."""
@@ -19,7 +26,7 @@ _FLAGS = {1: "compressed instructions", 6: "a floating-point ABI"}  # by the bit
 
 
 class NoProgram(LabError):
-    """There is no program vecmon; the text says how to build one."""
+    """There is no program vecmon, or no vecmon-record; the text says how to build one."""
 
 
 def find_program() -> pathlib.Path:
@@ -29,6 +36,18 @@ def find_program() -> pathlib.Path:
     if found is None:
         missing = f"VECMON={named} is no program" if named else "there is no program vecmon"
         raise NoProgram(f"{missing}; {HOW_TO_BUILD}")
+    return pathlib.Path(found).absolute()
+
+
+def find_recorder() -> pathlib.Path:
+    """The recorder that the variable VECMON_RECORD names; else the one beside the program that VECMON names; else the
+    one built in this checkout; else the one on the path."""
+    named = os.environ.get("VECMON_RECORD")
+    if not named and os.environ.get("VECMON"):
+        named = str(find_program().with_name(RECORDER))
+    found = shutil.which(named) if named else shutil.which(str(BUILT_RECORDER)) or shutil.which(RECORDER)
+    if found is None:
+        raise NoProgram(f"there is no program {named or RECORDER}; {HOW_TO_BUILD_RECORDER}")
     return pathlib.Path(found).absolute()
 
 
@@ -55,6 +74,11 @@ def images_of(words: list[str]) -> dict[str, pathlib.Path]:
         with mistakes_in(f"image {name}"):
             check_flags(images[name])
     return images
+
+
+def image_refusal(name: str, code: str) -> str:
+    """What is said of an image that the machine refuses."""
+    return f"the machine refuses {name} ({code}): {dict(read_table('image_faults')).get(code)}"
 
 
 def check_flags(image: pathlib.Path) -> None:

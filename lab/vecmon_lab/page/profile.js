@@ -35,6 +35,17 @@ function show(rows, id) {
   for (const button of Object.keys(ORDERS)) byId(button).setAttribute("aria-pressed", button === id);
 }
 
+/** A table of a part: loops, functions, calls or source lines. */
+function partSection(part) {
+  const cells = (row) => row.map((cell, place) => (place < part.texts ? make("td", "", cell) : number(cell)));
+  const heads = part.head.map((text, place) => make("th", place < part.texts ? "" : "number", text));
+  const table = make("table", "");
+  table.append(make("thead", "", make("tr", "", ...heads)), make("tbody", "", ...part.rows.map((row) => make("tr", "", ...cells(row)))));
+  const section = make("section", "", make("h2", "", part.name), make("div", "scroll", table));
+  section.setAttribute("aria-label", part.name);
+  return section;
+}
+
 const data = JSON.parse(byId("data").textContent);
 const NAMES = ["address", "place", "source", "text", "times", "ticks", "active", "masked", "tail", "work"];
 const rows = data.rows.map((cells) => Object.fromEntries(cells.map((cell, place) => [NAMES[place], cell])));
@@ -42,6 +53,7 @@ const most = Math.max(...data.lengths.map(([, , times]) => times));
 
 document.querySelector("header").append(legend());
 byId("summary").append(...data.summary.map((text) => make("p", "", text)));
+byId("parts").append(...data.parts.map(partSection));
 byId("lengths").append(...data.lengths.map(([kind, vl, times]) =>
   make("tr", "", make("td", "", kind), number(`vl=${vl}`), number(times), bar("", [["ticks", times / most]]))));
 for (const id of Object.keys(ORDERS)) byId(id).addEventListener("click", () => show(rows, id));

@@ -1,15 +1,25 @@
 """How often instructions are carried out, and what vector instructions do with the elements of their groups."""
 
+import functools
+import pathlib
 import re
 from collections import Counter
-from collections.abc import Callable, Sequence
-from dataclasses import dataclass, field, replace
+from collections.abc import Callable, Iterable, Mapping, Sequence
+from dataclasses import dataclass, replace
 
-from ..guest.changes import Carried, Stepper, vtype_text
-from ..guest.guest import Guest
-from ..instructions.accesses import MASK, REGISTER_BYTES, UNIT_STRIDE, WHOLE_REGISTERS, vector_instruction
+from .. import mistakes_in
+from ..guest.changes import vtype_text
+from ..guest.guest import STACK_END, Guest, argument_block, check_image, pokes
+from ..guest.input import input_of
+from ..instructions.accesses import MASK, PAGE_BYTES, UNIT_STRIDE, WHOLE_REGISTERS, vector_instruction
 from ..instructions.words import VECTOR_ACCESSES, VectorInstruction
-from ..machine.answers import ControlRegisters, Stop
+from ..machine.answers import ControlRegisters, Listing, ScalarRegisters, Stop, VectorRegister
+from ..machine.lines import words_of
+from ..machine.program import find_program
+from ..machine.recorder import Beginning, record
+from ..machine.session import Session
+
+SHOWN_WORDS = 16  # by one `dis`
 
 
 @dataclass(frozen=True)
@@ -21,74 +31,123 @@ class Elements:
     tail: int
 
 
-@dataclass
+@dataclass(frozen=True)
 class Place:
-    """What was carried out at an address: how often, in how many ticks, and with how many elements.
+    """What was carried out at an address: the word, how often, in how many ticks, and with how many elements.
 
     elements: those that were active, that were masked off, and of the tail
     """
 
-    text: str
+    address: int
+    word: int
     times: int = 0
     ticks: int = 0
     elements: Sequence[int] = (0, 0, 0)
 
 
-@dataclass
+@dataclass(frozen=True)
 class Counts:
-    """What was carried out, by address; how many vector instructions had which vector type and vl; and all ticks."""
+    """What was carried out. An exit's call is counted; an instruction that stops the program otherwise isn't.
 
-    places: dict[int, Place] = field(default_factory=dict)
-    lengths: Counter[tuple[str, int]] = field(default_factory=Counter)
-    ticks: int = 0
+    places: by addresses in rising order, one for each word that was carried out there
+    lengths: how many vector instructions had which vector type and vl
+    calls: by the address of a jump that links or returns, and by where it led, how often
+    stop: None where the ticks ran out; pc: where the program stands
+    """
 
-    @property
-    def instructions(self) -> int:
-        """How many instructions were carried out."""
-        return sum(place.times for place in self.places.values())
+    places: Sequence[Place]
+    lengths: Counter[tuple[str, int]]
+    calls: Mapping[tuple[int, int], int]
+    instructions: int
+    ticks: int
+    stop: Stop | None
+    pc: int
 
     @property
     def elements(self) -> Sequence[int]:
         """How many elements of groups were active, were masked off, and were of the tail."""
-        return [sum(numbers) for numbers in zip((0, 0, 0), *(place.elements for place in self.places.values()))]
+        return [sum(numbers) for numbers in zip((0, 0, 0), *(place.elements for place in self.places))]
 
-    def add(self, carried: Carried, control: ControlRegisters, v0: bytes, vl: int) -> None:
-        """Counts an instruction, by the control registers and v0 before it, and vl after it."""
-        is_access = carried.word & 0x7F in VECTOR_ACCESSES
-        elements = elements_of(carried.word, replace(control, vl=vl) if is_access else control, v0)
-        place = self.places.setdefault(carried.pc, Place(carried.text))
-        ticks = 1
-        if elements:
-            self.lengths[vtype_text(control.vtype), control.vl] += 1
-            numbers = (len(elements.active), elements.masked, elements.tail)
-            place.elements = tuple(map(sum, zip(place.elements, numbers)))
-            if is_access:  # a fault-only-first load has tried one element more, where it has shortened vl
-                ticks = max(1, len(elements.active) + elements.masked + (vl < control.vl))
-        place.times += 1
-        place.ticks += ticks
-        self.ticks += ticks
+    @functools.cached_property
+    def texts(self) -> Mapping[int, str]:
+        """The text of each word, as the machine shows it."""
+        words = sorted({place.word for place in self.places})
+        with Session(find_program()) as session:
+            guest = Guest(session)
+            guest.ask("enter", "map 0 1 rw")
+            texts = dict[int, str]()
+            for at in range(0, len(words), PAGE_BYTES // 4):
+                page = words[at : at + PAGE_BYTES // 4]
+                data = b"".join(word.to_bytes(4, "little") for word in page)
+                looks = (f"dis {address:x} {SHOWN_WORDS}" for address in range(0, len(data), 4 * SHOWN_WORDS))
+                answers = guest.ask(*pokes(0, data), *looks)
+                texts |= {it.word: it.text for each in answers if isinstance(each, Listing) for it in each.words}
+        return texts
 
 
-def count(
-    guest: Guest, ticks: int | None = None, tell: Callable[[Carried], object] | None = None
-) -> tuple[Counts, Stop | None]:
-    """Steps a program to a stop, or until so many ticks, rounded up to slices, have run out; what was carried out.
+def beginning_of(
+    image: pathlib.Path, arguments: Sequence[str], file: pathlib.Path | None = None, policy: str = "keep"
+) -> Beginning:
+    """What a run of an image begins with, with arguments, the first of them its name; file: its input.
 
-    An exit's ecall is counted; an instruction that stops the program otherwise isn't. `tell` is given each instruction
-    with its changes, also the one that stops. Without it the words of a program that writes over them are counted by
-    the texts that were there first.
+    Raises LabError and OSError where the image can't be read or isn't for this machine, or these have no room.
     """
-    counts, stepper = Counts(), Stepper(guest, is_brief=tell is None)
-    while ticks is None or counts.ticks < -(-ticks // guest.session.quantum) * guest.session.quantum:
-        control, v0 = stepper.registers.control, bytes(stepper.registers.v[:REGISTER_BYTES])
-        carried = stepper.step()
-        if tell:
-            tell(carried)
-        if carried.stop is None or carried.stop.kind == "exit":
-            counts.add(carried, control, v0, stepper.registers.control.vl)
-        if carried.stop:
-            return counts, carried.stop
-    return counts, None
+    check_image(image)
+    with mistakes_in(image):
+        block, given = argument_block(arguments), input_of(image, file) if file else {}
+    laid = {**given, STACK_END - len(block): block}
+    memory = [(address, "rw", data) for address, data in laid.items()]
+    return Beginning(image, memory, [f"x2 {STACK_END - len(block):x}"], policy)
+
+
+def beginning_at(guest: Guest, lines: Iterable[str], image: pathlib.Path | None = None) -> Beginning:
+    """What a run begins with where a guest stands, whom these lines of a script have brought there since it entered.
+
+    image: the one that they loaded, if any, whose other pages nothing has written to
+    """
+    pages, policy = dict[int, str](), "keep"
+    for line in lines:
+        match words_of(line):
+            case ["map", address, number, permissions]:
+                first = int(address, 16)
+                pages |= dict.fromkeys(range(first, first + int(number) * PAGE_BYTES, PAGE_BYTES), permissions)
+            case ["poke" | "asm" as command, address, text, *_]:
+                first, length = int(address, 16), len(text) // 2 if command == "poke" else 4
+                for page in range(first // PAGE_BYTES * PAGE_BYTES, first + length, PAGE_BYTES):
+                    pages.setdefault(page, "rw")
+            case ["policy", policy]:
+                pass
+    control, scalars = guest.told("vcsr", ControlRegisters), guest.told("regs", ScalarRegisters)
+    vectors = guest.ask(*(f"vreg v{number} 64" for number in range(32)))
+    registers = [f"pc {scalars.pc:x}", *(f"{name} {value:x}" for name, value in vars(control).items())]
+    registers += [f"x{number} {scalars.x[number]:x}" for number in range(1, 32)]
+    registers += [f"v{it.number} {it.data.hex()}" for it in vectors if isinstance(it, VectorRegister)]
+    memory = [(page, permissions, guest.peek(page, PAGE_BYTES)) for page, permissions in pages.items()]
+    return Beginning(image, memory, registers, policy)
+
+
+def count(beginning: Beginning, ticks: int | None = None, write: Callable[[bytes], object] | None = None) -> Counts:
+    """What a run carries out to a stop, or until so many ticks have run out. `write` is given its output.
+
+    Raises LabError where there is no recorder, or it refuses what the run begins with.
+    """
+    done = record(beginning, ticks, write)
+    carried_out = [
+        (key, numbers) for key, numbers in sorted(done.words.items()) if numbers[0]
+    ]  # not what faults at once
+    places = [Place(*key, times, used, rest) for key, (times, used, *rest) in carried_out]
+    lengths = Counter({(vtype_text(vtype), vl): times for (vtype, vl), times in done.lengths.items()})
+    stop = done.end if isinstance(done.end, Stop) else None
+    return Counts(places, lengths, done.calls, done.instructions, done.ticks, stop, done.end.pc)
+
+
+def ticks_of(word: int, before: ControlRegisters, v0: bytes, vl: int) -> int:
+    """How many ticks an instruction takes, by the control registers and v0 before it, and vl after it."""
+    if word & 0x7F not in VECTOR_ACCESSES:
+        return 1
+    elements = elements_of(word, replace(before, vl=vl), v0)
+    # a fault-only-first load has tried one element more, where it has shortened vl
+    return max(1, len(elements.active) + elements.masked + (vl < before.vl)) if elements else 1
 
 
 def elements_of(word: int, control: ControlRegisters, v0: bytes) -> Elements | None:

@@ -1,70 +1,82 @@
-"""Where an image spends its instructions, and what it makes of its vectors' elements: a table, a CSV file, a page."""
+"""Where an image spends its ticks, and what it makes of its vectors' elements: tables, a CSV file, a page."""
 
 import argparse
 import csv
 import pathlib
 import sys
-from collections.abc import Iterator, Sequence
+from collections.abc import Iterator
 
 from .. import LabError
 from ..arguments import add_image, check_output
-from ..guest.guest import started
 from ..guest.symbols import Symbols
 from ..page.pages import lone_page
 from ..tables.table import table_lines
-from .counts import Counts, count
-from .run import status_of
+from .counts import Counts
+from .parts import ELEMENTS, Part, Row, Spent, compared, elements_row, share
+from .run import counted, status_of, told
 
-HEAD = ("address", "place", "source", "instruction", "times", "ticks", "active", "masked off", "tail", "work")
-Row = Sequence[str | int]
-"""The columns of HEAD. Work is the share of the elements of its groups that were active; these are "" without any."""
+HEAD = ("address", "place", "source", "instruction", "times", "ticks", *ELEMENTS)
+SHOWN_ROWS = 10  # of a part, in a terminal
 
 
 def add_arguments(parser: argparse.ArgumentParser) -> None:
     """The words of `vecmon-lab profile`."""
     add_image(parser)
     parser.add_argument("-o", dest="page", metavar="FILE.html", type=pathlib.Path, help="a page, and FILE.csv")
+    help_ = "another image, as one of an earlier source, which runs with the same words: which lines got cheaper"
+    parser.add_argument("--against", metavar="IMAGE", type=pathlib.Path, help=help_)
 
 
 def run(arguments: argparse.Namespace) -> int:
-    """Prints the table, and writes the page and the CSV file; 0, or what `run` has where the program didn't exit.
+    """Prints the tables, and writes the page and the CSV file; 0, or what `run` has where the program didn't exit.
 
     Raises LabError and OSError for bad input.
     """
-    image, page = arguments.image, arguments.page
+    image, page, other = arguments.image, arguments.page, arguments.against
     if page and page.suffix != ".html":
         raise LabError(f"-o names a page, FILE.html, and {page} is none")
     for output in (page, page and page.with_suffix(".csv")):
-        check_output(output, image, *filter(None, [arguments.input]))
-    symbols = Symbols.read(image)
-    if symbols.trouble:
-        print(f"vecmon-lab: {symbols.trouble}", file=sys.stderr)
-    with started(image, arguments=[image.name, *arguments.words], file=arguments.input) as guest:
-        counts, stop = count(guest, arguments.ticks)
-        end = f"status {stop.number}" if stop and stop.kind == "exit" else guest.tell(stop, symbols.place(guest.pc))
+        check_output(output, image, *filter(None, [arguments.input, other]))
+    counts, symbols, spent, summary = _profiled(arguments, image)
+    parts = [part for part in spent.parts() if part.rows]
+    if other:
+        _, _, theirs, more = _profiled(arguments, other)
+        parts.insert(0, compared(spent, theirs))
+        summary += [f"{other.name}: {line}" for line in more]
     rows = [*_rows(counts, symbols)]
-    summary = [*summary_of(counts, end)]
-    print("\n".join([*table_lines([HEAD, *rows], 4), "", *_histogram(counts), "", *summary]))
+    tables = [line for part in parts for line in (*_shown(part), "")]
+    print("\n".join([*tables, *table_lines([HEAD, *rows], 4), "", *_histogram(counts), "", *summary]))
     if page:
         with page.with_suffix(".csv").open("w", newline="", encoding="utf-8") as file:
             csv.writer(file).writerows([HEAD, *rows])
         lengths = [(kind, vl, times) for (kind, vl), times in sorted(counts.lengths.items())]
-        data = {"summary": summary, "rows": rows, "lengths": lengths}
+        data = {"summary": summary, "parts": [vars(part) for part in parts], "rows": rows, "lengths": lengths}
         page.write_text(lone_page("profile", f"Profile of {image.name}", data), "utf-8")
-    return status_of(stop)
+    return status_of(counts.stop)
+
+
+def _profiled(arguments: argparse.Namespace, image: pathlib.Path) -> tuple[Counts, Symbols, Spent, list[str]]:
+    """The counts of an image's run, its symbols, where its ticks were spent, and all that in sentences."""
+    words = argparse.Namespace(**{**vars(arguments), "image": image})
+    symbols, counts = Symbols.read(image), counted(words)
+    if symbols.trouble:
+        print(f"vecmon-lab: {symbols.trouble}", file=sys.stderr)
+    entry = int.from_bytes(image.read_bytes()[24:32], "little")  # e_entry
+    return counts, symbols, Spent(counts, symbols, entry), [*summary_of(counts, told(words, counts, symbols))]
 
 
 def _rows(counts: Counts, symbols: Symbols) -> Iterator[Row]:
-    """A row for each address that was carried out, in rising order."""
-    for address, place in sorted(counts.places.items()):
-        where: Row = [f"{address:x}", symbols.place(address), symbols.line(address), place.text]
-        elements: Row = [*place.elements, _share(place.elements)] if sum(place.elements) else [""] * 4
-        yield [*where, place.times, place.ticks, *elements]
+    """A row for each instruction that was carried out, by addresses in rising order."""
+    for place in counts.places:
+        where = (f"{place.address:x}", symbols.place(place.address), symbols.line(place.address))
+        yield [*where, counts.texts[place.word], place.times, place.ticks, *elements_row(place.elements)]
 
 
-def _share(elements: Sequence[int]) -> str:
-    """How many of a hundred elements were active, the first of these."""
-    return f"{100 * elements[0] / sum(elements):.0f} %"
+def _shown(part: Part) -> Iterator[str]:
+    """The first rows of a part."""
+    yield from table_lines([part.head, *part.rows[:SHOWN_ROWS]], part.texts)
+    if len(part.rows) > SHOWN_ROWS:
+        yield f"and {len(part.rows) - SHOWN_ROWS:,} more, which -o FILE.html shows"
 
 
 def summary_of(counts: Counts, end: str) -> Iterator[str]:
@@ -73,7 +85,8 @@ def summary_of(counts: Counts, end: str) -> Iterator[str]:
     yield f"{counts.instructions:,} instructions in {counts.ticks:,} ticks; {end}"
     if sum(elements):
         kinds = "{:,} elements {:,} were active, {:,} masked off and {:,} in the tail".format(sum(elements), *elements)
-        yield f"{counts.lengths.total():,} vector instructions: of their {kinds}; {_share(elements)} did work"
+        work = share(elements[0], sum(elements))
+        yield f"{counts.lengths.total():,} vector instructions: of their {kinds}; {work} did work"
 
 
 def _histogram(counts: Counts) -> Iterator[str]:

@@ -1,0 +1,149 @@
+"""The program vecmon-record, which carries out a run of one user alone: what it is given, and what it has counted."""
+
+import contextlib
+import io
+import os
+import pathlib
+import re
+import subprocess
+from collections.abc import Callable, Mapping, Sequence
+from concurrent.futures import ThreadPoolExecutor
+from dataclasses import dataclass
+
+from .. import LabError
+from .answers import Place, read
+from .program import RECORDER, find_recorder, image_refusal
+
+TAKEN_BYTES = 1 << 16  # of the output, at once
+
+
+@dataclass(frozen=True)
+class Beginning:
+    """What a run begins with.
+
+    image: an ELF file; without one there is no memory, and all registers are 0
+    memory: what is laid over it, in this order: an address, the permissions of pages that aren't there, and bytes
+    registers: lines, each the name of a register and its value in hexadecimal digits
+    policy: what becomes of agnostic elements, `keep` or `ones`
+    """
+
+    image: pathlib.Path | None = None
+    memory: Sequence[tuple[int, str, bytes]] = ()
+    registers: Sequence[str] = ()
+    policy: str = "keep"
+
+
+@dataclass(frozen=True)
+class Recording:
+    """What a run did.
+
+    words: by address and word how often it was carried out, in how many ticks, and with how many elements: those that
+    were active, that were masked off, and of the tail
+    lengths: by vtype and vl how many instructions with elements found these
+    calls: by the address of a jump that links or returns, and by where it led, how often
+    end: the stop, or where the program stands whose ticks ran out
+    instructions, ticks: of the whole run
+    """
+
+    words: Mapping[tuple[int, int], Sequence[int]]
+    lengths: Mapping[tuple[int, int], int]
+    calls: Mapping[tuple[int, int], int]
+    end: Place
+    instructions: int
+    ticks: int
+
+
+def record(beginning: Beginning, ticks: int | None = None, write: Callable[[bytes], object] | None = None) -> Recording:
+    """Carries out a run to its end, or until its ticks have run out. `write` is given its output, as it comes.
+
+    Raises LabError where there is no recorder, or it refuses what it is given.
+    """
+    given = [("--memory", f"{address:x}:{permissions}:", data) for address, permissions, data in beginning.memory]
+    if beginning.registers:
+        given.append(("--registers", "", "\n".join(beginning.registers).encode()))
+    words = ["--policy", beginning.policy, *(["--ticks", f"{ticks}"] if ticks else [])]
+    with ThreadPoolExecutor(len(given) + 1) as pool, contextlib.ExitStack() as stack:
+        files = list[io.FileIO]()
+        for option, place, data in given:
+            end, other = os.pipe()
+            files.append(stack.enter_context(io.FileIO(end)))
+            pool.submit(_fill, other, data)
+            words += [option, f"{place}/dev/fd/{end}"]
+        other, end = os.pipe()
+        files.append(stack.enter_context(io.FileIO(end, "w")))
+        counts = pool.submit(_read_all, other)
+        words += ["--counts", f"/dev/fd/{end}", *(["--", str(beginning.image)] if beginning.image else [])]
+        status, told = _carry_out(words, files, write)
+    if status != 0:
+        raise LabError(_refusal(told, beginning) or f"{RECORDER} ended with status {status}")
+    return read_counts(counts.result())
+
+
+def read_counts(text: str) -> Recording:
+    """What stands in a file of counts. Raises LabError where it is none."""
+    words, lengths, calls = dict[tuple[int, int], tuple[int, ...]](), dict[tuple[int, int], int](), {}
+    try:
+        *rows, last = text.splitlines()
+        for row in rows:
+            match row.split(" "):
+                case ["at", pc, word, times, used, active, masked, tail]:
+                    words[int(pc, 16), int(word, 16)] = tuple(map(int, (times, used, active, masked, tail)))
+                case ["vl", vtype, vl, times]:
+                    lengths[int(vtype, 16), int(vl)] = int(times)
+                case ["call", pc, target, times]:
+                    calls[int(pc, 16), int(target, 16)] = int(times)
+                case _:
+                    raise ValueError(row)
+        stop, instructions, ticks = last.rsplit(" ", 2)
+        end = read([f"1 {stop}"])
+        if not isinstance(end, Place):
+            raise ValueError(last)
+        return Recording(words, lengths, calls, end, int(instructions), int(ticks))
+    except ValueError as error:
+        raise LabError(f"{RECORDER} tells no counts: {str(error)[:60]!r}") from error
+
+
+def _carry_out(
+    words: Sequence[str], files: Sequence[io.FileIO], write: Callable[[bytes], object] | None
+) -> tuple[int, str]:
+    """Runs the recorder, which is given files, to its end; its status, and what it says on standard error."""
+    command, output = [str(find_recorder()), *words], subprocess.PIPE if write else subprocess.DEVNULL
+    with subprocess.Popen(
+        command,
+        stdin=subprocess.DEVNULL,
+        stdout=output,
+        stderr=subprocess.PIPE,
+        pass_fds=[file.fileno() for file in files],
+    ) as process:
+        try:
+            for file in files:
+                file.close()
+            while write and process.stdout and (data := os.read(process.stdout.fileno(), TAKEN_BYTES)):
+                write(data)
+            assert process.stderr
+            told = process.stderr.read().decode("utf-8", "replace")
+            return process.wait(), told
+        except BaseException:  # as Ctrl-C, or output that can't be written
+            process.kill()
+            raise
+
+
+def _refusal(told: str, beginning: Beginning) -> str:
+    """Why the recorder recorded nothing, by what it says; of an image as the monitor has it."""
+    reason = told.removeprefix(f"{RECORDER}: ").strip()
+    if refused := re.search("(?:bad image: ([A-Za-z]+)|image takes too many pages)$", reason):
+        return f"{beginning.image}: " + image_refusal("image", f"E09 {refused[1]}" if refused[1] else "E10")
+    return reason
+
+
+def _fill(pipe: int, data: bytes) -> None:
+    """Writes bytes into a pipe, until nobody reads there any more."""
+    with contextlib.suppress(BrokenPipeError), io.FileIO(pipe, "w") as file:
+        while data:
+            data = data[file.write(data) :]
+
+
+def _read_all(pipe: int) -> str:
+    """All that comes through a pipe."""
+    with open(pipe, encoding="ascii") as file:
+        return file.read()

@@ -1,0 +1,156 @@
+"""Where a run has spent its ticks: its loops, its functions with their calls, and its source lines."""
+
+import bisect
+from collections import Counter, defaultdict
+from collections.abc import Iterable, Iterator, Sequence
+from dataclasses import dataclass
+
+from ..guest.symbols import Symbols
+from .counts import Counts, Place
+
+BRANCH, JAL, JALR = 0x63, 0x6F, 0x67  # opcodes
+LINKS = (1, 5)  # registers that a call leaves its return address in
+Row = Sequence[str | int]
+
+ELEMENTS = ("active", "masked off", "tail", "work")
+"""Columns of elements. Work is the share of the elements of groups that were active; all are "" without any."""
+
+
+@dataclass(frozen=True)
+class Part:
+    """A table of a profile: what it is of, its columns, of which so many are texts, and its rows, those first that took
+    most."""
+
+    name: str
+    head: Sequence[str]
+    texts: int
+    rows: Sequence[Row]
+
+
+class Spent:
+    """What a run has spent, by the places of an image whose entry is at this address."""
+
+    def __init__(self, counts: Counts, symbols: Symbols, entry: int) -> None:
+        self._counts, self._symbols = counts, symbols
+        words = {place.address: place.word for place in counts.places}
+        calls = {key: times for key, times in counts.calls.items() if _links(words.get(key[0], 0))}
+        sized = (symbols.addresses[name] for name, size in symbols.sizes.items() if size)
+        self._functions = sorted({entry, *sized, *(target for _, target in calls)})
+        self._calls = Counter[tuple[str, str]]()
+        for (pc, target), times in calls.items():
+            self._calls[self.function(pc), self.function(target)] += times
+
+    def function(self, address: int) -> str:
+        """The function that an address is in: it begins where a call leads, or a symbol that has a size, or the run."""
+        at = bisect.bisect_right(self._functions, address) - 1
+        start = self._functions[max(at, 0)]
+        name = self._symbols.place(start)
+        return name if name and "+" not in name else f"{start:x}"
+
+    def parts(self) -> Iterator[Part]:
+        """The loops, functions, calls and source lines, as far as there are any."""
+        spent = ("instructions", "ticks", "share", *ELEMENTS)
+        yield Part("Loops", ("loop", "to", "place", "source", "rounds", *spent), 4, _sorted(self._loops(), -6))
+        functions = self._summed((self.function(place.address), place) for place in self._counts.places)
+        called = Counter[str]()
+        for (_, callee), times in self._calls.items():
+            called[callee] += times
+        rows: list[Row] = [(name, called[f"{name}"], *row) for name, *row in functions]
+        yield Part("Functions", ("function", "called", *spent), 1, _sorted(rows, -6))
+        calls = [(caller, callee, times) for (caller, callee), times in self._calls.most_common()]
+        yield Part("Calls", ("caller", "callee", "calls"), 2, calls)
+        lines = [(self._symbols.line(place.address), place) for place in self._counts.places]
+        rows = [*self._summed((line, place) for line, place in lines if line)]
+        yield Part("Source lines", ("source", *spent), 1, _sorted(rows, -6))
+
+    def ticks(self, by_line: bool) -> Counter[str]:
+        """The ticks of each source line, or of each function; those of no line are of the function."""
+        ticks = Counter[str]()
+        for place in self._counts.places:
+            name = self._symbols.line(place.address) if by_line else ""
+            ticks[name or self.function(place.address)] += place.ticks
+        return ticks
+
+    @property
+    def has_lines(self) -> bool:
+        """Whether some instruction that was carried out has a source line."""
+        return any(self._symbols.line(place.address) for place in self._counts.places)
+
+    def _loops(self) -> Iterator[Row]:
+        """A row for each address that a jump leads back to in its function; a loop ends with the last such jump."""
+        places = self._counts.places
+        addresses, ends = [place.address for place in places], dict[int, int]()
+        for place in places:
+            head = place.address + _offset(place.word)
+            if head <= place.address and self.function(head) == self.function(place.address):
+                ends[head] = place.address
+        for head, last in ends.items():
+            body = places[bisect.bisect_left(addresses, head) : bisect.bisect_right(addresses, last)]
+            rounds = sum(place.times for place in body if place.address == head)
+            if rounds < 2:  # nothing has led back there
+                continue
+            where = (f"{head:x}", f"{last:x}", self._symbols.place(head), self._lines(body))
+            yield (*where, rounds, *self._spent(body))
+
+    def _lines(self, places: Sequence[Place]) -> str:
+        """The source lines of places, as `sum.c:20-24`; of several files, that of the first one."""
+        lines = [line.rpartition(":") for place in places if (line := self._symbols.line(place.address))]
+        numbers = sorted(int(number) for file, _, number in lines if file == lines[0][0])
+        if not numbers:
+            return ""
+        return f"{lines[0][0]}:{numbers[0]}" + (f"-{numbers[-1]}" if numbers[-1] > numbers[0] else "")
+
+    def _summed(self, named: Iterable[tuple[str, Place]]) -> Iterator[Row]:
+        """A row for each name, with what its places spent."""
+        groups = defaultdict[str, list[Place]](list)
+        for name, place in named:
+            groups[name].append(place)
+        for name, places in groups.items():
+            yield (name, *self._spent(places))
+
+    def _spent(self, places: Sequence[Place]) -> Iterator[str | int]:
+        """Instructions, ticks, their share of all, and the columns of elements."""
+        ticks = sum(place.ticks for place in places)
+        yield sum(place.times for place in places)
+        yield ticks
+        yield share(ticks, self._counts.ticks)
+        yield from elements_row([sum(numbers) for numbers in zip(*(place.elements for place in places))])
+
+
+def elements_row(elements: Sequence[int]) -> Row:
+    """The columns of elements."""
+    return [*elements, share(elements[0], sum(elements))] if sum(elements) else [""] * len(ELEMENTS)
+
+
+def share(number: int, whole: int) -> str:
+    """How many of a hundred."""
+    return f"{100 * number / max(1, whole):.0f} %"
+
+
+def compared(ours: Spent, theirs: Spent) -> Part:
+    """The ticks of two runs by source lines, where both have some, or else by functions; what got cheaper first."""
+    by_line = ours.has_lines and theirs.has_lines
+    mine, others = ours.ticks(by_line), theirs.ticks(by_line)
+    rows = [(name, mine[name], others[name], mine[name] - others[name]) for name in dict.fromkeys([*mine, *others])]
+    head = ("source" if by_line else "function", "ticks", "against", "change")
+    return Part("Against the other image", head, 1, sorted(rows, key=lambda row: row[3]))
+
+
+def _sorted(rows: Iterable[Row], column: int) -> list[Row]:
+    """Rows, those first that have most in a column."""
+    return sorted(rows, key=lambda row: -int(row[column]))
+
+
+def _links(word: int) -> bool:
+    """Whether a word is a jump that leaves its return address."""
+    return word & 0x7F in (JAL, JALR) and word >> 7 & 31 in LINKS
+
+
+def _offset(word: int) -> int:
+    """How far a branch, or a jump that leaves no address, leads; 4 for any other word."""
+    sign = -(word >> 31)
+    if word & 0x7F == BRANCH:
+        return sign << 12 | (word >> 7 & 1) << 11 | (word >> 25 & 0x3F) << 5 | (word >> 8 & 0xF) << 1
+    if word & 0xFFF == JAL:
+        return sign << 20 | (word >> 12 & 0xFF) << 12 | (word >> 20 & 1) << 11 | (word >> 21 & 0x3FF) << 1
+    return 4
