@@ -1,0 +1,63 @@
+"""The recorder: what a run is given reaches it, its refusals are told, and a file of counts is read as it says."""
+
+import pathlib
+
+import pytest
+
+from support.places import STOCK
+from vecmon_lab import LabError
+from vecmon_lab.machine.answers import Position, Stop
+from vecmon_lab.machine.recorder import Beginning, read_counts, record
+
+# A loop: addi x5, x5, -1; bne x5, x0, -4; ebreak.
+LOOP = b"".join(word.to_bytes(4, "little") for word in (0xFFF28293, 0xFE029EE3, 0x00100073))
+TEXT = """at 0000000000010000 00300293 1 1 0 0 0
+at 0000000000010004 02056407 7 100 100 0 12
+vl 00000000000000d1 16 6
+call 000000000001000c 0000000000010080 2
+fault cause=7 pc=0000000000010198 value=0000000000012000 8 101
+"""
+
+
+def test_counts_are_read() -> None:
+    recording = read_counts(TEXT)
+    assert recording.words == {(0x10000, 0x300293): (1, 1, 0, 0, 0), (0x10004, 0x2056407): (7, 100, 100, 0, 12)}
+    assert recording.lengths == {(0xD1, 16): 6} and recording.calls == {(0x1000C, 0x10080): 2}
+    assert recording.end == Stop("fault", 0x10198, 0, 7, 0x12000)
+    assert (recording.instructions, recording.ticks) == (8, 101)
+
+
+@pytest.mark.parametrize(
+    "text", ["", "exit 0", "at 0 0 1 1 0 0\nexit 0 pc=0000000000000000 1 1\n", "hello 1 1", "ok 1 1"]
+)
+def test_what_is_no_counts(text: str) -> None:
+    with pytest.raises(LabError, match="^vecmon-record tells no counts: "):
+        read_counts(text)
+
+
+def test_memory_registers_and_ticks() -> None:
+    """Half a megabyte of memory, more than a pipe holds; x5 counts down from 3, so there are six instructions."""
+    memory = [(0x20000, "rw", bytes(1 << 19)), (0x10000, "rx", LOOP)]
+    beginning = Beginning(None, memory, ["x5 3", "pc 10000"])
+    recording = record(beginning)
+    assert recording.words[0x10000, 0xFFF28293][0] == recording.words[0x10004, 0xFE029EE3][0] == 3
+    assert recording.end == Stop("ebreak", 0x10008) and recording.instructions == 6
+    recording = record(beginning, 5)
+    assert recording.end == Position("running", 0x10004) and recording.ticks == 5
+
+
+@pytest.mark.parametrize(
+    "beginning, told",
+    [
+        (
+            Beginning(STOCK / "short"),
+            f"{STOCK}/short: the machine refuses image \\(E09 Short\\): the file has less than",
+        ),
+        (Beginning(None, [(0, "rw", bytes((1 << 20) + 1))]), "too many bytes$"),
+        (Beginning(None, [], ["x5 g"]), "line 1: no register and a value that it can have$"),
+        (Beginning(pathlib.Path("none")), "cannot read none$"),
+    ],
+)
+def test_refusals(beginning: Beginning, told: str) -> None:
+    with pytest.raises(LabError, match=told):
+        record(beginning)
