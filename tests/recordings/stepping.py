@@ -22,7 +22,7 @@ def stepped(image: pathlib.Path, policy: str = "keep", most: int | None = None) 
     lengths, calls = Counter[tuple[int, int]](), Counter[tuple[int, int]]()
     instructions = 0
     with started(image, policy=policy) as guest:
-        stepper, end = Stepper(guest, is_brief=True), ""
+        stepper, end = Stepper(guest), ""
         while not end and instructions != most:
             found, v0 = stepper.registers.control, bytes(stepper.registers.v[:REGISTER_BYTES])
             carried = stepper.step()
