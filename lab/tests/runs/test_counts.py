@@ -9,12 +9,11 @@ from support.images import make_image
 from support.places import SUM
 from support.sources import CHANGES
 from vecmon_lab import LabError
-from vecmon_lab.guest.changes import Stepper
 from vecmon_lab.guest.guest import Guest, started
 from vecmon_lab.machine.answers import ControlRegisters
 from vecmon_lab.machine.recorder import Beginning
 from vecmon_lab.machine.session import Session
-from vecmon_lab.runs.counts import beginning_at, beginning_of, count, elements_of, ticks_of
+from vecmon_lab.runs.counts import beginning_at, beginning_of, count, elements_of
 
 TYPES = {"e8 m1": 0, "e8 mf2": 7, "e16 m1": 8, "e32 m1": 16, "e32 m2": 17, "e64 m8": 27}
 
@@ -68,7 +67,7 @@ def _word(session: Session, text: str) -> int:
 
 
 def test_ticks_are_those_of_slices(program: pathlib.Path, tmp_path: pathlib.Path) -> None:
-    """A slice of one tick is granted as often as ticks are counted, and as often as the steps of a trace take them."""
+    """A slice of one tick is granted as often as ticks are counted."""
     source = re.sub(r"vse32.v v10.*", "li a7, 93\n        ecall", re.sub(r"\|.*", "", CHANGES))
     make_image(program, tmp_path / "rows", source)
     for image in (SUM, tmp_path / "rows"):
@@ -76,20 +75,7 @@ def test_ticks_are_those_of_slices(program: pathlib.Path, tmp_path: pathlib.Path
             guest.go()
         counts = count(Beginning(image))
         assert counts.stop is not None and counts.stop.kind == "exit"
-        assert counts.ticks == guest.ticks == _ticks_of_steps(image)
-
-
-def _ticks_of_steps(image: pathlib.Path) -> int:
-    """The ticks of all steps to a stop, without those of the last one that stops at an ebreak or a fault."""
-    ticks = 0
-    with started(image) as guest:
-        stepper = Stepper(guest)
-        while True:
-            control, v0 = stepper.registers.control, bytes(stepper.registers.v[:32])
-            carried = stepper.step()
-            ticks += ticks_of(carried.word, control, v0, stepper.registers.control.vl)
-            if carried.stop:
-                return ticks
+        assert counts.ticks == guest.ticks
 
 
 def test_counts_of_a_program() -> None:

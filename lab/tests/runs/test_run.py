@@ -1,7 +1,6 @@
-"""`vecmon-lab run`: output, statuses, arguments, bad input; a trace beside one of QEMU's; counts."""
+"""`vecmon-lab run`: output, statuses, arguments, bad input; counts."""
 
 import pathlib
-import re
 import signal
 import subprocess
 import sys
@@ -12,7 +11,6 @@ from support.commands import Lab
 from support.images import MARCH, make_image
 from support.places import DATA, SORT, SQUARES, SQUARES_DWARF5, STOCK, SUM, TOP
 from support.sources import ARGUMENTS, EXIT, FOREVER, WRITES
-from vecmon_lab.guest.changes import vtype_text
 
 QEMU = DATA / "qemu"  # what qemu-riscv64 7.2.22 of Debian 12 told
 CTRL_C = 130
@@ -166,6 +164,7 @@ def test_bad_input(lab: Lab, words: list[object], told: str) -> None:
 
 def test_no_program(lab: Lab, monkeypatch: pytest.MonkeyPatch) -> None:
     monkeypatch.setenv("VECMON", "none")
+    monkeypatch.delenv("VECMON_RECORD", raising=False)
     status, output, told = lab("run", SUM)
     assert (status, output, told.count("\n")) == (2, b"", 1)
     assert told.startswith("vecmon-lab: VECMON=none is no program; ")
@@ -196,59 +195,6 @@ def test_a_file_that_may_have_five_bytes(tmp_path: pathlib.Path) -> None:
     assert (tmp_path / "output").read_bytes() == b"32835"
 
 
-def test_a_trace_beside_one_of_qemu(lab: Lab, tmp_path: pathlib.Path) -> None:
-    """The trace is of qemu-riscv64 with -cpu rv64,v=true,vext_spec=v1.0,vlen=256.
-
-    A client of its gdb stub (-g) stepped it, and wrote down the program counter, and each scalar and vector register
-    that changed, and vl and vtype; the addresses of its stack were moved to where this machine has its own.
-    """
-    assert lab("run", "--trace", tmp_path / "trace", SUM)[0] == 0
-    ours, theirs = ((path.read_text().splitlines()) for path in (tmp_path / "trace", QEMU / "sum"))
-    assert len(ours) == len(theirs) == 250
-    machine, emulator = State(), State()
-    for mine, other in zip(ours[:-1], theirs[:-1]):
-        assert mine.split()[0] == other.split()[0]
-        machine.take_in(re.split(" {2,}", mine)[3:])
-        emulator.take_in([_as_ours(change) for change in other.split()[1:]])
-        assert vars(machine) == vars(emulator), mine
-    assert theirs[-1].split() == ["112dc", "W00"] and re.split(" {2,}", ours[-1])[:3] == [
-        "112dc",
-        "_start+0x14c",
-        "ecall",
-    ]
-
-
-def _as_ours(change: str) -> str:
-    """A change of QEMU's trace, which has numbers in hexadecimal, with vl and vtype as the lab's has them."""
-    name, _, value = change.partition("=")
-    told = {"vl": lambda: f"{int(value, 16)}", "vtype": lambda: vtype_text(int(value, 16))}
-    return f"{name}={told[name]()}" if name in told else change
-
-
-class State:
-    """Registers, as lines of a trace change them."""
-
-    def __init__(self) -> None:
-        self.registers: dict[str, str] = {}
-        self.vectors = bytearray(1024)
-
-    def take_in(self, changes: list[str]) -> None:
-        """Carries out changes; those of memory are left out."""
-        for change in changes:
-            if vector := re.fullmatch(r"v(\d+)\.e(\d+)\[(\d+)(?:\.\.\d+)?\]=(.*)", change):
-                size = int(vector[2]) // 8
-                values = b"".join(int(value, 16).to_bytes(size, "little") for value in vector[4].split(","))
-                self._put(int(vector[1]) * 32 + int(vector[3]) * size, values)
-            elif whole := re.fullmatch("v([0-9]+)=([0-9a-f]+)", change):
-                self._put(int(whole[1]) * 32, int(whole[2], 16).to_bytes(32, "little"))
-            elif not change.startswith("["):
-                name, _, value = change.partition("=")
-                self.registers[name] = value
-
-    def _put(self, place: int, data: bytes) -> None:
-        self.vectors[place : place + len(data)] = data
-
-
 def test_counts(lab: Lab) -> None:
     """Instructions and elements were counted by hand, in the listing that objdump makes of the program."""
     status, output, told = lab("run", "--stats", SUM)
@@ -260,3 +206,10 @@ def test_counts(lab: Lab) -> None:
         ["1", "vl=4", "e32,m2,ta,ma"],
         ["1", "vl=4", "e32,m2,tu,ma"],
     )
+    assert lab("run", "--count", SUM) == (0, b"328350\n", "250 instructions in 721 ticks\n")
+
+
+def test_a_count_of_what_stops(lab: Lab, program: pathlib.Path, tmp_path: pathlib.Path) -> None:
+    make_image(program, tmp_path / "stops", "nop\nnop\nebreak")
+    status, _, told = lab("run", "--count", tmp_path / "stops")
+    assert status == 133 and told.splitlines()[0] == "2 instructions in 2 ticks" and told.count("\n") == 2

@@ -30,6 +30,8 @@ from .input import input_of
 
 IMAGE_BYTES, ARGUMENT_BYTES = 4_194_304, 8192  # of a file; of the stack's 16 KiB
 QUANTUM, MOST_SLICES = 1000, 1000  # the longest slices, as the program is alone; and how many one line grants
+MOST_STEPS, MOST_ROUNDS = 256, 1000  # of one line; and how many such lines are sent before their answers are looked at
+OUTPUT_BYTES, WRITE_BYTES = 1024, 256  # that the buffer holds; and that a call writes at most
 STACK_POINTER, STACK_END = 0x7FFF_EFC0, 0x7FFF_F000  # as `load` leaves them
 
 Told = TypeVar("Told", bound=Answer)
@@ -124,6 +126,22 @@ class Guest:
             raise LabError(f"the machine answers {told}")
         self.pc = told.pc
         return told if isinstance(told, Stop) else None, answers
+
+    def pass_over(self, instructions: int, at_once: int) -> bool:
+        """Carries out so many instructions, which don't stop the program, so many at once, and empties the buffer then.
+
+        False where a call could have found the buffer without room for all that it may write: no more is done then.
+        """
+        while instructions:
+            sizes = [min(at_once, instructions - done) for done in range(0, instructions, at_once)[:MOST_ROUNDS]]
+            answers = self.ask(*(command for size in sizes for command in (f"step {size}", "out")))
+            outputs = [answer.data for answer in answers if isinstance(answer, Output)]
+            self._write(b"".join(outputs))
+            if at_once > OUTPUT_BYTES // WRITE_BYTES and max(map(len, outputs)) > OUTPUT_BYTES - WRITE_BYTES:
+                return False
+            instructions -= sum(sizes)
+        self.pc = self.told("state", Position).pc
+        return True
 
     def empty_buffer(self) -> None:
         """Takes what the program has written out of the machine's buffer."""

@@ -14,8 +14,8 @@ from .. import LabError, mistakes_in
 from ..assembler.commands import refusal_in_words
 from ..compilers.compiled import compile_c
 from ..compilers.compiler import choice_of, find_compiler
-from ..exercises.answer import MOST_STEPS, Answer, read_answer
-from ..guest.guest import QUANTUM, STACK_END, Guest, pokes
+from ..exercises.answer import Answer, read_answer
+from ..guest.guest import MOST_STEPS, QUANTUM, STACK_END, Guest, pokes
 from ..guest.symbols import Symbols
 from ..instructions.accesses import LINE_BYTES, PAGE_BYTES
 from ..lessons.script import check_compiled

@@ -5,7 +5,7 @@ import pathlib
 import re
 from collections import Counter
 from collections.abc import Callable, Iterable, Mapping, Sequence
-from dataclasses import dataclass, replace
+from dataclasses import dataclass
 
 from .. import mistakes_in
 from ..guest.changes import vtype_text
@@ -139,15 +139,6 @@ def count(beginning: Beginning, ticks: int | None = None, write: Callable[[bytes
     lengths = Counter({(vtype_text(vtype), vl): times for (vtype, vl), times in done.lengths.items()})
     stop = done.end if isinstance(done.end, Stop) else None
     return Counts(places, lengths, done.calls, done.instructions, done.ticks, stop, done.end.pc)
-
-
-def ticks_of(word: int, before: ControlRegisters, v0: bytes, vl: int) -> int:
-    """How many ticks an instruction takes, by the control registers and v0 before it, and vl after it."""
-    if word & 0x7F not in VECTOR_ACCESSES:
-        return 1
-    elements = elements_of(word, replace(before, vl=vl), v0)
-    # a fault-only-first load has tried one element more, where it has shortened vl
-    return max(1, len(elements.active) + elements.masked + (vl < before.vl)) if elements else 1
 
 
 def elements_of(word: int, control: ControlRegisters, v0: bytes) -> Elements | None:

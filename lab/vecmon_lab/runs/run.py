@@ -1,22 +1,24 @@
 """Runs an image to its end: its output is standard output, and its status the status."""
 
 import argparse
-import math
+import contextlib
+import functools
 import pathlib
 import sys
 from collections import Counter
 from collections.abc import Callable, Iterator
 from contextlib import AbstractContextManager
+from typing import TextIO
 
-from ..arguments import add_image, check_output
-from ..guest.changes import Carried, Stepper
+from .. import LabError
+from ..arguments import add_image, between, check_output
 from ..guest.guest import QUANTUM, Guest, started
 from ..guest.symbols import Symbols
-from ..instructions.accesses import REGISTER_BYTES
 from ..instructions.reasons import describe_stop
 from ..machine.answers import Stop
 from ..output import write_out
-from .counts import Counts, beginning_of, count, ticks_of
+from .counts import Counts, beginning_of, count
+from .trace import trace
 
 TICKS_RAN_OUT, BREAKPOINT, FAULT = 124, 133, 139  # as timeout says, and a shell of SIGTRAP and SIGSEGV
 
@@ -24,26 +26,30 @@ TICKS_RAN_OUT, BREAKPOINT, FAULT = 124, 133, 139  # as timeout says, and a shell
 def add_arguments(parser: argparse.ArgumentParser) -> None:
     """The words of `vecmon-lab run`."""
     add_image(parser)
+    number = between(1, 1 << 63)
     parser.add_argument("--policy", choices=("keep", "ones"), default="keep", help="what becomes of agnostic elements")
     parser.add_argument("--trace", metavar="FILE", type=pathlib.Path, help="a line for each instruction goes there")
-    parser.add_argument("--stats", action="store_true", help="counts go to standard error: of names, vector lengths")
+    parser.add_argument("--from", dest="first", metavar="N", type=number, help="the first one of the trace; else 1")
+    parser.add_argument("--to", dest="last", metavar="N", type=number, help="its last one; else the last of the run")
+    parser.add_argument("--count", action="store_true", help="how many there were goes to standard error")
+    parser.add_argument("--stats", action="store_true", help="and counts by name, and by vector type and length")
 
 
 def run(arguments: argparse.Namespace) -> int:
     """Runs the image; its status, or one that says how it stopped. Raises LabError and OSError for bad input."""
     image, symbols = arguments.image, Symbols.read(arguments.image)
+    _check_window(arguments)
     check_output(arguments.trace, image, *filter(None, [arguments.input]))
-    if arguments.trace:
-        stop, end = _traced(arguments, symbols)
-    if arguments.stats or not arguments.trace:
-        counts = counted(arguments, None if arguments.trace else write_out, arguments.policy)
-        stop, end = counts.stop, told(arguments, counts, symbols, arguments.policy)
-        if arguments.stats:
-            print("\n".join(stats(counts)), file=sys.stderr)
-    if stop and stop.kind == "exit":
-        return stop.number
-    print(f"vecmon-lab: {image}: {end}", file=sys.stderr)
-    return status_of(stop)
+    with arguments.trace.open("w", encoding="utf-8") if arguments.trace else contextlib.nullcontext() as file:
+        counts = counted(arguments, write_out, arguments.policy)
+        lines = [*stats(counts)] if arguments.stats else [total(counts)] if arguments.count else []
+        is_exit = counts.stop is not None and counts.stop.kind == "exit"
+        if not is_exit:
+            lines.append(f"vecmon-lab: {image}: {told(arguments, counts, symbols, arguments.policy)}")
+        sys.stderr.writelines(f"{line}\n" for line in lines)
+        if file:
+            _trace(arguments, symbols, counts, file)
+    return counts.stop.number if counts.stop and is_exit else status_of(counts.stop)
 
 
 def counted(
@@ -67,10 +73,9 @@ def told(arguments: argparse.Namespace, counts: Counts, symbols: Symbols, policy
     return f"{place}: {describe_stop(stop)}"
 
 
-def trace_line(carried: Carried, symbols: Symbols) -> str:
-    """An instruction in a line: its address, its place by a symbol or `-`, its text, and what it changed."""
-    place = symbols.place(carried.pc) or "-"
-    return f"{carried.pc:<8x}  {place:<18}  {carried.text:<32}  {'  '.join(map(str, carried.changes))}".rstrip()
+def total(counts: Counts) -> str:
+    """How many instructions were carried out, in how many ticks."""
+    return f"{counts.instructions:,} instructions in {counts.ticks:,} ticks"
 
 
 def stats(counts: Counts) -> Iterator[str]:
@@ -78,7 +83,7 @@ def stats(counts: Counts) -> Iterator[str]:
     names = Counter[str]()
     for place in counts.places:
         names[counts.texts[place.word].split()[0]] += place.times
-    yield f"{counts.instructions:,} instructions in {counts.ticks:,} ticks"
+    yield total(counts)
     yield from (f"{times:>12,}  {name}" for name, times in names.most_common())
     yield f"{counts.lengths.total():,} vector instructions"
     yield from (f"{times:>12,}  vl={vl}  {kind}" for (kind, vl), times in counts.lengths.most_common())
@@ -97,14 +102,21 @@ def _begun(
     return started(arguments.image, policy=policy, arguments=words, file=arguments.input, write=write)
 
 
-def _traced(arguments: argparse.Namespace, symbols: Symbols) -> tuple[Stop | None, str]:
-    """Steps the program, with a line for each instruction; the stop, and how it ended in a line."""
-    left, stop = arguments.ticks or math.inf, None
-    with _begun(arguments, arguments.policy, write_out) as guest, arguments.trace.open("w", encoding="utf-8") as file:
-        stepper = Stepper(guest)
-        while stop is None and left > 0:
-            control, v0 = stepper.registers.control, bytes(stepper.registers.v[:REGISTER_BYTES])
-            carried = stepper.step()
-            print(trace_line(carried, symbols), file=file)
-            stop, left = carried.stop, left - ticks_of(carried.word, control, v0, stepper.registers.control.vl)
-        return stop, guest.tell(stop, symbols.place(guest.pc))
+def _check_window(arguments: argparse.Namespace) -> None:
+    """Raises LabError where the window of a trace has no trace, or no instruction."""
+    if arguments.first or arguments.last:
+        if not arguments.trace:
+            raise LabError("--from and --to are of a trace: --trace FILE names its file")
+        if arguments.last and arguments.last < (arguments.first or 1):
+            raise LabError(f"from instruction {arguments.first:,} to {arguments.last:,} there is none")
+
+
+def _trace(arguments: argparse.Namespace, symbols: Symbols, counts: Counts, file: TextIO) -> None:
+    """Writes the trace of a run that carried out so much, or its window. Raises LabError where the run is shorter."""
+    stops = counts.stop is not None and counts.stop.kind != "exit"  # at one more, which has a line, too
+    first, last = arguments.first or 1, counts.instructions + stops
+    if first > last:
+        raise LabError(f"the run has {last:,} instructions, and none from {first:,} on")
+    begin = functools.partial(_begun, arguments, arguments.policy, lambda data: None)
+    window = range(first, min(last, arguments.last or last) + 1)
+    file.writelines(f"{line}\n" for line in trace(begin, symbols, window))

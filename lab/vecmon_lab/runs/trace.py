@@ -1,0 +1,30 @@
+"""The instructions of a run, a line each: all of them, or those of a window."""
+
+from collections.abc import Callable, Iterator
+from contextlib import AbstractContextManager
+
+from ..guest.changes import Carried, Stepper
+from ..guest.guest import MOST_STEPS, OUTPUT_BYTES, WRITE_BYTES, Guest
+from ..guest.symbols import Symbols
+
+STEPS_AT_ONCE = (MOST_STEPS, OUTPUT_BYTES // WRITE_BYTES)  # which are tried: behind the last number all calls find room
+
+
+def trace(begin: Callable[[], AbstractContextManager[Guest]], symbols: Symbols, window: range) -> Iterator[str]:
+    """A line for each instruction of a run that is in a window; the first one of all has the number 1.
+
+    begin: a guest where the run begins. Those before the window are carried out many at once, and once more from the
+    beginning, few at once, where a call could have found the output buffer without room.
+    """
+    for at_once in STEPS_AT_ONCE:
+        with begin() as guest:
+            if guest.pass_over(window.start - 1, at_once):
+                stepper = Stepper(guest)
+                yield from (_line(stepper.step(), symbols) for _ in window)
+                return
+
+
+def _line(carried: Carried, symbols: Symbols) -> str:
+    """An instruction in a line: its address, its place by a symbol or `-`, its text, and what it changed."""
+    place = symbols.place(carried.pc) or "-"
+    return f"{carried.pc:<8x}  {place:<18}  {carried.text:<32}  {'  '.join(map(str, carried.changes))}".rstrip()
