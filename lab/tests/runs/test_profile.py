@@ -64,7 +64,7 @@ def test_a_program_without_vectors(lab: Lab, program: pathlib.Path, tmp_path: pa
     tables = [[line.split() for line in table.splitlines()] for table in output.decode().split("\n\n")]
     assert [table[1] for table in tables[:3]] == [
         "10000 10000 2000 2000 2000 100 %".split(),
-        "10000 0 2000 2000 100 %".split(),
+        "10000 0 2000 2000 2000 100 %".split(),
         "10000 jal x0, 0 2000 2000".split(),
     ]
     assert output.decode().splitlines()[-1] == "2,000 instructions in 2,000 ticks; the ticks ran out at 10000"
@@ -116,8 +116,8 @@ def test_loops_functions_and_calls(lab: Lab, program: pathlib.Path, tmp_path: pa
     tables = [[line.split() for line in table.splitlines()[1:]] for table in output.decode().split("\n\n")]
     assert (status, told) == (0, "")
     assert tables[0] == ["1001c 10020 20 40 40 54 %".split(), "10034 1003c 3 9 9 12 %".split()]
-    assert tables[1] == ["10018 5 55 55 74 %".split(), "1002c 1 13 13 18 %".split(), "10000 0 6 6 8 %".split()]
-    assert tables[2] == ["1002c 10018 3".split(), "10000 10018 2".split(), "10000 1002c 1".split()]
+    assert tables[1] == ["10018 5 55 55 55 74 %".split(), "1002c 1 46 13 13 18 %".split(), "10000 0 74 6 6 8 %".split()]
+    assert tables[2] == ["10000 1002c 1 46".split(), "1002c 10018 3 33".split(), "10000 10018 2 22".split()]
 
 
 def test_source_lines(lab: Lab) -> None:
@@ -125,7 +125,7 @@ def test_source_lines(lab: Lab) -> None:
     tables = [table.splitlines() for table in lab("profile", SUM_DWARF4)[1].decode().split("\n\n")]
     assert tables[0][1].split() == "111d4 111f4 _start+0x44 sum.c:34-35 6 54 432 60 % 672 0 0 100 %".split()
     assert tables[0][2].split() == "1123c 11258 _start+0xac sum.c:20-23 7 56 149 21 % 200 0 24 89 %".split()
-    assert tables[1][1].split()[:5] == "_start 0 250 721 100".split()
+    assert tables[1][1].split()[:6] == "_start 0 721 250 721 100".split()
     assert "sum.c:22 7 100 14 % 100 0 12 89 %".split() in map(cells, tables[2])
     assert tables[2][-1] == "and 6 more, which -o FILE.html shows"
 
@@ -154,9 +154,10 @@ def test_the_page(browser: "Chrome", lab: Lab, program: pathlib.Path, tmp_path: 
     assert browser.title == "Profile of <b>masked" and browser.find_elements("css selector", "h1 b") == []
     rows = browser.execute_script(TEXTS)
     heads = browser.execute_script("return [...document.querySelectorAll('h2')].map((head) => head.textContent)")
-    assert heads[:2] == ["Loops", "Functions"]
+    assert heads[1:3] == ["Loops", "Functions"]
     loop = browser.execute_script("return document.querySelector('#parts tbody tr').innerText").split()
     assert loop == "10010 10014 20 40 40 85 %".split()
+    assert not browser.find_element("id", "calls").is_displayed()  # as there is no call
     assert len(rows) == 10 and rows[5][:5] == ["10010", "addi x5, x5, -1", "", "20", "20"]
     assert rows[3] == ["10008", "vadd.vi v8, v8, 1, v0.t", "", "1", "1", "", "2", "1", "5", "25 %", ""]
     active, masked, tail = browser.execute_script(WIDTHS, "#rows tr:nth-child(3) .elements span")
@@ -169,6 +170,34 @@ def test_the_page(browser: "Chrome", lab: Lab, program: pathlib.Path, tmp_path: 
     browser.refresh()
     rows = browser.execute_script(TEXTS)
     assert rows[1] == ["_start"] and rows[2][:3] == ["11190", "addi x2, x2, -16", "sum.c:30"]
+    browser.execute_cdp_cmd("Emulation.setEmulatedMedia", {"features": []})
+
+
+@pytest.mark.parametrize("scheme", ["light", "dark"])
+def test_the_flame_graph(
+    browser: "Chrome", lab: Lab, program: pathlib.Path, tmp_path: pathlib.Path, scheme: str
+) -> None:
+    """Of 74 ticks `long` has 46, and 33 of them are calls of `short`, which has 22 beside; a click makes 46 the whole."""
+    make_image(program, tmp_path / "calls", CALLS)
+    assert lab("profile", "-o", tmp_path / "page.html", tmp_path / "calls")[0] == 0
+    browser.execute_cdp_cmd(
+        "Emulation.setEmulatedMedia", {"features": [{"name": "prefers-color-scheme", "value": scheme}]}
+    )
+    browser.get((tmp_path / "page.html").as_uri())
+    assert browser.get_log("browser") == [] and browser.execute_script(CONTRAST) == []
+    bars = "return [...document.querySelectorAll('.flame button')].map((bar) => bar.textContent)"
+    assert browser.execute_script(bars) == ["all 100 %", "10000 100 %", "1002c 62.2 %", "10018 44.6 %", "10018 29.7 %"]
+    whole, _, *widths = browser.execute_script(WIDTHS, ".flame li")
+    assert all(abs(width - whole * ticks / 74) < 1 for width, ticks in zip(widths, (46, 33, 22)))
+    title = browser.execute_script("return document.querySelectorAll('.flame button')[2].title")
+    assert title == "1002c 62.2 %: 46 ticks, 13 of them its own"
+    browser.execute_script("document.querySelectorAll('.flame button')[2].click()")
+    assert browser.execute_script(bars) == ["all 100 %", "10000 100 %", "1002c 62.2 %", "10018 44.6 %"]
+    *above, last = browser.execute_script(WIDTHS, ".flame li")
+    assert all(abs(width - whole) < 1 for width in above) and abs(last - whole * 33 / 46) < 1
+    assert browser.execute_script("return document.activeElement.textContent") == "1002c 62.2 %"
+    browser.execute_script("document.querySelectorAll('.flame button')[0].click()")
+    assert len(browser.execute_script(bars)) == 5
     browser.execute_cdp_cmd("Emulation.setEmulatedMedia", {"features": []})
 
 

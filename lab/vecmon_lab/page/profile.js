@@ -2,6 +2,7 @@
 
 import { bar, elementsBar, legend } from "./bars.js";
 import { byId, make } from "./elements.js";
+import { flameGraph } from "./flame.js";
 
 const ORDERS = { "by-address": () => 0, "by-ticks": (one, other) => other.ticks - one.ticks };
 const number = (value, kind = "number") => make("td", kind, value.toLocaleString("en"));
@@ -53,6 +54,8 @@ const most = Math.max(...data.lengths.map(([, , times]) => times));
 
 document.querySelector("header").append(legend());
 byId("summary").append(...data.summary.map((text) => make("p", "", text)));
+byId("calls").hidden = data.frames.every((frame) => frame.callees.length === 0);
+byId("flame").append(flameGraph(data.frames));
 byId("parts").append(...data.parts.map(partSection));
 byId("lengths").append(...data.lengths.map(([kind, vl, times]) =>
   make("tr", "", make("td", "", kind), number(`vl=${vl}`), number(times), bar("", [["ticks", times / most]]))));

@@ -6,6 +6,7 @@ from collections.abc import Iterable, Iterator, Sequence
 from dataclasses import dataclass
 
 from ..guest.symbols import Symbols
+from .callers import Callers
 from .counts import Counts, Place
 
 BRANCH, JAL, JALR = 0x63, 0x6F, 0x67  # opcodes
@@ -39,6 +40,8 @@ class Spent:
         self._calls = Counter[tuple[str, str]]()
         for (pc, target), times in calls.items():
             self._calls[self.function(pc), self.function(target)] += times
+        self.callers = Callers(self.ticks(False), self._calls, self.function(entry))
+        """What functions spent with those that they call."""
 
     def function(self, address: int) -> str:
         """The function that an address is in: it begins where a call leads, or a symbol that has a size, or the run."""
@@ -55,13 +58,12 @@ class Spent:
         called = Counter[str]()
         for (_, callee), times in self._calls.items():
             called[callee] += times
-        rows: list[Row] = [(name, called[f"{name}"], *row) for name, *row in functions]
-        yield Part("Functions", ("function", "called", *spent), 1, _sorted(rows, -6))
-        calls = [(caller, callee, times) for (caller, callee), times in self._calls.most_common()]
-        yield Part("Calls", ("caller", "callee", "calls"), 2, calls)
+        rows = [(name, called[f"{name}"], round(self.callers.total[f"{name}"]), *row) for name, *row in functions]
+        yield Part("Functions", ("function", "called", "with callees", *spent), 1, _sorted(rows, -6))
+        yield Part("Calls", ("caller", "callee", "calls", "ticks"), 2, _sorted(self.callers.edges(), -1))
         lines = [(self._symbols.line(place.address), place) for place in self._counts.places]
-        rows = [*self._summed((line, place) for line, place in lines if line)]
-        yield Part("Source lines", ("source", *spent), 1, _sorted(rows, -6))
+        of_lines = self._summed((line, place) for line, place in lines if line)
+        yield Part("Source lines", ("source", *spent), 1, _sorted(of_lines, -6))
 
     def ticks(self, by_line: bool) -> Counter[str]:
         """The ticks of each source line, or of each function; those of no line are of the function."""

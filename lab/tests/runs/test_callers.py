@@ -1,0 +1,41 @@
+"""Ticks of functions with those that they call, by calls that were worked out by hand."""
+
+from vecmon_lab.runs.callers import Callers, Frame
+
+
+def test_a_function_with_two_callers() -> None:
+    """60 ticks of `add` in six calls: one from `main`, five from `sum`, whose ten are its own beside these 50."""
+    callers = Callers(
+        {"main": 5, "sum": 10, "add": 60}, {("main", "sum"): 2, ("main", "add"): 1, ("sum", "add"): 5}, "main"
+    )
+    assert callers.total == {"main": 75, "sum": 60, "add": 60}
+    assert sorted(callers.edges()) == [("main", "add", 1, 10), ("main", "sum", 2, 60), ("sum", "add", 5, 50)]
+    in_sum, in_main = Frame("add", 50, 50, ()), Frame("add", 10, 10, ())
+    assert callers.frames() == (Frame("main", 5, 75, (Frame("sum", 10, 60, (in_sum,)), in_main)),)
+
+
+def test_functions_that_call_each_other() -> None:
+    """`odd` is called by `even` alone, and its calls of `even` lead back; so does what `even` calls of itself."""
+    calls = {("main", "even"): 1, ("even", "odd"): 9, ("odd", "even"): 9, ("even", "even"): 3}
+    callers = Callers({"main": 1, "even": 20, "odd": 18}, calls, "main")
+    assert callers.total == {"main": 39, "even": 38, "odd": 18}
+    assert ("odd", "even", 9, 0) in callers.edges() and ("even", "even", 3, 0) in callers.edges()
+    (top,) = callers.frames()
+    assert [top.total, top.callees[0].total, top.callees[0].callees] == [39, 38, (Frame("odd", 18, 18, ()),)]
+
+
+def test_functions_that_nobody_calls() -> None:
+    """As one that is jumped to; and one of two ticks of 3,002 has no frame."""
+    callers = Callers({"main": 2000, "jumped": 1000, "rare": 2}, {("main", "rare"): 1}, "main")
+    assert callers.frames() == (Frame("main", 2000, 2002, ()), Frame("jumped", 1000, 1000, ()))
+
+
+def test_calls_of_any_depth() -> None:
+    """Of 5,000 functions, each of which calls the next one, a hundred have a frame."""
+    names = [f"f{number}" for number in range(5000)]
+    callers = Callers(dict.fromkeys(names, 1), dict.fromkeys(zip(names, names[1:]), 1), "f0")
+    assert callers.total["f0"] == 5000 and callers.total["f4999"] == 1
+    frames, depth = callers.frames(), 0
+    while frames:
+        frames, depth = frames[0].callees, depth + 1
+    assert depth == 100
