@@ -5,6 +5,7 @@ import io
 import os
 import pathlib
 import re
+import socket
 import subprocess
 from collections.abc import Callable, Mapping, Sequence
 from concurrent.futures import ThreadPoolExecutor
@@ -54,7 +55,7 @@ class Recording:
 
 
 def record(beginning: Beginning, ticks: int | None = None, write: Callable[[bytes], object] | None = None) -> Recording:
-    """Carries out a run to its end, or until its ticks have run out. `write` is given its output, as it comes.
+    """Carries out a run to its end, or until its ticks have run out. `write` is given its output, a call's bytes at once.
 
     Raises LabError where there is no recorder, or it refuses what it is given.
     """
@@ -107,18 +108,20 @@ def _carry_out(
     words: Sequence[str], files: Sequence[io.FileIO], write: Callable[[bytes], object] | None
 ) -> tuple[int, str]:
     """Runs the recorder, which is given files, to its end; its status, and what it says on standard error."""
-    command, output = [str(find_recorder()), *words], subprocess.PIPE if write else subprocess.DEVNULL
-    with subprocess.Popen(
+    command = [str(find_recorder()), *words]
+    ours, theirs = socket.socketpair(socket.AF_UNIX, socket.SOCK_SEQPACKET)  # what is written at once is read at once
+    with ours, theirs, subprocess.Popen(
         command,
         stdin=subprocess.DEVNULL,
-        stdout=output,
+        stdout=theirs.fileno() if write else subprocess.DEVNULL,
         stderr=subprocess.PIPE,
         pass_fds=[file.fileno() for file in files],
     ) as process:
         try:
+            theirs.close()
             for file in files:
                 file.close()
-            while write and process.stdout and (data := os.read(process.stdout.fileno(), TAKEN_BYTES)):
+            while write and (data := ours.recv(TAKEN_BYTES)):
                 write(data)
             assert process.stderr
             told = process.stderr.read().decode("utf-8", "replace")

@@ -12,13 +12,14 @@ from typing import TextIO
 
 from .. import LabError
 from ..arguments import add_image, between, check_output
-from ..guest.guest import QUANTUM, Guest, started
+from ..guest.changes import ECALL
+from ..guest.guest import QUANTUM, WRITE_BYTES, Guest, started
 from ..guest.symbols import Symbols
 from ..instructions.reasons import describe_stop
 from ..machine.answers import Stop
-from ..output import write_out
 from .counts import Counts, beginning_of, count
 from .trace import trace
+from .writes import Written, short_write
 
 TICKS_RAN_OUT, BREAKPOINT, FAULT = 124, 133, 139  # as timeout says, and a shell of SIGTRAP and SIGSEGV
 
@@ -41,11 +42,14 @@ def run(arguments: argparse.Namespace) -> int:
     _check_window(arguments)
     check_output(arguments.trace, image, *filter(None, [arguments.input]))
     with arguments.trace.open("w", encoding="utf-8") if arguments.trace else contextlib.nullcontext() as file:
-        counts = counted(arguments, write_out, arguments.policy)
+        written = Written()
+        counts = counted(arguments, written.write, arguments.policy)
         lines = [*stats(counts)] if arguments.stats else [total(counts)] if arguments.count else []
         is_exit = counts.stop is not None and counts.stop.kind == "exit"
         if not is_exit:
             lines.append(f"vecmon-lab: {image}: {told(arguments, counts, symbols, arguments.policy)}")
+        if written.is_full and (short := _short_write(arguments, counts, symbols)):
+            lines.append(f"vecmon-lab: {image}: {short}")
         sys.stderr.writelines(f"{line}\n" for line in lines)
         if file:
             _trace(arguments, symbols, counts, file)
@@ -100,6 +104,17 @@ def _begun(
     """The guest that the image of a command is loaded for."""
     words = [arguments.image.name, *arguments.words]
     return started(arguments.image, policy=policy, arguments=words, file=arguments.input, write=write)
+
+
+def _short_write(arguments: argparse.Namespace, counts: Counts, symbols: Symbols) -> str:
+    """The first call that was given more bytes than it wrote, in a line; or nothing."""
+    calls = [place.address for place in counts.places if place.word == ECALL]
+    with _begun(arguments, arguments.policy, lambda data: None) as guest:
+        found = short_write(guest, calls, counts.ticks)
+    if found is None:
+        return ""
+    place = f"{found[0]:x} {symbols.place(found[0])}".rstrip()
+    return f"{place}: the call was given {found[1]:,} bytes and wrote {WRITE_BYTES}, the most that one writes: a0 has how many"
 
 
 def _check_window(arguments: argparse.Namespace) -> None:
