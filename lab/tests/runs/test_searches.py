@@ -1,0 +1,96 @@
+"""The programs of docs/LAB.md with a mistake each: that they have it, and that the commands of that page show where."""
+
+import pathlib
+import subprocess
+from collections.abc import Mapping
+
+import pytest
+
+from support.commands import Lab
+from support.images import MARCH
+from support.places import EXAMPLES
+from vecmon_lab.compilers.compiler import Compiler
+
+SEARCHES = EXAMPLES / "searches"
+SQUARES = "".join(f"{number * number}\n" for number in range(200)).encode()
+
+
+def compiled(clang: Compiler, source: pathlib.Path) -> pathlib.Path:
+    """The image of a source, in a folder of its own, by the command of that page."""
+    words = (
+        f"{clang.name} --target=riscv64-linux-gnu {MARCH} -mabi=lp64 -O2 -ffreestanding -fno-pic -fno-vectorize".split()
+    )
+    more = "-gdwarf-4 -nostdlib -static -fuse-ld=lld -Wl,--build-id=none".split()
+    image = source.with_suffix("")
+    subprocess.run([*words, *more, "-o", image, source], check=True)
+    return image
+
+
+def copied(folder: pathlib.Path, name: str, changes: Mapping[str, str] = {}) -> pathlib.Path:
+    """One of the sources in a folder, with some texts changed that stand in it once."""
+    text = (SEARCHES / name).read_text("utf-8")
+    for old, new in changes.items():
+        assert text.count(old) == 1
+        text = text.replace(old, new)
+    folder.mkdir(exist_ok=True)
+    (folder / name).write_text(text, "utf-8")
+    return folder / name
+
+
+def test_a_length_that_is_taken_anew(lab: Lab, clang: Compiler, tmp_path: pathlib.Path) -> None:
+    """A fifth of the text, so a 25th of a hundred million instructions. Of 22 characters that repeat 15 are small letters,
+    and the function is called once more than there are bytes, each of which it passes in four instructions."""
+    shorter = {"BYTES 5000": "BYTES 1000"}
+    letters = compiled(clang, copied(tmp_path / "first", "letters.c", shorter))
+    once = {"i = 0; i < length(bytes)": "i = 0, end = length(bytes); i < end"}
+    better = compiled(clang, copied(tmp_path / "once", "letters.c", shorter | once))
+    status, _, told = lab("run", "--count", letters)
+    assert status == 68 and int(told.split()[0].replace(",", "")) > 4 * 1000 * 1001
+    rows = [table.splitlines()[1].split() for table in lab("profile", letters)[1].decode().split("\n\n")]
+    assert rows[0][3] == "letters.c:12-13" and int(rows[0][4]) >= 1000 * 1001
+    assert rows[1][:2] == ["length", "1001"] and rows[2][:3] == ["_start", "enlarge", "1"]
+    assert rows[3][0] == "letters.c:12"
+    status, output, _ = lab("profile", "--against", letters, better)
+    assert status == 0 and output.decode().splitlines()[1].split()[0] == "letters.c:12"
+    assert lab("run", better)[0] == 68
+
+
+def test_pieces(lab: Lab, clang: Compiler, tmp_path: pathlib.Path) -> None:
+    """Two writes, of 994 bytes and of 60; of the first one 256 come out. All commands carry out as many instructions."""
+    pieces, trace = compiled(clang, copied(tmp_path / "first", "pieces.c")), tmp_path / "trace"
+    status, output, told = lab("run", "--count", "--trace", trace, "--from", "18001", pieces)
+    assert (status, output) == (0, SQUARES[:256] + SQUARES[994:]) and len(SQUARES) == 1054
+    lines = trace.read_text().splitlines()
+    assert [line.split()[-1] for line in lines if " ecall" in line][:2] == ["x10=100", "x10=3c"]
+    number = told.split()[0]
+    assert (
+        int(number.replace(",", "")) == 18_000 + len(lines) and ": the call was given 994 bytes and wrote 256, " in told
+    )
+    assert lab("profile", pieces)[1].decode().splitlines()[-1].startswith(f"{number} instructions ")
+    loop = "    for (long done; count > 0; bytes += done, count -= done)\n        done = call(64"
+    whole = compiled(clang, copied(tmp_path / "whole", "pieces.c", {"    call(64": loop}))
+    assert lab("run", whole) == (0, SQUARES, "")
+
+
+def test_a_tail(lab: Lab, clang: Compiler, tmp_path: pathlib.Path) -> None:
+    """4 of 16 elements are added at last; the others of the sum become ones: 12 times -1 in place of what they had."""
+    tail = compiled(clang, copied(tmp_path, "tail.c"))
+    assert lab("run", tail)[0] == 5050 - 5000
+    kept = [sum(range(1 + at, 97, 16)) + (97 + at if at < 4 else 0) for at in range(16)]
+    ones = sum(kept[:4]) - 12
+    assert sum(kept) == 5050 and lab("run", "--policy", "ones", tail)[0] == (ones - 5000) % 256
+    status, output, _ = lab("compare", tail)
+    assert status == 1 and b": vredsum.vs " in output
+
+
+@pytest.mark.parametrize("most, ends", [("60", 124), ("59", 0)])
+def test_what_is_overwritten(lab: Lab, clang: Compiler, tmp_path: pathlib.Path, most: str, ends: int) -> None:
+    """The die here waits 60 times for the first time at its 39,944th six; with the last place of the table it ends."""
+    state, waits, before = 1, 0, 0
+    while before < 60:
+        state = (state * 1103515245 + 12345) % 2**32
+        is_six = (state >> 16) % 6 == 5
+        waits, before = waits + is_six, 0 if is_six else before + 1
+    assert waits == 39_943
+    image = compiled(clang, copied(tmp_path, "overwritten.c", {"before : 60": f"before : {most}"}))
+    assert lab("run", "--ticks", "20000000", image)[0] == ends
