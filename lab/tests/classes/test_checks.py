@@ -11,7 +11,7 @@ from typing import Any
 import pytest
 import pytest_asyncio
 
-from support.class_tabs import Served, Tab, process, served
+from support.class_tabs import SECONDS, Served, Tab, process, served
 from vecmon_lab import LabError
 from vecmon_lab.classes.builds import Builds
 from vecmon_lab.classes.languages import LANGUAGES, C
@@ -58,8 +58,9 @@ def square(tmp_path: pathlib.Path) -> pathlib.Path:
 
 
 @pytest_asyncio.fixture  # type: ignore[misc]
-async def room(tmp_path: pathlib.Path, square: pathlib.Path) -> AsyncIterator[Served]:
-    """A class with that exercise, and two of the lab's."""
+async def room(tmp_path: pathlib.Path, square: pathlib.Path, monkeypatch: pytest.MonkeyPatch) -> AsyncIterator[Served]:
+    """A class with that exercise, and two of the lab's. A check, which is behind all others, may take a test's time."""
+    monkeypatch.setattr("vecmon_lab.classes.checks.SECONDS", SECONDS)
     async with served(
         tmp_path / "class", exercises=[square, *map(pathlib.Path, ("doubles", "strip_mined_copy"))]
     ) as room:

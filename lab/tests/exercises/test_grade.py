@@ -516,3 +516,15 @@ def test_there_is_no_such_exercise(tmp_path: pathlib.Path) -> None:
         read_exercise(pathlib.Path("nosuch"))
     with pytest.raises(LabError, match="is no exercise"):
         read_exercise(tmp_path)
+
+
+def test_counts() -> None:
+    """In three cases that aren't hidden one round of eleven instructions and a return; 5, 6 and 40 elements of 128."""
+    answers = [answer("vectors.s"), answer("wraps.s")]
+    table = run_grade("saturating_sum", "--counts", *answers).stdout.splitlines()
+    assert table[1].split()[-2:] == ["instructions", "work"] and table[2].split()[-3:] == ["36", "13", "%"]
+    assert table[3].endswith(" of 5")
+    rows = list(csv.reader(run_grade("saturating_sum", "--counts", "--csv", *answers).stdout.splitlines()))
+    assert [row[-3:-1] for row in rows] == [["reason", "instructions"], ["", "36"], [rows[2][-3], ""]]
+    assert [row[-1] for row in rows] == ["work", "13 %", ""]
+    assert run_grade("saturating_sum", answers[0]).stdout.splitlines()[1].endswith(" passed")

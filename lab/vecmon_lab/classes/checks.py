@@ -20,8 +20,9 @@ from .. import LabError
 from ..assembler.source import SourceError
 from ..compilers.compiled import CompiledProgram
 from ..exercises.answer import C_SUFFIX, STACK, inputs, settled
-from ..exercises.check import Taken, Told
+from ..exercises.check import Told
 from ..exercises.exercise import Exercise, read_exercise
+from ..exercises.taken import Taken
 from .beside import Beside
 from .builds import Builds
 from .codes import new_code

@@ -22,9 +22,10 @@ from ..assembler.trial import all_mistakes
 from ..compilers.compiled import CompiledProgram
 from ..lessons.script import Script, Step
 from ..lessons.script import read_source as read_script
-from .answer import Answer, inputs, ready, read_answer, source_answer
+from .answer import inputs, read_answer, source_answer
 from .exercise import ABI, ADDRESSES, Case, Exercise, Results
 from .outcome import outcome
+from .taken import Taken, taken_by
 
 NAME = pathlib.Path("answer")
 MOST_SHOWN, BEFORE = 48, 4  # numbers of a row; and of them before the first wrong one
@@ -34,8 +35,6 @@ Row = TypedDict("Row", {"where": str, "first": int, "numbers": list[str], "more"
 behind those that are shown, and places of wrong ones."""
 Mistake = TypedDict("Mistake", {"line": int, "column": int, "message": str})
 """A mistake of the source's form."""
-Taken = TypedDict("Taken", {"instructions": int, "work": int})
-"""What an answer takes for all cases that aren't hidden: instructions, and of 100 elements those that did work."""
 
 
 class Told(TypedDict, total=False):
@@ -89,9 +88,9 @@ def check(
             return told
     if all(told["cases"]) and "good" in exercise.files:
         with contextlib.suppress(LabError):  # as one in C, where there is no compiler
-            good = good or _taken(program, read_answer(exercise.files["good"], is_own=True), exercise)
+            good = good or taken_by(program, read_answer(exercise.files["good"], is_own=True), exercise)
         if good:
-            told.update({"taken": _taken(program, answer, exercise), "good": good})
+            told.update({"taken": taken_by(program, answer, exercise), "good": good})
     return told
 
 
@@ -132,22 +131,6 @@ def _notes(exercise: Exercise, case: Case) -> list[str]:
     agnostic = "Agnostic elements, of a tail or masked off, become all ones here: does the answer use one?"
     junk = "All other registers hold anything."
     return [junk] * exercise.junk + [agnostic] * (case.policy == "ones")
-
-
-def _taken(program: pathlib.Path, answer: Answer, exercise: Exercise) -> Taken:
-    """What an answer takes that passes."""
-    from ..runs.counts import beginning_at, count  # which is for answers that pass
-
-    instructions, elements = 0, [0, 0, 0]
-    for case in exercise.cases:
-        if not case.is_hidden:
-            with ready(program, answer, exercise, case) as guest:
-                lines = guest.session.script.decode("ascii").splitlines()
-                image = answer.path if answer.commands is None else None
-                counts = count(beginning_at(guest, lines, image), exercise.limits.ticks)
-            instructions += counts.instructions
-            elements = [sum(pair) for pair in zip(elements, counts.elements)]
-    return {"instructions": instructions, "work": round(100 * elements[0] / max(1, sum(elements)))}
 
 
 def _given(case: Case, cut: Row | None) -> list[Row]:

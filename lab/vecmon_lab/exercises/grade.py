@@ -5,6 +5,7 @@ import csv
 import os
 import pathlib
 import sys
+from collections.abc import Sequence
 from concurrent.futures import ThreadPoolExecutor
 from functools import partial
 
@@ -18,7 +19,9 @@ from .answer import C_SUFFIX, read_answer, settled
 from .exercise import OURS, Exercise, read_exercise
 from .outcome import outcome
 from .reports import Grades, gradescope, junit
+from .taken import Taken, taken_by
 
+COUNTS = ("instructions", "work")  # columns of what an answer takes
 EXERCISE = "a folder with a file exercise.toml, or the name of an exercise that comes with the lab"
 
 
@@ -29,6 +32,8 @@ def add_arguments(parser: argparse.ArgumentParser) -> None:
     form = parser.add_mutually_exclusive_group()
     form.add_argument("--csv", action="store_true", help="a row of CSV for each answer, below a header, and no table")
     form.add_argument("--rows", action="store_true", help="the same without the header")
+    counts = "what answers take that pass: instructions, and elements that did work, of cases that aren't hidden"
+    parser.add_argument("--counts", action="store_true", help=counts)
     for option, report in (("--junit", "a report in JUnit's XML"), ("--gradescope", "Gradescope's results.json")):
         parser.add_argument(option, metavar="FILE", type=pathlib.Path, help=f"write {report} as well")
 
@@ -50,25 +55,40 @@ def run(arguments: argparse.Namespace) -> int:
     program = find_program()
     exercise = settled(program, read_exercise(arguments.exercise))
     with ThreadPoolExecutor(os.cpu_count()) as pool:
-        grades = list(zip(arguments.answers, pool.map(partial(grade, program, exercise), arguments.answers)))
+        found = [*pool.map(partial(graded, program, exercise, is_counted=arguments.counts), arguments.answers)]
+    grades = [(path, outcomes) for path, (outcomes, _) in zip(arguments.answers, found)]
+    more = [_cells(taken) for _, taken in found] if arguments.counts else [[] for _ in found]
     if arguments.junit:
         arguments.junit.write_text(junit(exercise, grades), "utf-8")
     if arguments.gradescope:
         arguments.gradescope.write_text(gradescope(exercise, grades[0][1]), "utf-8")
     if arguments.csv or arguments.rows:
-        _print_rows(exercise, grades, arguments.csv)
+        _print_rows(exercise, grades, more, arguments.csv)
     else:
-        _print_table(exercise, grades)
+        _print_table(exercise, grades, more)
     return int(any(any(outcomes) for _, outcomes in grades))
 
 
 def grade(program: pathlib.Path, exercise: Exercise, path: pathlib.Path, is_own: bool = False) -> list[str]:
     """Why an answer, which may be one's own, fails, or nothing, for each case, whatever the file is."""
+    return graded(program, exercise, path, is_own)[0]
+
+
+def graded(
+    program: pathlib.Path, exercise: Exercise, path: pathlib.Path, is_own: bool = False, is_counted: bool = False
+) -> tuple[list[str], Taken | None]:
+    """As `grade`; and what an answer takes that passes, if that is counted."""
     try:
         answer = read_answer(path, exercise.limits.size, is_own)
     except LabError as error:
-        return [str(error)] * len(exercise.cases)
-    return [outcome(program, answer, exercise, case)[0] for case in exercise.cases]
+        return [str(error)] * len(exercise.cases), None
+    outcomes = [outcome(program, answer, exercise, case)[0] for case in exercise.cases]
+    return outcomes, taken_by(program, answer, exercise) if is_counted and not any(outcomes) else None
+
+
+def _cells(taken: Taken | None) -> list[str]:
+    """What an answer takes, as cells of a table; empty ones where it fails."""
+    return [f"{taken['instructions']}", f"{taken['work']} %"] if taken else ["", ""]
 
 
 def _reasons(exercise: Exercise, outcomes: list[str]) -> list[str]:
@@ -82,24 +102,26 @@ def _reasons(exercise: Exercise, outcomes: list[str]) -> list[str]:
     return [f"{', '.join(names)}: {reason}" for reason, names in cases.items()]
 
 
-def _print_rows(exercise: Exercise, grades: Grades, with_header: bool) -> None:
-    """Prints a row of CSV for each answer."""
+def _print_rows(exercise: Exercise, grades: Grades, more: Sequence[Sequence[str]], with_header: bool) -> None:
+    """Prints a row of CSV for each answer, with more cells at the end."""
     writer = csv.writer(sys.stdout, lineterminator="\n")
     if with_header:
-        writer.writerow(spreadsheet_row(["answer", "passed", "of", *(case.name for case in exercise.cases), "reason"]))
-    for path, outcomes in grades:
+        names = [case.name for case in exercise.cases]
+        writer.writerow(spreadsheet_row(["answer", "passed", "of", *names, "reason", *COUNTS[: len(more[0])]]))
+    for (path, outcomes), cells in zip(grades, more):
         marks = ["fails" if outcome else "passes" for outcome in outcomes]
         reason = next(iter(_reasons(exercise, outcomes)), "")
-        writer.writerow(spreadsheet_row([path, outcomes.count(""), len(marks), *marks, reason]))
+        writer.writerow(spreadsheet_row([path, outcomes.count(""), len(marks), *marks, reason, *cells]))
 
 
-def _print_table(exercise: Exercise, grades: Grades) -> None:
-    """Prints the table, and below it why cases fail."""
-    rows = [["answer", *(case.name for case in exercise.cases), "passed"]]
-    for path, outcomes in grades:
+def _print_table(exercise: Exercise, grades: Grades, more: Sequence[Sequence[str]]) -> None:
+    """Prints the table, with more cells in its rows, and below it why cases fail."""
+    head = ["answer", *(case.name for case in exercise.cases), "passed"]
+    rows = [[*head, *COUNTS[: len(more[0])]]]
+    for (path, outcomes), cells in zip(grades, more):
         marks = ["-" if outcome else "ok" for outcome in outcomes]
-        rows.append([str(path), *marks, f"{outcomes.count('')} of {len(marks)}"])
-    print("\n".join([exercise.title, *table_lines(rows, len(rows[0]))]))
+        rows.append([str(path), *marks, f"{outcomes.count('')} of {len(marks)}", *cells])
+    print("\n".join([exercise.title, *table_lines(rows, len(head))]))
     for path, outcomes in grades:
         for reason in filter(None, _reasons(exercise, outcomes)):
             print(f"{path}: {reason}")

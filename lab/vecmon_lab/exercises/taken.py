@@ -1,0 +1,26 @@
+"""What an answer takes that passes: instructions, and the elements of its vector instructions that did work."""
+
+import pathlib
+from typing import TypedDict
+
+from .answer import Answer, ready
+from .exercise import Exercise
+
+Taken = TypedDict("Taken", {"instructions": int, "work": int})
+"""What an answer takes for all cases that aren't hidden: instructions, and of 100 elements those that did work."""
+
+
+def taken_by(program: pathlib.Path, answer: Answer, exercise: Exercise) -> Taken:
+    """What an answer takes that passes. Raises LabError where there is no recorder."""
+    from ..runs.counts import beginning_at, count  # which is for answers that pass
+
+    instructions, elements = 0, [0, 0, 0]
+    for case in exercise.cases:
+        if not case.is_hidden:
+            with ready(program, answer, exercise, case) as guest:
+                lines = guest.session.script.decode("ascii").splitlines()
+                image = answer.path if answer.commands is None else None
+                counts = count(beginning_at(guest, lines, image), exercise.limits.ticks)
+            instructions += counts.instructions
+            elements = [sum(pair) for pair in zip(elements, counts.elements)]
+    return {"instructions": instructions, "work": round(100 * elements[0] / max(1, sum(elements)))}
