@@ -43,7 +43,7 @@ def run(arguments: argparse.Namespace) -> int:
     if other:
         _, _, theirs, more = _profiled(arguments, other)
         parts.insert(0, compared(spent, theirs))
-        summary += [f"{other.name}: {line}" for line in more]
+        summary += [f"against {other.name}: {line}" for line in more]
     rows = [*_rows(counts, symbols)]
     tables = [line for part in parts for line in (*_shown(part), "")]
     print("\n".join([*tables, *table_lines([HEAD, *rows], 4), "", *_histogram(counts), "", *summary]))
