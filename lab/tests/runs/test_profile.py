@@ -138,7 +138,9 @@ def test_one_beside_another(lab: Lab, program: pathlib.Path, tmp_path: pathlib.P
     lines = output.decode().splitlines()
     assert (status, told) == (0, "") and lines[0].split() == ["function", "ticks", "against", "change"]
     assert lines[1].split() == ["10000", "17", "47", "-30"]
-    assert lines[-4].startswith("17 instructions in 17 ticks") and lines[-2].startswith("against long: 47 instructions in 47 ")
+    assert lines[-4].startswith("17 instructions in 17 ticks") and lines[-2].startswith(
+        "against long: 47 instructions in 47 "
+    )
     lines = lab("profile", "--against", SUM_DWARF4, SUM_DWARF4)[1].decode().splitlines()
     assert lines[0].split()[0] == "source" and {line.split()[-1] for line in lines[1:11]} == {"0"}
 

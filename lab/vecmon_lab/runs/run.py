@@ -30,10 +30,14 @@ def add_arguments(parser: argparse.ArgumentParser) -> None:
     number = between(1, 1 << 63)
     parser.add_argument("--policy", choices=("keep", "ones"), default="keep", help="what becomes of agnostic elements")
     parser.add_argument("--trace", metavar="FILE", type=pathlib.Path, help="a line for each instruction goes there")
-    parser.add_argument("--from", dest="first", metavar="N", type=number, help="the first one of the trace; else 1")
-    parser.add_argument("--to", dest="last", metavar="N", type=number, help="its last one; else the last of the run")
-    parser.add_argument("--count", action="store_true", help="how many there were goes to standard error")
-    parser.add_argument("--stats", action="store_true", help="and counts by name, and by vector type and length")
+    parser.add_argument(
+        "--from", dest="first", metavar="N", type=number, help="the number of its first instruction; else 1"
+    )
+    parser.add_argument(
+        "--to", dest="last", metavar="N", type=number, help="the number of its last one; else the run's last"
+    )
+    parser.add_argument("--count", action="store_true", help="how many instructions and ticks goes to standard error")
+    parser.add_argument("--stats", action="store_true", help="the same, by name, and by vector type and length")
 
 
 def run(arguments: argparse.Namespace) -> int:
