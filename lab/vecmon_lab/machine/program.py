@@ -47,6 +47,8 @@ def find_recorder() -> pathlib.Path:
         named = str(find_program().with_name(RECORDER))
     found = shutil.which(named) if named else shutil.which(str(BUILT_RECORDER)) or shutil.which(RECORDER)
     if found is None:
+        if not os.environ.get("VECMON_RECORD"):
+            check_is_vecmon(find_program())  # beside which it isn't
         raise NoProgram(f"there is no program {named or RECORDER}; {HOW_TO_BUILD_RECORDER}")
     return pathlib.Path(found).absolute()
 
