@@ -141,8 +141,11 @@ def test_one_beside_another(lab: Lab, program: pathlib.Path, tmp_path: pathlib.P
     assert lines[-4].startswith("17 instructions in 17 ticks") and lines[-2].startswith(
         "against long: 47 instructions in 47 "
     )
-    lines = lab("profile", "--against", SUM_DWARF4, SUM_DWARF4)[1].decode().splitlines()
-    assert lines[0].split()[0] == "source" and {line.split()[-1] for line in lines[1:11]} == {"0"}
+    tables = [
+        each.splitlines() for each in lab("profile", "--against", SUM_DWARF4, SUM_DWARF4)[1].decode().split("\n\n")
+    ]
+    assert tables[0][0].split()[0] == "source" and {line.split()[-1] for line in tables[0][1:11]} == {"0"}
+    assert tables[1][0].split()[0] == "function" and tables[1][1].split() == ["_start", "721", "721", "0"]
 
 
 @pytest.mark.parametrize("scheme", ["light", "dark"])

@@ -129,13 +129,14 @@ def share(number: int, whole: int) -> str:
     return f"{100 * number / max(1, whole):.0f} %"
 
 
-def compared(ours: Spent, theirs: Spent) -> Part:
-    """The ticks of two runs by source lines, where both have some, or else by functions; what got cheaper first."""
-    by_line = ours.has_lines and theirs.has_lines
-    mine, others = ours.ticks(by_line), theirs.ticks(by_line)
-    rows = [(name, mine[name], others[name], mine[name] - others[name]) for name in dict.fromkeys([*mine, *others])]
-    head = ("source" if by_line else "function", "ticks", "against", "change")
-    return Part("Against the other image", head, 1, sorted(rows, key=lambda row: row[3]))
+def compared(ours: Spent, theirs: Spent) -> Iterator[Part]:
+    """The ticks of two runs side by side, what got cheaper first: by source lines, where both have some, and functions."""
+    for by_line in (True, False) if ours.has_lines and theirs.has_lines else (False,):
+        mine, others = ours.ticks(by_line), theirs.ticks(by_line)
+        rows = [(name, mine[name], others[name], mine[name] - others[name]) for name in dict.fromkeys([*mine, *others])]
+        what, title = ("source", "Source lines") if by_line else ("function", "Functions")
+        head = (what, "ticks", "against", "change")
+        yield Part(f"{title} against the other image", head, 1, sorted(rows, key=lambda row: row[3]))
 
 
 def _sorted(rows: Iterable[Row], column: int) -> list[Row]:

@@ -42,7 +42,7 @@ def run(arguments: argparse.Namespace) -> int:
     parts = [part for part in spent.parts() if part.rows]
     if other:
         _, _, theirs, more = _profiled(arguments, other)
-        parts.insert(0, compared(spent, theirs))
+        parts = [*compared(spent, theirs), *parts]
         summary += [f"against {other.name}: {line}" for line in more]
     rows = [*_rows(counts, symbols)]
     tables = [line for part in parts for line in (*_shown(part), "")]
