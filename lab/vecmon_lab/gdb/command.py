@@ -38,6 +38,7 @@ BEGUN = "S00"  # no signal: gdb would tell of one where the last machine was sto
 INTERRUPTED, ILLEGAL, TRAPPED, MISALIGNED, UNMAPPED = "S02", "S04", "S05", "S0a", "S0b"  # SIGINT, ILL, TRAP, BUS, SEGV
 FAULTS = {0: MISALIGNED, 1: UNMAPPED, 2: ILLEGAL, 5: UNMAPPED, 7: UNMAPPED}  # by cause
 REFUSED, TOO_MANY, THERE_ALREADY = "E04", "E12", Refused("E13")
+FEATURES = "qXfer:features:read+;QStartNoAckMode+;ReverseStep+;ReverseContinue+"
 FIRST_INSTANT = "T05replaylog:begin;"
 WATCHES = {"2": "watch", "3": "rwatch", "4": "awatch"}  # by the number in a packet
 PACKET_BYTES = 512  # so that what gdb writes at once, in two digits a byte, isn't too much for `poke`
@@ -83,9 +84,7 @@ class Target:
     def _answer(self, letter: str, words: list[str]) -> str:
         match letter, words:
             case "q", ["Supported", *_]:
-                return (
-                    f"PacketSize={PACKET_BYTES:x};qXfer:features:read+;QStartNoAckMode+;ReverseStep+;ReverseContinue+"
-                )
+                return f"PacketSize={PACKET_BYTES:x};{FEATURES}"
             case "q", ["Xfer", "features", "read", "target.xml", offset, length]:
                 part = DESCRIPTION[int(offset, 16) :]
                 return ("m" if len(part) > int(length, 16) else "l") + part[: int(length, 16)]
@@ -169,7 +168,8 @@ class Target:
 
     def _scalars(self) -> list[str]:
         """The registers before the vector registers: x0 to x31, pc, and the control registers."""
-        registers, control = self._guest.told("regs", ScalarRegisters), self._guest.told("vcsr", ControlRegisters)
+        registers, control = self._guest.ask("regs", "vcsr")
+        assert isinstance(registers, ScalarRegisters) and isinstance(control, ControlRegisters)
         values = (*registers.x, registers.pc, *vars(control).values())
         return [value.to_bytes(8, "little").hex() for value in values]
 

@@ -1,4 +1,4 @@
-"""The instructions of a user's program, as the lines of a script have carried them out."""
+"""The instructions of a user's program, as the lines of a script have carried them out while no other one ran."""
 
 from collections.abc import Iterable, Iterator, Sequence
 from dataclasses import dataclass, replace
@@ -39,13 +39,15 @@ class Legs:
         self._user, self._quantum = str(user), quantum
         self._breaks = frozenset[int]()
         self._is_written = True  # since the last leg
+        self._is_running = False
 
     def follow(self, line: str, answer: Sequence[str]) -> None:
         """Takes up the next line of the script."""
         told, words = read(answer), words_of(line)
-        if line[0] == "*" and isinstance(told, Granted):
-            ends = [stop.kind != "outfull" for user, stop in told.stops if user == self._user]
-            self._slices(told.slices * self._quantum, any(ends))
+        if line[0] == "*" and isinstance(told, Granted) and self._is_running:
+            ends = [stop.kind for user, stop in told.stops if user == self._user]
+            self._is_running = not ends
+            self._slices(told.slices * self._quantum, bool(ends) and ends != ["outfull"])
         elif line[0] == self._user and not isinstance(told, Refused):
             self._take_up(words[0], words[1:], told.number if isinstance(told, Position) else 0)
         self.size += len(line) + 1
@@ -62,6 +64,8 @@ class Legs:
                 self._steps(done)
             case "step":
                 self._slices(int(words[0]), True)
+            case "go" | "stop":
+                self._is_running = command == "go"
             case "break":
                 self._breaks |= {int(words[0], 16)}
             case "unbreak":
@@ -74,8 +78,7 @@ class Legs:
     def _steps(self, done: int) -> None:
         """Takes up so many instructions."""
         if self._is_written or not self.legs or self.legs[-1].count is None:
-            self.legs.append(Leg(self.size, 0, 0, self._breaks))
-            self._is_written = False
+            self._begin(0)
         self.legs[-1].count = (self.legs[-1].count or 0) + done
 
     def _slices(self, ticks: int, has_stopped: bool) -> None:
@@ -84,11 +87,17 @@ class Legs:
         if ticks == 0:
             return
         if last is None or last.count is not None or last.has_stopped or last.breaks != self._breaks:
-            last = Leg(self.size, None, 0, self._breaks)
-            self.legs.append(last)
-        self._is_written = False
+            last = self._begin(None)
         last.ticks += ticks
         last.has_stopped = has_stopped
+
+    def _begin(self, count: int | None) -> Leg:
+        """Begins a leg, in place of one without an instruction."""
+        if self.legs and self.legs[-1].count == 0:
+            self.legs.pop()
+        self.legs.append(Leg(self.size, count, 0, self._breaks))
+        self._is_written = False
+        return self.legs[-1]
 
 
 def stepping(first: int, last: int, most: int = OUTPUT_EVERY) -> Iterator[str]:
