@@ -7,24 +7,12 @@ from collections.abc import Callable, Iterator
 import pytest
 
 from support.images import make_image
-from support.sources import WRITES
+from support.sources import COUNTDOWN, WRITES
 from vecmon_lab.guest.guest import Guest, started
 from vecmon_lab.machine.answers import Addresses, ScalarRegisters, Stop
 from vecmon_lab.replay.timeline import Timeline
 from vecmon_lab.replay.watches import Watch
 
-# One instruction, three rounds of five, and an EBREAK: 3, 2 and 1 are stored at 11008.
-COUNTDOWN = """
-        addi x5, x0, 3
-loop:   addi x6, x6, 1
-        auipc x7, 1
-store:  sw x5, 0(x7)
-behind: addi x5, x5, -1
-        bne x5, x0, loop
-        ebreak
-        .data
-        .zero 64
-"""
 # Of v0 element 5 alone is active, and v1 has 0 to 7.
 ACCESSES = """
         lui x6, 17

@@ -290,7 +290,7 @@ class Console:
         address = int(digits, 16) if re.fullmatch(DIGITS, digits) else -1
         sizes = (self._symbols.sizes.get(name, 0) for name, at in self._symbols.addresses.items() if at == address)
         if not 0 <= address < 1 << 48:
-            raise LabError(f"{digits} is no address; {COMMANDS['back'].does}")
+            raise LabError(f"{digits} is no address of memory")
         self._guest.ask("stop")
         self._timeline.watches = [Watch("watch", address, max(sizes, default=0) or 8)]
         try:
