@@ -8,6 +8,7 @@ import pytest
 
 from support.images import make_image
 from support.sources import COUNTDOWN, WRITES
+from vecmon_lab import LabError
 from vecmon_lab.guest.guest import Guest, started
 from vecmon_lab.machine.answers import Addresses, ScalarRegisters, Stop
 from vecmon_lab.replay.timeline import Timeline
@@ -39,6 +40,20 @@ loop:   addi x5, x5, 1
         jal x0, loop
         .data
         .zero 512
+"""
+WRITES_MUCH = """
+        addi x5, x0, 9
+        lui x11, 17
+        addi x12, x0, 256
+        addi x17, x0, 64
+loop:   addi x10, x0, 1
+        ecall
+        addi x5, x5, -1
+        bne x5, x0, loop
+        nop
+        ebreak
+        .data
+        .zero 256
 """
 PLACE = Watch("watch", 0x11008, 4)
 
@@ -176,10 +191,31 @@ def test_accesses(begin: Callable[[str], tuple[Timeline, Guest]], kind: str, byt
     assert not found and guest.pc == 0x10000
 
 
-def test_output_is_taken_on_the_way(begin: Callable[[str], tuple[Timeline, Guest]]) -> None:
-    """Seven instructions write eight bytes, 5,000 times."""
+def test_where_there_is_no_way_back(
+    begin: Callable[[str], tuple[Timeline, Guest]], monkeypatch: pytest.MonkeyPatch
+) -> None:
+    """A write of 256 bytes takes four instructions, and the buffer has 1,024; 1,000 ticks are more than 999."""
+    timeline, guest = begin(WRITES_MUCH)
+    assert timeline.go(never) == Stop("ebreak", 0x10024)
+    with pytest.raises(LabError, match="writes more than its buffer takes"):
+        timeline.back()
+    assert state(guest)[:2] == (0x10024, 0)
+    timeline, guest = begin(COUNTDOWN)
+    assert timeline.go(never) == Stop("ebreak", 0x10018)
+    monkeypatch.setattr("vecmon_lab.replay.timeline.MOST_BACK", 999)
+    with pytest.raises(LabError, match="no way back into a run of more than 200,000,000 ticks"):
+        timeline.back()
+    assert state(guest) == (0x10018, 0, 3, 1)
+
+
+def test_output_on_the_way(begin: Callable[[str], tuple[Timeline, Guest]]) -> None:
+    """Eight instructions write eight bytes, 5,000 times: there is a way back over a thousand writes."""
     timeline, guest = begin(WRITES)
-    timeline.watches = [Watch("watch", 0, 8)]
+    timeline.watches = [Watch("watch", 0x10000, 8)]
     polls = itertools.count()
-    timeline.go(lambda: next(polls) > 6)
-    assert guest.pc and timeline.back(8) and timeline.back(8)
+    assert timeline.go(lambda: next(polls) > 3) is None
+    timeline.watches = []
+    before = guest.told("regs", ScalarRegisters)
+    assert 1000 < before.x[8] < 4000 and timeline.back(8000)
+    after = guest.told("regs", ScalarRegisters)
+    assert (after.pc, after.x[8]) == (before.pc, before.x[8] + 1000)

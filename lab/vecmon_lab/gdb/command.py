@@ -126,7 +126,6 @@ class Target:
 
     def _stopped(self, stop: Stop | None, signal: str) -> str:
         """A stop by its signal, or the program's end; without one the signal. Why it faulted is put out in words."""
-        self._guest.empty_buffer()
         self._last = self._trapped() if stop else signal
         if stop and stop.kind == "exit":
             self._last = f"W{stop.number:02x}"

@@ -3,12 +3,10 @@
 An instant comes again by a replay: another session carries out the script up to there, with all that was written by hand.
 """
 
-import contextlib
 import functools
 import itertools
 import operator
 from collections.abc import Callable, Container, Iterator, Sequence
-from dataclasses import dataclass
 
 from .. import LabError
 from ..checkpoints.machine_state import PERMISSIONS, carry_out, pages_of
@@ -21,27 +19,19 @@ from ..runs.counts import beginning_at
 from .legs import OUTPUT_EVERY, Leg, Legs, stepping
 from .watches import ACCESSES, Watch, accessed, changed
 
-FIRST_WINDOW, MOST_WINDOW = 256, 1 << 17  # instructions that are looked at in one go
+FEW = 16  # instructions that are carried out on the machine itself
+FIRST_WINDOW, MOST_WINDOW = 256, 1 << 17  # that are looked at in one go
 MOST_ACCESSES = 1 << 12  # of them where accesses are watched for
+MOST_BACK = 200_000_000  # ticks of a leg: a script takes no more steps
+TOO_FAR = f"there is no way back into a run of more than {MOST_BACK:,} ticks"
 TRACED = 16  # addresses that `trace` shows
 STORES = (STORE, STORE_FP)  # opcodes of what may change memory
 TOO_MUCH = "there is no way back: the program writes more than its buffer takes, within 256 instructions"
 
 
-@dataclass(frozen=True)
-class Window:
-    """Instructions one after another that were carried out elsewhere.
-
-    pcs: the program counter before each of them, and behind the last one
-    stop: what stopped the program behind the last one, if anything did
-    """
-
-    pcs: list[int]
-    stop: Stop | None = None
-
-    def numbers(self, addresses: Container[int]) -> list[int]:
-        """The numbers of the instructions that stand at these addresses, also of the one behind the last."""
-        return [number for number, pc in enumerate(self.pcs) if pc in addresses]
+Window = tuple[Sequence[int], Stop | None]
+"""Instructions one after another that were carried out elsewhere: the program counter before each of them, and behind the last one, and what
+stopped the program there, if anything did."""
 
 
 class Timeline:
@@ -63,17 +53,25 @@ class Timeline:
         self.hit = None
         if not self.watches:
             return self._guest.go(None, is_interrupted)
-        breaks, size = self._breaks(), FIRST_WINDOW
+        breaks = self._breaks()
+        for _ in range(FEW):  # as gdb's own steps are
+            if (stop := self.step()) or self._guest.pc in breaks:
+                return stop or Stop("break", self._guest.pc)
+        return self._go_far(breaks, is_interrupted)
+
+    def _go_far(self, breaks: Sequence[int], is_interrupted: Callable[[], bool]) -> Stop | None:
+        """As `go`, where places are watched: windows tell how far the program may run."""
+        size = FIRST_WINDOW
         while not is_interrupted():
             script = self._guest.session.script
-            window = self._window(script, 0, size)
-            ends: list[tuple[int, Watch | None]] = [*self._hits(script, 0, window)]
-            ends += [(number, None) for number in window.numbers(breaks) if number]
-            count, self.hit = min(ends, key=operator.itemgetter(0), default=(len(window.pcs) - 1, None))
+            pcs, stop = self._window(script, 0, size)
+            ends: list[tuple[int, Watch | None]] = [*self._hits(script, 0, pcs)]
+            ends += [(number, None) for number in _numbers(pcs, breaks) if number]
+            count, self.hit = min(ends, key=operator.itemgetter(0), default=(len(pcs) - 1, None))
             self._guest.advance(stepping(0, count))
             if ends:
                 return Stop("break", self._guest.pc)
-            if window.stop and window.stop.kind != "outfull":
+            if stop and stop.kind != "outfull":
                 return self._guest.step()
             size = self._next_size(size)
         return None
@@ -82,7 +80,9 @@ class Timeline:
         """Carries out one instruction, unless it may do what is watched for; the stop, if it stops instead."""
         word = self._guest.word_at(self._guest.pc)[0] if self.watches else 0
         self.hit = accessed(self.watches, self._guest, word)
-        return Stop("break", self._guest.pc) if self.hit else self._guest.step()
+        stop = Stop("break", self._guest.pc) if self.hit else self._guest.step()
+        self._guest.empty_buffer()
+        return stop
 
     def back(self, number: int = 1) -> bool:
         """Goes back by so many instructions; whether there were as many, else to the first instant. Raises LabError."""
@@ -116,13 +116,11 @@ class Timeline:
             if is_interrupted():
                 return None
             script = self._script(self._legs.legs[place], first)
-            window = self._window(script, first, last)
-            if len(window.pcs) <= last - first:
+            pcs, _ = self._window(script, first, last)
+            if len(pcs) <= last - first:
                 raise LabError(TOO_MUCH)
-            halts: list[tuple[int, Watch | None]] = [
-                (number + 1, it) for number, it in self._hits(script, first, window)
-            ]
-            halts += [(number, None) for number in window.numbers(breaks) if number < last - first]
+            halts: list[tuple[int, Watch | None]] = [(number + 1, it) for number, it in self._hits(script, first, pcs)]
+            halts += [(number, None) for number in _numbers(pcs[:-1], breaks)]
             if halts:
                 number, self.hit = max(halts, key=operator.itemgetter(0))
                 self._rewind(place, first + number)
@@ -153,7 +151,7 @@ class Timeline:
         """Takes up what the script has had since the last time."""
         script, size = self._guest.session.script, self._legs.size
         if size < len(script):
-            with self._machine(script[:size]) as session:
+            with self._guest.session.rewound(script[:size]) as session:
                 for line, answer in session.do_script(script[size:]):
                     self._legs.follow(line, answer)
 
@@ -188,15 +186,6 @@ class Timeline:
         """What looks at the places that are watched show."""
         return self._guest.ask(*_looks(self.watches))
 
-    @contextlib.contextmanager
-    def _machine(self, script: bytes) -> Iterator[Session]:
-        """Another session, which has carried out a script."""
-        session = self._guest.session.rewound(script)
-        try:
-            yield session
-        finally:
-            session.close()
-
     def _lines(self, *commands: str) -> bytes:
         """The guest's lines with these commands."""
         return "".join(f"{self._guest.user} {command}\n" for command in commands).encode("ascii")
@@ -218,29 +207,28 @@ class Timeline:
             assert isinstance(trace, Addresses)
             if isinstance(step, Stop):
                 if pcs or most == 1:
-                    return Window([*pcs, pc], step if most == 1 else None)
+                    return [*pcs, pc], step if most == 1 else None
                 return self._window(script, first, min(last, first + most), 1)
             assert isinstance(step, Position)
             pcs += trace.addresses[-step.number :]
             pc = step.pc
-        return Window([*pcs, pc])
+        return [*pcs, pc], None
 
-    def _hits(self, script: bytes, first: int, window: Window) -> list[tuple[int, Watch]]:
+    def _hits(self, script: bytes, first: int, pcs: Sequence[int]) -> list[tuple[int, Watch]]:
         """The instructions of a window that do what is watched for, by their numbers there, each with the place."""
-        words = {pc: self._guest.word_at(pc)[0] for pc in set(window.pcs[:-1])}
+        pcs = pcs[:-1]
+        words = {pc: self._guest.word_at(pc)[0] for pc in set(pcs)}
         stores = {pc for pc, word in words.items() if word & 0x7F in STORES}
-        hits = list(self._changes(script, first, window.numbers(stores))) if _looks(self.watches) else []
+        hits = list(self._changes(script, first, _numbers(pcs, stores))) if _looks(self.watches) else []
         opcodes = {opcode for watch in self._accessed for opcode in ACCESSES[watch.kind]}
-        wanted = {pc: word for pc, word in words.items() if word & 0x7F in opcodes}
+        wanted = {pc for pc, word in words.items() if word & 0x7F in opcodes}
         if wanted:
-            hits += self._accesses(
-                script, first, [(number, wanted[window.pcs[number]]) for number in window.numbers(wanted)]
-            )
-        return sorted((hit for hit in hits if hit[0] < len(window.pcs) - 1), key=operator.itemgetter(0))
+            hits += self._accesses(script, first, [(number, words[pcs[number]]) for number in _numbers(pcs, wanted)])
+        return sorted(hits, key=operator.itemgetter(0))
 
     def _accesses(self, script: bytes, first: int, words: Sequence[tuple[int, int]]) -> Iterator[tuple[int, Watch]]:
         """Those of some instructions that access what is watched, by their numbers behind a script, each with the place."""
-        with self._machine(script) as session:
+        with self._guest.session.rewound(script) as session:
             guest, at = Guest(session, self._guest.user), first
             for number, word in words:
                 guest.ask(*stepping(at, first + number))
@@ -260,7 +248,9 @@ class Timeline:
                 yield number, watch
 
     def _count(self, leg: Leg) -> int:
-        """How many instructions a leg has."""
+        """How many instructions a leg has. Raises LabError where they are too many."""
+        if (leg.count or leg.ticks) > MOST_BACK:
+            raise LabError(TOO_FAR)
         if leg.count is None:
             leg.count = self._counted(leg) if leg.has_stopped else self._recorded(leg)
         return leg.count
@@ -286,13 +276,18 @@ class Timeline:
 
     def _recorded(self, leg: Leg) -> int:
         """The instructions of a leg whose ticks ran out, by the recorder, from the state before them on."""
-        with self._machine(b"") as session:
+        with self._guest.session.rewound(b"") as session:
             user = carry_out(session, self._script(leg, 0))[str(self._guest.user)]
             pages = [(page, _letters(allowed)) for page, allowed in pages_of(user, session.images)]
             lines = [*(f"1 map {page:x} 1 {letters}" for page, letters in pages), f"1 policy {user.policy}"]
             beginning = beginning_at(Guest(session, self._guest.user), lines)
         done = record(beginning, leg.ticks)
         return done.instructions - (done.ticks > leg.ticks)  # the last one may have been cut
+
+
+def _numbers(pcs: Sequence[int], addresses: Container[int]) -> list[int]:
+    """The numbers of the instructions that stand at these addresses."""
+    return [number for number, pc in enumerate(pcs) if pc in addresses]
 
 
 def _looks(watches: Sequence[Watch]) -> list[str]:
