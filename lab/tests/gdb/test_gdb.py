@@ -387,7 +387,6 @@ def test_the_session_of_the_manual(gdb: Callable[..., str]) -> None:
         rest = rest[rest.index(line) :]
 
 
-@pytest.mark.by_command("gdb")
 def test_a_bug_found_backwards(gdb: Callable[..., str], clang: Compiler, tmp_path: pathlib.Path) -> None:
     page = (TOP / "docs" / "LAB.md").read_text("utf-8")
     (command,) = re.findall(r"^\$ (clang-19 (?:.*\\\n)*.* -o above above\.c)$", page, re.MULTILINE)

@@ -130,22 +130,20 @@ class Timeline:
 
     def _stretches(self) -> Iterator[tuple[int, int, int]]:
         """Parts of the legs, the last one first: a leg's place, and the numbers of the first instruction, and behind the last."""
-        place, size = len(self._legs.legs) - 1, FIRST_WINDOW
-        last = self._count(self._legs.legs[place]) if place >= 0 else 0
-        while place >= 0:
+        place, last, size = len(self._legs.legs), 0, FIRST_WINDOW
+        while place or last:
+            if last == 0:
+                place -= 1
+                last = self._count(self._legs.legs[place])
             first = max(0, last - size)
             if first < last:
                 yield place, first, last
                 size = self._next_size(size)
             last = first
-            if last == 0:
-                place -= 1
-                last = self._count(self._legs.legs[place]) if place >= 0 else 0
 
     def _next_size(self, size: int) -> int:
         """How many instructions the next window has behind one of this size."""
-        is_light = all(watch.kind == "watch" for watch in self.watches)
-        return min(4 * size, MOST_WINDOW if is_light else MOST_ACCESSES)
+        return min(4 * size, MOST_ACCESSES if self._accessed else MOST_WINDOW)
 
     def _catch_up(self) -> None:
         """Takes up what the script has had since the last time."""
@@ -167,9 +165,7 @@ class Timeline:
         session = guest.session.rewound(self._script(self._legs.legs[place], count))
         guest.session.close()
         guest.session = session
-        there = self._breaks()
-        guest.ask(*(f"unbreak {address:x}" for address in there if address not in breaks))
-        guest.ask(*(f"break {address:x}" for address in breaks if address not in there))
+        guest.ask(*(f"break {address:x}" for address in breaks))
         guest.pc = guest.told("state", Position).pc
         self._legs.cut(place, count, session.size, breaks)
 
@@ -215,7 +211,10 @@ class Timeline:
         return [*pcs, pc], None
 
     def _hits(self, script: bytes, first: int, pcs: Sequence[int]) -> list[tuple[int, Watch]]:
-        """The instructions of a window that do what is watched for, by their numbers there, each with the place."""
+        """The instructions of a window that do what is watched for, by their numbers there, each with the place.
+
+        What an instruction may do is told by the word that stands there now.
+        """
         pcs = pcs[:-1]
         words = {pc: self._guest.word_at(pc)[0] for pc in set(pcs)}
         stores = {pc for pc, word in words.items() if word & 0x7F in STORES}
@@ -278,8 +277,9 @@ class Timeline:
         """The instructions of a leg whose ticks ran out, by the recorder, from the state before them on."""
         with self._guest.session.rewound(b"") as session:
             user = carry_out(session, self._script(leg, 0))[str(self._guest.user)]
-            pages = [(page, _letters(allowed)) for page, allowed in pages_of(user, session.images)]
-            lines = [*(f"1 map {page:x} 1 {letters}" for page, letters in pages), f"1 policy {user.policy}"]
+            lines = [f"1 policy {user.policy}"]
+            for page, allowed in pages_of(user, session.images):
+                lines.append(f"1 map {page:x} 1 {''.join(it for it, bit in PERMISSIONS.items() if allowed & bit)}")
             beginning = beginning_at(Guest(session, self._guest.user), lines)
         done = record(beginning, leg.ticks)
         return done.instructions - (done.ticks > leg.ticks)  # the last one may have been cut
@@ -293,11 +293,6 @@ def _numbers(pcs: Sequence[int], addresses: Container[int]) -> list[int]:
 def _looks(watches: Sequence[Watch]) -> list[str]:
     """The looks at the places that are watched."""
     return [look for watch in watches for look in watch.looks]
-
-
-def _letters(allowed: int) -> str:
-    """Permissions as `map` has them."""
-    return "".join(letter for letter, bit in PERMISSIONS.items() if allowed & bit)
 
 
 @functools.lru_cache(maxsize=1 << 14)
