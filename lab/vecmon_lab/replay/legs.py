@@ -71,7 +71,7 @@ class Legs:
             case "unbreak":
                 self._breaks -= {int(words[0], 16)}
             case "enter" | "load" | "leave":
-                self.legs, self._breaks, self._is_written = [], frozenset(), True
+                self.legs, self._breaks, self._is_written, self._is_running = [], frozenset(), True, False
             case "set" | "vset" | "setpc" | "poke" | "asm" | "map" | "policy":
                 self._is_written = True
 
