@@ -19,7 +19,7 @@ from ..runs.counts import beginning_at
 from .legs import OUTPUT_EVERY, Leg, Legs, stepping
 from .watches import ACCESSES, Watch, accessed, changed
 
-FEW = 16  # instructions that are carried out on the machine itself
+FEW = 16  # instructions that are carried out on the machine itself before a window is looked at
 FIRST_WINDOW, MOST_WINDOW = 256, 1 << 17  # that are looked at in one go
 MOST_ACCESSES = 1 << 12  # of them where accesses are watched for
 MOST_BACK = 200_000_000  # ticks of a leg: a script takes no more steps
@@ -50,14 +50,11 @@ class Timeline:
 
     def go(self, is_interrupted: Callable[[], bool]) -> Stop | None:
         """The program runs to a stop, or to an instruction that does what is watched for; None where it is interrupted."""
-        self.hit = None
-        if not self.watches:
-            return self._guest.go(None, is_interrupted)
         breaks = self._breaks()
-        for _ in range(FEW):  # as gdb's own steps are
+        for _ in range(FEW if self.watches else 1):  # gdb steps so, by a breakpoint
             if (stop := self.step()) or self._guest.pc in breaks:
                 return stop or Stop("break", self._guest.pc)
-        return self._go_far(breaks, is_interrupted)
+        return self._go_far(breaks, is_interrupted) if self.watches else self._guest.go(None, is_interrupted)
 
     def _go_far(self, breaks: Sequence[int], is_interrupted: Callable[[], bool]) -> Stop | None:
         """As `go`, where places are watched: windows tell how far the program may run."""
@@ -236,7 +233,10 @@ class Timeline:
                     yield number, watch
 
     def _changes(self, script: bytes, first: int, stores: Sequence[int]) -> Iterator[tuple[int, Watch]]:
-        """Those of some stores that change what is watched, by their numbers behind a script, each with the place."""
+        """Those of some stores that change what is watched, by their numbers behind a script, each with the place.
+
+        This alone knows how changes are found.
+        """
         looks, ends = _looks(self.watches), [first, *(first + number + 1 for number in stores)]
         commands = ([*stepping(at, end), *looks] for at, end in zip([first, *ends], ends))
         answers = self._guest.session.told_elsewhere(script, self._lines(*itertools.chain(*commands)))
