@@ -48,6 +48,18 @@ loop:   j loop
         .data
 text:   .ascii "1234567\\n"
 """
+COUNTDOWN = """
+# One instruction, three rounds of five, and an EBREAK: 3, 2 and 1 are stored at 11008.
+        addi x5, x0, 3
+loop:   addi x6, x6, 1
+        auipc x7, 1
+store:  sw x5, 0(x7)
+behind: addi x5, x5, -1
+        bne x5, x0, loop
+        ebreak
+        .data
+        .zero 64
+"""
 EXIT = "li a7, 93\necall"
 # A line an instruction, and behind | what it changes.
 CHANGES = """

@@ -13,7 +13,7 @@ from vecmon_lab.machine.answers import Refused, read
 from vecmon_lab.machine.session import Session
 from vecmon_lab.tables.table import read_table
 
-OWN = {"run", "until", "changes", "list", "source", "help", "quit"}  # commands of the console
+OWN = {"run", "until", "back", "changes", "list", "source", "help", "quit"}  # commands of the console
 PAGES = {
     "COMMANDS.md": [*dict.fromkeys(row[0] for row in read_table("commands"))][:-1] + ["Refusals"],
     "LAB.md": ["Commands of the console"],

@@ -324,6 +324,23 @@ def test_until_a_register_changes_or_an_address_comes() -> None:
     assert told[-1].split()[:3] == ["1", "breaks", f"{0x10000:016x}"]
 
 
+def test_back_by_instructions_and_to_a_write() -> None:
+    """The first eight sums are stored at y in the first round, when a0 is still thirteen."""
+    told = shown(
+        ["run", "back", "back to write y", "peek y", "back to write y", "set x9 5", "step", "back 100"], STRIP_MINED
+    )
+    stands = [line[3:] for line in told if line.startswith("=>")]
+    assert stands[2:4] == ["10040 next+0x28  bne x10, x0, -40", "1002c next+0x14  vse32.v v9, (x12)"]
+    at = told.index(f"=> {stands[3]}")
+    assert (
+        "x10/a0=d" in told[at - 3]
+        and told[at + 1] == "   11040  64 00 00 00 64 00 00 00 64 00 00 00 64 00 00 00  d...d...d...d..."
+    )
+    assert [line for line in told if line.endswith("before.")] == ["This is the begin: there is nothing before."] * 2
+    assert stands[4:] == ["10000  addi x10, x0, 13", "10004  auipc x11, 1", "10000  addi x10, x0, 13"]
+    assert shown(["back", "leave", "back"], STRIP_MINED)[-1] == "This is the begin: there is nothing before."
+
+
 def test_breakpoints_with_conditions() -> None:
     lines = [
         "break next+0x14 if x10 < 6",
@@ -361,6 +378,9 @@ def test_breakpoints_with_conditions() -> None:
         ("list 0", "no source line is known of 0"),
         ("list y", "no source line is known of 11040 y"),
         ("changes all", "the form is changes"),
+        ("back x", "the form is back N"),
+        ("back to write none", "there is no symbol none"),
+        ("back to write fffffffffffff", "fffffffffffff is no address of memory"),
         ("changes", "nothing has changed"),
     ],
 )

@@ -15,9 +15,10 @@ import pytest
 
 from support.images import make_image
 from support.left_out import NO_GDB, leave_out
-from support.places import SQUARES, STOCK, SUM, SUM_DWARF4, SUM_DWARF5, TOP
-from support.sources import ARGUMENTS
+from support.places import EXAMPLES, SQUARES, STOCK, SUM, SUM_DWARF4, SUM_DWARF5, TOP
+from support.sources import ARGUMENTS, COUNTDOWN
 from support.terminal import MOST_SECONDS
+from vecmon_lab.compilers.compiler import Compiler
 
 GDB = [sys.executable, "-m", "vecmon_lab", "gdb"]
 WRITES_AND_GOES_ON = """
@@ -113,6 +114,13 @@ def text(packet: str) -> str:
     return bytes.fromhex(packet[1:]).decode()
 
 
+def typed_in(page: str, image: str) -> list[str]:
+    """What is typed in a page's session with an image, once gdb is connected."""
+    begin = page.index(f"(gdb) target remote | vecmon-lab gdb {image}\n")
+    session = page[begin : page.index("(gdb) quit", begin)].splitlines()
+    return [line.removeprefix("(gdb) ") for line in session if line.startswith("(gdb) ")][1:]
+
+
 @pytest.fixture
 def squares() -> Iterator[Packets]:
     """The program of docs/COMPILING.md that has a nought too many."""
@@ -169,6 +177,27 @@ def test_breakpoints_steps_and_output() -> None:
         assert (packets.ask("p2e")[:8], packets.ask("c")) == (little(328350, 4), "W00")  # the sum is in v8
 
 
+def test_watched_forth_and_back(tmp_path: pathlib.Path, program: pathlib.Path) -> None:
+    """As gdb has it for RISC-V, a place is told of before the instruction is carried out, or taken back."""
+    make_image(program, tmp_path / "image", COUNTDOWN)
+    with Packets(tmp_path / "image") as packets:
+        store, behind = little(0x1000C), little(0x10010)
+        assert [packets.ask("Z2,11008,4"), packets.ask("c"), packets.ask("p20")] == ["OK", "T05watch:11008;", store]
+        assert [packets.ask("s"), packets.ask("p20"), packets.ask("m11008,4")] == ["T05watch:11008;", store, "00000000"]
+        assert [packets.ask("z2,11008,4"), packets.ask("s"), packets.ask("m11008,4")] == ["OK", "S05", "03000000"]
+        assert [packets.ask("c"), packets.ask("m11008,4")] == ["S05", "01000000"]
+        assert [packets.ask("Z4,1100b,1"), packets.ask("bc"), packets.ask("p20")] == ["OK", "T05awatch:1100b;", behind]
+        assert [packets.ask("bs"), packets.ask("p20")] == ["T05awatch:1100b;", behind]
+        assert [packets.ask("z4,1100b,1"), packets.ask("bs"), packets.ask("m11008,4")] == ["OK", "S05", "02000000"]
+        assert [packets.ask("Z0,10010,4"), packets.ask("bc"), packets.ask("p5")] == ["OK", "S05", little(2)]
+        assert [packets.ask("bc"), packets.ask("p5"), packets.ask("p20")] == ["S05", little(3), behind]
+        assert [packets.ask("bc"), packets.ask("?"), packets.ask("p20")] == [
+            *["T05replaylog:begin;"] * 2,
+            little(0x10000),
+        ]
+        assert [packets.ask("c"), packets.ask("p5"), packets.ask("p20")] == ["S05", little(3), behind]
+
+
 def test_what_is_written_is_read_again(squares: Packets) -> None:
     pattern = bytes(range(100, 132)).hex()
     assert (squares.ask(f"P26={pattern}"), squares.ask("p26")) == ("OK", pattern)
@@ -187,7 +216,18 @@ def test_what_is_written_is_read_again(squares: Packets) -> None:
         ("Hg0", "OK"),
         ("Z0,11002,4", "E04"),
         ("z0,11000,4", "OK"),
-        ("Z2,11000,4", ""),
+        ("Z2,11000,4", "OK"),
+        ("z3,11000,4", "OK"),
+        ("Z4,11000,0", "E12"),
+        ("Z4,11000,2801", "E12"),
+        ("Z5,11000,4", ""),
+        ("Zx,11000,4", ""),
+        ("Z2,11000", ""),
+        ("Z2,x,4", "E04"),
+        ("b", ""),
+        ("bx", ""),
+        ("bc", "T05replaylog:begin;"),
+        ("bs", "T05replaylog:begin;"),
         ("p47", "E04"),
         ("P46=0500000000000000", "E04"),
         ("pxyz", "E04"),
@@ -339,13 +379,43 @@ def test_the_session_of_the_manual(gdb: Callable[..., str]) -> None:
     page = (TOP / "docs" / "LAB.md").read_text("utf-8")
     begin = page.index("(gdb) target remote | vecmon-lab gdb sum")
     session = page[begin : page.index("(gdb) quit", begin)].splitlines()
-    typed = [line.removeprefix("(gdb) ") for line in session if line.startswith("(gdb) ")]
-    rest = gdb(SUM_DWARF4, *typed[1:]).expandtabs()
+    rest = gdb(SUM_DWARF4, *typed_in(page, "sum")).expandtabs()
     shown = [line for line in session if line and not line.startswith(("(gdb) ", "Remote debugging", "Continuing."))]
     assert len(shown) > 8
     for line in shown:  # in this order
         assert line in rest
         rest = rest[rest.index(line) :]
+
+
+def test_a_bug_found_backwards(gdb: Callable[..., str], clang: Compiler, tmp_path: pathlib.Path) -> None:
+    page = (TOP / "docs" / "LAB.md").read_text("utf-8")
+    (command,) = re.findall(r"^\$ (clang-19 (?:.*\\\n)*.* -o above above\.c)$", page, re.MULTILINE)
+    words = command.replace("\\\n", " ").replace("above", "histogram").replace("clang-19", clang.name).split()
+    shutil.copy(EXAMPLES / "histogram.c", tmp_path)
+    subprocess.run(words, cwd=tmp_path, check=True)
+    told = gdb(tmp_path / "histogram", *typed_in(page, "histogram"))
+    for line in (
+        "$1 = 2\n",
+        "Old value = 2\nNew value = 1\n",
+        "$2 = 16\n",
+        "in _start () at histogram.c:44\n",
+        "$3 = 65535\n",
+    ):
+        assert line in told
+        told = told[told.index(line) :]
+
+
+def test_gdb_steps_back(gdb: Callable[..., str], program: pathlib.Path, tmp_path: pathlib.Path) -> None:
+    make_image(program, tmp_path / "image", "li a0, 1\nli a0, 2\nli a0, 3\nebreak\n.data\n.zero 8")
+    commands = ["stepi", "stepi", "set $a1 = 7", "stepi", "reverse-stepi", "print $a0", "reverse-stepi", "print $a1"]
+    told = gdb(tmp_path / "image", *commands, "reverse-continue", "print $pc", "continue", "print $a0")
+    assert [line.split(" = ")[1] for line in told.splitlines() if line[:1] == "$"] == [
+        "2",
+        "0",
+        "(void (*)()) 0x10000",
+        "3",
+    ]
+    assert "No more reverse-execution history." in told and "SIGTRAP" in told.partition("$3")[2]
 
 
 def test_gdb_begins_anew(gdb: Callable[..., str]) -> None:

@@ -30,7 +30,7 @@ TOUCHING = "vadd.vv v0, v1, v2, v0.t"
 Opening = Callable[[], Session]
 """Opens a session on a new machine."""
 
-_PERMISSIONS = {"x": EXECUTE, "w": WRITE, "r": READ}
+PERMISSIONS = {"r": READ, "w": WRITE, "x": EXECUTE}
 _STACK_PAGES = 4
 _FOLLOWED = set(" elmpv")  # how the commands begin that `_follow` knows
 
@@ -102,7 +102,7 @@ def machine_after(session: Session, script: bytes, images: Mapping[str, pathlib.
     """The machine that a script leaves in a new session, which is of no use any more then."""
     users = carry_out(session, script)
     for user in users.values():
-        user.pages = dict(_pages(user, images))
+        user.pages = dict(pages_of(user, images))
     owner = _switches(session)["owner"]
     shown = {digit: _look(Guest(session, int(digit)), user) for digit, user in users.items()}
     is_dirty = _find_areas(session, users, str(owner))
@@ -138,13 +138,13 @@ def _follow(users: dict[str, User], line: str) -> None:
             users[digit].has_area = True
 
 
-def _pages(user: User, images: Mapping[str, pathlib.Path]) -> Iterator[tuple[int, int]]:
+def pages_of(user: User, images: Mapping[str, pathlib.Path]) -> Iterator[tuple[int, int]]:
     """The addresses of a user's pages, with what programs may do there."""
     if user.image:
         yield from _image_pages(images[user.image].read_bytes()).items()
     for address, pages, permission in user.maps:
         for page in range(address, address + pages * PAGE_BYTES, PAGE_BYTES):
-            yield page, sum(_PERMISSIONS[letter] for letter in permission)
+            yield page, sum(PERMISSIONS[letter] for letter in permission)
 
 
 def _image_pages(image: bytes) -> dict[int, int]:

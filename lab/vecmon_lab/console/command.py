@@ -64,8 +64,9 @@ def _console(arguments: argparse.Namespace, screen: Screen) -> Iterator[Console]
         return
     if arguments.words or arguments.input:
         raise LabError("words and an input are for an image alone")
-    with Session(find_program(), quantum=QUANTUM) as session:
-        guest = Guest(session, write=screen.write)
+    guest = Guest(Session(find_program(), quantum=QUANTUM), write=screen.write)
+    with contextlib.ExitStack() as stack:
+        stack.callback(lambda: guest.session.close())  # which is another one, where it went back
         guest.ask("enter")
         console = Console(guest, screen, Symbols())
         if path is not None:

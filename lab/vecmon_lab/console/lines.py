@@ -35,6 +35,8 @@ from ..machine.answers import (
 from ..machine.lines import check_text, is_look
 from ..machine.program import find_program
 from ..machine.session import Session
+from ..replay.timeline import Timeline
+from ..replay.watches import Watch
 from ..tables.table import read_table
 from .conditions import REGISTERS, Condition
 from .show import Screen, change_rows, change_text, control_row, memory_rows, register_rows
@@ -45,7 +47,7 @@ LINES_BEFORE, LINES = 4, 10  # of a source, before the one that is asked for, an
 DIGITS = "[0-9a-fA-F]+"
 
 LEFT_OUT = {"dis": "{pc:x} {number}", "load": "image", "peek": "ADDR 16", "step": "1", "vreg": "vN {sew}"}
-LEFT_OUT |= {"list": "{pc:x}"}
+LEFT_OUT |= {"list": "{pc:x}", "back": "1"}
 PLACES = ("ADDR", "VALUE", "PLACE")  # words that a symbol may stand for; the last one may be a register too
 VECTORS = {f"v{number}": number for number in range(32)}
 CHOICES = {kind: words.split() for kind, words in read_table("choices")} | {"COMMAND": list(COMMANDS)}
@@ -58,7 +60,7 @@ class Console:
         self.is_open = True
         self._guest, self._screen = guest, screen
         self._symbols = self._image_symbols = symbols
-        self._stepper = Stepper(guest)
+        self._stepper, self._timeline = Stepper(guest), Timeline(guest)
         self._interrupt = threading.Event()  # set by Ctrl-C
         self._has_mask = False  # whether v0 is the mask of the instruction that was stepped last
         self._conditions: dict[int, Condition] = {}  # of breakpoints by their addresses
@@ -124,6 +126,11 @@ class Console:
                     self._until(place)
                 case ["break", text] if " if " in text:
                     self._break_if(*text.split(" if ", 1))
+                case ["back", number] if re.fullmatch("[1-9][0-9]{0,17}", number):
+                    self._guest.ask("stop")
+                    self._tell_back(self._timeline.back(int(number)))
+                case ["back", where] if found := re.fullmatch(r"to +write +(\S+)", where):
+                    self._back_to_write(self._named(found[1], "ADDR"))
                 case ["changes"]:
                     self._screen.say(*self._changes or ["nothing has changed"], kind="changed")
                 case ["list", address]:
@@ -133,7 +140,7 @@ class Console:
                     self.tell_place()
                 case ["step", number] if self._state()[0] == "stopped" and number in STEPS:
                     self._step(int(number))
-                case [("quit" | "run" | "source" | "until" | "changes" | "list") as name, *_]:
+                case [("quit" | "run" | "source" | "until" | "changes" | "list" | "back") as name, *_]:
                     raise LabError(f"the form is {COMMANDS[name].form}")
                 case words:
                     self._monitor(words)
@@ -246,6 +253,10 @@ class Console:
         """Why the program stopped, and what has changed since it began."""
         self._has_mask = False
         self._screen.say(self._guest.explain(stop) if stop else describe_stop(Position("stopped", self._guest.pc)))
+        self._tell_changes()
+
+    def _tell_changes(self) -> None:
+        """What has changed since it was looked at last, and the next instruction."""
         self._changes = rows = self._change_rows(self._look())
         if len(rows) > MOST_ROWS:
             rows = [*rows[: MOST_ROWS - 1], f"      and {len(rows) - MOST_ROWS + 1} rows more: see changes"]
@@ -273,6 +284,29 @@ class Console:
         elif halt:
             self._screen.say(describe_stop(halt))
         self.tell_place()
+
+    def _back_to_write(self, digits: str) -> None:
+        """Goes back to the last instruction that changed the bytes of a symbol, or else 8, from an address on."""
+        address = int(digits, 16) if re.fullmatch(DIGITS, digits) else -1
+        sizes = (self._symbols.sizes.get(name, 0) for name, at in self._symbols.addresses.items() if at == address)
+        if not 0 <= address < 1 << 48:
+            raise LabError(f"{digits} is no address of memory")
+        self._guest.ask("stop")
+        self._timeline.watches = [Watch("watch", address, max(sizes, default=0) or 8)]
+        try:
+            is_there = self._timeline.back_to_halt((), self._interrupt.is_set)
+        finally:
+            self._timeline.watches = []
+        if is_there:
+            self._timeline.back()
+        self._tell_back(is_there)
+
+    def _tell_back(self, is_there: bool | None) -> None:
+        """Shows what is other than at the later instant, and where the program stands now."""
+        self._has_mask = False
+        if is_there is False:
+            self._screen.say("This is the begin: there is nothing before.")
+        self._tell_changes()
 
     def _value(self, name: str) -> object:
         """What a register holds, by what was looked at last."""

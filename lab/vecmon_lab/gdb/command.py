@@ -2,7 +2,8 @@
 
 gdb begins the command and speaks with it over a pipe, so that nothing listens. Packets and their answers are those of gdb's manual, "gdb
 Remote Serial Protocol": a stop is `S` and a signal's number, an exit `W` and the status, output `O` and its bytes, an error `E` and a
-number, which is that of the machine's refusal; an empty answer says that such a packet isn't taken here.
+number, which is that of the machine's refusal; an empty answer says that such a packet isn't taken here. `T05` tells of a place that is
+watched, or that there is nothing before the first instant.
 """
 
 import argparse
@@ -10,12 +11,14 @@ import contextlib
 import pathlib
 import re
 
+from .. import LabError
 from ..arguments import add_program
 from ..assembler.commands import refusal_in_words
 from ..guest.guest import Guest, started
 from ..instructions.accesses import LINE_BYTES
 from ..machine.answers import (
     CONTROL,
+    Addresses,
     ControlRegisters,
     Done,
     Memory,
@@ -26,12 +29,18 @@ from ..machine.answers import (
     read,
 )
 from ..machine.lines import BadLine, is_look, words_of
+from ..machine.session import TOGETHER
+from ..replay.timeline import Timeline
+from ..replay.watches import Watch
 from .packets import Link
 
 BEGUN = "S00"  # no signal: gdb would tell of one where the last machine was stopped by one
 INTERRUPTED, ILLEGAL, TRAPPED, MISALIGNED, UNMAPPED = "S02", "S04", "S05", "S0a", "S0b"  # SIGINT, ILL, TRAP, BUS, SEGV
 FAULTS = {0: MISALIGNED, 1: UNMAPPED, 2: ILLEGAL, 5: UNMAPPED, 7: UNMAPPED}  # by cause
-REFUSED, THERE_ALREADY = "E04", Refused("E13")
+REFUSED, TOO_MANY, THERE_ALREADY = "E04", "E12", Refused("E13")
+FEATURES = "qXfer:features:read+;QStartNoAckMode+;ReverseStep+;ReverseContinue+"
+FIRST_INSTANT = "T05replaylog:begin;"
+WATCHES = {"2": "watch", "3": "rwatch", "4": "awatch"}  # by the number in a packet
 PACKET_BYTES = 512  # so that what gdb writes at once, in two digits a byte, isn't too much for `poke`
 DESCRIPTION = pathlib.Path(__file__).with_name("registers.xml").read_text("ascii")
 PC, FIRST_CONTROL = 32, 33  # numbers of registers: x0 to x31, pc, the control registers, v0 to v31, vcsr
@@ -62,7 +71,7 @@ class Target:
 
     def __init__(self, guest: Guest, link: Link) -> None:
         self.is_attached = True
-        self._guest, self._link = guest, link
+        self._guest, self._link, self._timeline = guest, link, Timeline(guest)
         self._last = BEGUN  # the last stop
 
     def answer(self, packet: str) -> str:
@@ -75,7 +84,7 @@ class Target:
     def _answer(self, letter: str, words: list[str]) -> str:
         match letter, words:
             case "q", ["Supported", *_]:
-                return f"PacketSize={PACKET_BYTES:x};qXfer:features:read+;QStartNoAckMode+"
+                return f"PacketSize={PACKET_BYTES:x};{FEATURES}"
             case "q", ["Xfer", "features", "read", "target.xml", offset, length]:
                 part = DESCRIPTION[int(offset, 16) :]
                 return ("m" if len(part) > int(length, 16) else "l") + part[: int(length, 16)]
@@ -86,9 +95,12 @@ class Target:
             case "?", _:
                 return self._last
             case ("c" | "C"), _:
-                return self._stopped(self._guest.go(None, self._link.is_interrupted), INTERRUPTED)
+                return self._stopped(self._timeline.go(self._link.is_interrupted), INTERRUPTED)
             case ("s" | "S"), _:
-                return self._stopped(self._guest.step(), TRAPPED)
+                stop = self._timeline.step()
+                return self._stopped(stop, self._trapped())
+            case "b", ["s" | "c" as how]:
+                return self._back(how == "s")
             case "g", _:
                 return "".join(self._scalars()[:FIRST_CONTROL])
             case "p", [number]:
@@ -103,6 +115,8 @@ class Target:
                 return self._do(f"poke {address} {digits}")
             case ("Z" | "z"), ["0" | "1", address, _]:
                 return self._do(f"{'break' if letter == 'Z' else 'unbreak'} {address}")
+            case ("Z" | "z"), ["2" | "3" | "4" as kind, address, length]:
+                return self._watch(letter == "Z", Watch(WATCHES[kind], int(address, 16), int(length, 16)))
             case "D", _:
                 self.is_attached = False
                 return "OK"
@@ -112,19 +126,49 @@ class Target:
 
     def _stopped(self, stop: Stop | None, signal: str) -> str:
         """A stop by its signal, or the program's end; without one the signal. Why it faulted is put out in words."""
-        self._guest.empty_buffer()
-        self._last = TRAPPED if stop else signal
+        self._last = self._trapped() if stop else signal
         if stop and stop.kind == "exit":
             self._last = f"W{stop.number:02x}"
         if stop and stop.kind == "fault":
-            words = f"vecmon: {self._guest.explain(stop)}\n"
-            self._link.send(f"O{words.encode().hex()}")
+            self._tell(self._guest.explain(stop))
             self._last = FAULTS[stop.cause]
         return self._last
 
+    def _back(self, is_step: bool) -> str:
+        """Goes back by an instruction, or to a stop; where that isn't possible, it is put out why."""
+        try:
+            if is_step:
+                is_there: bool | None = self._timeline.back()
+            else:
+                breaks = self._guest.told("breaks", Addresses).addresses
+                is_there = self._timeline.back_to_halt(breaks, self._link.is_interrupted)
+        except LabError as error:
+            self._tell(str(error))
+            return REFUSED
+        self._last = INTERRUPTED if is_there is None else self._trapped() if is_there else FIRST_INSTANT
+        return self._last
+
+    def _trapped(self) -> str:
+        """A stop at an instruction, with the place that is watched where that is the reason."""
+        hit = self._timeline.hit
+        return f"T05{hit.kind}:{hit.address:x};" if hit else TRAPPED
+
+    def _watch(self, is_new: bool, watch: Watch) -> str:
+        """Watches a place from now on, or doesn't any more."""
+        watches = [each for each in self._timeline.watches if each != watch] + ([watch] if is_new else [])
+        if watch.length < 1 or sum(-(-each.length // LINE_BYTES) for each in watches) > TOGETHER:
+            return TOO_MANY
+        self._timeline.watches = watches
+        return "OK"
+
+    def _tell(self, text: str) -> None:
+        """Puts out a line."""
+        self._link.send(f"O{f'vecmon: {text}'.encode().hex()}0a")
+
     def _scalars(self) -> list[str]:
         """The registers before the vector registers: x0 to x31, pc, and the control registers."""
-        registers, control = self._guest.told("regs", ScalarRegisters), self._guest.told("vcsr", ControlRegisters)
+        registers, control = self._guest.ask("regs", "vcsr")
+        assert isinstance(registers, ScalarRegisters) and isinstance(control, ControlRegisters)
         values = (*registers.x, registers.pc, *vars(control).values())
         return [value.to_bytes(8, "little").hex() for value in values]
 

@@ -4,7 +4,7 @@ import contextlib
 import os
 import pathlib
 import struct
-from collections.abc import Callable, Iterator, Mapping, Sequence
+from collections.abc import Callable, Iterable, Iterator, Mapping, Sequence
 from typing import TypeVar
 
 from .. import LabError, mistakes_in
@@ -143,6 +143,15 @@ class Guest:
         self.pc = self.told("state", Position).pc
         return True
 
+    def advance(self, commands: Iterable[str]) -> None:
+        """Carries out steps, none of which stops, with `out` among them: what the program writes is handed on, or kept."""
+        for answer in self.ask(*commands):
+            if isinstance(answer, Position):
+                self.pc = answer.pc
+            elif isinstance(answer, Output) and answer.data:
+                self._write(answer.data)
+        self.empty_buffer()
+
     def empty_buffer(self) -> None:
         """Takes what the program has written out of the machine's buffer."""
         data = self.told("out", Output).data
@@ -156,9 +165,14 @@ class Guest:
         self._kept.clear()
         return kept
 
+    def word_at(self, address: int) -> tuple[int, str]:
+        """The word at an address and its text; 0 and "" where nothing is mapped."""
+        (told,) = self.ask(f"dis {address:x} 1")
+        return (told.words[0].word, told.words[0].text) if isinstance(told, Listing) else (0, "")
+
     def explain(self, stop: Stop) -> str:
         """A stop in sentences, by what stands at its place."""
-        word, text = self._word(stop.pc)
+        word, text = self.word_at(stop.pc)
         return describe_stop(stop, word, self.told("vcsr", ControlRegisters), text)
 
     def tell(self, stop: Stop | None, place: str = "") -> str:
@@ -168,13 +182,8 @@ class Guest:
         """
         if stop is None:
             return f"the ticks ran out at {self.pc:x} {place}".rstrip()
-        text = self._word(stop.pc)[1]
+        text = self.word_at(stop.pc)[1]
         return ": ".join(filter(None, [f"{stop.pc:x} {place}".rstrip(), text, self.explain(stop)]))
-
-    def _word(self, address: int) -> tuple[int, str]:
-        """The word at an address and its text; 0 and "" where nothing is mapped."""
-        (told,) = self.ask(f"dis {address:x} 1")
-        return (told.words[0].word, told.words[0].text) if isinstance(told, Listing) else (0, "")
 
     def _run_on(self, left: int | None, is_interrupted: Callable[[], bool]) -> tuple[Stop | None, int | None]:
         """Grants slices to a stop, to the last one, or until output is to be handed on; the stop, how many are left."""
@@ -220,11 +229,13 @@ def started(
     Raises LabError and OSError where the image can't be read or is refused, or there is no program.
     """
     check_image(path)
-    with Session(find_program(), {"image": path}, quantum=quantum) as session:
-        guest = Guest(session, write=write)
+    guest = Guest(Session(find_program(), {"image": path}, quantum=quantum), write=write)
+    try:
         with mistakes_in(path):
             guest.start("image", policy, arguments, input_of(path, file) if file else {})
         yield guest
+    finally:
+        guest.session.close()  # which is another one, where it went back
 
 
 def check_image(path: pathlib.Path) -> None:

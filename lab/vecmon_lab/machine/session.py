@@ -192,7 +192,7 @@ class Session(contextlib.AbstractContextManager["Session"]):
 
     Its process is replaced where it ended, hangs, or has no room for more lines; then the new one carries out the
     script again, or a checkpoint's lines and the lines since. `policy` has the policy for agnostic elements, `keep` or `ones`, of each user who is there: no
-    command shows it. `quantum` is the ticks of a slice. `command` starts the program, and `losses` says why processes
+    command shows it. `quantum` is the ticks of a slice. `command` starts the program with the `images`, and `losses` says why processes
     that were asked gave no answer, and were replaced. `total` is how many seconds the lines of the script have taken, and
     `spent` those that a new process would carry out. `progress` is called while a new process carries out the script,
     with how much of it that has done in percent: 0 first, and 100 at the end.
@@ -217,6 +217,7 @@ class Session(contextlib.AbstractContextManager["Session"]):
         self.quantum = 100 if quantum is None else quantum
         options = [] if quantum is None else ["--quantum", str(quantum)]
         words = [f"{name}={path}" for name, path in images.items()]
+        self.images = images
         self.command = [str(program), *options, "--", "/dev/stdin", *words]  # images are taken after a script alone
         self._opening = partial(
             Session, program, images, quantum=quantum, patience=patience, script_bytes=script_bytes, check=check
@@ -351,17 +352,34 @@ class Session(contextlib.AbstractContextManager["Session"]):
 
     def renewed(self) -> "Session":
         """A session on the same machine whose script is `short_script`. Raises as a replay does."""
+        heir, since = self.rewound(self.short_script), self._marks[self._base[0].number :]
+        if heir._marks[heir.lines - len(since) :] != since:
+            heir.close()
+            raise ReplayDiffers(DIFFERS)
+        heir.losses = self.losses
+        return heir
+
+    def rewound(self, script: bytes) -> "Session":
+        """A session with the same images whose script is this one. Raises as `do_script` does."""
         heir = self._opening()
         try:
-            deque(heir.do_script(self.short_script), 0)
-            since = self._marks[self._base[0].number :]
-            if heir._marks[heir.lines - len(since) :] != since:
-                raise ReplayDiffers(DIFFERS)
+            deque(heir.do_blocks(script), 0)
         except BaseException:
             heir.close()
             raise
-        heir.losses = self.losses
         return heir
+
+    def told_elsewhere(self, script: bytes, lines: bytes) -> list[str]:
+        """What a machine with the same images answers to lines, behind a script; each is answered by one line.
+
+        It is a process of its own, which ends then, and nothing is recorded. Raises ProgramGone.
+        """
+        process = _Process(self.command, self._patience)
+        try:
+            deque(process.pour(script), 0)
+            return b"".join(process.pour(lines)).decode("latin-1").split("\n")[:-1]
+        finally:
+            process.close()
 
     def look(self, line: str) -> list[str]:
         """The answer to a line that only looks. Raises BadLine for any other one, and else as `do`."""

@@ -1,0 +1,113 @@
+"""The instructions of a user's program, as the lines of a script have carried them out while no other one ran."""
+
+from collections.abc import Iterable, Iterator, Sequence
+from dataclasses import dataclass, replace
+
+from ..machine.answers import Granted, Position, Refused, read
+from ..machine.lines import words_of
+
+OUTPUT_EVERY = 256  # instructions of a leg: then a replay takes its output
+
+
+@dataclass
+class Leg:
+    """Instructions one after another, between which no line wrote registers or memory.
+
+    start: how many bytes of the script bring a machine to the first one
+    count: how many they are; None where slices carried them out, until they are counted
+    ticks: how many slices had, 1 at least for each instruction
+    breaks: the breakpoints before them, and meanwhile where slices carried them out
+    has_stopped: whether the program has stopped by itself behind the last one
+    """
+
+    start: int
+    count: int | None
+    ticks: int = 0
+    breaks: frozenset[int] = frozenset()
+    has_stopped: bool = False
+
+
+class Legs:
+    """The legs of a user since the user's machine began, by the lines of a script and their answers.
+
+    size: how many bytes of the script were followed
+    """
+
+    def __init__(self, user: int, quantum: int) -> None:
+        self.size = 0
+        self.legs = list[Leg]()
+        self._user, self._quantum = str(user), quantum
+        self._breaks = frozenset[int]()
+        self._is_written = True  # since the last leg
+        self._is_running = False
+
+    def follow(self, line: str, answer: Sequence[str]) -> None:
+        """Takes up the next line of the script."""
+        told, words = read(answer), words_of(line)
+        if line[0] == "*" and isinstance(told, Granted) and self._is_running:
+            ends = [stop.kind for user, stop in told.stops if user == self._user]
+            self._is_running = not ends
+            self._slices(told.slices * self._quantum, bool(ends) and ends != ["outfull"])
+        elif line[0] == self._user and not isinstance(told, Refused):
+            self._take_up(words[0], words[1:], told.number if isinstance(told, Position) else 0)
+        self.size += len(line) + 1
+
+    def cut(self, number: int, count: int, size: int, breaks: Iterable[int]) -> None:
+        """The script is another one now, of so many bytes: it ends with so many instructions of the leg of a number."""
+        self.legs[number:] = [replace(self.legs[number], count=count)]
+        self.size, self._breaks, self._is_written = size, frozenset(breaks), False
+
+    def _take_up(self, command: str, words: Sequence[str], done: int) -> None:
+        """Takes up a user's command that was accepted; done: how many instructions a step has carried out."""
+        match command:
+            case "step" if done or words == ["1"]:
+                self._steps(done)
+            case "step":
+                self._slices(int(words[0]), True)
+            case "go" | "stop":
+                self._is_running = command == "go"
+            case "break":
+                self._breaks |= {int(words[0], 16)}
+            case "unbreak":
+                self._breaks -= {int(words[0], 16)}
+            case "enter" | "load" | "leave":
+                self.legs, self._breaks, self._is_written, self._is_running = [], frozenset(), True, False
+            case "set" | "vset" | "setpc" | "poke" | "asm" | "map" | "policy":
+                self._is_written = True
+
+    def _steps(self, done: int) -> None:
+        """Takes up so many instructions."""
+        if self._is_written or not self.legs or self.legs[-1].count is None:
+            self._begin(0)
+        self.legs[-1].count = (self.legs[-1].count or 0) + done
+
+    def _slices(self, ticks: int, has_stopped: bool) -> None:
+        """Takes up slices of so many ticks."""
+        last = self.legs[-1] if self.legs and not self._is_written else None
+        if ticks == 0:
+            return
+        if last is None or last.count is not None or last.has_stopped or last.breaks != self._breaks:
+            last = self._begin(None)
+        last.ticks += ticks
+        last.has_stopped = has_stopped
+
+    def _begin(self, count: int | None) -> Leg:
+        """Begins a leg, in place of one without an instruction."""
+        if self.legs and self.legs[-1].count == 0:
+            self.legs.pop()
+        self.legs.append(Leg(self.size, count, 0, self._breaks))
+        self._is_written = False
+        return self.legs[-1]
+
+
+def stepping(first: int, last: int, most: int = OUTPUT_EVERY) -> Iterator[str]:
+    """The commands that carry out the instructions from one number of a leg up to another, `most` at once.
+
+    Output is taken behind the same ones each time, so that calls that write find the same room.
+    """
+    while first < last:
+        number = min(most, OUTPUT_EVERY - first % OUTPUT_EVERY, last - first)
+        yield f"step {number}"
+        first += number
+        if first % OUTPUT_EVERY == 0:
+            yield "out"
