@@ -18,6 +18,7 @@ from ..machine.lines import words_of
 from ..machine.program import find_program
 from ..machine.recorder import Beginning, record
 from ..machine.session import Session
+from ..tables.table import html_table
 
 SHOWN_WORDS = 16  # by one `dis`
 
@@ -67,6 +68,13 @@ class Counts:
     def elements(self) -> Sequence[int]:
         """How many elements of groups were active, were masked off, and were of the tail."""
         return [sum(numbers) for numbers in zip((0, 0, 0), *(place.elements for place in self.places))]
+
+    def _repr_html_(self) -> str:
+        """The instructions by address, as a notebook shows them, and all together."""
+        rows = [(f"{it.address:x}", self.texts[it.word], it.times, it.ticks, *it.elements) for it in self.places]
+        head = ("address", "instruction", "times", "ticks", "active", "masked off", "tail")
+        last = ("", "all", self.instructions, self.ticks, *self.elements)
+        return html_table([head, *rows, last], 2)
 
     @functools.cached_property
     def texts(self) -> Mapping[int, str]:

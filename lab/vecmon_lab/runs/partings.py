@@ -46,9 +46,10 @@ class Step:
         return place[0] == "memory" or one != other
 
     def told(self, symbols: Symbols) -> str:
-        """Its address, the place by a symbol, and its text."""
+        """Its address, the place by a symbol, the source line, and its text."""
         carried = self.runs[0].carried
-        return f"{f'{carried.pc:x} {symbols.place(carried.pc)}'.rstrip()}: {carried.text}"
+        places = [symbols.place(carried.pc), symbols.line(carried.pc)]
+        return f"{' '.join([f'{carried.pc:x}', *filter(None, places)])}: {carried.text}"
 
 
 def recorded(beginning: Beginning, ticks: int | None) -> tuple[Recording, bytes]:

@@ -6,6 +6,7 @@ from collections.abc import Iterable, Iterator, Sequence
 from dataclasses import dataclass
 
 from ..guest.symbols import Symbols
+from ..tables.table import html_table
 from .counts import Counts, Place
 
 BRANCH, JAL, JALR = 0x63, 0x6F, 0x67  # opcodes
@@ -25,6 +26,9 @@ class Part:
     head: Sequence[str]
     texts: int
     rows: Sequence[Row]
+
+    def _repr_html_(self) -> str:
+        return html_table([self.head, *self.rows], self.texts)
 
 
 class Spent:
