@@ -6,6 +6,7 @@ import itertools
 import pathlib
 import struct
 from collections.abc import Iterator
+from concurrent.futures import ThreadPoolExecutor
 from contextlib import AbstractContextManager
 from dataclasses import replace
 from random import Random
@@ -69,7 +70,7 @@ def filled(beginning: Beginning, turned: int) -> Beginning:
 
     turned: the bits of each byte that are turned round, by which there are two ways
     """
-    random, pointer = Random(0), int(beginning.registers[-1].split()[1], 16)
+    random, pointer = Random(0), int(dict(line.split() for line in beginning.registers)["x2"], 16)
     junk = [bytes(byte ^ turned for byte in random.randbytes(size)) for size in [8] * 31 + [REGISTER_BYTES] * 32]
     registers = [f"x{number} {data.hex()}" for number, data in enumerate(junk[:31], 1)]
     registers += [f"v{number} {data.hex()}" for number, data in enumerate(junk[31:])]
@@ -91,7 +92,8 @@ def _segments_in_stack(image: pathlib.Path) -> Iterator[tuple[int, str, bytes]]:
 
 def _relies(runs: dict[str, Beginning], symbols: Symbols, ticks: int) -> bool:
     """Prints which runs do otherwise than the first one, and where, once for what is filled; whether one does."""
-    found = {name: recorded(beginning, ticks) for name, beginning in runs.items()}
+    with ThreadPoolExecutor(len(runs)) as pool:
+        found = dict(zip(runs, pool.map(lambda beginning: recorded(beginning, ticks), runs.values())))
     unlike = [name for name, each in found.items() if each != found[LOADED]]
     for name in FILLED:
         (record, output), is_same = found[name], name not in unlike

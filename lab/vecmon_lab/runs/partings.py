@@ -8,14 +8,12 @@ from dataclasses import dataclass
 from typing import TypeVar
 
 from ..guest.changes import ECALL, NAMES, Registers, Stepper
-from ..guest.guest import Guest, pokes
+from ..guest.guest import Guest, pokes, started
 from ..guest.symbols import Symbols
 from ..instructions.accesses import REGISTER_BITS
 from ..instructions.words import listed
 from ..machine.answers import CONTROL, Memory, Output, Stop
-from ..machine.program import find_program
 from ..machine.recorder import Beginning, Recording, record
-from ..machine.session import Session
 from .dataflow import Executed, Place, conditions, parts
 
 STEPPED = 1000  # so many instructions are stepped at once, back from one that is looked for
@@ -230,10 +228,9 @@ def _guests_at(pair: Pair, number: int) -> Iterator[Sequence[Guest]]:
 
 def _carried_on(beginning: Beginning, number: int, stack: ExitStack) -> Guest:
     """A guest of a run behind so many instructions, until the stack ends."""
+    assert beginning.image
     for block in BLOCKS:
-        session = stack.enter_context(Session(find_program(), {"image": beginning.image} if beginning.image else {}))
-        guest = Guest(session)
-        guest.start("image", beginning.policy)
+        guest = stack.enter_context(started(beginning.image, policy=beginning.policy))
         values = (f"{'vset' if line[0] == 'v' else 'set'} {line}" for line in beginning.registers)
         guest.ask(*(poke for at, _, data in beginning.memory for poke in pokes(at, data)), *values)
         if _go_on(guest, number, block):
