@@ -5,7 +5,7 @@ import argparse
 import itertools
 import pathlib
 import struct
-from collections.abc import Iterator
+from collections.abc import Iterator, Sequence
 from concurrent.futures import ThreadPoolExecutor
 from contextlib import AbstractContextManager
 from dataclasses import replace
@@ -19,7 +19,7 @@ from ..machine.answers import Stop
 from ..machine.recorder import Beginning
 from ..machine.session import ScriptFull
 from .counts import beginning_of
-from .partings import alike_until, explain, recorded
+from .partings import Pair, alike_until, explain, recorded
 from .run import status_of
 
 POLICIES, QUANTUMS = ("keep", "ones"), (1000, 7, 1)
@@ -91,21 +91,30 @@ def _segments_in_stack(image: pathlib.Path) -> Iterator[tuple[int, str, bytes]]:
 
 
 def _relies(runs: dict[str, Beginning], symbols: Symbols, ticks: int) -> bool:
-    """Prints which runs do otherwise than the first one, and where, once for what is filled; whether one does."""
+    """Prints which runs do otherwise than the first one, and why: of those that are filled, of one. Whether one does."""
     with ThreadPoolExecutor(len(runs)) as pool:
         found = dict(zip(runs, pool.map(lambda beginning: recorded(beginning, ticks), runs.values())))
-    unlike = [name for name, each in found.items() if each != found[LOADED]]
-    for name in FILLED:
-        (record, output), is_same = found[name], name not in unlike
-        print(f"{f'keep, {name}:':<22}  {'the same' if is_same else _told(str(record.end), output)}")
+    ends = {
+        name: "the same" if each == found[LOADED] else _told(f"{each[0].end}", each[1]) for name, each in found.items()
+    }
+    print(*(f"{f'keep, {name}:':<22}  {ends[name]}" for name in FILLED), sep="\n")
+    unlike, told = [name for name, each in found.items() if each != found[LOADED]], set[str]()
     for name in dict.fromkeys([*unlike[:1], *unlike[-1:]]) if ONES in unlike else unlike[:1]:
-        pair, names = (runs[LOADED], runs[name]), (LOADED if name in FILLED else "under keep", name)
-        number = alike_until(pair, ticks)
-        try:
-            print(*explain(pair, number, names, symbols), sep="\n")
-        except ScriptFull:
-            print(f"the runs part behind {number:,} instructions, which are too many to look for where it comes from")
+        names = (LOADED if name in FILLED else "under keep", name)
+        lines = _reason((runs[LOADED], runs[name]), names, symbols, ticks)
+        if lines[-1] not in told:
+            print(*lines, sep="\n")
+        told.add(lines[-1])
     return bool(unlike)
+
+
+def _reason(pair: Pair, names: Sequence[str], symbols: Symbols, ticks: int) -> list[str]:
+    """Why two runs part, in lines, the last of which says where it comes from."""
+    number = alike_until(pair, ticks)
+    try:
+        return [*explain(pair, number, names, symbols)]
+    except ScriptFull:
+        return [f"the runs part behind {number:,} instructions, which are too many to look where it comes from"]
 
 
 def _outcome(begun: Begun, ticks: int) -> Outcome:

@@ -31,7 +31,7 @@ Part = tuple[set[Place], set[Place], str]
 _VSTART = {("vstart", 0)}
 _ACROSS = re.compile("vw?red|vrgather|vslide|vcompress|viota|vms[bio]f")  # which read elements of other numbers
 _ARITHMETIC, _OF_NOTHING = (0x13, 0x1B, 0x33, 0x3B), (0x37, 0x17, 0x6F, 0x67)  # opcodes; lui, auipc, jal and jalr
-_TWO_SOURCES = (0x33, 0x3B, 0x63, STORE)  # opcodes of what reads rs2 too
+_TWO_SOURCES = (0x33, 0x3B, 0x63)  # opcodes of what reads rs2 too
 _CALLS = {93: (17, 10), 64: (17, 10, 11, 12)}  # registers that an exit and a write read, by what is in x17
 
 
@@ -54,7 +54,10 @@ def bits_of_scalar(number: int, first: int = 0, width: int = 64) -> set[Place]:
 
 
 def scalars_read(word: int, call: int = 0) -> Iterator[int]:
-    """The numbers of the scalar registers that an instruction reads, some of them x0. call: what is in x17."""
+    """The numbers of the scalar registers that an instruction reads, but for what it stores, some of them x0.
+
+    call: what is in x17
+    """
     opcode, funct3, rs1, rs2 = word & 0x7F, word >> 12 & 7, word >> 15 & 31, word >> 20 & 31
     if word == ECALL:
         yield from _CALLS.get(call, (17,))
