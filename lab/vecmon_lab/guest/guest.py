@@ -30,7 +30,7 @@ from .input import input_of
 
 IMAGE_BYTES, ARGUMENT_BYTES = 4_194_304, 8192  # of a file; of the stack's 16 KiB
 QUANTUM, MOST_SLICES = 1000, 1000  # the longest slices, as the program is alone; and how many one line grants
-STACK_POINTER, STACK_END, STACK_BYTES = 0x7FFF_EFC0, 0x7FFF_F000, 0x4000  # as `load` leaves them
+STACK_POINTER, STACK_END = 0x7FFF_EFC0, 0x7FFF_F000  # as `load` leaves them
 
 Told = TypeVar("Told", bound=Answer)
 

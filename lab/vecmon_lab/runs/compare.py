@@ -12,7 +12,7 @@ from dataclasses import replace
 from random import Random
 
 from ..arguments import add_image
-from ..guest.guest import STACK_BYTES, STACK_END, Guest, started
+from ..guest.guest import STACK_END, Guest, started
 from ..guest.symbols import Symbols
 from ..instructions.accesses import REGISTER_BYTES
 from ..machine.answers import Stop
@@ -29,6 +29,7 @@ LOADED, ONES, FILLED = (
     {"filled": 0, "filled anew": 0xFF},
 )  # runs; which bits are turned round
 SHOWN_BYTES, PT_LOAD = 40, 1
+STACK_BYTES = 0x4000  # that `load` lays below STACK_END
 Begun = AbstractContextManager[Guest]
 """A guest that an image is loaded for."""
 
