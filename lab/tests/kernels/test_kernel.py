@@ -2,6 +2,7 @@
 
 import array
 import asyncio
+import ctypes
 import pathlib
 import re
 import signal
@@ -68,6 +69,12 @@ count:  .dword 0x30
 """
 
 
+class _Pair(ctypes.Structure):
+    """Of an array of these no memory can be made anew."""
+
+    _fields_ = [("first", ctypes.c_int), ("second", ctypes.c_int)]
+
+
 @pytest.fixture(scope="module")
 def kernel(tmp_path_factory: pytest.TempPathFactory) -> Iterator[Kernel]:
     """The functions of the source."""
@@ -91,10 +98,11 @@ def test_numbers(kernel: Kernel, number: int) -> None:
         (array.array("h", [0, -2, 300]), array.array("h", [-1, 1, -301])),
         (memoryview(array.array("q", [5, -1])), memoryview(array.array("q", [-6, 0]))),
         (memoryview(b"\0\1\2\3").cast("B", (2, 2)), memoryview(b"\xff\xfe\xfd\xfc").cast("B", (2, 2))),
+        (memoryview((ctypes.c_short * 2)(1, -2)), memoryview(array.array("h", [-2, 1]))),
         (b"", b""),
         (bytes(range(256)) * 20, bytes(range(255, -1, -1)) * 20),
     ],
-    ids=["bytes", "bytearray", "array", "memoryview", "rows", "empty", "two pages"],
+    ids=["bytes", "bytearray", "array", "memoryview", "rows", "ctypes", "empty", "two pages"],
 )
 @pytest.mark.parametrize("offset", [None, 0, 1, 4095])
 def test_arrays(kernel: Kernel, given: Any, left: Any, offset: int | None) -> None:
@@ -178,6 +186,8 @@ def test_calls_that_do_not_return(kernel: Kernel, symbol: str, told: str) -> Non
         ([Placed(b"a", 4096)], {}, "argument 1: its offset in a page is 4096, and isn't from 0 to 4,095"),
         ([Placed(b"a", permissions="rq")], {}, "fifth: map 100000000 1 rq: E04: rq isn't one of r, w, x, "),
         ([bytes(1 << 20)], {}, "fifth: map 100000000 256 rw: E10: the user would have more than 256 pages"),
+        ([memoryview((_Pair * 1)())], {}, "argument 1: memoryview: destination format must be a native"),
+        ([], {"ticks": 0}, "a call has a tick at least, and not 0"),
         ([], {"policy": "none"}, "fifth: policy none: E04: none is no policy"),
     ],
 )

@@ -1,47 +1,74 @@
 """`vecmon-lab compare`: programs that rely on agnostic elements, and ones that don't."""
 
 import pathlib
+import re
 
 import pytest
 
 from support.commands import Lab
 from support.images import make_image
-from support.places import SQUARES, STOCK, SUM
+from support.places import DATA, EXAMPLES, SORT, SQUARES, STOCK, SUM
 from support.sources import EXIT, FOREVER
 
-SHORT_STRIP = f"""
-# Adds up 13 ones, in strips of eight; the tail of the last strip is in the sum. The sums are saved before.
-        li a1, 13
-        vsetvli t0, zero, e32, m1, ta, ma
-        vmv.v.i v8, 0
-        vmv.s.x v10, zero
-next:   vsetvli t0, a1, e32, m1, ta, ma
-        vadd.vi v8, v8, 1
-        sub a1, a1, t0
-        bnez a1, next
-        vsetvli t0, zero, e32, m1, ta, ma
-        lui a2, 0x11
-        vs1r.v v8, (a2)
-        vl1re8.v v9, (a2)
-        vmv1r.v v8, v9
-sum:    vredsum.vs v8, v8, v10
-        vmv.x.s a0, v8
-        {EXIT}
-        .data
-        .zero 32
-"""
-MASKED_OFF = f"""
-# Stores all elements of a masked sum; those that are masked off are 1, if they are kept.
-        vsetivli zero, 4, e8, mf2, ta, ma
-        vmv.v.i v0, 5
+UNWRITTEN = {
+    "tail_added": [
+        "the runs part at {end}: ecall",
+        "  x10: d under keep, 7 under ones",  # 8 + 5, or 5 x 2 - 3: three elements of the tail have 1 each, or -1
+        "  first read at {sum}: vredsum.vs v8, v8, v9",
+        "  which comes from the tail of {strip}: vadd.vi v8, v8, 1",
+    ],
+    "masked_off_stored": [
+        "the runs part at {branch}: bltu x12, x5, 8",
+        "  x12: 1 under keep, ff under ones",
+        "  first read at {store}: vse8.v v8, (x11)",
+        "  which comes from elements masked off by {double}: vadd.vv v8, v8, v8, v0.t",
+    ],
+    "mask_tail_counted": [
+        "the runs part at {end}: ecall",
+        "  x10: 2 as loaded, * filled",
+        "  first read at {count}: vcpop.m x10, v9",
+        "  which comes from the tail of {mask}: vmsgt.vx v9, v8, x0",
+    ],
+    "counter_not_cleared": [
+        "the runs part at {branch}: bltu x7, x6, 12",
+        "  x6: 4 as loaded, * filled",
+        "  first read at {count}: addi x6, x6, 1",
+        "  which comes from x6, where nothing has been written",
+    ],
+    "sums_not_cleared": [
+        "the runs part at {write}: ecall",
+        *(f"  [{0x11000 + at:x}]: {byte} as loaded, * filled" for at, byte in enumerate(("1e", "0", "0", "0"))),
+        "  first read at {add}: vmacc.vv v8, v9, v9",
+        "  which comes from v8, where nothing has been written",
+    ],
+    "local_not_set": [
+        "the runs part at {branch}: beq x11, x0, 8",
+        "  x11: 0 as loaded, * filled",
+        "  first read at {look}: lw x11, 12(x2)",
+        "  which comes from memory from 7fffefbc on, where nothing has been written",
+    ],
+}
+"""What is told of each program of the examples, by its labels; `*` stands for what is filled in."""
+
+LATE = """
+# A sum of a tail, of which a branch makes something behind a million instructions.
+        vsetivli zero, 8, e32, m1, ta, ma
         vmv.v.i v8, 1
-        vadd.vi v8, v8, 1, v0.t
-        lui a1, 0x11
-store:  vse8.v v8, (a1)
-        lbu a0, 1(a1)
-        {EXIT}
-        .data
-        .word 0
+        vsetivli zero, 4, e32, m1, ta, ma
+strip:  vadd.vi v8, v8, 1
+        vsetivli zero, 8, e32, m1, ta, ma
+        vmv.s.x v9, zero
+sum:    vredsum.vs v8, v8, v9
+        vmv.x.s s0, v8
+        li t0, 500000
+wait:   addi t0, t0, -1
+        bnez t0, wait
+        li t2, 12
+branch: bne s0, t2, end
+        nop
+end:    li a0, 0
+        li a7, 93
+        ecall
 """
 SAVED = f"""
 # Saves and restores a register whose tail is anything, and uses its first elements alone.
@@ -78,6 +105,7 @@ text:   .ascii "123456789\\n"
 """
 OWN_WORD = f"""
 # Stores eight words from its own on: seven of them are those of `li a0, 1`.
+        li a0, 0
         vsetivli zero, 8, e32, m1, ta, ma
         lui a1, 0x11
         vle32.v v8, (a1)
@@ -97,7 +125,7 @@ OWN_WORD = f"""
 
 
 def alike(first: str) -> list[str]:
-    """The lines of six runs that end as this first one."""
+    """The lines of all runs, which end as this first one."""
     return [
         first,
         *(
@@ -110,6 +138,8 @@ def alike(first: str) -> list[str]:
                 ("ones", "    1"),
             )
         ),
+        "keep, filled:           the same",
+        "keep, filled anew:      the same",
     ]
 
 
@@ -134,28 +164,39 @@ def compared(
     return status, output.decode().splitlines(), labels
 
 
-def test_a_tail_that_counts(lab: Lab, program: pathlib.Path, tmp_path: pathlib.Path) -> None:
-    """Three elements of the tail have 1 each where they are kept, and -1 as ones: 8 + 5, or 5 x 2 - 3."""
-    status, lines, labels = compared(lab, program, tmp_path, SHORT_STRIP)
-    assert status == 1 and lines[1] == "keep, slices of     7:  the same"
-    assert lines[0].startswith("keep, slices of 1,000:  exit 13 ") and lines[3].startswith(
-        "ones, slices of 1,000:  exit 7 "
-    )
-    assert lines[6:] == [
-        f"the runs part at {labels['sum']:x}: vredsum.vs v8, v8, v10",
-        "  v8.e32[0]: d under keep, 7 under ones",
+@pytest.mark.parametrize("name", UNWRITTEN)
+def test_what_nobody_has_written(lab: Lab, program: pathlib.Path, tmp_path: pathlib.Path, name: str) -> None:
+    source = (EXAMPLES / "unwritten" / f"{name}.s").read_text("utf-8")
+    status, lines, labels = compared(lab, program, tmp_path, source)
+    places = {label: f"{address:x}" for label, address in labels.items()}
+    told = [re.sub(r", [0-9a-f]+ filled$", ", * filled", line) for line in lines[8:]]
+    assert (status, told) == (1, [line.format_map(places) for line in UNWRITTEN[name]])
+
+
+def test_there_is_a_program_of_each_fault() -> None:
+    assert {path.stem for path in (EXAMPLES / "unwritten").iterdir()} == set(UNWRITTEN)
+
+
+def test_what_shows_behind_a_million_instructions(lab: Lab, program: pathlib.Path, tmp_path: pathlib.Path) -> None:
+    status, lines, labels = compared(lab, program, tmp_path, LATE)
+    assert status == 1 and lines[8:] == [
+        f"the runs part at {labels['branch']:x}: bne x8, x7, 8",
+        "  x8: c under keep, 4 under ones",  # 4 x 2 + 4, or 4 x 2 - 4
+        f"  first read at {labels['sum']:x}: vredsum.vs v8, v8, v9",
+        f"  which comes from the tail of {labels['strip']:x}: vadd.vi v8, v8, 1",
     ]
 
 
-def test_elements_that_are_masked_off(lab: Lab, program: pathlib.Path, tmp_path: pathlib.Path) -> None:
-    """v0 has 5 in each byte, so that elements 0 and 2 are active."""
-    status, lines, labels = compared(lab, program, tmp_path, MASKED_OFF)
-    assert status == 1 and "exit 1 " in lines[0] and "exit 255 " in lines[3]
-    assert lines[6:] == [
-        f"the runs part at {labels['store']:x}: vse8.v v8, (x11)",
-        "  v8.e8[1]: 1 under keep, ff under ones",
-        "  v8.e8[3]: 1 under keep, ff under ones",
-    ]
+IMAGES = {path.name: path for path in [*STOCK.parent.rglob("*"), *(DATA / "images").iterdir(), SORT] if path.is_file()}
+
+
+@pytest.mark.parametrize("name", [name for name, path in IMAGES.items() if path.read_bytes()[:4] == b"\x7fELF"])
+def test_images_rely_on_nothing(lab: Lab, name: str) -> None:
+    """`good` is for the loader: it exits with what is in a0."""
+    status, output, _ = lab("compare", "--ticks", 70_000, IMAGES[name])
+    told = [line for line in output.decode().splitlines() if " part at " in line or " nothing " in line]
+    exits = ["the runs part at 1007c: ecall", "  which comes from x10, where nothing has been written"]
+    assert (status == 1, told) == ((True, exits) if name == "good" else (False, []))
 
 
 def test_slices_tell_where_a_store_writes_over_its_own_word(
@@ -169,19 +210,19 @@ def test_slices_tell_where_a_store_writes_over_its_own_word(
     lines = output.decode().splitlines()
     assert status == 1 and "exit 0 " in lines[0] and "exit 1 " in lines[2] and lines[3].endswith("the same")
     assert (
-        lines[6] == "the length of slices tells only where a vector store that is cut has stored over its own word"
-        and len(lines) == 7
+        lines[8] == "the length of slices tells only where a vector store that is cut has stored over its own word"
+        and len(lines) == 9
     )
 
 
 def test_what_is_saved_may_be_anything(lab: Lab, program: pathlib.Path, tmp_path: pathlib.Path) -> None:
     status, lines, _ = compared(lab, program, tmp_path, SAVED)
-    assert (status, len(lines)) == (0, 6) and "exit 4 " in lines[0]
+    assert (status, len(lines)) == (0, 8) and "exit 4 " in lines[0]
 
 
 def test_output_is_cut_alike_in_all_slices(lab: Lab, program: pathlib.Path, tmp_path: pathlib.Path) -> None:
     status, lines, _ = compared(lab, program, tmp_path, WRITES_UNEVENLY)
-    assert (status, len(lines)) == (0, 6) and "exit 3 " in lines[0]
+    assert (status, len(lines)) == (0, 8) and "exit 3 " in lines[0]
 
 
 def test_a_program_without_an_end(lab: Lab, program: pathlib.Path, tmp_path: pathlib.Path) -> None:

@@ -6,6 +6,7 @@ from collections.abc import Callable, Iterator, Mapping
 from dataclasses import dataclass, field
 
 from ..guest.guest import STACK_END, Guest
+from ..guest.notebook import registers_html
 from ..instructions.accesses import PAGE_BYTES
 from ..machine.answers import (
     Addresses,
@@ -87,6 +88,14 @@ class Machine:
     owner: str
     is_dirty: bool
     last: str
+
+    def _repr_html_(self) -> str:
+        """The registers of each user, as a notebook shows them."""
+        texts = []
+        for digit, it in self.shown.items():
+            registers = registers_html(it.registers.pc, it.registers.x, it.control, it.vectors)
+            texts.append(f"<b>User {digit}{', running' * it.is_running}</b>{registers}")
+        return "".join(texts)
 
 
 def carry_out(session: Session, script: bytes) -> dict[str, User]:

@@ -32,6 +32,7 @@ IMAGE_BYTES, ARGUMENT_BYTES = 4_194_304, 8192  # of a file; of the stack's 16 Ki
 QUANTUM, MOST_SLICES = 1000, 1000  # the longest slices, as the program is alone; and how many one line grants
 MOST_STEPS, MOST_ROUNDS = 256, 1000  # of one line; and how many such lines are sent before their answers are looked at
 OUTPUT_BYTES, WRITE_BYTES = 1024, 256  # that the buffer holds; and that a call writes at most
+STEPS_AT_ONCE = (MOST_STEPS, OUTPUT_BYTES // WRITE_BYTES)  # which are tried: behind the last number all calls find room
 STACK_POINTER, STACK_END = 0x7FFF_EFC0, 0x7FFF_F000  # as `load` leaves them
 
 Told = TypeVar("Told", bound=Answer)

@@ -10,6 +10,10 @@ from .words import STORE, STORE_FP, NoInstruction, Operand, VectorInstruction, d
 UNIT_STRIDE, STRIDED = 0, 2  # mop; 1 and 3 are indexed
 WHOLE_REGISTERS, MASK = 0b01000, 0b01011  # sumop
 REGISTER_BYTES, ROW_BYTES, LINE_BYTES, PAGE_BYTES = 32, 16, 256, 4096  # a line shows or writes LINE_BYTES of memory
+REGISTER_BITS = 8 * REGISTER_BYTES
+ACCUMULATES = ("vmacc", "vnmsac", "vmadd", "vnmsub", "vwmacc", "vslideup", "vcompress")  # which read their destination
+FIRST_ELEMENT = ("vred", "vwred", "vmv.s.x")  # which write element 0 alone
+_GATHERS = ("vrgather", "vslide")  # which read their source up to VLMAX
 
 Span = tuple[int, int]
 """An address, and how many bytes."""
@@ -70,3 +74,16 @@ def _joined(spans: Iterable[Span]) -> list[Span]:
     rows = {row for first, last in ends for row in range(first // ROW_BYTES, last // ROW_BYTES + 1)}
     held = [list(each) for _, each in itertools.groupby(sorted(rows), lambda row: row * ROW_BYTES // LINE_BYTES)]
     return [(each[0] * ROW_BYTES, (each[-1] + 1 - each[0]) * ROW_BYTES) for each in held]
+
+
+def bits_of(operand: Operand, vl: int) -> Iterator[int]:
+    """How many of the lowest bits of each of its registers the elements of an operand take, up to vl."""
+    for at in range(len(operand.registers)):
+        yield min(REGISTER_BITS, max(0, vl * operand.eew - REGISTER_BITS * (at % operand.group)))
+
+
+def needed(name: str, place: str, operand: Operand, vl: int) -> Iterator[int]:
+    """How many of the lowest bits of each register of a source an instruction reads."""
+    if operand.eew > 1 and (operand.is_whole or place == "vs2" and name.startswith(_GATHERS)):
+        return iter([REGISTER_BITS] * len(operand.registers))
+    return bits_of(operand, -(-vl // 8) * 8 if name == "vsm.v" else vl)

@@ -1,6 +1,7 @@
 """A program's functions called from Python, as tests of vector kernels do: arrays go into memory, and are read back."""
 
 import array
+import html
 import numbers
 import os
 import pathlib
@@ -15,14 +16,17 @@ from ..assembler.commands import refusal_in_words
 from ..compilers.compiled import compile_c
 from ..compilers.compiler import choice_of, find_compiler
 from ..exercises.answer import Answer, read_answer
+from ..guest.changes import Stepper
 from ..guest.guest import MOST_STEPS, QUANTUM, STACK_END, Guest, pokes
+from ..guest.notebook import registers_html
 from ..guest.symbols import Symbols
-from ..instructions.accesses import LINE_BYTES, PAGE_BYTES
+from ..instructions.accesses import LINE_BYTES, PAGE_BYTES, REGISTER_BYTES
 from ..lessons.script import check_compiled
 from ..machine.answers import Memory, Output, Refused, ScalarRegisters, Stop
 from ..machine.program import find_program
 from ..machine.session import Session
 from ..runs.counts import Counts, beginning_at, count
+from ..tables.table import html_table
 
 Array: TypeAlias = "bytes | bytearray | memoryview | array.array[Any]"
 
@@ -121,6 +125,16 @@ class Kernel:
     def __exit__(self, *error: object) -> None:
         self.close()
 
+    def _repr_html_(self) -> str:
+        """The symbols, and the registers as the last call left them, as a notebook shows them."""
+        rows = [(name, f"{address:x}") for name, address in self._symbols.addresses.items()]
+        registers = ""
+        if self._is_stopped:
+            left = Stepper(self._guest).registers
+            vectors = [bytes(left.v[at : at + REGISTER_BYTES]) for at in range(0, len(left.v), REGISTER_BYTES)]
+            registers = registers_html(self._guest.pc, left.x, left.control, vectors)
+        return f"<b>{html.escape(self._path.name)}</b>{html_table([('symbol', 'address'), *rows], 2)}{registers}"
+
     def close(self) -> None:
         """Ends the process."""
         self._guest.session.close()
@@ -141,6 +155,8 @@ class Kernel:
         """
         if symbol not in self._symbols.addresses:
             raise LabError(f"{self._path} has no symbol {symbol}")
+        if ticks < 1:
+            raise LabError(f"a call has a tick at least, and not {ticks}")
         values, places, given = _laid(arguments)
         registers = [f"set x{FIRST_ARGUMENT + number} {value:x}" for number, value in enumerate(values)]
         lines = [*(line for place in places for line in place.lines), *registers]
@@ -234,8 +250,9 @@ def _laid(arguments: Sequence["int | Array | Placed"]) -> tuple[list[int], list[
             values.append(int(argument) % (1 << 64))
             continue
         placed = argument if isinstance(argument, Placed) else Placed(argument)
-        with mistakes_in(f"argument {number}", TypeError, LabError):
+        with mistakes_in(f"argument {number}", TypeError, ValueError, LabError):
             place, pages = _place(placed, page)
+            _like(placed.data, place.data)  # whether it can be handed back
         page += (pages + 1) * PAGE_BYTES
         values.append(place.address)
         places.append(place)
@@ -271,7 +288,8 @@ def _like(given: Array, data: bytes) -> Array:
     if isinstance(given, array.array):
         return array.array(given.typecode, data)
     view = memoryview(given)
-    return memoryview(bytearray(data)).cast(view.format, view.shape or (1,)) if data else view
+    form = view.format.removeprefix("<")  # as ctypes has it
+    return memoryview(bytearray(data)).cast(form, view.shape or (1,)) if data else view
 
 
 def _differences(kept: _Left, ones: _Left) -> Iterator[str]:

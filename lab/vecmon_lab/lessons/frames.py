@@ -1,5 +1,6 @@
 """The frames of a lesson: what each line of a script answers, and what it leaves of each user."""
 
+import html
 import pathlib
 from collections.abc import Mapping, Sequence
 from contextlib import suppress
@@ -9,7 +10,8 @@ from .. import LabError
 from ..assembler.commands import log_entries
 from ..compilers.compiled import memory_rows
 from ..guest.guest import Guest
-from ..machine.answers import Answer, Position, Refused, read, told
+from ..guest.notebook import registers_html
+from ..machine.answers import Answer, ControlRegisters, Position, Refused, read, told
 from ..machine.lines import DIGITS, BadLine, is_look, words_of
 from ..machine.session import Session
 from ..page.state import ABSENT, RowChoice, State, Watch, look_at, with_rows
@@ -35,6 +37,17 @@ class Frame:
     note: str
     log: list[str]
     states: dict[str, State]
+
+    def _repr_html_(self) -> str:
+        """The note, the line, its answers, and the user's registers, as a notebook shows them."""
+        state, registers = self.states.get(self.user, ABSENT), ""
+        if "x" in state:
+            x, v = ([given[f"{number}"] for number in range(32)] for given in (state["x"], state["v"]))
+            told = state["vl"], int(state["vtype"], 16), state["vstart"], state["vxrm"], state["vxsat"]
+            scalars, vectors = [int(digits, 16) for digits in x], [bytes.fromhex(digits) for digits in v]
+            registers = registers_html(int(state["pc"], 16), scalars, ControlRegisters(*told), vectors)
+        note, line, log = (html.escape(text) for text in (self.note, self.line, "\n".join(self.log)))
+        return f"<p>{note}</p><p><b>{line}</b></p><pre>{log}</pre>{registers}"
 
 
 def make_frames(

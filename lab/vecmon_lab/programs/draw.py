@@ -5,12 +5,13 @@ from collections import Counter
 from collections.abc import Callable
 from dataclasses import dataclass, field, replace
 
+from ..instructions.accesses import REGISTER_BITS
 from ..instructions.reasons import illegal_reasons
 from ..instructions.table import Row, instruction_table
 from ..instructions.words import LOAD, OP_V, STORE, STORE_FP, SUPPORTED, SYSTEM, VECTOR_ACCESSES, Operand, decode
 from ..machine.answers import ControlRegisters
 from ..vectors.cases import reads_two_widths
-from .registers import REGISTER_BITS, Registers, operands_of
+from .registers import Registers, operands_of
 
 FIRST = ControlRegisters(vl=32, vtype=0)
 """The vector state before a program: e8, m1, tu, mu."""

@@ -13,8 +13,9 @@ from ..guest.guest import started
 from ..guest.symbols import Symbols
 from ..instructions.accesses import REGISTER_BYTES, vector_instruction
 from ..machine.answers import elements_in
+from ..runs.dataflow import Place, bits_of_registers
 from .logs import Commit, commits
-from .origins import LOOKS_BACK, Place, Step, bits_of_registers, origin
+from .origins import LOOKS_BACK, Step, origin
 
 _NUMBER = re.compile(r"\b([xv])(\d+)\b")
 
@@ -40,7 +41,7 @@ def run(arguments: argparse.Namespace) -> int:
             before, number = stepper.registers.copy(), number + 1
             if number == 1 and commit.stack is not None:
                 shift = commit.stack - before.x[2]
-            step = Step(number, commit, _carried(stepper, commit), before)
+            step = Step(_carried(stepper, commit), before, number, commit)
             steps.append(step)
             trap = _trap(step, following, guest.pc)
             if lines := {trap: {("vstart", 0)}} if trap else dict(differences(step, stepper.registers, shift)):
@@ -86,7 +87,7 @@ def differences(step: Step, after: Registers, shift: int) -> Iterator[tuple[str,
     for number in range(1, 32):
         told = commit.x.get(number, before.x[number])
         if told not in (after.x[number], after.x[number] + shift):
-            bits = {("x", bit) for bit in range(64) if (told ^ after.x[number]) >> bit & 1}
+            bits = {("x", 64 * number + bit) for bit in range(64) if (told ^ after.x[number]) >> bit & 1}
             yield f"x{number}: {after.x[number]:x} here, {told:x} in the log", bits
     instruction = vector_instruction(step.carried.word, before.control.vtype)
     width = instruction.operands[0].eew if instruction and instruction.operands else 8

@@ -4,19 +4,16 @@ import functools
 import random
 from collections.abc import Iterable, Iterator, Sequence
 
+from ..instructions.accesses import ACCUMULATES, FIRST_ELEMENT, REGISTER_BITS, bits_of, needed
 from ..instructions.reasons import illegal_reasons
 from ..instructions.table import instruction_table
 from ..instructions.words import Operand, decode
 from ..machine.answers import ControlRegisters
 
-REGISTER_BITS = 256
 SCALARS = range(1, 29)
 """The scalar registers of programs: x29 has the middle of memory, and x30 and x31 are those of the code around them."""
 
 _TEMPLATE = {8: "vd", 16: "vs2", 24: "vs1"}  # where operands stand while a row is read
-ACCUMULATES = ("vmacc", "vnmsac", "vmadd", "vnmsub", "vwmacc", "vslideup", "vcompress")  # which read their destination
-FIRST_ELEMENT = ("vred", "vwred", "vmv.s.x")  # which write element 0 alone
-_GATHERS = ("vrgather", "vslide")  # which read their source up to VLMAX
 
 
 @functools.cache
@@ -26,12 +23,6 @@ def operands_of(name: str, vtype: int) -> dict[str, Operand] | None:
     word = row.word(8 << 7 | 16 << 20 | 24 << 15 | 1 << 25)
     instruction = None if illegal_reasons(word, view) else decode(word, view.sew, view.lmul)
     return {_TEMPLATE[each.registers.start]: each for each in instruction.operands} if instruction else None
-
-
-def bits_of(operand: Operand, vl: int) -> Iterator[int]:
-    """How many of the lowest bits of each of its registers the elements of an operand take, up to vl."""
-    for at in range(len(operand.registers)):
-        yield min(REGISTER_BITS, max(0, vl * operand.eew - REGISTER_BITS * (at % operand.group)))
 
 
 class Registers:
@@ -95,10 +86,3 @@ class Registers:
 
     def _firsts(self, operand: Operand) -> range:
         return range(0, 33 - len(operand.registers), operand.group)
-
-
-def needed(name: str, place: str, operand: Operand, vl: int) -> Iterator[int]:
-    """How many of the lowest bits of each register of a source an instruction reads."""
-    if operand.eew > 1 and (operand.is_whole or place == "vs2" and name.startswith(_GATHERS)):
-        return iter([REGISTER_BITS] * len(operand.registers))
-    return bits_of(operand, -(-vl // 8) * 8 if name == "vsm.v" else vl)

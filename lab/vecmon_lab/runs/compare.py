@@ -1,22 +1,35 @@
-"""Compares an image's runs: with agnostic elements kept and as ones, and in slices of different lengths."""
+"""Compares an image's runs: with agnostic elements kept and as ones, in slices of different lengths, and with registers
+and stack filled where nobody has written."""
 
 import argparse
-import functools
 import itertools
+import pathlib
+import struct
 from collections.abc import Iterator, Sequence
-from contextlib import AbstractContextManager, ExitStack
+from concurrent.futures import ThreadPoolExecutor
+from contextlib import AbstractContextManager
+from dataclasses import replace
+from random import Random
 
 from ..arguments import add_image
-from ..guest.changes import NAMES, Registers, Stepper
-from ..guest.guest import Guest, started
+from ..guest.guest import STACK_END, Guest, started
 from ..guest.symbols import Symbols
-from ..instructions.accesses import REGISTER_BYTES, vector_instruction
+from ..instructions.accesses import REGISTER_BYTES
 from ..machine.answers import Stop
-from .counts import elements_of, is_whole
+from ..machine.recorder import Beginning
+from ..machine.session import ScriptFull
+from .counts import beginning_of
+from .partings import Pair, alike_until, explain, recorded
 from .run import status_of
 
 POLICIES, QUANTUMS = ("keep", "ones"), (1000, 7, 1)
-SHOWN_BYTES, SHOWN_DIFFERENCES = 40, 4
+LOADED, ONES, FILLED = (
+    "as loaded",
+    "under ones",
+    {"filled": 0, "filled anew": 0xFF},
+)  # runs; which bits are turned round
+SHOWN_BYTES, PT_LOAD = 40, 1
+STACK_BYTES = 0x4000  # that `load` lays below STACK_END
 Begun = AbstractContextManager[Guest]
 """A guest that an image is loaded for."""
 
@@ -36,19 +49,73 @@ def run(arguments: argparse.Namespace) -> int:
     Raises LabError and OSError for bad input.
     """
     image, file, symbols = arguments.image, arguments.input, Symbols.read(arguments.image)
-    begin = functools.partial(started, image, arguments=[image.name, *arguments.words], file=file)
-    ticks = -(-arguments.ticks // 7000) * 7000  # slices of each length come to the same ticks
+    words, ticks = [image.name, *arguments.words], -(
+        -arguments.ticks // 7000
+    ) * 7000  # slices of each length come to these
     outcomes: dict[tuple[str, int], Outcome] = {}
     for policy, quantum in itertools.product(POLICIES, QUANTUMS):
-        outcome = outcomes[policy, quantum] = _outcome(begin(policy=policy, quantum=quantum), ticks)
+        begun = started(image, policy=policy, quantum=quantum, arguments=words, file=file)
+        outcome = outcomes[policy, quantum] = _outcome(begun, ticks)
         is_same = len(outcomes) > 1 and outcome == outcomes["keep", QUANTUMS[0]]
         print(f"{policy}, slices of {quantum:>5,}:  {'the same' if is_same else _told(*outcome[1:])}")
-    if any(outcomes["keep", quantum] != outcomes["ones", quantum] for quantum in QUANTUMS):
-        for line in _parting([begin(policy=policy) for policy in POLICIES], symbols, ticks):
-            print(line)
+    keep, ones = (beginning_of(image, words, file, policy) for policy in POLICIES)
+    runs = {LOADED: keep, **{name: filled(keep, turned) for name, turned in FILLED.items()}, ONES: ones}
+    relies = _relies(runs, symbols, ticks)
     if any(outcomes[policy, quantum] != outcomes[policy, QUANTUMS[0]] for policy, quantum in outcomes):
         print("the length of slices tells only where a vector store that is cut has stored over its own word")
-    return 1 if len(set(outcomes.values())) > 1 else status_of(outcomes["keep", QUANTUMS[0]][0])
+    return 1 if relies or len(set(outcomes.values())) > 1 else status_of(outcomes["keep", QUANTUMS[0]][0])
+
+
+def filled(beginning: Beginning, turned: int) -> Beginning:
+    """The same, with numbers in all registers but x2, and in the stack below it.
+
+    turned: the bits of each byte that are turned round, by which there are two ways
+    """
+    random, pointer = Random(0), int(dict(line.split() for line in beginning.registers)["x2"], 16)
+    junk = [bytes(byte ^ turned for byte in random.randbytes(size)) for size in [8] * 31 + [REGISTER_BYTES] * 32]
+    registers = [f"x{number} {data.hex()}" for number, data in enumerate(junk[:31], 1)]
+    registers += [f"v{number} {data.hex()}" for number, data in enumerate(junk[31:])]
+    stack = bytes(byte ^ turned for byte in random.randbytes(pointer + STACK_BYTES - STACK_END))
+    own = _segments_in_stack(beginning.image) if beginning.image else ()
+    memory = [(STACK_END - STACK_BYTES, "rw", stack), *own, *beginning.memory]
+    return replace(beginning, memory=memory, registers=[*registers, *beginning.registers])
+
+
+def _segments_in_stack(image: pathlib.Path) -> Iterator[tuple[int, str, bytes]]:
+    """What an image itself has in the pages of the stack, by its program headers."""
+    data = image.read_bytes()
+    (table,), (size, count) = struct.unpack_from("<Q", data, 32), struct.unpack_from("<HH", data, 54)
+    for at in range(table, table + size * count, size):
+        kind, _, offset, address, _, in_file, length = struct.unpack_from("<IIQQQQQ", data, at)
+        if kind == PT_LOAD and length and address < STACK_END and address + length > STACK_END - STACK_BYTES:
+            yield address, "rw", data[offset : offset + in_file].ljust(length, b"\0")
+
+
+def _relies(runs: dict[str, Beginning], symbols: Symbols, ticks: int) -> bool:
+    """Prints which runs do otherwise than the first one, and why: of those that are filled, of one. Whether one does."""
+    with ThreadPoolExecutor(len(runs)) as pool:
+        found = dict(zip(runs, pool.map(lambda beginning: recorded(beginning, ticks), runs.values())))
+    ends = {
+        name: "the same" if each == found[LOADED] else _told(f"{each[0].end}", each[1]) for name, each in found.items()
+    }
+    print(*(f"{f'keep, {name}:':<22}  {ends[name]}" for name in FILLED), sep="\n")
+    unlike, told = [name for name, each in found.items() if each != found[LOADED]], set[str]()
+    for name in dict.fromkeys([*unlike[:1], *unlike[-1:]]) if ONES in unlike else unlike[:1]:
+        names = (LOADED if name in FILLED else "under keep", name)
+        lines = _reason((runs[LOADED], runs[name]), names, symbols, ticks)
+        if lines[-1] not in told:
+            print(*lines, sep="\n")
+        told.add(lines[-1])
+    return bool(unlike)
+
+
+def _reason(pair: Pair, names: Sequence[str], symbols: Symbols, ticks: int) -> list[str]:
+    """Why two runs part, in lines, the last of which says where it comes from."""
+    number = alike_until(pair, ticks)
+    try:
+        return [*explain(pair, number, names, symbols)]
+    except ScriptFull:
+        return [f"the runs part behind {number:,} instructions, which are too many to look where it comes from"]
 
 
 def _outcome(begun: Begun, ticks: int) -> Outcome:
@@ -62,47 +129,3 @@ def _told(end: str, output: bytes) -> str:
     """An outcome in a line."""
     more = "..." if len(output) > SHOWN_BYTES else ""
     return f"{end}; {len(output):,} bytes: {output[:SHOWN_BYTES]!r}{more}"
-
-
-def _parting(begun: Sequence[Begun], symbols: Symbols, ticks: int) -> Iterator[str]:
-    """The first instruction that tells agnostic elements that are kept from ones, and what differs behind it."""
-    with ExitStack() as stack:
-        steppers = [Stepper(stack.enter_context(each)) for each in begun]
-        for _ in range(ticks):
-            before = [stepper.registers.copy() for stepper in steppers]
-            kept, _ = (stepper.step() for stepper in steppers)
-            differences = list(_differences(kept.word, before, [stepper.registers for stepper in steppers]))
-            if differences:
-                yield f"the runs part at {kept.pc:x} {symbols.place(kept.pc)}".rstrip() + f": {kept.text}"
-                yield from differences[:SHOWN_DIFFERENCES]
-            if differences or kept.stop:
-                return
-
-
-def _differences(word: int, before: Sequence[Registers], after: Sequence[Registers]) -> Iterator[str]:
-    """What differs of what an instruction wrote or stored: scalar and control registers, and active elements.
-
-    Whole registers are left out: code that saves them needn't know what stands in them.
-    """
-    kept, ones = (dict(_values(word, *pair)) for pair in zip(before, after))
-    for name in dict.fromkeys([*kept, *ones]):
-        if kept.get(name) != ones.get(name):
-            yield f"  {name}: {_shown(kept.get(name))} under keep, {_shown(ones.get(name))} under ones"
-
-
-def _values(word: int, before: Registers, after: Registers) -> Iterator[tuple[str, int]]:
-    """The scalar and control registers by name, and the active elements that an instruction wrote or stored."""
-    yield from zip(NAMES, after.values())
-    instruction = vector_instruction(word, before.control.vtype)
-    found = elements_of(word, before.control, before.v[:REGISTER_BYTES])
-    if instruction is None or found is None or is_whole(word, instruction):
-        return
-    active = [0] if instruction.name.startswith(("vred", "vwred")) else found.active
-    for operand in instruction.operands:
-        for register, values in after.groups(operand) if operand.noun != "source" else ():
-            for number in active[: len(values)]:
-                yield f"v{register}.e{operand.eew}[{number}]", values[number]
-
-
-def _shown(value: int | None) -> str:
-    return "not active" if value is None else f"{value:x}"

@@ -18,6 +18,7 @@ from ..machine.lines import words_of
 from ..machine.program import find_program
 from ..machine.recorder import Beginning, record
 from ..machine.session import Session
+from ..tables.table import html_table
 
 SHOWN_WORDS = 16  # by one `dis`
 
@@ -68,6 +69,13 @@ class Counts:
         """How many elements of groups were active, were masked off, and were of the tail."""
         return [sum(numbers) for numbers in zip((0, 0, 0), *(place.elements for place in self.places))]
 
+    def _repr_html_(self) -> str:
+        """The instructions by address, as a notebook shows them, and all together."""
+        rows = [(f"{it.address:x}", self.texts[it.word], it.times, it.ticks, *it.elements) for it in self.places]
+        head = ("address", "instruction", "times", "ticks", "active", "masked off", "tail")
+        last = ("", "all", self.instructions, self.ticks, *self.elements)
+        return html_table([head, *rows, last], 2)
+
     @functools.cached_property
     def texts(self) -> Mapping[int, str]:
         """The text of each word, as the machine shows it."""
@@ -105,7 +113,7 @@ def beginning_at(guest: Guest, lines: Iterable[str], image: pathlib.Path | None 
 
     image: the one that they loaded, if any, whose other pages nothing has written to
     """
-    pages, policy = dict[int, str](), "keep"
+    pages, written, policy = dict[int, str](), set[int](), "keep"
     for line in lines:
         match words_of(line):
             case ["map", address, number, permissions]:
@@ -115,6 +123,9 @@ def beginning_at(guest: Guest, lines: Iterable[str], image: pathlib.Path | None 
                 first, length = int(address, 16), len(text) // 2 if command == "poke" else 4
                 for page in range(first // PAGE_BYTES * PAGE_BYTES, first + length, PAGE_BYTES):
                     pages.setdefault(page, "rw")
+                    written.add(page)
+            case ["step" | "go", *_]:  # what is carried out may write to any page
+                written.update(pages)
             case ["policy", policy]:
                 pass
     control, scalars = guest.told("vcsr", ControlRegisters), guest.told("regs", ScalarRegisters)
@@ -122,7 +133,14 @@ def beginning_at(guest: Guest, lines: Iterable[str], image: pathlib.Path | None 
     registers = [f"pc {scalars.pc:x}", *(f"{name} {value:x}" for name, value in vars(control).items())]
     registers += [f"x{number} {scalars.x[number]:x}" for number in range(1, 32)]
     registers += [f"v{it.number} {it.data.hex()}" for it in vectors if isinstance(it, VectorRegister)]
-    memory = [(page, permissions, guest.peek(page, PAGE_BYTES)) for page, permissions in pages.items()]
+    memory = list[tuple[int, str, bytes]]()
+    for page, permissions in pages.items():
+        data = guest.peek(page, PAGE_BYTES) if page in written else bytes(PAGE_BYTES)
+        first, before, held = memory[-1] if memory else (page, "", b"")
+        if (before, first + len(held)) == (permissions, page):  # they go to the recorder as one
+            memory.pop()
+            page, data = first, held + data
+        memory.append((page, permissions, data))
     return Beginning(image, memory, registers, policy)
 
 

@@ -6,6 +6,7 @@ from collections.abc import Iterable, Iterator, Sequence
 from dataclasses import dataclass
 
 from ..guest.symbols import Symbols
+from ..tables.table import html_table
 from .callers import Callers
 from .counts import Counts, Place
 
@@ -26,6 +27,9 @@ class Part:
     head: Sequence[str]
     texts: int
     rows: Sequence[Row]
+
+    def _repr_html_(self) -> str:
+        return html_table([self.head, *self.rows], self.texts)
 
 
 class Spent:

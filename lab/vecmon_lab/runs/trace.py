@@ -4,10 +4,8 @@ from collections.abc import Callable, Iterator
 from contextlib import AbstractContextManager
 
 from ..guest.changes import Carried, Stepper
-from ..guest.guest import MOST_STEPS, OUTPUT_BYTES, WRITE_BYTES, Guest
+from ..guest.guest import STEPS_AT_ONCE, Guest
 from ..guest.symbols import Symbols
-
-STEPS_AT_ONCE = (MOST_STEPS, OUTPUT_BYTES // WRITE_BYTES)  # which are tried: behind the last number all calls find room
 
 
 def trace(begin: Callable[[], AbstractContextManager[Guest]], symbols: Symbols, window: range) -> Iterator[str]:

@@ -1,8 +1,9 @@
-"""Tables as plain text.
+"""Tables as plain text, and as HTML.
 
 Those of this folder have a row to a line, its cells apart by two spaces or more; # begins a comment.
 """
 
+import html
 import pathlib
 import re
 from collections.abc import Iterable, Iterator, Sequence
@@ -22,6 +23,16 @@ def table_lines(rows: Sequence[Sequence[object]], texts: int) -> Iterator[str]:
     for row in rows:
         cells = [f"{cell!s:{'<' if at < texts else '>'}{width}}" for at, (cell, width) in enumerate(zip(row, widths))]
         yield "  ".join(cells).rstrip()
+
+
+def html_table(rows: Sequence[Sequence[object]], texts: int) -> str:
+    """Rows as a table of HTML, as notebooks show it: a head, and rows with columns, of which so many are texts."""
+    lines = []
+    for row, tag in zip(rows, ("th", *["td"] * len(rows))):
+        sides = ["left" if at < texts else "right" for at in range(len(row))]
+        cells = (f'<{tag} style="text-align: {side}">{html.escape(f"{cell}")}' for cell, side in zip(row, sides))
+        lines.append(f"<tr>{''.join(cells)}")
+    return f'<table style="font-family: monospace">{"".join(lines)}</table>'
 
 
 def spreadsheet_row(cells: Iterable[object]) -> list[object]:

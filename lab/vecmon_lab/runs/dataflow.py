@@ -1,0 +1,162 @@
+"""What an instruction wrote, bit by bit, what that is made of, and what else the instruction depends on."""
+
+import re
+from collections.abc import Iterator
+from dataclasses import dataclass
+
+from ..guest.changes import ECALL, Carried, Registers
+from ..instructions.accesses import (
+    ACCUMULATES,
+    FIRST_ELEMENT,
+    REGISTER_BITS,
+    REGISTER_BYTES,
+    STRIDED,
+    UNIT_STRIDE,
+    needed,
+    scalar_span,
+    vector_instruction,
+    vector_spans,
+)
+from ..instructions.words import LOAD, OP_V, STORE, SYSTEM, VECTOR_ACCESSES, VectorInstruction
+from ..machine.answers import CONTROL
+from .counts import elements_of
+
+Place = tuple[str, int]
+"""A bit of the vector registers (`v`, 0 to 8,191) or of the scalar ones (`x`, 0 to 2,047), a byte of memory (`memory`),
+or a control register and 0."""
+
+Part = tuple[set[Place], set[Place], str]
+"""What an instruction wrote, or told of, together: the places, what they are made of, and of elements their kind."""
+
+_VSTART = {("vstart", 0)}
+_ACROSS = re.compile("vw?red|vrgather|vslide|vcompress|viota|vms[bio]f")  # which read elements of other numbers
+_ARITHMETIC, _OF_NOTHING = (0x13, 0x1B, 0x33, 0x3B), (0x37, 0x17, 0x6F, 0x67)  # opcodes; lui, auipc, jal and jalr
+_TWO_SOURCES = (0x33, 0x3B, 0x63)  # opcodes of what reads rs2 too
+_CALLS = {93: (17, 10), 64: (17, 10, 11, 12)}  # registers that an exit and a write read, by what is in x17
+
+
+@dataclass(frozen=True)
+class Executed:
+    """An instruction that was carried out, and the registers before it."""
+
+    carried: Carried
+    before: Registers
+
+
+def bits_of_registers(first: int, width: int) -> set[Place]:
+    """Bits of the vector registers, from one on."""
+    return {("v", bit) for bit in range(first, first + width)}
+
+
+def bits_of_scalar(number: int, first: int = 0, width: int = 64) -> set[Place]:
+    """Bits of a scalar register, from one on."""
+    return {("x", 64 * number + bit) for bit in range(first, first + width)}
+
+
+def scalars_read(word: int, call: int = 0) -> Iterator[int]:
+    """The numbers of the scalar registers that an instruction reads, but for what it stores, some of them x0.
+
+    call: what is in x17
+    """
+    opcode, funct3, rs1, rs2 = word & 0x7F, word >> 12 & 7, word >> 15 & 31, word >> 20 & 31
+    if word == ECALL:
+        yield from _CALLS.get(call, (17,))
+    elif opcode == OP_V:
+        is_vset = funct3 == 7
+        yield from [rs1] if funct3 in (4, 6) or is_vset and word >> 30 != 3 else []
+        yield from [rs2] if is_vset and word >> 30 == 2 else []
+    elif opcode in VECTOR_ACCESSES:
+        yield from [rs1, rs2] if word >> 26 & 3 == STRIDED else [rs1]
+    elif opcode == SYSTEM:
+        yield from [rs1] if 0 < funct3 < 4 else []
+    elif opcode not in _OF_NOTHING[:3]:
+        yield from [rs1, rs2] if opcode in _TWO_SOURCES else [rs1]
+
+
+def conditions(step: Executed) -> set[Place]:
+    """What an instruction depends on beside the elements and bytes that it works on: scalar registers, its vector type
+    and length, its mask, and of an access the indices."""
+    control = step.before.control
+    places = set[Place]().union(
+        *(bits_of_scalar(number) for number in scalars_read(step.carried.word, step.before.x[17]))
+    )
+    instruction = vector_instruction(step.carried.word, control.vtype)
+    if instruction:
+        places |= {("vl", 0), ("vtype", 0)} | (bits_of_registers(0, control.vl) if instruction.is_masked else set())
+        for operand in instruction.operands:
+            first = REGISTER_BITS * operand.registers.start
+            places |= bits_of_registers(first, control.vl * operand.eew) if operand.noun == "index" else set()
+    return places
+
+
+def parts(step: Executed) -> Iterator[Part]:
+    """What an instruction may have written, or told of."""
+    word, text, before = step.carried.word, step.carried.text, step.before
+    opcode, rd = word & 0x7F, word >> 7 & 31
+    if opcode in (LOAD, STORE):
+        address, length = scalar_span(word, before.x)
+        for at in range(length):
+            byte, told = {("memory", address + at)}, bits_of_scalar(
+                rd if opcode == LOAD else word >> 20 & 31, 8 * at, 8
+            )
+            yield (told, byte, "") if opcode == LOAD else (byte, told, "")
+        if opcode == LOAD and length < 8:  # the bits above are zeros, or the sign
+            yield bits_of_scalar(rd, 8 * length, 64 - 8 * length), {("memory", address + length - 1)}, ""
+    if opcode in _ARITHMETIC or opcode in _OF_NOTHING:
+        sources = scalars_read(word) if opcode in _ARITHMETIC else ()
+        yield bits_of_scalar(rd), set[Place]().union(*map(bits_of_scalar, sources)), ""
+    told = bits_of_scalar(rd)
+    yield from (({(name, 0)} | told, {(name, 0)}, "") for name in CONTROL if re.match(f"csr.* {name}", text))
+    if text.startswith("vset"):
+        yield {("vl", 0)} | told, set() if word & (31 << 15 | 31 << 7) else {("vl", 0)}, ""
+        yield {("vtype", 0)}, set(), ""
+    if re.match(r"vl\w*ff", text):
+        yield {("vl", 0)}, set(), ""
+    instruction = vector_instruction(word, before.control.vtype)
+    if text.startswith("v"):
+        yield _VSTART, _VSTART if instruction else set(), ""
+    found = elements_of(word, before.control, bytes(before.v[:REGISTER_BYTES]))
+    if instruction and found and (found.active or found.masked):
+        active = {0} if text.startswith(FIRST_ELEMENT) else set(found.active)
+        yield from _moved(step, instruction, active) if word & 0x7F in VECTOR_ACCESSES else ()
+        yield from _made(step, instruction, active)
+
+
+def _moved(step: Executed, instruction: VectorInstruction, active: set[int]) -> Iterator[Part]:
+    """The bytes that a vector load or store moves."""
+    before, data = step.before, instruction.operands[0]
+    spans = vector_spans(step.carried.word, before.x, before.control, before.v, instruction.operands)
+    for element, (address, length) in enumerate(spans, before.control.vstart):
+        width = length * data.group // len(data.registers)
+        for at in range(length if element in active else 0):
+            memory = {("memory", (address + at) % (1 << 64))}
+            register = data.registers.start + at // width * data.group
+            bits = bits_of_registers(REGISTER_BITS * register + 8 * (element * width + at % width), 8)
+            yield (memory, bits | _VSTART, "active") if data.noun == "data" else (bits, memory | _VSTART, "active")
+
+
+def _made(step: Executed, instruction: VectorInstruction, active: set[int]) -> Iterator[Part]:
+    """What an operation makes of vector registers, and the agnostic elements of a load as well."""
+    text, control, target = step.carried.text, step.before.control, instruction.operands[0]
+    read = [operand for operand in instruction.operands if operand.noun == "source" or text.startswith(ACCUMULATES)]
+    sources = [(256 * it.registers.start, it.eew, sum(needed(text, "vs2", it, control.vl))) for it in read]
+    if text.startswith(("vred", "vwred")):  # which reads element 0 of vs1 alone
+        sources[1] = (*sources[1][:2], sources[1][1])
+    sources += [(0, 1, control.vl)] if instruction.is_masked else []
+    whole = _VSTART.union(*(bits_of_registers(first, length) for first, _, length in sources))
+    if target.noun == "source":
+        first, width, _ = sources[0]
+        made_of = bits_of_registers(first, width) | _VSTART if text.startswith("vmv.x.s") else whole
+        yield bits_of_scalar(step.carried.word >> 7 & 31), made_of, "active"
+    most = REGISTER_BITS * target.group // target.eew if target.noun == "destination" else 0
+    agnostic = {"tail": control.vtype & 0x40 or target.eew == 1, "masked off": control.vtype & 0x80}
+    agnostic |= {"active": step.carried.word & 0x7F == OP_V}
+    for element in range(control.vstart, most):
+        is_tail = element >= (1 if text.startswith(FIRST_ELEMENT) else control.vl)
+        is_masked_off = not is_tail and element not in active and instruction.leaves_out
+        kind = "masked off" if is_masked_off else "tail" if is_tail and element not in active else "active"
+        same = (bits_of_registers(first + element * width, width) for first, width, _ in sources)
+        made_of = whole if _ACROSS.match(text) else _VSTART.union(*same)
+        for number in target.registers[:: target.group] if agnostic[kind] else ():
+            bits = bits_of_registers(REGISTER_BITS * number + element * target.eew, target.eew)
+            yield bits, made_of if kind == "active" else set(), kind

@@ -1,0 +1,251 @@
+"""Where two runs of an image part, and where the value came from that told them apart."""
+
+import bisect
+from collections.abc import Callable, Iterator, Sequence
+from concurrent.futures import ThreadPoolExecutor
+from contextlib import ExitStack, contextmanager
+from dataclasses import dataclass
+from typing import TypeVar
+
+from ..guest.changes import ECALL, NAMES, Registers, Stepper
+from ..guest.guest import STEPS_AT_ONCE, Guest, pokes, started
+from ..guest.symbols import Symbols
+from ..instructions.accesses import REGISTER_BITS
+from ..instructions.words import listed
+from ..machine.answers import CONTROL, Memory
+from ..machine.recorder import Beginning, Recording, record
+from .dataflow import Executed, Place, conditions, parts
+
+STEPPED = 1000  # so many instructions are stepped at once, back from one that is looked for
+EXACT_LEAPS = 2  # so often the last change of a value is looked for, and then the first one that made it differ
+MOST_WRITTEN, SHOWN = 256, 4
+_AGNOSTIC = {"tail": "the tail of", "masked off": "elements masked off by"}
+_CONTROLS = {(name, 0) for name in CONTROL}
+
+Pair = Sequence[Beginning]
+"""What two runs begin with."""
+
+Given = TypeVar("Given")
+Made = TypeVar("Made")
+
+
+@dataclass(frozen=True)
+class Step:
+    """An instruction that two runs carry out, its number from 1 on, and what it is in each of them."""
+
+    number: int
+    runs: Sequence[Executed]
+
+    def differs(self, place: Place) -> bool:
+        """Whether a place isn't the same in both runs before it. Memory is taken to differ."""
+        one, other = (_value_at(place, run.before) for run in self.runs)
+        return place[0] == "memory" or one != other
+
+    def told(self, symbols: Symbols) -> str:
+        """Its address, the place by a symbol, the source line, and its text."""
+        carried = self.runs[0].carried
+        places = [symbols.place(carried.pc), symbols.line(carried.pc)]
+        return f"{' '.join([f'{carried.pc:x}', *filter(None, places)])}: {carried.text}"
+
+
+def recorded(beginning: Beginning, ticks: int | None) -> tuple[Recording, bytes]:
+    """What a run carries out, and its output."""
+    output = list[bytes]()
+    return record(beginning, ticks, output.append), b"".join(output)
+
+
+def alike_until(pair: Pair, ticks: int) -> int:
+    """How many instructions two runs that differ within so many ticks carry out before the one that tells them apart.
+
+    What tells is where they go next or stop, what they put out, and how many elements are active.
+    """
+
+    def are_unlike(most: int) -> bool:
+        one, other = _side_by_side(lambda beginning: recorded(beginning, most), pair)
+        return one != other
+
+    least, most = 0, 1024
+    while most < ticks and not are_unlike(most):
+        least, most = most, most * 4
+    alike = least + bisect.bisect_left(range(least + 1, most), True, key=are_unlike)
+    return recorded(pair[0], alike)[0].instructions if alike else 0
+
+
+def explain(pair: Pair, number: int, names: Sequence[str], symbols: Symbols) -> Iterator[str]:
+    """Lines of the instruction behind so many that tells two runs apart, of what it reads, and where that came from.
+
+    names: how each run is told of
+    """
+    first = max(0, number - STEPPED)
+    with _guests_at(pair, first) as guests:
+        *steps, last = _stepped(guests, first, number + 1)
+        places = {place for place in conditions(last.runs[0]) if last.differs(place)}
+        if not places and last.runs[0].carried.word == ECALL:
+            places = set(_put_out_otherwise(guests, last.runs[0].before))
+        values = [_values(places, guest, run.before) for guest, run in zip(guests, last.runs)]
+    yield f"the runs part at {last.told(symbols)}"
+    for name in list(values[0])[:SHOWN]:
+        yield f"  {name}: {', '.join(f'{value[name]:x} {run}' for value, run in zip(values, names))}"
+    chain = list[Step]()
+    source = _source(pair, first, steps, places, chain, symbols)
+    if chain:
+        yield f"  first read at {chain[-1].told(symbols)}"
+    if source:
+        yield f"  {source}"
+
+
+def _source(
+    pair: Pair, first: int, steps: Sequence[Step], places: set[Place], chain: list[Step], symbols: Symbols
+) -> str:
+    """What left open what differs behind some instructions, in words; "" where it isn't found.
+
+    first: how many stand before these; chain: is given those that handed it on, the last one first
+    """
+    leaps = 0
+    while places:
+        found, places = _followed(steps, places, chain)
+        if found:
+            return f"which comes from {found[1]} {found[0].told(symbols)}"
+        unwritten = places and _never_written(pair, first, places)
+        if unwritten:
+            return f"which comes from {_listed(unwritten)}, where nothing has been written"
+        last = _last_change(pair, first, places, leaps < EXACT_LEAPS) if places else 0
+        if places and not last:
+            return f"which comes, perhaps, from {_listed(places)}, where nothing has been written"
+        first, leaps = max(0, last - STEPPED), leaps + 1
+        with _guests_at(pair, first) as guests:
+            steps = _stepped(guests, first, last)
+    return ""
+
+
+def _followed(
+    steps: Sequence[Step], places: set[Place], chain: list[Step]
+) -> tuple[tuple[Step, str] | None, set[Place]]:
+    """The instruction that left places open that differ behind some, and as what; or where it differed before them."""
+    for step in reversed(steps):
+        met = [part for part in parts(step.runs[0]) if not places.isdisjoint(part[0])]
+        made = [part for part in met if not places.isdisjoint(part[0] - part[1].intersection(_CONTROLS))]
+        agnostic = {_AGNOSTIC[kind] for *_, kind in made if kind in _AGNOSTIC}
+        if agnostic:
+            return (step, " and ".join(sorted(agnostic))), set()
+        if made:
+            read = conditions(step.runs[0]).union(*(part[1] for part in made))
+            differing = {place for place in read if step.differs(place)}
+            registers = {place for place in differing if place[0] != "memory"}  # where an address differs, too
+            places = places.difference(*(part[0] for part in made)) | (registers or differing)
+            chain.append(step)
+    return None, places
+
+
+def _last_change(pair: Pair, number: int, places: set[Place], is_exact: bool) -> int:
+    """The number of the instruction that gave places what they hold behind so many; 0 where it is none.
+
+    It is looked for in leaps, between which nothing else is taken to stand there. is_exact: else only that they differ
+    counts, and of what differs from the beginning on it is 0
+    """
+    now = _contents(pair, number, places)
+
+    def holds(count: int) -> bool:
+        one, other = found = _contents(pair, count, places)
+        return found == now if is_exact else one != other
+
+    if holds(0):
+        return 0
+    most, leap = number, 64
+    while most > leap and holds(most - leap):
+        most, leap = most - leap, leap * 4
+    least = max(0, most - leap) + 1
+    return least + bisect.bisect_left(range(least, most), True, key=holds)
+
+
+def _never_written(pair: Pair, number: int, places: set[Place]) -> set[Place]:
+    """Those of places that hold behind so many instructions what they began with, and differ."""
+    begin, now = (_contents(pair, count, places) for count in (0, number))
+    names = {name for name, value in begin[0].items() if value != begin[1][name]}
+    names = {name for name in names if all(run[name] == later[name] for run, later in zip(begin, now))}
+    return {place for place in places if _name(place) in names}
+
+
+def _contents(pair: Pair, number: int, places: set[Place]) -> Sequence[dict[str, int]]:
+    """What stands in places in both runs behind so many instructions."""
+    with _guests_at(pair, number) as guests:
+        return _side_by_side(lambda guest: _values(places, guest, Stepper(guest).registers), guests)
+
+
+def _value_at(place: Place, registers: Registers) -> int | None:
+    """A bit of a register, or a control register; None of memory."""
+    kind, at = place
+    if kind in "xv":
+        return (registers.x[at // 64] >> at % 64 if kind == "x" else registers.v[at // 8] >> at % 8) & 1
+    return None if kind == "memory" else registers.values()[NAMES.index(kind)]
+
+
+def _name(place: Place) -> str:
+    """The name of what a place is in: a scalar or control register, or a byte of a vector register or of memory."""
+    kind, at = place
+    if kind == "v":
+        return f"v{at // REGISTER_BITS}.e8[{at % REGISTER_BITS // 8}]"
+    return f"[{at:x}]" if kind == "memory" else f"x{at // 64}" if kind == "x" else kind
+
+
+def _values(places: set[Place], guest: Guest, registers: Registers) -> dict[str, int]:
+    """What stands where places are, by name. A page that isn't there has zeros."""
+    values = dict[str, int]()
+    for kind, at in sorted(places):
+        name = _name((kind, at))
+        if kind == "v":
+            values[name] = registers.v[at // 8]
+        elif kind == "memory":
+            values[name] = int.from_bytes(guest.peek(at, 1), "little")
+        else:
+            values[name] = registers.values()[NAMES.index(name)]
+    return values
+
+
+def _listed(places: set[Place]) -> str:
+    """The registers of places, and where their memory begins."""
+    registers = dict.fromkeys(_name(place).partition(".")[0] for place in sorted(places) if place[0] != "memory")
+    memory = [f"memory from {at:x} on" for kind, at in sorted(places) if kind == "memory"]
+    return listed([*registers, *memory[:1]])
+
+
+def _put_out_otherwise(guests: Sequence[Guest], before: Registers) -> Iterator[Place]:
+    """The bytes of what a call puts out that differ."""
+    address, length = before.x[11], min(before.x[12], MOST_WRITTEN)
+    for at, pair in enumerate(zip(*(guest.peek(address, length) for guest in guests))):
+        if pair[0] != pair[1]:
+            yield "memory", address + at
+
+
+@contextmanager
+def _guests_at(pair: Pair, number: int) -> Iterator[Sequence[Guest]]:
+    """The guests of both runs, each on a machine of its own, behind so many instructions."""
+    with ExitStack() as stack:
+        yield _side_by_side(lambda beginning: _carried_on(beginning, number, stack), pair)
+
+
+def _carried_on(beginning: Beginning, number: int, stack: ExitStack) -> Guest:
+    """A guest of a run behind so many instructions, until the stack ends."""
+    assert beginning.image
+    for at_once in STEPS_AT_ONCE:
+        guest = stack.enter_context(started(beginning.image, policy=beginning.policy))
+        values = (f"{'vset' if line[0] == 'v' else 'set'} {line}" for line in beginning.registers)
+        guest.ask(*(poke for at, _, data in beginning.memory for poke in pokes(at, data)), *values)
+        if guest.pass_over(number, at_once):
+            break
+    return guest
+
+
+def _stepped(guests: Sequence[Guest], first: int, last: int) -> list[Step]:
+    """The instructions behind the first ones up to the last one, which both guests are stepped through."""
+    steppers, steps = [Stepper(guest) for guest in guests], list[Step]()
+    for number in range(first + 1, last + 1):
+        before = [stepper.registers.copy() for stepper in steppers]
+        steps.append(Step(number, [Executed(stepper.step(), each) for stepper, each in zip(steppers, before)]))
+    return steps
+
+
+def _side_by_side(work: Callable[[Given], Made], pair: Sequence[Given]) -> Sequence[Made]:
+    """What is made of each of two, at the same time."""
+    with ThreadPoolExecutor(2) as pool:
+        return list(pool.map(work, pair))
