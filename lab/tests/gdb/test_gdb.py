@@ -391,7 +391,7 @@ def test_a_bug_found_backwards(gdb: Callable[..., str], clang: Compiler, tmp_pat
     page = (TOP / "docs" / "LAB.md").read_text("utf-8")
     (command,) = re.findall(r"^\$ (clang-19 (?:.*\\\n)*.* -o above above\.c)$", page, re.MULTILINE)
     words = command.replace("\\\n", " ").replace("above", "histogram").replace("clang-19", clang.name).split()
-    shutil.copy(EXAMPLES / "histogram.c", tmp_path)
+    shutil.copy(EXAMPLES / "searches/histogram.c", tmp_path)
     subprocess.run(words, cwd=tmp_path, check=True)
     told = gdb(tmp_path / "histogram", *typed_in(page, "histogram"))
     for line in (

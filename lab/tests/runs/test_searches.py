@@ -73,24 +73,11 @@ def test_pieces(lab: Lab, clang: Compiler, tmp_path: pathlib.Path) -> None:
 
 
 def test_a_tail(lab: Lab, clang: Compiler, tmp_path: pathlib.Path) -> None:
-    """4 of 16 elements are added at last; the others of the sum become ones: 12 times -1 in place of what they had."""
-    tail = compiled(clang, copied(tmp_path, "tail.c"))
-    assert lab("run", tail)[0] == 5050 - 5000
-    kept = [sum(range(1 + at, 97, 16)) + (97 + at if at < 4 else 0) for at in range(16)]
-    ones = sum(kept[:4]) - 12
-    assert sum(kept) == 5050 and lab("run", "--policy", "ones", tail)[0] == (ones - 5000) % 256
-    status, output, _ = lab("compare", tail)
-    assert status == 1 and b": vredsum.vs " in output
-
-
-@pytest.mark.parametrize("most, ends", [("60", 124), ("59", 0)])
-def test_what_is_overwritten(lab: Lab, clang: Compiler, tmp_path: pathlib.Path, most: str, ends: int) -> None:
-    """The die here waits 60 times for the first time at its 39,944th six; with the last place of the table it ends."""
-    state, waits, before = 1, 0, 0
-    while before < 60:
-        state = (state * 1103515245 + 12345) % 2**32
-        is_six = (state >> 16) % 6 == 5
-        waits, before = waits + is_six, 0 if is_six else before + 1
-    assert waits == 39_943
-    image = compiled(clang, copied(tmp_path, "overwritten.c", {"before : 60": f"before : {most}"}))
-    assert lab("run", "--ticks", "20000000", image)[0] == ends
+    """4 of 16 elements are multiplied at last; the sums keep what they had only where that is asked for."""
+    assert sum(number * (99 - number) for number in range(100)) == 161_700
+    slip = compiled(clang, copied(tmp_path / "slip", "dot_product.c"))
+    assert lab("run", slip)[0] == 0 and lab("run", "--policy", "ones", slip)[0] == 1
+    status, output, _ = lab("compare", slip)
+    assert status == 1 and b": vredsum.vs " in output and b"which comes from the tail of " in output
+    mended = compiled(clang, copied(tmp_path / "mended", "dot_product.c", {"_vmacc_vv_u32m2": "_vmacc_vv_u32m2_tu"}))
+    assert lab("run", "--policy", "ones", mended)[0] == 0 == lab("compare", mended)[0]
