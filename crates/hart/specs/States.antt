@@ -6,11 +6,13 @@ use Rattle.rv_model.specs.declared.step.step_end.StepEnd.{StepEnd}
 use Rattle.rv_model.specs.declared.step.step_end.StepEnd.TheVariants.{Ran}
 use Rattle.rv_model.specs.declared.vector.state.Seat.{Seat}
 use Rattle.rv_model.specs.declared.vector.state.VState.{VState}
+use Rattle.rv_model.specs.declared.instructions.instruction.Instr.{Instr}
 use Rattle.rv_model.specs.step.Hart.{HartState, Stepped, hart_state, ends_after}
 use Rattle.rv_model.specs.memory.Memory.{Memory}
 use Rattle.rv_model.specs.vector.Groups.{IsConfiguration}
 use Rattle.rv_model.specs.instructions.Table.{scan, table}
 use Rattle.rv_model.specs.step.Step.{dirties, executed, touches}
+use Rattle.rv_decode.specs.Groups.{is_other_access, is_unit_stride}
 use Rattle.hart.specs.declared.ending.Ending.{Ending}
 use Rattle.hart.specs.declared.view.StepTerms.{StepTerms}
 use Rattle.hart.specs.declared.view.View.{View}
@@ -108,3 +110,7 @@ abbrev pub Seats : {M V : Type 0} → (M → Memory) → (V → Type 0) → (V �
 Seats memory ready lent back terms word scalar bytes vectors vectors' =
     Returns ready lent back (touches (scan table word)) (dirties terms.limit (scan table word))
     (lent_state memory lent terms scalar bytes vectors) vectors vectors'
+
+-- the loads and stores that one function carries out: those of unit stride, or all others
+abbrev pub access_group : Bool → Instr → Bool
+access_group unit_stride = if unit_stride then is_unit_stride else is_other_access

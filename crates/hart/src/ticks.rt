@@ -7,55 +7,34 @@ ghost use Rattle.rv_model.specs.step.Step.{after_vector, vector_ends, vector_exe
 use rv_model::{AccessInstr, VEnd, VState};
 use vector_memory::index_count;
 
-/// The vector length and `vstart` that an instruction finds.
-#[derive(Clone, Copy)]
-pub(crate) struct Found {
-    pub vl: usize,
-    pub vstart: usize,
-}
-
-impl Found {
-    /// What a vector state has.
-    #[inline(always)]
-    pub(crate) fn new(state: &VState) -> Found
-        ensures { result ≡ record { vl = state.now.conf.vl; vstart = state.now.vstart } }
-    {
-        Found {
-            vl: usize::from(state.conf.vl()),
-            vstart: usize::from(state.vstart),
-        }
-    }
-}
-
-/// The ticks of a load or store that had `limit` of them, found this length and `vstart`, and left this state: one for
+/// The ticks of a load or store that had `limit` of them, found this `vl` and `vstart`, and left this state: one for
 /// each index that it came to, and one if it is illegal. Where it leaves a shorter length, it is a fault-only-first
 /// load, and came to that index.
 #[inline(always)]
 pub(crate) fn access_ticks(
     access: &AccessInstr,
     limit: usize,
-    found: Found,
+    vl: usize,
+    vstart: usize,
     state: &VState,
     end: VEnd,
 ) -> usize
     ensures some { 1 ≤ limit → 1 ≤ result }
     ensures executed { (word : ℕ) (before after : HartState)
-        → before.vector.conf.vl ≡ found.vl → before.vector.vstart ≡ found.vstart → after.vector ≡ state.now
+        → before.vector.conf.vl ≡ vl → before.vector.vstart ≡ vstart → after.vector ≡ state.now
         → vector_executed limit (instr.Access access.now) before ≡ vector_ends end after
         → vector_step limit (instr.Access access.now) word before ≡ after_vector result end word after }
 {
     match end {
         VEnd::Done => {
-            let vl = usize::from(state.conf.vl());
-            if vl < found.vl {
-                return vl.saturating_sub(found.vstart) + 1;
+            let left = usize::from(state.conf.vl());
+            if left < vl {
+                return left.saturating_sub(vstart) + 1;
             }
-            index_count(access, found.vl)
-                .saturating_sub(found.vstart)
-                .max(1)
+            index_count(access, vl).saturating_sub(vstart).max(1)
         }
         VEnd::Illegal => 1,
-        VEnd::Fault { .. } => usize::from(state.vstart).saturating_sub(found.vstart) + 1,
+        VEnd::Fault { .. } => usize::from(state.vstart).saturating_sub(vstart) + 1,
         VEnd::Cut { .. } => limit,
     }
 }

@@ -3,26 +3,27 @@
 #![tactic(auto, unfolding(rv_model::specs::step::Step::executed, rv_model::specs::step::Step::dirties))]
 
 ghost use Rattle.std.specs.Prelude.{◌≡◌, ◌||◌, ◌≤◌, ◌⊎◌, List, bit_and, ℕ};
-ghost use Rattle.rv_decode.specs.Groups.{rows_where, is_irregular_instr, is_unit_stride, is_other_access};
+ghost use Rattle.std.specs.Option.{option_map};
+ghost use Rattle.rv_decode.specs.Groups.{rows_where, is_irregular_instr};
 ghost use Rattle.rv_model.specs.declared.vector.policy.Policy.{Policy};
 ghost use Rattle.rv_model.specs.instructions.Table.{scan, table};
 ghost use Rattle.rv_model.specs.memory.Memory.{Memory};
 ghost use Rattle.rv_model.specs.step.Hart.{hart_state};
 ghost use Rattle.rv_model.specs.step.Step.{access_cause, after_vector, is_legal_end};
-ghost use Rattle.hart.specs.States.{EndsBy, Executes, Seats};
+ghost use Rattle.hart.specs.States.{EndsBy, Executes, Seats, access_group};
 
 use crate::ending::Ending;
 use crate::faults::{fault, illegal};
 use crate::retirement::retire;
-use crate::ticks::{Found, access_ticks};
+use crate::ticks::access_ticks;
 use crate::vectors::Vectors;
 use crate::view::StepTerms;
 use rv_decode::{
     decode_irregular, decode_other_access, decode_regular, decode_unit_stride,
     has_irregular_funct6, is_unit_stride,
 };
-use rv_model::{Cause, Scalar, Seat, StepEnd, VEnd};
-use vec_unit::{exec_access, exec_arith, exec_operation, exec_other_access};
+use rv_model::{AccessInstr, Cause, Instr, Scalar, Seat, StepEnd, VEnd};
+use vec_unit::{exec_access, exec_arith, exec_operation};
 use vector_memory::UserBytes;
 
 /// Why an access is refused.
@@ -128,9 +129,9 @@ fn execute_operation<M: UserBytes, V: Vectors>(
     retire_vector(end, 1, word, scalar, seat, ending)
 }
 
-/// Carries out the unit-stride load or store that a word is.
+/// Carries out the load or store that a word is: one of unit stride, or any other one.
 #[inline(never)]
-fn execute_access<M: UserBytes, V: Vectors>(
+fn execute_access<M: UserBytes, V: Vectors, const UNIT_STRIDE: bool>(
     word: u32,
     scalar: &mut Scalar,
     memory: &mut M,
@@ -139,52 +140,27 @@ fn execute_access<M: UserBytes, V: Vectors>(
     ending: &mut Ending,
 ) -> usize
     requires ready { V.ready vectors.old }
-    requires row { scan table word ≡ scan (rows_where is_unit_stride) word }
+    requires row { scan table word ≡ scan (rows_where (access_group UNIT_STRIDE)) word }
     ensures model { Executes M.memory V.lent terms word scalar.old memory.old vectors.old
         scalar.new memory.new vectors.new result ending.new }
     ensures memory { memory.new ≡ M.with_memory memory.old (M.memory memory.new) }
     ensures vectors { Seats M.memory V.ready V.lent V.back terms word scalar.old memory.old vectors.old vectors.new }
 {
-    let decoded = decode_unit_stride(word);
+    let decoded = if UNIT_STRIDE {
+        decode_unit_stride(word)
+    } else {
+        decode_other_access(word)
+    };
     let Some(access) = &decoded else {
         return ending.in_one_tick(illegal(word, scalar));
     };
     let StepTerms { limit, policy } = terms;
     let seat = vectors.seat();
     seat.state.conf.length_law();
-    let found = Found::new(&seat.state);
+    let vl = usize::from(seat.state.conf.vl());
+    let vstart = usize::from(seat.state.vstart);
     let end = exec_access(access, &mut seat.state, scalar, memory, limit, policy);
-    let ticks = access_ticks(access, limit, found, &seat.state, end);
-    retire_vector(end, ticks, word, scalar, seat, ending)
-}
-
-/// Carries out the load or store that a word is which isn't of unit stride.
-#[inline(never)]
-fn execute_other_access<M: UserBytes, V: Vectors>(
-    word: u32,
-    scalar: &mut Scalar,
-    memory: &mut M,
-    vectors: &mut V,
-    terms: StepTerms,
-    ending: &mut Ending,
-) -> usize
-    requires ready { V.ready vectors.old }
-    requires row { scan table word ≡ scan (rows_where is_other_access) word }
-    ensures model { Executes M.memory V.lent terms word scalar.old memory.old vectors.old
-        scalar.new memory.new vectors.new result ending.new }
-    ensures memory { memory.new ≡ M.with_memory memory.old (M.memory memory.new) }
-    ensures vectors { Seats M.memory V.ready V.lent V.back terms word scalar.old memory.old vectors.old vectors.new }
-{
-    let decoded = decode_other_access(word);
-    let Some(access) = &decoded else {
-        return ending.in_one_tick(illegal(word, scalar));
-    };
-    let StepTerms { limit, policy } = terms;
-    let seat = vectors.seat();
-    seat.state.conf.length_law();
-    let found = Found::new(&seat.state);
-    let end = exec_other_access(access, &mut seat.state, scalar, memory, limit, policy);
-    let ticks = access_ticks(access, limit, found, &seat.state, end);
+    let ticks = access_ticks(access, limit, vl, vstart, &seat.state, end);
     retire_vector(end, ticks, word, scalar, seat, ending)
 }
 
@@ -230,8 +206,8 @@ pub(crate) fn access<M: UserBytes, V: Vectors>(
     ensures vectors { Seats M.memory V.ready V.lent V.back terms word scalar.old memory.old vectors.old vectors.new }
 {
     if is_unit_stride(word) {
-        execute_access(word, scalar, memory, vectors, terms, ending)
+        execute_access::<M, V, true>(word, scalar, memory, vectors, terms, ending)
     } else {
-        execute_other_access(word, scalar, memory, vectors, terms, ending)
+        execute_access::<M, V, false>(word, scalar, memory, vectors, terms, ending)
     }
 }

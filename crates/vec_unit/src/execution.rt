@@ -10,7 +10,7 @@ ghost use Rattle.rv_model.specs.lending.Irregular.{is_irregular};
 use crate::arithmetic::{perform_arith, perform_extension};
 use crate::extend::ExtendOperation;
 use crate::irregular_operations::perform_typed;
-use crate::memory_instructions::exec_other_access;
+use crate::memory_instructions::exec_access;
 use crate::vset::{configure, requested_length};
 use reg_groups::{legal_arith, legal_irregular};
 use rv_model::{ArithOperation, Instr, Policy, RequestedLength, Scalar, VEnd, VState, VectorInstr};
@@ -160,7 +160,7 @@ pub fn exec<M: UserBytes>(
             exec_arith(operation, state, scalar, policy)
         }
         Instr::Vector(operation) => exec_operation(operation, state, scalar, policy),
-        Instr::Access(access) => exec_other_access(access, state, scalar, memory, limit, policy),
+        Instr::Access(access) => exec_access(access, state, scalar, memory, limit, policy),
         Instr::Scalar(_) | Instr::Csr(_) => unreachable!(),
     }
 }

@@ -14,7 +14,6 @@ mod extend;
 mod first_element;
 mod fixed_point;
 mod in_turn;
-mod index_limit;
 mod irregular_operations;
 mod mask_operand;
 mod mask_wise;
@@ -36,5 +35,5 @@ mod whole_moves;
 mod widen;
 
 pub use execution::{exec, exec_arith, exec_operation};
-pub use memory_instructions::{exec_access, exec_other_access};
+pub use memory_instructions::exec_access;
 pub use rv_model::VEnd;

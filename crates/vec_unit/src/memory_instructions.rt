@@ -18,7 +18,6 @@ ghost use Rattle.vec_unit.specs.MemoryInstructions.{
 
 use crate::body::body_under;
 use crate::destination::agnostic_under;
-use crate::index_limit::IndexLimit;
 use crate::tails::{Fields, fill_tails};
 use reg_groups::{emul, legal_access, mask_register};
 use rv_model::instructions::operations::{Direction, UnitOp};
@@ -46,7 +45,8 @@ fn direction_of(access: &AccessInstr) -> Direction
 /// How the instruction ends whose access ends so.
 #[inline(always)]
 fn access_end(access: &AccessInstr, end: MemEnd) -> VEnd
-    ensures { result ≡ access_end (direction_of access.now) end }
+    ensures value { result ≡ access_end (direction_of access.now) end }
+    ensures carried_out { result ≢ VEnd.Illegal }
 {
     match end {
         MemEnd::Done => VEnd::Done,
@@ -65,17 +65,18 @@ fn perform_unfilled<M: UserBytes>(
     state: &mut VState,
     scalar: &Scalar,
     memory: &mut M,
-    limit: IndexLimit,
+    limit: usize,
 ) -> VEnd
+    requires limit { 1 ≤ limit }
     requires legal { IsTrue (is_legal (Instr.Access access.now) state.old.conf.vtype state.old.vstart) }
     ensures model { (policy : Policy) (output : List ℕ) → filled_by access.now policy state.old ≡ nothing
-        → performed limit.indices (Instr.Access access.now)
+        → performed limit (Instr.Access access.now)
         (hart_state scalar.now state.old (M.memory memory.old) policy output)
         ≡ vector_ends result (hart_state scalar.now state.new (M.memory memory.new) policy output) }
     ensures memory { memory.new ≡ M.with_memory memory.old (M.memory memory.new) }
     ensures carried_out { result ≢ VEnd.Illegal }
 {
-    let end = vector_memory::run(access, state, scalar, memory, limit.indices, false);
+    let end = vector_memory::run(access, state, scalar, memory, limit, false);
     access_end(access, end)
 }
 
@@ -117,19 +118,14 @@ struct Filled {
 }
 
 /// What an access fills under a policy.
-#[tactic(auto, using(crate::proofs::AccessSteps::keeps))]
 fn filled_by(access: &AccessInstr, state: &VState, policy: Policy) -> Filled
     ensures { result ≡ filled_by access.now policy state.now }
 {
-    let nothing = Filled {
-        masked_off: false,
-        tails: None,
-    };
-    let Policy::Ones = policy else {
-        return nothing;
-    };
     let Some(vtype) = state.conf.vtype() else {
-        return nothing;
+        return Filled {
+            masked_off: false,
+            tails: None,
+        };
     };
     let mask = mask_register(&state.file);
     let body = body_under(is_unmasked(access), &mask, state);
@@ -164,12 +160,13 @@ fn perform_access<M: UserBytes>(
     state: &mut VState,
     scalar: &Scalar,
     memory: &mut M,
-    limit: IndexLimit,
+    limit: usize,
     policy: Policy,
 ) -> VEnd
+    requires limit { 1 ≤ limit }
     requires legal { IsTrue (is_legal (Instr.Access access.now) state.old.conf.vtype state.old.vstart) }
     ensures model { (output : List ℕ)
-        → performed limit.indices (Instr.Access access.now)
+        → performed limit (Instr.Access access.now)
         (hart_state scalar.now state.old (M.memory memory.old) policy output)
         ≡ vector_ends result (hart_state scalar.now state.new (M.memory memory.new) policy output) }
     ensures memory { memory.new ≡ M.with_memory memory.old (M.memory memory.new) }
@@ -178,8 +175,7 @@ fn perform_access<M: UserBytes>(
     state.conf.length_law();
     let length = usize::from(state.conf.vl());
     let filled = filled_by(access, state, policy);
-    let (indices, masked_off) = (limit.indices, filled.masked_off);
-    let end = vector_memory::run(access, state, scalar, memory, indices, masked_off);
+    let end = vector_memory::run(access, state, scalar, memory, limit, filled.masked_off);
     fill_when_done(filled.tails, length, end, &mut state.file);
     access_end(access, end)
 }
@@ -211,49 +207,18 @@ pub fn exec_access<M: UserBytes>(
     if !legal_access(access, &state.conf) {
         return VEnd::Illegal;
     }
-    let limit = IndexLimit { indices: limit };
-    match policy {
-        Policy::Keep => perform_unfilled(access, state, scalar, memory, limit),
-        Policy::Ones => {
-            // A copy of its own for the other function, so that the operands need no place in memory before.
-            let copy = *access;
-            perform_access(&copy, state, scalar, memory, limit, policy)
-        }
-    }
-}
-
-/// The same, with whole registers and masks in line, which fill nothing, and the other loads and stores, which are
-/// seldom done at once, by one function for both policies.
-#[tactic(auto, unfolding(rv_model::specs::step::Step::vector_executed))]
-#[inline(always)]
-pub fn exec_other_access<M: UserBytes>(
-    access: &AccessInstr,
-    state: &mut VState,
-    scalar: &Scalar,
-    memory: &mut M,
-    limit: usize,
-    policy: Policy,
-) -> VEnd
-    requires limit { 1 ≤ limit }
-    ensures model { (output : List ℕ)
-        → vector_executed limit (Instr.Access access.now)
-        (hart_state scalar.now state.old (M.memory memory.old) policy output)
-        ≡ vector_ends result (hart_state scalar.now state.new (M.memory memory.new) policy output) }
-    ensures memory { memory.new ≡ M.with_memory memory.old (M.memory memory.new) }
-    ensures illegal_state { result ≡ VEnd.Illegal → state.new ≡ state.old }
-    ensures illegal_memory { result ≡ VEnd.Illegal → memory.new ≡ memory.old }
-{
-    if !legal_access(access, &state.conf) {
-        return VEnd::Illegal;
-    }
-    let limit = IndexLimit { indices: limit };
     match *access {
+        // Those that fill nothing under any policy, by themselves, so that their way is short.
         AccessInstr::WholeLoad { .. }
         | AccessInstr::WholeStore { .. }
         | AccessInstr::MaskAccess { .. } => perform_unfilled(access, state, scalar, memory, limit),
-        _ => {
-            let copy = *access;
-            perform_access(&copy, state, scalar, memory, limit, policy)
-        }
+        _ => match policy {
+            Policy::Keep => perform_unfilled(access, state, scalar, memory, limit),
+            Policy::Ones => {
+                // A copy of its own for the other function, so that the operands need no place in memory before.
+                let copy = *access;
+                perform_access(&copy, state, scalar, memory, limit, policy)
+            }
+        },
     }
 }

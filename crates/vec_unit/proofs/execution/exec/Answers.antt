@@ -26,6 +26,6 @@ pub returns-in-Access-clause-restarts : goal.returns-in-Access-clause-restarts
 returns-in-Access-clause-restarts g c = λ output.
     instruction_goes_on c.args.limit c.args.instr.now
     (hart_state c.args.scalar.now c.args.state.now (g.M.UserBytes.memory c.args.memory.now) c.args.policy output)
-    (vector_ends c.exec_other_access.result
-    (hart_state c.args.scalar.now c.exec_other_access.new.state (g.M.UserBytes.memory c.exec_other_access.new.memory) c.args.policy output))
-    c.length_law.ensures (rw c.in-Access.is (c.exec_other_access.ensures.model output))
+    (vector_ends c.exec_access.result
+    (hart_state c.args.scalar.now c.exec_access.new.state (g.M.UserBytes.memory c.exec_access.new.memory) c.args.policy output))
+    c.length_law.ensures (rw c.in-Access.is (c.exec_access.ensures.model output))

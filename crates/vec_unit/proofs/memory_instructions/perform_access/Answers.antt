@@ -12,6 +12,6 @@ fill_when_done-requires g c =
 pub returns-clause-model : goal.returns-clause-model
 returns-clause-model g c = λ output.
     let s = hart_state c.args.scalar.now c.args.state.now (g.M.UserBytes.memory c.args.memory.now) c.args.policy output in
-    access_performed c.args.limit.indices c.args.access.now s c.filled_by-filled.result c.run-end.result _ c.run-end.new.state
+    access_performed c.args.limit c.args.access.now s c.filled_by-filled.result c.run-end.result _ c.run-end.new.state
     (g.M.UserBytes.memory c.run-end.new.memory) c.fill_when_done.new.file _ _ c.requires.legal (sym c.filled_by-filled.ensures)
-    c.run-end.ensures.model (rw (← c.vl.ensures.value, ← c.from-length.ensures) c.fill_when_done.ensures) refl c.access_end.ensures
+    c.run-end.ensures.model (rw (← c.vl.ensures.value, ← c.from-length.ensures) c.fill_when_done.ensures) refl c.access_end.ensures.value

@@ -7,6 +7,6 @@ use Rattle.vec_unit.proofs.memory_instructions.perform_unfilled.Goals as goal
 pub returns-clause-model : goal.returns-clause-model
 returns-clause-model g c = λ policy output unfilled.
     let i = c.args.access.now in
-    access_performed c.args.limit.indices i (hart_state c.args.scalar.now c.args.state.now (g.M.UserBytes.memory c.args.memory.now) policy output)
+    access_performed c.args.limit i (hart_state c.args.scalar.now c.args.state.now (g.M.UserBytes.memory c.args.memory.now) policy output)
     nothing c.run-end.result _ c.run-end.new.state (g.M.UserBytes.memory c.run-end.new.memory) _ _ _
-    c.requires.legal unfilled c.run-end.ensures.model refl refl c.access_end.ensures
+    c.requires.legal unfilled c.run-end.ensures.model refl refl c.access_end.ensures.value
