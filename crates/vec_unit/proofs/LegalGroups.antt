@@ -1,6 +1,8 @@
 -- What a legal instruction and a vector length that its type allows tell of the groups, for the tactics.
+use Rattle.std.proofs.Math.Bool.{or-false}
 use Rattle.rv_model.proofs.legality_lemmas.Bounds.{
   carry_inside,
+  extension_inside,
   groups_have_room,
   groups_hold_body,
   iota_inside,
@@ -26,9 +28,15 @@ use Rattle.rv_model.proofs.legality_lemmas.Bounds.{
 }
 use Rattle.rv_model.proofs.legality_lemmas.Moves.{compress_inside, whole_move_inside}
 
--- of an operation with a line of its own in the manual's table, but for those of one width on two operands
+-- of an operation with a line of its own in the manual's table, but for those of one width on two operands; most never saturate
 pub ruleset operation_groups =
-    (multiply_add_inside, compare_inside, carry_out_inside, widen_inside, wide_source_inside, widen_multiply_add_inside, narrow_shift_inside, fixed_point_inside, clip_inside, reduce_inside, widen_reduce_inside, permute_inside)
+    (or-false, multiply_add_inside, compare_inside, carry_out_inside, widen_inside, wide_source_inside, widen_multiply_add_inside, narrow_shift_inside, fixed_point_inside, clip_inside, reduce_inside, widen_reduce_inside, permute_inside)
+
+-- results that never saturate
+pub ruleset unsaturated = (or-false)
+
+-- of an extension, which never saturates
+pub ruleset extension_groups = (or-false, extension_inside)
 
 -- of one without such a line that takes the vector type
 pub ruleset typed_groups = (carry_inside, move_inside, length_below, compress_inside, whole_move_inside)
@@ -43,7 +51,7 @@ pub ruleset compared_groups = (length_fits, length_below, multiplier_fits)
 pub ruleset wide_groups = (wide_groups_have_room, groups_have_room, length_below)
 
 -- a source of a part of the width
-pub ruleset extended_groups = (groups_have_room, part_groups_have_room, length_below)
+pub ruleset extended_groups = (or-false, groups_have_room, part_groups_have_room, length_below)
 
 -- a source whose elements come to one
 pub ruleset reduced_groups = (groups_have_room, length_below)

@@ -19,7 +19,7 @@ use crate::multiply_add::MultiplyAddOperation;
 use crate::narrow_shift::NarrowShiftOperation;
 use crate::permute::PermuteOperation;
 use crate::reduce::{ReduceOperation, WidenReduceOperation};
-use crate::two_widths::{carry_out_narrowing, carry_out_widening};
+use crate::two_widths::{carry_out_narrowing, carry_out_single, carry_out_widening};
 use crate::typed_operation::TypedOperation;
 use crate::widen::{WideSourceOperation, WidenMultiplyAddOperation, WidenOperation};
 use rv_model::instructions::operations::VectorOp;
@@ -68,7 +68,7 @@ fn perform_two_widths(
                 vs2,
                 source,
             };
-            operation.carry_out(target, state, scalar);
+            carry_out_narrowing(&operation, target, state, scalar);
         }
         VectorOp::WidenReduce(op) => {
             WidenReduceOperation { op, vs2, source }.carry_out(target, state, scalar);
@@ -117,7 +117,7 @@ fn perform_rest(
                 vs2,
                 source,
             };
-            operation.carry_out(target, state, scalar);
+            carry_out_single(&operation, target, state, scalar);
         }
         VectorOp::Reduce(op) => {
             ReduceOperation { op, vs2, source }.carry_out(target, state, scalar);
@@ -169,7 +169,7 @@ pub(crate) fn perform_arith(
 }
 
 /// Carries out a legal extension.
-#[tactic(auto, using(rv_model::proofs::legality_lemmas::Bounds::extension_inside))]
+#[tactic(auto, using(crate::proofs::LegalGroups::extension_groups))]
 pub(crate) fn perform_extension(
     operation: ExtendOperation,
     vd: VReg,

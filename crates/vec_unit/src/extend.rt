@@ -1,5 +1,5 @@
 //! Extensions of elements of a part of the width ("V" Vector Extension 1.0, section 11.3).
-ghost use Rattle.std.specs.Prelude.{◌≡◌, ◌/◌, ◌≤◌};
+ghost use Rattle.std.specs.Prelude.{◌≡◌, ◌/◌, ◌≤◌, false};
 ghost use Rattle.rv_model.specs.elements.Arithmetic.{extend_result};
 ghost use Rattle.rv_model.specs.vector.Groups.{group_type, lmul_eighths, sew_bits, sew_width};
 ghost use Rattle.rv_model.specs.vector.Groups.{extension_divisor, part_type, part_width};
@@ -25,6 +25,8 @@ pub(crate) struct ExtendOperation {
 impl TwoWidths for ExtendOperation {
     ghost number = { λ o wide part file x. extend_result part wide o.op o.vs2 file };
 
+    ghost saturates = { λ o wide part file x body. false };
+
     ghost inside = { λ o wide part. IsInside o.vs2 part };
 
     fn write<D: Lane, O: Lane>(
@@ -34,18 +36,20 @@ impl TwoWidths for ExtendOperation {
         file: &VFile,
         _scalar: &Scalar,
         made: &mut [u8],
-    ) {
+    ) -> bool {
         let results = Extend::<'_, O> {
             op: self.op,
             a: group(file, self.vs2, groups.other),
             element: PhantomData,
         };
         write_results::<D, Extend<'_, O>>(&results, body, made, false);
+        false
     }
 }
 
 /// Carries out an extension to elements of a width from those of a part of it. The next instruction begins with the
 /// first element.
+#[tactic(auto, using(crate::proofs::LegalGroups::unsaturated))]
 fn carry_out_part(
     operation: ExtendOperation,
     sew: Sew,

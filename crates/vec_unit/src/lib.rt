@@ -26,7 +26,6 @@ mod narrow_shift;
 mod operands;
 mod permute;
 mod reduce;
-mod saturating;
 mod scalar_moves;
 mod tails;
 mod two_widths;

@@ -1,6 +1,7 @@
 //! Shifts of a source of twice the width ("V" Vector Extension 1.0, section 11.7).
 ghost use Rattle.rv_model.specs.elements.Arithmetic.{narrow_shift_result};
 ghost use Rattle.rv_model.specs.lending.GroupBounds.{IsInside, SourceIsInside};
+ghost use Rattle.std.specs.Prelude.{false};
 
 use crate::operands::{SecondOperand, second_elements};
 use crate::two_widths::{Groups, TwoWidths};
@@ -21,6 +22,8 @@ pub(crate) struct NarrowShiftOperation {
 impl TwoWidths for NarrowShiftOperation {
     ghost number = { λ o narrow wide file x. narrow_shift_result narrow wide o.op o.vs2 o.source file x };
 
+    ghost saturates = { λ o narrow wide file x body. false };
+
     ghost inside = { λ o narrow wide. IsInside o.vs2 wide × SourceIsInside o.source narrow };
 
     fn write<D: Lane, O: Lane>(
@@ -30,7 +33,7 @@ impl TwoWidths for NarrowShiftOperation {
         file: &VFile,
         scalar: &Scalar,
         made: &mut [u8],
-    ) {
+    ) -> bool {
         let operand = SecondOperand {
             source: self.source,
             unsigned: true,
@@ -43,5 +46,6 @@ impl TwoWidths for NarrowShiftOperation {
             element: PhantomData,
         };
         write_results::<D, NarrowShift<'_, O>>(&results, body, made, false);
+        false
     }
 }

@@ -1,6 +1,6 @@
 //! Operations whose result has twice the width of an operand ("V" Vector Extension 1.0, sections 11.2, 11.12
 //! and 11.14).
-ghost use Rattle.std.specs.Prelude.{◌≡◌, ◌*◌, ◌<◌, get_or, length};
+ghost use Rattle.std.specs.Prelude.{◌≡◌, ◌*◌, ◌<◌, false, get_or, length};
 ghost use Rattle.rv_model.specs.elements.Arithmetic.{wide_source_result, widen_multiply_add_result, widen_result};
 ghost use Rattle.rv_model.specs.lending.GroupBounds.{HasRoom, IsInside, SourceIsInside};
 ghost use Rattle.rv_model.specs.lending.Writes.{Writes};
@@ -67,6 +67,8 @@ fn write_one<D: Lane, O: Lane, const NUMBER: usize>(
 impl TwoWidths for WidenOperation {
     ghost number = { λ o wide narrow file x. widen_result narrow wide o.op o.vs2 o.source file x };
 
+    ghost saturates = { λ o wide narrow file x body. false };
+
     ghost inside = { λ o wide narrow. IsInside o.vs2 narrow × SourceIsInside o.source narrow };
 
     fn write<D: Lane, O: Lane>(
@@ -76,7 +78,7 @@ impl TwoWidths for WidenOperation {
         file: &VFile,
         scalar: &Scalar,
         made: &mut [u8],
-    ) {
+    ) -> bool {
         match self.op {
             WidenOp::Vwaddu => write_one::<D, O, 0>(self, groups, body, file, scalar, made),
             WidenOp::Vwadd => write_one::<D, O, 1>(self, groups, body, file, scalar, made),
@@ -86,6 +88,7 @@ impl TwoWidths for WidenOperation {
             WidenOp::Vwmulsu => write_one::<D, O, 5>(self, groups, body, file, scalar, made),
             WidenOp::Vwmul => write_one::<D, O, 6>(self, groups, body, file, scalar, made),
         }
+        false
     }
 }
 
@@ -100,6 +103,8 @@ pub(crate) struct WideSourceOperation {
 impl TwoWidths for WideSourceOperation {
     ghost number = { λ o wide narrow file x. wide_source_result narrow wide o.op o.vs2 o.source file x };
 
+    ghost saturates = { λ o wide narrow file x body. false };
+
     ghost inside = { λ o wide narrow. IsInside o.vs2 wide × SourceIsInside o.source narrow };
 
     fn write<D: Lane, O: Lane>(
@@ -109,7 +114,7 @@ impl TwoWidths for WideSourceOperation {
         file: &VFile,
         scalar: &Scalar,
         made: &mut [u8],
-    ) {
+    ) -> bool {
         let mut copies = [0; GROUP_BYTES];
         let operand = signed_operand(self.source, groups.other);
         let results = WideSource::<'_, O> {
@@ -119,6 +124,7 @@ impl TwoWidths for WideSourceOperation {
             element: PhantomData,
         };
         write_results::<D, WideSource<'_, O>>(&results, body, made, false);
+        false
     }
 }
 
@@ -148,6 +154,8 @@ impl WidenMultiplyAddOperation {
 impl TwoWidths for WidenMultiplyAddOperation {
     ghost number = { λ o wide narrow file x. widen_multiply_add_result narrow wide o.op o.vd o.vs2 o.source file x };
 
+    ghost saturates = { λ o wide narrow file x body. false };
+
     ghost inside = { λ o wide narrow. IsInside o.vd wide × IsInside o.vs2 narrow × SourceIsInside o.source narrow };
 
     fn write<D: Lane, O: Lane>(
@@ -157,7 +165,7 @@ impl TwoWidths for WidenMultiplyAddOperation {
         file: &VFile,
         scalar: &Scalar,
         made: &mut [u8],
-    ) {
+    ) -> bool {
         let mut copies = [0; GROUP_BYTES];
         let operand = signed_operand(self.source, groups.other);
         let results = WidenMultiplyAdd::<'_, O> {
@@ -168,5 +176,6 @@ impl TwoWidths for WidenMultiplyAddOperation {
             element: PhantomData,
         };
         write_results::<D, WidenMultiplyAdd<'_, O>>(&results, body, made, false);
+        false
     }
 }

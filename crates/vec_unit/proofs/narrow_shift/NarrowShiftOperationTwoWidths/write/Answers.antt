@@ -6,8 +6,8 @@ use Rattle.vec_unit.proofs.CopiedOperands.{told_second}
 use Rattle.vec_unit.proofs.MadeResults.{active_written}
 use Rattle.vec_unit.proofs.narrow_shift.NarrowShiftOperationTwoWidths.write.Goals as goal
 
-pub returns : goal.returns
-returns g c =
+pub returns-clause-writes : goal.returns-clause-writes
+returns-clause-writes g c =
     let t : GroupType = record { width = g.D.Lane.width; emul = c.args.groups.emul } in
     let u : GroupType = record { width = g.O.Lane.width; emul = c.args.groups.other } in
     let o = c.args.self.now in

@@ -6,7 +6,7 @@ use Rattle.rv_model.specs.elements.Formulas.{ones, wrap}
 use Rattle.rv_model.proofs.element_lemmas.Actives.{some_same}
 use Rattle.vec_unit.proofs.CopiedOperands.{two_operands}
 use Rattle.vec_unit.proofs.MadeResults.{active_written}
-use Rattle.vec_unit.proofs.fixed_point.FixedPointOperationSaturating.write.Goals as goal
+use Rattle.vec_unit.proofs.fixed_point.FixedPointOperationTwoWidths.write.Goals as goal
 
 pub returns : goal.returns
 returns g c =
