@@ -3,13 +3,12 @@ use Rattle.std.proofs.Math.Bool.{or-false}
 use Rattle.rv_model.proofs.legality_lemmas.Bounds.{
   carry_inside,
   extension_inside,
+  index_inside,
   groups_have_room,
   groups_hold_body,
   iota_inside,
   length_below,
-  length_fits,
   move_inside,
-  multiplier_fits,
   part_groups_have_room,
   wide_groups_have_room,
   wide_groups_hold_body,
@@ -32,26 +31,20 @@ use Rattle.rv_model.proofs.legality_lemmas.Moves.{compress_inside, whole_move_in
 pub ruleset operation_groups =
     (or-false, multiply_add_inside, compare_inside, carry_out_inside, widen_inside, wide_source_inside, widen_multiply_add_inside, narrow_shift_inside, fixed_point_inside, clip_inside, reduce_inside, widen_reduce_inside, permute_inside)
 
--- results that never saturate
-pub ruleset unsaturated = (or-false)
-
 -- of an extension, which never saturates
 pub ruleset extension_groups = (or-false, extension_inside)
 
 -- of one without such a line that takes the vector type
-pub ruleset typed_groups = (carry_inside, move_inside, length_below, compress_inside, whole_move_inside)
+pub ruleset typed_groups = (carry_inside, move_inside, index_inside, length_below, compress_inside, whole_move_inside)
 
 -- of one on a mask
 pub ruleset mask_groups = (length_below, iota_inside)
-
--- operands of one width, whose results stand in a mask
-pub ruleset compared_groups = (length_fits, length_below, multiplier_fits)
 
 -- a destination or a source of twice the width
 pub ruleset wide_groups = (wide_groups_have_room, groups_have_room, length_below)
 
 -- a source of a part of the width
-pub ruleset extended_groups = (or-false, groups_have_room, part_groups_have_room, length_below)
+pub ruleset extended_groups = (groups_have_room, part_groups_have_room, length_below)
 
 -- a source whose elements come to one
 pub ruleset reduced_groups = (groups_have_room, length_below)

@@ -3,29 +3,20 @@ ghost use Rattle.rv_model.specs.elements.Arithmetic.{clip_result, clip_saturates
 ghost use Rattle.rv_model.specs.elements.Elements.{some_active};
 ghost use Rattle.rv_model.specs.lending.GroupBounds.{IsInside, SourceIsInside};
 
-use crate::operands::{SecondOperand, second_in_place};
+use crate::operands::{Rounded, SecondOperand, WithSources, second_in_place};
 use crate::two_widths::{Groups, TwoWidths};
 use lane_arith::{Body, Lane};
 use lane_fixed::{Clip, write_saturating_results};
 use reg_groups::group;
 use rv_model::instructions::operations::ClipOp;
-use rv_model::{GROUP_BYTES, RoundingMode, Scalar, Source, VFile, VReg};
+use rv_model::{GROUP_BYTES, Scalar, VFile};
 use std::marker::PhantomData;
 
-/// A clip, how it rounds, and its sources.
-#[derive(Clone, Copy)]
-pub(crate) struct ClipOperation {
-    pub op: ClipOp,
-    pub mode: RoundingMode,
-    pub vs2: VReg,
-    pub source: Source,
-}
-
-impl TwoWidths for ClipOperation {
-    ghost number = { λ o narrow wide file x. clip_result narrow wide o.mode o.op o.vs2 o.source file x };
+impl TwoWidths for WithSources<Rounded<ClipOp>> {
+    ghost number = { λ o narrow wide file x. clip_result narrow wide o.op.mode o.op.op o.vs2 o.source file x };
 
     ghost saturates = { λ o narrow wide file x body.
-        some_active body (clip_saturates_at narrow wide o.mode o.op o.vs2 o.source file x) };
+        some_active body (clip_saturates_at narrow wide o.op.mode o.op.op o.vs2 o.source file x) };
 
     ghost inside = { λ o narrow wide. IsInside o.vs2 wide × SourceIsInside o.source narrow };
 
@@ -44,8 +35,8 @@ impl TwoWidths for ClipOperation {
             emul: groups.emul,
         };
         let results = Clip::<'_, O> {
-            op: self.op,
-            mode: self.mode,
+            op: self.op.op,
+            mode: self.op.mode,
             a: group(file, self.vs2, groups.other),
             b: second_in_place::<D>(operand, body.end(), file, scalar, &mut copies),
             element: PhantomData,

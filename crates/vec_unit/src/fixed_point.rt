@@ -5,22 +5,13 @@ ghost use Rattle.rv_model.specs.elements.Elements.{some_active};
 ghost use Rattle.rv_model.specs.elements.FixedPoint.{has_unsigned_shift};
 ghost use Rattle.rv_model.specs.lending.GroupBounds.{IsInside, SourceIsInside};
 
-use crate::operands::{SecondOperand, second_in_place};
+use crate::operands::{Rounded, SecondOperand, WithSources, second_in_place};
 use crate::two_widths::{Groups, TwoWidths};
 use lane_arith::{Body, Lane};
 use lane_fixed::{FixedPoint, write_saturating_results};
 use reg_groups::group;
 use rv_model::instructions::operations::FixedPointOp;
-use rv_model::{GROUP_BYTES, RoundingMode, Scalar, Source, VFile, VReg};
-
-/// An operation, how it rounds, and its sources.
-#[derive(Clone, Copy)]
-pub(crate) struct FixedPointOperation {
-    pub op: FixedPointOp,
-    pub mode: RoundingMode,
-    pub vs2: VReg,
-    pub source: Source,
-}
+use rv_model::{GROUP_BYTES, Scalar, VFile};
 
 /// Whether the immediate of an operation is unsigned.
 fn has_unsigned_shift(op: FixedPointOp) -> bool
@@ -29,11 +20,11 @@ fn has_unsigned_shift(op: FixedPointOp) -> bool
     matches!(op, FixedPointOp::Vssrl | FixedPointOp::Vssra)
 }
 
-impl TwoWidths for FixedPointOperation {
-    ghost number = { λ o g other file x. fixed_point_result g o.mode o.op o.vs2 o.source file x };
+impl TwoWidths for WithSources<Rounded<FixedPointOp>> {
+    ghost number = { λ o g other file x. fixed_point_result g o.op.mode o.op.op o.vs2 o.source file x };
 
     ghost saturates = { λ o g other file x body.
-        some_active body (saturates_at g o.mode o.op o.vs2 o.source file x) };
+        some_active body (saturates_at g o.op.mode o.op.op o.vs2 o.source file x) };
 
     ghost inside = { λ o emul other. IsInside o.vs2 emul × SourceIsInside o.source emul };
 
@@ -48,12 +39,12 @@ impl TwoWidths for FixedPointOperation {
         let mut copies = [0; GROUP_BYTES];
         let operand = SecondOperand {
             source: self.source,
-            unsigned: has_unsigned_shift(self.op),
+            unsigned: has_unsigned_shift(self.op.op),
             emul: groups.emul,
         };
         let results = FixedPoint {
-            op: self.op,
-            mode: self.mode,
+            op: self.op.op,
+            mode: self.op.mode,
             a: group(file, self.vs2, groups.emul),
             b: second_in_place::<D>(operand, body.end(), file, scalar, &mut copies),
         };

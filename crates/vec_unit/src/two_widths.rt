@@ -1,6 +1,6 @@
 //! Instructions whose operands have two widths, and whose results may saturate, carried out ("V" Vector Extension
 //! 1.0, sections 3.9, 5.2, 11.2, 11.7, 11.12 and 11.14, and chapter 12).
-ghost use Rattle.std.specs.Prelude.{◌≡◌, ◌*◌, ◌≤◌, ◌||◌, Bool, List, length, ℕ};
+ghost use Rattle.std.specs.Prelude.{◌≡◌, ◌*◌, ◌≤◌, Bool, List, length, ℕ};
 ghost use Rattle.rv_model.specs.declared.scalar.Scalar.{Scalar as ScalarRegisters};
 ghost use Rattle.rv_model.specs.vector.Groups.{GroupType, group_type, lmul_eighths, sew_bits, vlmax};
 ghost use Rattle.rv_model.specs.vector.Groups.{registers, wide_type, width_bytes};
@@ -57,9 +57,9 @@ pub(crate) struct Groups {
     pub other: u32,
 }
 
-/// Carries out an operation whose destination has elements of the width of `D`, and sets `vxsat` where an active
-/// element saturates; `O` is the other width. The next instruction begins with the first element.
-pub(crate) fn carry_out<D: Lane, O: Lane, T: TwoWidths>(
+/// Performs an operation whose destination has elements of the width of `D`, and sets `vxsat` where an active
+/// element saturates; `O` is the other width.
+pub(crate) fn perform_at<D: Lane, O: Lane, T: TwoWidths>(
     operation: &T,
     groups: Groups,
     target: Target,
@@ -70,13 +70,12 @@ pub(crate) fn carry_out<D: Lane, O: Lane, T: TwoWidths>(
     requires destination { IsInside target.vd groups.emul }
     requires room { HasRoom D.width groups.emul state.old.conf.vl }
     requires other_room { HasRoom O.width groups.other state.old.conf.vl }
-    ensures { state.new ≡ record (carried_out (record { width = D.width; emul = groups.emul }) target
+    ensures { state.new ≡ carried_out (record { width = D.width; emul = groups.emul }) target
         (T.number operation.now (record { width = D.width; emul = groups.emul })
-        (record { width = O.width; emul = groups.other }) state.old.file scalar.now) state.old) {
-          vxsat = state.old.vxsat || T.saturates operation.now (record { width = D.width; emul = groups.emul })
-              (record { width = O.width; emul = groups.other }) state.old.file scalar.now
-              (body_of target.unmasked state.old);
-        } }
+        (record { width = O.width; emul = groups.other }) state.old.file scalar.now)
+        (T.saturates operation.now (record { width = D.width; emul = groups.emul })
+        (record { width = O.width; emul = groups.other }) state.old.file scalar.now
+        (body_of target.unmasked state.old)) state.old }
 {
     let mask = mask_register(&state.file);
     let body = body_under(target.unmasked, &mask, state);
@@ -87,13 +86,11 @@ pub(crate) fn carry_out<D: Lane, O: Lane, T: TwoWidths>(
     let saturated = operation.write::<D, O>(groups, &body, &state.file, scalar, made);
     put_group(&mut state.file, target.vd, groups.emul, made);
     state.vxsat = state.vxsat || saturated;
-    state.vstart = 0;
 }
 
-/// Carries out an operation whose destination has twice the vector type's width. The next instruction begins
-/// with the first element.
+/// Performs an operation whose destination has twice the vector type's width.
 #[tactic(auto, using(crate::proofs::LegalGroups::wide_groups))]
-pub(crate) fn carry_out_widening<T: TwoWidths>(
+pub(crate) fn perform_widening<T: TwoWidths>(
     operation: &T,
     target: Target,
     state: &mut VState,
@@ -104,27 +101,25 @@ pub(crate) fn carry_out_widening<T: TwoWidths>(
     requires narrow { sew_bits target.vtype.sew ≤ 32 }
     requires most { 2 * lmul_eighths target.vtype.lmul ≤ 64 }
     requires length { state.old.conf.vl ≤ vlmax target.vtype }
-    ensures { state.new ≡ record (carried_out (wide_type target.vtype) target
-        (T.number operation.now (wide_type target.vtype) (group_type target.vtype) state.old.file scalar.now) state.old) {
-          vxsat = state.old.vxsat || T.saturates operation.now (wide_type target.vtype) (group_type target.vtype)
-              state.old.file scalar.now (body_of target.unmasked state.old);
-        } }
+    ensures { state.new ≡ carried_out (wide_type target.vtype) target
+        (T.number operation.now (wide_type target.vtype) (group_type target.vtype) state.old.file scalar.now)
+        (T.saturates operation.now (wide_type target.vtype) (group_type target.vtype) state.old.file scalar.now
+        (body_of target.unmasked state.old)) state.old }
 {
     let other = u32::from(target.vtype.lmul.eighths());
     let emul = 2 * other;
     let groups = Groups { emul, other };
     match target.vtype.sew {
-        Sew::E8 => carry_out::<u16, u8, T>(operation, groups, target, state, scalar),
-        Sew::E16 => carry_out::<u32, u16, T>(operation, groups, target, state, scalar),
-        Sew::E32 => carry_out::<u64, u32, T>(operation, groups, target, state, scalar),
+        Sew::E8 => perform_at::<u16, u8, T>(operation, groups, target, state, scalar),
+        Sew::E16 => perform_at::<u32, u16, T>(operation, groups, target, state, scalar),
+        Sew::E32 => perform_at::<u64, u32, T>(operation, groups, target, state, scalar),
         Sew::E64 => unreachable!(),
     }
 }
 
-/// Carries out an operation with a source of twice the vector type's width. The next instruction begins with
-/// the first element.
+/// Performs an operation with a source of twice the vector type's width.
 #[tactic(auto, using(crate::proofs::LegalGroups::wide_groups))]
-pub(crate) fn carry_out_narrowing<T: TwoWidths>(
+pub(crate) fn perform_narrowing<T: TwoWidths>(
     operation: &T,
     target: Target,
     state: &mut VState,
@@ -135,26 +130,25 @@ pub(crate) fn carry_out_narrowing<T: TwoWidths>(
     requires narrow { sew_bits target.vtype.sew ≤ 32 }
     requires most { 2 * lmul_eighths target.vtype.lmul ≤ 64 }
     requires length { state.old.conf.vl ≤ vlmax target.vtype }
-    ensures { state.new ≡ record (carried_out (group_type target.vtype) target
-        (T.number operation.now (group_type target.vtype) (wide_type target.vtype) state.old.file scalar.now) state.old) {
-          vxsat = state.old.vxsat || T.saturates operation.now (group_type target.vtype) (wide_type target.vtype)
-              state.old.file scalar.now (body_of target.unmasked state.old);
-        } }
+    ensures { state.new ≡ carried_out (group_type target.vtype) target
+        (T.number operation.now (group_type target.vtype) (wide_type target.vtype) state.old.file scalar.now)
+        (T.saturates operation.now (group_type target.vtype) (wide_type target.vtype) state.old.file scalar.now
+        (body_of target.unmasked state.old)) state.old }
 {
     let emul = u32::from(target.vtype.lmul.eighths());
     let other = 2 * emul;
     let groups = Groups { emul, other };
     match target.vtype.sew {
-        Sew::E8 => carry_out::<u8, u16, T>(operation, groups, target, state, scalar),
-        Sew::E16 => carry_out::<u16, u32, T>(operation, groups, target, state, scalar),
-        Sew::E32 => carry_out::<u32, u64, T>(operation, groups, target, state, scalar),
+        Sew::E8 => perform_at::<u8, u16, T>(operation, groups, target, state, scalar),
+        Sew::E16 => perform_at::<u16, u32, T>(operation, groups, target, state, scalar),
+        Sew::E32 => perform_at::<u32, u64, T>(operation, groups, target, state, scalar),
         Sew::E64 => unreachable!(),
     }
 }
 
-/// Carries out an operation on groups of the vector type. The next instruction begins with the first element.
+/// Performs an operation on groups of the vector type.
 #[tactic(auto, using(crate::proofs::LegalGroups::wide_groups))]
-pub(crate) fn carry_out_single<T: TwoWidths>(
+pub(crate) fn perform_single<T: TwoWidths>(
     operation: &T,
     target: Target,
     state: &mut VState,
@@ -163,18 +157,17 @@ pub(crate) fn carry_out_single<T: TwoWidths>(
     requires operands { T.inside operation.now (lmul_eighths target.vtype.lmul) (lmul_eighths target.vtype.lmul) }
     requires destination { IsInside target.vd (lmul_eighths target.vtype.lmul) }
     requires length { state.old.conf.vl ≤ vlmax target.vtype }
-    ensures { state.new ≡ record (carried_out (group_type target.vtype) target
-        (T.number operation.now (group_type target.vtype) (group_type target.vtype) state.old.file scalar.now) state.old) {
-          vxsat = state.old.vxsat || T.saturates operation.now (group_type target.vtype) (group_type target.vtype)
-              state.old.file scalar.now (body_of target.unmasked state.old);
-        } }
+    ensures { state.new ≡ carried_out (group_type target.vtype) target
+        (T.number operation.now (group_type target.vtype) (group_type target.vtype) state.old.file scalar.now)
+        (T.saturates operation.now (group_type target.vtype) (group_type target.vtype) state.old.file scalar.now
+        (body_of target.unmasked state.old)) state.old }
 {
     let emul = u32::from(target.vtype.lmul.eighths());
     let groups = Groups { emul, other: emul };
     match target.vtype.sew {
-        Sew::E8 => carry_out::<u8, u8, T>(operation, groups, target, state, scalar),
-        Sew::E16 => carry_out::<u16, u16, T>(operation, groups, target, state, scalar),
-        Sew::E32 => carry_out::<u32, u32, T>(operation, groups, target, state, scalar),
-        Sew::E64 => carry_out::<u64, u64, T>(operation, groups, target, state, scalar),
+        Sew::E8 => perform_at::<u8, u8, T>(operation, groups, target, state, scalar),
+        Sew::E16 => perform_at::<u16, u16, T>(operation, groups, target, state, scalar),
+        Sew::E32 => perform_at::<u32, u32, T>(operation, groups, target, state, scalar),
+        Sew::E64 => perform_at::<u64, u64, T>(operation, groups, target, state, scalar),
     }
 }

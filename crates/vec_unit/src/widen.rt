@@ -7,21 +7,13 @@ ghost use Rattle.rv_model.specs.lending.Writes.{Writes};
 ghost use Rattle.rv_model.specs.elements.Elements.{is_active};
 ghost use Rattle.rv_model.specs.vector.Groups.{width_bytes, registers};
 
-use crate::operands::{second_elements, second_in_place, signed_operand};
+use crate::operands::{WithSources, second_elements, second_in_place, signed_operand};
 use crate::two_widths::{Groups, TwoWidths};
 use lane_arith::{Body, Lane, WideSource, Widen, WidenMultiplyAdd, write_results};
 use reg_groups::group;
 use rv_model::instructions::operations::{WideSourceOp, WidenMultiplyAddOp, WidenOp};
 use rv_model::{GROUP_BYTES, Scalar, Source, VFile, VLENB, VReg};
 use std::marker::PhantomData;
-
-/// An operation and its sources.
-#[derive(Clone, Copy)]
-pub(crate) struct WidenOperation {
-    pub op: WidenOp,
-    pub vs2: VReg,
-    pub source: Source,
-}
 
 /// The operations, by the numbers that their loops are compiled for.
 const OPERATIONS: [WidenOp; 7] = [
@@ -36,7 +28,7 @@ const OPERATIONS: [WidenOp; 7] = [
 
 /// Writes the results of one operation on these sources: its loop tests neither which it is nor whether it is masked.
 fn write_one<D: Lane, O: Lane, const NUMBER: usize>(
-    sources: &WidenOperation,
+    sources: &WithSources<WidenOp>,
     groups: Groups,
     body: &Body<'_>,
     file: &VFile,
@@ -64,7 +56,7 @@ fn write_one<D: Lane, O: Lane, const NUMBER: usize>(
     write_results::<D, Widen<'_, O>>(&results, &body, made, false);
 }
 
-impl TwoWidths for WidenOperation {
+impl TwoWidths for WithSources<WidenOp> {
     ghost number = { λ o wide narrow file x. widen_result narrow wide o.op o.vs2 o.source file x };
 
     ghost saturates = { λ o wide narrow file x body. false };
@@ -92,15 +84,7 @@ impl TwoWidths for WidenOperation {
     }
 }
 
-/// An operation and its sources, of which the first has twice the width.
-#[derive(Clone, Copy)]
-pub(crate) struct WideSourceOperation {
-    pub op: WideSourceOp,
-    pub vs2: VReg,
-    pub source: Source,
-}
-
-impl TwoWidths for WideSourceOperation {
+impl TwoWidths for WithSources<WideSourceOp> {
     ghost number = { λ o wide narrow file x. wide_source_result narrow wide o.op o.vs2 o.source file x };
 
     ghost saturates = { λ o wide narrow file x body. false };
