@@ -1,13 +1,14 @@
 -- What a legal instruction and a vector length that its type allows tell of the groups, for the tactics.
+use Rattle.std.proofs.Math.Bool.{or-false}
 use Rattle.rv_model.proofs.legality_lemmas.Bounds.{
   carry_inside,
+  extension_inside,
+  index_inside,
   groups_have_room,
   groups_hold_body,
   iota_inside,
   length_below,
-  length_fits,
   move_inside,
-  multiplier_fits,
   part_groups_have_room,
   wide_groups_have_room,
   wide_groups_hold_body,
@@ -26,18 +27,18 @@ use Rattle.rv_model.proofs.legality_lemmas.Bounds.{
 }
 use Rattle.rv_model.proofs.legality_lemmas.Moves.{compress_inside, whole_move_inside}
 
--- of an operation with a line of its own in the manual's table, but for those of one width on two operands
+-- of an operation with a line of its own in the manual's table, but for those of one width on two operands; most never saturate
 pub ruleset operation_groups =
-    (multiply_add_inside, compare_inside, carry_out_inside, widen_inside, wide_source_inside, widen_multiply_add_inside, narrow_shift_inside, fixed_point_inside, clip_inside, reduce_inside, widen_reduce_inside, permute_inside)
+    (or-false, multiply_add_inside, compare_inside, carry_out_inside, widen_inside, wide_source_inside, widen_multiply_add_inside, narrow_shift_inside, fixed_point_inside, clip_inside, reduce_inside, widen_reduce_inside, permute_inside)
+
+-- of an extension, which never saturates
+pub ruleset extension_groups = (or-false, extension_inside)
 
 -- of one without such a line that takes the vector type
-pub ruleset typed_groups = (carry_inside, move_inside, length_below, compress_inside, whole_move_inside)
+pub ruleset typed_groups = (carry_inside, move_inside, index_inside, length_below, compress_inside, whole_move_inside)
 
 -- of one on a mask
 pub ruleset mask_groups = (length_below, iota_inside)
-
--- operands of one width, whose results stand in a mask
-pub ruleset compared_groups = (length_fits, length_below, multiplier_fits)
 
 -- a destination or a source of twice the width
 pub ruleset wide_groups = (wide_groups_have_room, groups_have_room, length_below)

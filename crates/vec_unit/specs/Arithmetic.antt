@@ -3,15 +3,7 @@ use Rattle.std.specs.Prelude.{Bool, true, false}
 use Rattle.rv_model.specs.declared.instructions.vector.VectorInstr.{VectorInstr}
 use Rattle.rv_model.specs.declared.instructions.vector.VectorInstr.TheVariants.{Arith, Extend, SetIvli, SetVl, SetVli}
 use Rattle.rv_model.specs.declared.instructions.operations.VectorOp.{VectorOp}
-use Rattle.rv_model.specs.declared.instructions.operations.VectorOp.TheVariants.{
-  Binary,
-  Clip,
-  NarrowShift,
-  WideSource,
-  Widen,
-  WidenMultiplyAdd,
-  WidenReduce,
-}
+use Rattle.rv_model.specs.declared.instructions.operations.VectorOp.TheVariants.{Binary}
 
 -- operations without a line of their own in the manual's table that take the vector type with the others: all but extensions
 -- and those that set it
@@ -27,13 +19,3 @@ is_typed _ = true
 abbrev pub is_binary : VectorOp → Bool
 is_binary (Binary op) = true
 is_binary op = false
-
--- an operation one of whose groups has twice the width of the others
-abbrev pub has_two_widths : VectorOp → Bool
-has_two_widths (Widen op) = true
-has_two_widths (WideSource op) = true
-has_two_widths (WidenMultiplyAdd op) = true
-has_two_widths (NarrowShift op) = true
-has_two_widths (Clip op) = true
-has_two_widths (WidenReduce op) = true
-has_two_widths op = false

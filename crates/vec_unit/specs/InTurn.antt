@@ -15,7 +15,7 @@ use Rattle.rv_model.specs.scalar.Registers.{read_register}
 use Rattle.rv_model.specs.lending.GroupBounds.{HoldsBody, IsInside, SourceIsInside}
 use Rattle.rv_model.specs.vector.Groups.{width_bytes, registers}
 use Rattle.lane_arith.specs.SimdOperations.{is_simd}
-use Rattle.vec_unit.specs.declared.binary.BinaryOperation.{BinaryOperation}
+use Rattle.vec_unit.specs.declared.operands.WithSources.{WithSources}
 use Rattle.vec_unit.specs.declared.destination.Destination.{Destination}
 use Rattle.vec_unit.specs.Results.{with_written}
 
@@ -65,13 +65,13 @@ SourceHasRegisters (source.X rs1) registers = ⊤
 SourceHasRegisters (source.I imm) registers = ⊤
 
 -- the bytes of all registers, once an operation on their groups has written its results to the destination
-abbrev pub with_binary_results : Width → BinaryOperation → Destination → Body → List ℕ → Scalar → List ℕ
+abbrev pub with_binary_results : Width → WithSources BinaryOp → Destination → Body → List ℕ → Scalar → List ℕ
 with_binary_results w o destination body file x =
     with_written w destination body (binary_result (record { width = w; emul = destination.emul }) o.op o.vs2 o.source file x) file
 
 -- an operation made by SIMD whose results can be written in turn, to a destination without a tail that is filled: its groups
 -- lie inside the file and hold the body
-pub record IsInTurn (width : Width) (o : BinaryOperation) (destination : Destination) (body : Body) : Type 0 where
+pub record IsInTurn (width : Width) (o : WithSources BinaryOp) (destination : Destination) (body : Body) : Type 0 where
   pub holds : HoldsBody width destination.emul destination.count body.end
   pub first : IsInside o.vs2 destination.emul
   pub second : SourceIsInside o.source destination.emul

@@ -1,5 +1,5 @@
 -- What vector instructions write to groups of elements ("V" Vector Extension 1.0, sections 3.4.3, 5.3 and 5.4).
-use Rattle.std.specs.Prelude.{ℕ, List}
+use Rattle.std.specs.Prelude.{ℕ, ◌||◌, Bool, List}
 use Rattle.std.specs.Int.{Width}
 use Rattle.rv_model.specs.declared.vector.state.VState.{VState}
 use Rattle.rv_model.specs.elements.Arithmetic.{body_of, fills_masked_off, fills_tail, with_results}
@@ -14,11 +14,14 @@ with_written w destination body number file =
     with_results (record { width = w; emul = destination.emul }) destination.vd body
     destination.agnostic.fill_masked_off destination.agnostic.fill_tail number file
 
--- a state, with these numbers in the target's group of this type; the next instruction begins with the first element
-abbrev pub carried_out : GroupType → Target → (ℕ → ℕ) → VState → VState
-carried_out t target number state = record state {
-  file = with_results t target.vd (body_of target.unmasked state)
-      (fills_masked_off target.policy target.vtype (body_of target.unmasked state))
-      (fills_tail target.policy target.vtype (body_of target.unmasked state)) number state.file;
-  vstart = 0;
+-- the same, in the target's group of this type
+abbrev pub with_elements : GroupType → Target → Body → (ℕ → ℕ) → List ℕ → List ℕ
+with_elements t target body number file =
+    with_results t target.vd body (fills_masked_off target.policy target.vtype body) (fills_tail target.policy target.vtype body) number file
+
+-- a state, with these numbers in the target's group of this type; the flag says whether a result saturated
+abbrev pub carried_out : GroupType → Target → (ℕ → ℕ) → Bool → VState → VState
+carried_out t target number saturates state = record state {
+  file = with_elements t target (body_of target.unmasked state) number state.file;
+  vxsat = state.vxsat || saturates;
 }

@@ -6,24 +6,17 @@ ghost use Rattle.rv_model.specs.vector.Groups.{registers};
 ghost use Rattle.lane_arith.specs.SimdOperations.{is_simd};
 ghost use Rattle.std.specs.Prelude.{◌≡◌, ◌≤◌, IsTrue, false, true};
 ghost use Rattle.vec_unit.specs.InTurn.{IsInTurn, IsReadFirst, SourceIsReadFirst, with_binary_results};
+ghost use Rattle.vec_unit.specs.Results.{with_elements};
 
-use crate::destination::{Destination, write_group};
-use crate::element_wise::ElementWise;
+use crate::destination::{Destination, Extent, Target, agnostic_under, write_group};
 use crate::in_turn::{InTurn, is_read_first, is_source_read_first};
-use crate::operands::{SecondOperand, second_copy, second_number};
+use crate::operands::{SecondOperand, WithSources, second_copy, second_number};
+use crate::operation::Operation;
 use lane_arith::chunk::is_simd;
 use lane_arith::{Binary, Body, Lane};
 use reg_groups::{group_copy, group_mut, registers};
 use rv_model::instructions::operations::BinaryOp;
-use rv_model::{GROUP_BYTES, Scalar, Source, VECTOR_REGISTERS, VFile, VReg};
-
-/// An operation and its sources.
-#[derive(Clone, Copy)]
-pub(crate) struct BinaryOperation {
-    pub op: BinaryOp,
-    pub vs2: VReg,
-    pub source: Source,
-}
+use rv_model::{GROUP_BYTES, Scalar, VECTOR_REGISTERS, VFile, VReg};
 
 /// Whether the immediate of an operation is unsigned.
 fn has_unsigned_immediate(op: BinaryOp) -> bool
@@ -32,7 +25,7 @@ fn has_unsigned_immediate(op: BinaryOp) -> bool
     matches!(op, BinaryOp::Vsll | BinaryOp::Vsrl | BinaryOp::Vsra)
 }
 
-impl BinaryOperation {
+impl WithSources<BinaryOp> {
     /// Whether the results can be written in turn to so many registers from `vd` on: they are made by SIMD, and no
     /// register of the operands is written before it is read.
     #[inline(always)]
@@ -141,9 +134,9 @@ impl BinaryOperation {
         }
     }
 
-    /// Writes the results to a destination of any size.
+    /// Writes the results of copied operands to a destination of any size.
     #[inline(never)]
-    fn write_group<L: Lane>(
+    fn write_copied<L: Lane>(
         self,
         destination: Destination,
         body: &Body<'_>,
@@ -169,26 +162,35 @@ impl BinaryOperation {
     }
 }
 
-impl ElementWise for BinaryOperation {
-    ghost number = { λ o g file x. binary_result g o.op o.vs2 o.source file x };
+impl Operation for WithSources<BinaryOp> {
+    ghost written = { λ o target g body file x.
+        with_elements g target body (binary_result g o.op o.vs2 o.source file x) file };
 
-    ghost inside = { λ o emul. IsInside o.vs2 emul × SourceIsInside o.source emul };
+    ghost inside = { λ o target g end. IsInside target.vd g.emul × IsInside o.vs2 g.emul
+        × SourceIsInside o.source g.emul };
 
     // The elements of a body that begins with the first one and isn't masked are in line.
     #[inline(always)]
     fn write<L: Lane>(
         &self,
-        destination: Destination,
+        target: Target,
+        extent: Extent,
         body: &Body<'_>,
         file: &mut VFile,
         scalar: &Scalar,
     ) {
+        let destination = Destination {
+            vd: target.vd,
+            emul: extent.emul,
+            count: extent.count,
+            agnostic: agnostic_under(target.policy, target.vtype, body),
+        };
         let has_tail = destination.agnostic.fill_tail && body.end() != destination.count;
         if !has_tail && self.is_in_turn(destination.vd, registers(destination.emul)) {
             self.write_all::<L>(destination, body, file, scalar);
         } else {
             let destination = destination.copied();
-            (*self).write_group::<L>(destination, &body.copied(), file, scalar);
+            (*self).write_copied::<L>(destination, &body.copied(), file, scalar);
         }
     }
 }

@@ -1,40 +1,38 @@
 //! Comparisons, and carries and borrows as masks ("V" Vector Extension 1.0, sections 11.4 and 11.8).
 ghost use Rattle.std.specs.Prelude.{◌≡◌};
-ghost use Rattle.rv_model.specs.elements.Arithmetic.{carry_out_result, compare_result};
+ghost use Rattle.rv_model.specs.elements.Arithmetic.{carry_out_result, compare_result, with_mask_results};
 ghost use Rattle.rv_model.specs.lending.GroupBounds.{IsInside, SourceIsInside};
 
-use crate::mask_wise::MaskWise;
-use crate::operands::{second_elements, second_in_place, signed_operand};
+use crate::destination::{Extent, Target};
+use crate::mask_wise::set_mask;
+use crate::operands::{WithSources, second_elements, second_in_place, signed_operand};
+use crate::operation::Operation;
 use lane_arith::{Body, CarryOut, Compare, Lane, write_mask_results};
-use reg_groups::group;
+use reg_groups::{group, register_copy};
 use rv_model::instructions::operations::{CarryOutOp, CompareOp};
 use rv_model::{GROUP_BYTES, Scalar, Source, VFile, VReg};
 
-/// A comparison and its sources.
-#[derive(Clone, Copy)]
-pub(crate) struct CompareOperation {
-    pub op: CompareOp,
-    pub vs2: VReg,
-    pub source: Source,
-}
+impl Operation for WithSources<CompareOp> {
+    ghost written = { λ o target g body file x.
+        with_mask_results target.vd body (compare_result g o.op o.vs2 o.source file x) file };
 
-impl MaskWise for CompareOperation {
-    ghost bit = { λ o g file x. compare_result g o.op o.vs2 o.source file x };
-
-    ghost inside = { λ o emul. IsInside o.vs2 emul × SourceIsInside o.source emul };
+    ghost inside = { λ o target g end. IsInside o.vs2 g.emul × SourceIsInside o.source g.emul };
 
     fn write<L: Lane>(
         &self,
-        emul: u32,
+        target: Target,
+        extent: Extent,
         body: &Body<'_>,
-        file: &VFile,
+        file: &mut VFile,
         scalar: &Scalar,
-        mask: &mut [u8],
     ) {
+        let emul = extent.emul;
         let a = group(file, self.vs2, emul);
         let b = second_elements(signed_operand(self.source, emul), file, scalar);
         let results = Compare { op: self.op, a, b };
-        write_mask_results::<L, Compare<'_>>(&results, body, mask);
+        let mut bits = register_copy(file, target.vd);
+        write_mask_results::<L, Compare<'_>>(&results, body, &mut bits);
+        set_mask(&bits, target.vd, file);
     }
 }
 
@@ -61,20 +59,22 @@ impl CarryOutOperation {
     }
 }
 
-impl MaskWise for CarryOutOperation {
-    ghost bit = { λ o g file x. carry_out_result g o.op o.alone o.vs2 o.source file x };
+impl Operation for CarryOutOperation {
+    ghost written = { λ o target g body file x.
+        with_mask_results target.vd body (carry_out_result g o.op o.alone o.vs2 o.source file x) file };
 
-    ghost inside = { λ o emul. IsInside o.vs2 emul × SourceIsInside o.source emul };
+    ghost inside = { λ o target g end. IsInside o.vs2 g.emul × SourceIsInside o.source g.emul };
 
     fn write<L: Lane>(
         &self,
-        emul: u32,
+        target: Target,
+        extent: Extent,
         body: &Body<'_>,
-        file: &VFile,
+        file: &mut VFile,
         scalar: &Scalar,
-        mask: &mut [u8],
     ) {
         let mut copies = [0; GROUP_BYTES];
+        let emul = extent.emul;
         let a = group(file, self.vs2, emul);
         let operand = signed_operand(self.source, emul);
         let b = second_in_place::<L>(operand, body.end(), file, scalar, &mut copies);
@@ -85,6 +85,8 @@ impl MaskWise for CarryOutOperation {
             v0: body.mask(),
             alone: self.alone,
         };
-        write_mask_results::<L, CarryOut<'_>>(&results, body, mask);
+        let mut bits = register_copy(file, target.vd);
+        write_mask_results::<L, CarryOut<'_>>(&results, body, &mut bits);
+        set_mask(&bits, target.vd, file);
     }
 }

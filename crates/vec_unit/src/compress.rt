@@ -1,20 +1,20 @@
 //! Compressions, carried out ("V" Vector Extension 1.0, section 16.5).
-ghost use Rattle.std.specs.Prelude.{◌≡◌, ◌*◌, ◌≤◌, length, true};
-ghost use Rattle.rv_model.specs.elements.Arithmetic.{body_of, fills_tail, group_element};
-ghost use Rattle.rv_model.specs.vector.Groups.{group_type, lmul_eighths, vlmax, width_bytes, register_of};
+ghost use Rattle.std.specs.Prelude.{◌≡◌, ◌*◌, ◌≤◌, length};
+ghost use Rattle.rv_model.specs.elements.Arithmetic.{fills_tail, group_element};
+ghost use Rattle.rv_model.specs.vector.Groups.{register_of, width_bytes};
 ghost use Rattle.rv_model.specs.elements.Elements.{element};
 ghost use Rattle.rv_model.specs.elements.Formulas.{ones};
 ghost use Rattle.rv_model.specs.elements.PermutationResults.{with_packed};
 ghost use Rattle.rv_model.specs.elements.PermutationResults.{is_packed_or_filled, packed, packed_or_ones};
 ghost use Rattle.rv_model.specs.lending.Writes.{Writes};
-ghost use Rattle.rv_model.specs.lending.GroupBounds.{HoldsBody, IsInside};
+ghost use Rattle.rv_model.specs.lending.GroupBounds.{IsInside};
 
-use crate::body::body_under;
-use crate::destination::{Destination, agnostic_under};
-use lane_arith::{Lane, fill};
+use crate::destination::{Extent, Target, agnostic_under};
+use crate::operation::Operation;
+use lane_arith::{Body, Lane, fill};
 use lane_permute::compress;
-use reg_groups::{group_copy_mut, group_mut, mask_register, register_copy, registers};
-use rv_model::{GROUP_BYTES, Policy, Sew, VFile, VLENB, VReg, VState, VType};
+use reg_groups::{group_copy_mut, group_mut, register_copy};
+use rv_model::{GROUP_BYTES, Scalar, VFile, VLENB, VReg};
 
 /// Packs elements into the bytes of a destination of `count` elements, and fills its tail. The elements
 /// between the two keep.
@@ -44,75 +44,32 @@ fn compress_filled<L: Lane>(
 
 /// The sources of a compression: the bits of `vs1` say which elements of `vs2` are packed.
 #[derive(Clone, Copy)]
-struct CompressOperation {
-    vs1: VReg,
-    vs2: VReg,
+pub(crate) struct CompressOperation {
+    pub vs1: VReg,
+    pub vs2: VReg,
 }
 
-impl CompressOperation {
-    /// Packs the elements before `end`, and fills the tail.
-    fn write<L: Lane>(&self, destination: Destination, end: usize, file: &mut VFile)
-        requires source { IsInside self.now.vs2 destination.emul }
-        requires holds { HoldsBody L.width destination.emul destination.count end }
-        ensures { file.new ≡ with_packed (record { width = L.width; emul = destination.emul }) destination.vd end
-            destination.agnostic.fill_tail
-            (packed (register_of file.old self.now.vs1)
-            (group_element (record { width = L.width; emul = destination.emul }) file.old self.now.vs2) end) file.old }
-    {
+impl Operation for CompressOperation {
+    ghost written = { λ o target g body file x. with_packed g target.vd body.end
+        (fills_tail target.policy target.vtype body)
+        (packed (register_of file o.vs1) (group_element g file o.vs2) body.end) file };
+
+    ghost inside = { λ o target g end. IsInside target.vd g.emul × IsInside o.vs2 g.emul };
+
+    fn write<L: Lane>(
+        &self,
+        target: Target,
+        extent: Extent,
+        body: &Body<'_>,
+        file: &mut VFile,
+        scalar: &Scalar,
+    ) {
+        let agnostic = agnostic_under(target.policy, target.vtype, body);
+        let (end, count) = (body.end(), extent.count);
         let mut copy = [0; GROUP_BYTES];
-        let a: &[u8] = group_copy_mut(file, self.vs2, destination.emul, &mut copy);
+        let a: &[u8] = group_copy_mut(file, self.vs2, extent.emul, &mut copy);
         let select = register_copy(file, self.vs1);
-        let group = group_mut(file, destination.vd, destination.emul);
-        let fill_tail = destination.agnostic.fill_tail;
-        compress_filled::<L>(a, &select, end, fill_tail, destination.count, group);
+        let group = group_mut(file, target.vd, extent.emul);
+        compress_filled::<L>(a, &select, end, agnostic.fill_tail, count, group);
     }
-}
-
-/// Carries out a compression of a group of the vector type. The next instruction begins with the first
-/// element.
-#[tactic(auto, using(rv_model::proofs::legality_lemmas::Bounds::groups_hold_body))]
-pub(crate) fn carry_out_compress(
-    vs1: VReg,
-    vs2: VReg,
-    vd: VReg,
-    vtype: VType,
-    policy: Policy,
-    state: &mut VState,
-)
-    requires destination { IsInside vd (lmul_eighths vtype.lmul) }
-    requires source { IsInside vs2 (lmul_eighths vtype.lmul) }
-    requires length { state.old.conf.vl ≤ vlmax vtype }
-    ensures { state.new ≡ record state.old {
-      file =
-          with_packed (group_type vtype) vd state.old.conf.vl
-          (fills_tail policy vtype (body_of true state.old))
-          (packed (register_of state.old.file vs1) (group_element (group_type vtype) state.old.file vs2)
-          state.old.conf.vl) state.old.file;
-      vstart = 0;
-    } }
-{
-    let mask = mask_register(&state.file);
-    let body = body_under(true, &mask, state);
-    let emul = u32::from(vtype.lmul.eighths());
-    let length = VLENB * registers(emul) as usize;
-    let agnostic = agnostic_under(policy, vtype, &body);
-    let operation = CompressOperation { vs1, vs2 };
-    let file = &mut state.file;
-    let destination = |count|
-        requires { IsInside vd emul }
-    {
-        Destination {
-            vd,
-            emul,
-            count,
-            agnostic,
-        }
-    };
-    match vtype.sew {
-        Sew::E8 => operation.write::<u8>(destination(length), body.end(), file),
-        Sew::E16 => operation.write::<u16>(destination(length / 2), body.end(), file),
-        Sew::E32 => operation.write::<u32>(destination(length / 4), body.end(), file),
-        Sew::E64 => operation.write::<u64>(destination(length / 8), body.end(), file),
-    }
-    state.vstart = 0;
 }

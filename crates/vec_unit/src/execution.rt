@@ -54,6 +54,7 @@ fn perform_irregular(
                 return VEnd::Illegal;
             };
             perform_typed(operation, vtype, policy, state, scalar);
+            state.vstart = 0;
             VEnd::Done
         }
     }

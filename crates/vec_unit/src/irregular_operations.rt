@@ -8,23 +8,23 @@ ghost use Rattle.rv_model.specs.step.Hart.{hart_state};
 ghost use Rattle.rv_model.specs.step.Step.{typed_step, vector_ends};
 ghost use Rattle.vec_unit.specs.Arithmetic.{is_typed};
 
-use crate::compress::carry_out_compress;
+use crate::compress::CompressOperation;
 use crate::destination::Target;
-use crate::element_wise::{carry_out, carry_out_unmasked};
-use crate::mask_operand::CarryOperation;
 use crate::masks::{
-    IndexOperation, IotaOperation, carry_out_logic, carry_out_scan, count_mask, scalar_of_mask,
+    IndexOperation, IotaOperation, count_mask, perform_logic, perform_scan, scalar_of_mask,
 };
 use crate::moves::Move;
-use crate::scalar_moves::{carry_out_move_to_vector, scalar_of_first};
-use crate::whole_moves::carry_out_whole_move;
+use crate::operands::WithSources;
+use crate::operation::{perform, perform_apart};
+use crate::scalar_moves::{MoveToVector, scalar_of_first};
+use crate::whole_moves::perform_whole_move;
 use rv_model::instructions::operations::MaskUnaryOp;
 use rv_model::{GROUP_BYTES, Instr, Policy, Scalar, VEnd, VReg, VState, VType, VectorInstr};
 
-/// Carries out a legal operation on one mask.
+/// Performs a legal operation on one mask, but for vstart.
 #[tactic(auto, using(crate::proofs::LegalGroups::mask_groups))]
 #[inline(never)]
-fn carry_out_mask_unary(
+fn perform_mask_unary(
     op: MaskUnaryOp,
     vs2: VReg,
     target: Target,
@@ -37,42 +37,20 @@ fn carry_out_mask_unary(
     ensures model { (memory : Memory) (output : List ℕ)
         → typed_step (VectorInstr.MaskUnary op target.vd vs2 target.unmasked) target.vtype
         (hart_state scalar.now state.old memory target.policy output)
-        ≡ vector_ends VEnd.Done (hart_state scalar.now state.new memory target.policy output) }
+        ≡ vector_ends VEnd.Done
+        (hart_state scalar.now (record state.new { vstart = 0 }) memory target.policy output) }
 {
     match op {
-        MaskUnaryOp::Scan(op) => carry_out_scan(op, target.vd, vs2, target.unmasked, state),
+        MaskUnaryOp::Scan(op) => perform_scan(op, target.vd, vs2, target.unmasked, state),
         MaskUnaryOp::Viota => {
             let mut counts = [0; GROUP_BYTES];
             count_mask(vs2, target.unmasked, state, &mut counts);
-            carry_out(&IotaOperation { counts: &counts }, target, state, scalar);
+            perform(&IotaOperation { counts: &counts }, target, state, scalar);
         }
     }
 }
 
-/// Carries out a legal write of the elements' indices.
-#[tactic(auto, using(rv_model::proofs::legality_lemmas::Bounds::index_inside))]
-#[inline(never)]
-fn carry_out_index(
-    vd: VReg,
-    unmasked: bool,
-    vtype: VType,
-    policy: Policy,
-    state: &mut VState,
-    scalar: &Scalar,
-)
-    requires legal { IsTrue (is_legal (Instr.Vector (VectorInstr.ElementIndex vd unmasked)) (Some vtype)
-        state.old.vstart) }
-    requires length { state.old.conf.vl ≤ vlmax vtype }
-    ensures model { (memory : Memory) (output : List ℕ)
-        → typed_step (VectorInstr.ElementIndex vd unmasked) vtype
-        (hart_state scalar.now state.old memory policy output)
-        ≡ vector_ends VEnd.Done (hart_state scalar.now state.new memory policy output) }
-{
-    let target = Target::new(vd, unmasked, vtype, policy);
-    carry_out(&IndexOperation, target, state, scalar);
-}
-
-/// Carries out a legal operation under its vector type. What is out of line is handed operands one by one, so that no
+/// Performs a legal operation under its vector type, but for vstart. What is out of line is handed operands one by one, so that no
 /// target needs a place in memory.
 #[tactic(auto, using(crate::proofs::LegalGroups::typed_groups))]
 #[inline(always)]
@@ -88,41 +66,48 @@ pub(crate) fn perform_typed(
     requires length { state.old.conf.vl ≤ vlmax vtype }
     ensures model { (memory : Memory) (output : List ℕ)
         → typed_step operation.now vtype (hart_state scalar.old state.old memory policy output)
-        ≡ vector_ends VEnd.Done (hart_state scalar.new state.new memory policy output) }
+        ≡ vector_ends VEnd.Done (hart_state scalar.new (record state.new { vstart = 0 }) memory policy output) }
 {
     match *operation {
         VectorInstr::Carry { carry, vd, vs2 } => {
             let (op, source) = carry.parts();
-            let operation = CarryOperation { op, vs2, source };
-            carry_out_unmasked(&operation, vd, vtype, policy, state, scalar);
+            let operation = WithSources { op, vs2, source };
+            perform_apart(&operation, vd, true, vtype, policy, state, scalar);
         }
         VectorInstr::Move { source, vd } => {
-            carry_out_unmasked(&Move { source }, vd, vtype, policy, state, scalar);
+            perform_apart(&Move { source }, vd, true, vtype, policy, state, scalar);
         }
-        VectorInstr::MaskLogic { op, vd, vs1, vs2 } => carry_out_logic(op, vd, vs1, vs2, state),
+        VectorInstr::MaskLogic { op, vd, vs1, vs2 } => perform_logic(op, vd, vs1, vs2, state),
         VectorInstr::MaskToScalar { op, rd, vs2, vm } => {
             scalar.write(rd, scalar_of_mask(op, vs2, vm, state));
-            state.vstart = 0;
         }
         VectorInstr::MaskUnary { op, vd, vs2, vm } => {
             let target = Target::new(vd, vm, vtype, policy);
-            carry_out_mask_unary(op, vs2, target, state, scalar);
+            perform_mask_unary(op, vs2, target, state, scalar);
         }
         VectorInstr::ElementIndex { vd, vm } => {
-            carry_out_index(vd, vm, vtype, policy, state, scalar);
+            perform_apart(&IndexOperation, vd, vm, vtype, policy, state, scalar);
         }
         VectorInstr::Compress { vd, vs1, vs2 } => {
-            carry_out_compress(vs1, vs2, vd, vtype, policy, state);
+            let operation = CompressOperation { vs1, vs2 };
+            perform_apart(&operation, vd, true, vtype, policy, state, scalar);
         }
         VectorInstr::MoveToScalar { rd, vs2 } => {
             scalar.write(rd, scalar_of_first(vs2, vtype, &state.file));
-            state.vstart = 0;
         }
         VectorInstr::MoveToVector { vd, rs1 } => {
-            carry_out_move_to_vector(rs1, vd, vtype, policy, state, scalar);
+            perform_apart(
+                &MoveToVector { rs1 },
+                vd,
+                true,
+                vtype,
+                policy,
+                state,
+                scalar,
+            );
         }
         VectorInstr::WholeMove { count, vd, vs2 } => {
-            carry_out_whole_move(count, vd, vs2, vtype, state);
+            perform_whole_move(count, vd, vs2, vtype, state);
         }
         _ => unreachable!(),
     }

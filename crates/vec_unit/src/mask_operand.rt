@@ -1,37 +1,33 @@
 //! Operations with v0 as an operand ("V" Vector Extension 1.0, sections 11.4 and 11.15).
 ghost use Rattle.rv_model.specs.elements.Arithmetic.{carry_result};
 ghost use Rattle.rv_model.specs.lending.GroupBounds.{IsInside, SourceIsInside};
+ghost use Rattle.vec_unit.specs.Results.{with_elements};
 
-use crate::destination::{Destination, write_group};
-use crate::element_wise::ElementWise;
-use crate::operands::{second_copy, signed_operand};
+use crate::destination::{Extent, Target};
+use crate::operands::{WithSources, second_copy, signed_operand};
+use crate::operation::{Operation, write_elements};
 use lane_arith::{Body, Lane, WithMaskOperand};
 use reg_groups::group_copy_mut;
 use rv_model::instructions::operations::CarryOp;
-use rv_model::{GROUP_BYTES, Scalar, Source, VFile, VReg};
+use rv_model::{GROUP_BYTES, Scalar, VFile};
 
-/// An operation and its sources beside v0.
-#[derive(Clone, Copy)]
-pub(crate) struct CarryOperation {
-    pub op: CarryOp,
-    pub vs2: VReg,
-    pub source: Source,
-}
+impl Operation for WithSources<CarryOp> {
+    ghost written = { λ o target g body file x.
+        with_elements g target body (carry_result g o.op o.vs2 o.source file x) file };
 
-impl ElementWise for CarryOperation {
-    ghost number = { λ o g file x. carry_result g o.op o.vs2 o.source file x };
-
-    ghost inside = { λ o emul. IsInside o.vs2 emul × SourceIsInside o.source emul };
+    ghost inside = { λ o target g end. IsInside target.vd g.emul × IsInside o.vs2 g.emul
+        × SourceIsInside o.source g.emul };
 
     fn write<L: Lane>(
         &self,
-        destination: Destination,
+        target: Target,
+        extent: Extent,
         body: &Body<'_>,
         file: &mut VFile,
         scalar: &Scalar,
     ) {
         let (mut first, mut second) = ([0; GROUP_BYTES], [0; GROUP_BYTES]);
-        let emul = destination.emul;
+        let emul = extent.emul;
         let a: &[u8] = group_copy_mut(file, self.vs2, emul, &mut first);
         let operand = signed_operand(self.source, emul);
         let b = second_copy::<L>(operand, body.end(), file, scalar, &mut second);
@@ -41,6 +37,6 @@ impl ElementWise for CarryOperation {
             b,
             v0: body.mask(),
         };
-        write_group::<L, WithMaskOperand<'_>>(&results, destination, body, file);
+        write_elements::<L, WithMaskOperand<'_>>(&results, target, extent, body, file);
     }
 }

@@ -1,26 +1,27 @@
 //! Mask instructions, carried out ("V" Vector Extension 1.0, chapter 15).
-ghost use Rattle.std.specs.Prelude.{◌≡◌, ◌%◌, ◌^◌, ◌<◌, ⊤, ℕ, slice_index, true};
+ghost use Rattle.std.specs.Prelude.{◌≡◌, ◌%◌, ◌^◌, ◌<◌, ℕ, slice_index, true};
 ghost use Rattle.rv_model.specs.elements.Arithmetic.{body_of, index_result, mask_logic_result, with_mask_results};
 ghost use Rattle.rv_model.specs.elements.Masks.{first_set, mask_scan_formula, mask_to_scalar_formula, set_count};
+ghost use Rattle.rv_model.specs.lending.GroupBounds.{IsInside};
 ghost use Rattle.rv_model.specs.vector.Groups.{register_of};
 ghost use mir.Val.{bits};
+ghost use Rattle.vec_unit.specs.Results.{with_elements};
 
 use crate::body::body_under;
-use crate::destination::{Destination, write_group};
-use crate::element_wise::ElementWise;
+use crate::destination::{Extent, Target};
 use crate::mask_wise::set_mask;
+use crate::operation::{Operation, write_elements};
 use lane_arith::{Body, Lane, write_mask_results};
 use mask_unit::{Index, Iota, MaskLogic, MaskScan, count, counts_below, first};
 use reg_groups::{mask_register, register_copy};
 use rv_model::instructions::operations::{MaskLogicOp, MaskScanOp, MaskToScalarOp};
 use rv_model::{GROUP_BYTES, Scalar, VFile, VReg, VState};
 
-/// Carries out logic on two masks. The next instruction begins with the first element.
-pub(crate) fn carry_out_logic(op: MaskLogicOp, vd: VReg, vs1: VReg, vs2: VReg, state: &mut VState)
+/// Performs logic on two masks.
+pub(crate) fn perform_logic(op: MaskLogicOp, vd: VReg, vs1: VReg, vs2: VReg, state: &mut VState)
     ensures { state.new ≡ record state.old {
       file =
           with_mask_results vd (body_of true state.old) (mask_logic_result op vs1 vs2 state.old.file) state.old.file;
-      vstart = 0;
     } }
 {
     let mask = mask_register(&state.file);
@@ -32,23 +33,16 @@ pub(crate) fn carry_out_logic(op: MaskLogicOp, vd: VReg, vs1: VReg, vs2: VReg, s
     let results = MaskLogic { op, a: &a, b: &b };
     let mut bits = register_copy(&state.file, vd);
     write_mask_results::<u8, MaskLogic<'_>>(&results, &body, &mut bits);
-    set_mask(&bits, vd, state);
+    set_mask(&bits, vd, &mut state.file);
 }
 
-/// Sets bits by the first active bit of `vs2` that is set. The next instruction begins with the first element.
-pub(crate) fn carry_out_scan(
-    op: MaskScanOp,
-    vd: VReg,
-    vs2: VReg,
-    unmasked: bool,
-    state: &mut VState,
-)
+/// Sets bits by the first active bit of `vs2` that is set.
+pub(crate) fn perform_scan(op: MaskScanOp, vd: VReg, vs2: VReg, unmasked: bool, state: &mut VState)
     ensures { state.new ≡ record state.old {
       file =
           with_mask_results vd (body_of unmasked state.old)
           (mask_scan_formula op (first_set (body_of unmasked state.old) (register_of state.old.file vs2)))
           state.old.file;
-      vstart = 0;
     } }
 {
     let mask = mask_register(&state.file);
@@ -60,7 +54,7 @@ pub(crate) fn carry_out_scan(
     };
     let mut written = register_copy(&state.file, vd);
     write_mask_results::<u8, MaskScan>(&results, &body, &mut written);
-    set_mask(&written, vd, state);
+    set_mask(&written, vd, &mut state.file);
 }
 
 /// What a scalar register takes: how many active bits of `vs2` are set, or the index of the first, or -1.
@@ -95,14 +89,16 @@ pub(crate) struct IotaOperation<'a> {
     pub counts: &'a [u8; GROUP_BYTES],
 }
 
-impl<'a> ElementWise for IotaOperation<'a> {
-    ghost number = { λ o g file x i. slice_index o.counts.now i % 2 ^ bits g.width };
+impl<'a> Operation for IotaOperation<'a> {
+    ghost written = { λ o target g body file x.
+        with_elements g target body (λ i. slice_index o.counts.now i % 2 ^ bits g.width) file };
 
-    ghost inside = { λ o emul. ⊤ };
+    ghost inside = { λ o target g end. IsInside target.vd g.emul };
 
     fn write<L: Lane>(
         &self,
-        destination: Destination,
+        target: Target,
+        extent: Extent,
         body: &Body<'_>,
         file: &mut VFile,
         scalar: &Scalar,
@@ -110,7 +106,7 @@ impl<'a> ElementWise for IotaOperation<'a> {
         let results = Iota {
             counts: self.counts,
         };
-        write_group::<L, Iota<'_>>(&results, destination, body, file);
+        write_elements::<L, Iota<'_>>(&results, target, extent, body, file);
     }
 }
 
@@ -118,18 +114,19 @@ impl<'a> ElementWise for IotaOperation<'a> {
 #[derive(Clone, Copy)]
 pub(crate) struct IndexOperation;
 
-impl ElementWise for IndexOperation {
-    ghost number = { λ o g file x. index_result g };
+impl Operation for IndexOperation {
+    ghost written = { λ o target g body file x. with_elements g target body (index_result g) file };
 
-    ghost inside = { λ o emul. ⊤ };
+    ghost inside = { λ o target g end. IsInside target.vd g.emul };
 
     fn write<L: Lane>(
         &self,
-        destination: Destination,
+        target: Target,
+        extent: Extent,
         body: &Body<'_>,
         file: &mut VFile,
         scalar: &Scalar,
     ) {
-        write_group::<L, Index>(&Index, destination, body, file);
+        write_elements::<L, Index>(&Index, target, extent, body, file);
     }
 }

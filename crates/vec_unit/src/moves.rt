@@ -1,11 +1,12 @@
 //! Moves of one operand to a group ("V" Vector Extension 1.0, section 11.16).
 ghost use Rattle.rv_model.specs.elements.Arithmetic.{second_element};
-ghost use Rattle.rv_model.specs.lending.GroupBounds.{SourceIsInside};
+ghost use Rattle.rv_model.specs.lending.GroupBounds.{IsInside, SourceIsInside};
 ghost use Rattle.std.specs.Prelude.{false};
+ghost use Rattle.vec_unit.specs.Results.{with_elements};
 
-use crate::destination::{Destination, write_group};
-use crate::element_wise::ElementWise;
+use crate::destination::{Extent, Target};
 use crate::operands::{second_copy, signed_operand};
+use crate::operation::{Operation, write_elements};
 use lane_arith::{Body, Copies, Lane};
 use rv_model::{GROUP_BYTES, Scalar, Source, VFile};
 
@@ -15,22 +16,25 @@ pub(crate) struct Move {
     pub source: Source,
 }
 
-impl ElementWise for Move {
-    ghost number = { λ o g file x. second_element g false o.source file x };
+impl Operation for Move {
+    ghost written = { λ o target g body file x.
+        with_elements g target body (second_element g false o.source file x) file };
 
-    ghost inside = { λ o emul. SourceIsInside o.source emul };
+    ghost inside = { λ o target g end. IsInside target.vd g.emul × SourceIsInside o.source g.emul };
 
+    #[inline(always)]
     fn write<L: Lane>(
         &self,
-        destination: Destination,
+        target: Target,
+        extent: Extent,
         body: &Body<'_>,
         file: &mut VFile,
         scalar: &Scalar,
     ) {
         let mut copy = [0; GROUP_BYTES];
-        let emul = destination.emul;
+        let emul = extent.emul;
         let operand = signed_operand(self.source, emul);
         let b = second_copy::<L>(operand, body.end(), file, scalar, &mut copy);
-        write_group::<L, Copies<'_>>(&Copies { b }, destination, body, file);
+        write_elements::<L, Copies<'_>>(&Copies { b }, target, extent, body, file);
     }
 }

@@ -12,7 +12,22 @@ ghost use mir.Val.{bits};
 
 use lane_arith::{Lane, SecondElements, fill};
 use reg_groups::{group, group_copy};
-use rv_model::{Field, GROUP_BYTES, Scalar, Source, VFile, VLENB};
+use rv_model::{Field, GROUP_BYTES, RoundingMode, Scalar, Source, VFile, VLENB, VReg};
+
+/// An operation on a group and a second operand.
+#[derive(Clone, Copy)]
+pub(crate) struct WithSources<O> {
+    pub op: O,
+    pub vs2: VReg,
+    pub source: Source,
+}
+
+/// An operation, and how it rounds.
+#[derive(Clone, Copy)]
+pub(crate) struct Rounded<O> {
+    pub op: O,
+    pub mode: RoundingMode,
+}
 
 /// The number of an immediate: as it is where it is unsigned, else sign-extended.
 pub(crate) fn immediate_value(unsigned: bool, imm: Field<5>) -> u64

@@ -1,7 +1,7 @@
 //! Slides and gathers, carried out ("V" Vector Extension 1.0, sections 16.3 and 16.4).
 ghost use Rattle.std.specs.Prelude.{◌≡◌, ◌*◌, ◌<◌, ◌≤◌, length};
-ghost use Rattle.rv_model.specs.elements.Arithmetic.{body_of, fills_masked_off, fills_tail, with_results};
-ghost use Rattle.rv_model.specs.vector.Groups.{element_count, group_type, lmul_eighths, width_bytes};
+ghost use Rattle.rv_model.specs.elements.Arithmetic.{fills_masked_off, fills_tail, with_results};
+ghost use Rattle.rv_model.specs.vector.Groups.{element_count, group_type, width_bytes};
 ghost use Rattle.rv_model.specs.elements.Elements.{element};
 ghost use Rattle.rv_model.specs.elements.PermutationResults.{
   index_of,
@@ -14,14 +14,14 @@ ghost use Rattle.rv_model.specs.elements.PermutationResults.{gathered};
 ghost use Rattle.rv_model.specs.lending.GroupBounds.{HasIndices, HoldsBody, IsInside};
 ghost use Rattle.vec_unit.specs.Results.{with_written};
 
-use crate::body::body_under;
-use crate::destination::{Destination, Target, agnostic_under, write_group};
-use crate::typed_operation::TypedOperation;
+use crate::destination::{Destination, Extent, Target, agnostic_under, write_group};
+use crate::operands::WithSources;
+use crate::operation::Operation;
 use lane_arith::{Body, Lane};
 use lane_permute::{Gather, GatherOne, SlideDown, SlideOneDown, SlideOneUp, SlideUp};
-use reg_groups::{group_copy_mut, mask_register, registers};
+use reg_groups::group_copy_mut;
 use rv_model::instructions::operations::PermuteOp;
-use rv_model::{GROUP_BYTES, Scalar, Sew, Source, VFile, VLENB, VReg, VState};
+use rv_model::{GROUP_BYTES, Scalar, Source, VFile};
 use std::marker::PhantomData;
 
 /// The scalar operand: all of `rs1`, or the immediate, which is unsigned.
@@ -83,17 +83,9 @@ impl<'a> GatherOperation<'a> {
     }
 }
 
-/// A slide or gather, and its sources.
-#[derive(Clone, Copy)]
-pub(crate) struct PermuteOperation {
-    pub op: PermuteOp,
-    pub vs2: VReg,
-    pub source: Source,
-}
-
-impl PermuteOperation {
+impl WithSources<PermuteOp> {
     /// Writes the results to a destination; `limit` is VLMAX.
-    fn write<L: Lane>(
+    fn move_elements<L: Lane>(
         &self,
         destination: Destination,
         limit: usize,
@@ -150,48 +142,31 @@ impl PermuteOperation {
     }
 }
 
-impl TypedOperation for PermuteOperation {
-    ghost inside = { λ o target state. IsInside o.vs2 (lmul_eighths target.vtype.lmul)
-        × HasIndices o.source (source_type o.op (group_type target.vtype)).width
-        (source_type o.op (group_type target.vtype)).emul state.conf.vl
-        × IsInside target.vd (lmul_eighths target.vtype.lmul) };
+impl Operation for WithSources<PermuteOp> {
+    ghost written = { λ o target g body file x. with_results g target.vd (permute_body o.op o.source x body)
+        (fills_masked_off target.policy target.vtype body) (fills_tail target.policy target.vtype body)
+        (permute_result g o.op body.end o.vs2 o.source file x) file };
 
-    ghost after = { λ o target state x. record state {
-      file =
-          with_results (group_type target.vtype) target.vd
-          (permute_body o.op o.source x (body_of target.unmasked state))
-          (fills_masked_off target.policy target.vtype (body_of target.unmasked state))
-          (fills_tail target.policy target.vtype (body_of target.unmasked state))
-          (permute_result (group_type target.vtype) o.op state.conf.vl o.vs2 o.source state.file x) state.file;
-      vstart = 0;
-    } };
+    ghost inside = { λ o target g end. IsInside target.vd g.emul × IsInside o.vs2 g.emul
+        × HasIndices o.source (source_type o.op g).width (source_type o.op g).emul end
+        × (g ≡ group_type target.vtype) };
 
-    /// On groups of the vector type.
-    #[tactic(auto, using(rv_model::proofs::legality_lemmas::Bounds::groups_hold_body))]
-    fn carry_out(&self, target: Target, state: &mut VState, scalar: &Scalar) {
-        let mask = mask_register(&state.file);
-        let body = body_under(target.unmasked, &mask, state);
-        let emul = u32::from(target.vtype.lmul.eighths());
-        let length = VLENB * registers(emul) as usize;
-        let agnostic = agnostic_under(target.policy, target.vtype, &body);
-        let limit = usize::from(target.vtype.vlmax());
-        let file = &mut state.file;
-        let destination = |count|
-            requires { IsInside target.vd emul }
-        {
-            Destination {
-                vd: target.vd,
-                emul,
-                count,
-                agnostic,
-            }
+    fn write<L: Lane>(
+        &self,
+        target: Target,
+        extent: Extent,
+        body: &Body<'_>,
+        file: &mut VFile,
+        scalar: &Scalar,
+    ) {
+        let vtype = target.vtype;
+        let limit = usize::from(vtype.vlmax());
+        let destination = Destination {
+            vd: target.vd,
+            emul: extent.emul,
+            count: extent.count,
+            agnostic: agnostic_under(target.policy, target.vtype, body),
         };
-        match target.vtype.sew {
-            Sew::E8 => self.write::<u8>(destination(length), limit, &body, file, scalar),
-            Sew::E16 => self.write::<u16>(destination(length / 2), limit, &body, file, scalar),
-            Sew::E32 => self.write::<u32>(destination(length / 4), limit, &body, file, scalar),
-            Sew::E64 => self.write::<u64>(destination(length / 8), limit, &body, file, scalar),
-        }
-        state.vstart = 0;
+        self.move_elements::<L>(destination, limit, body, file, scalar);
     }
 }

@@ -1,21 +1,20 @@
 //! Moves between a scalar register and element 0 of a vector register ("V" Vector Extension 1.0, section
 //! 16.1).
-ghost use Rattle.std.specs.Prelude.{◌≡◌, ◌%◌, ◌^◌, ◌<◌, ◌≤◌, length, true};
+ghost use Rattle.std.specs.Prelude.{◌≡◌, ◌%◌, ◌^◌, ◌<◌, ◌≤◌, ⊤, length};
 ghost use Rattle.std.specs.Int.{cast_signed, w64};
-ghost use Rattle.rv_model.specs.elements.Arithmetic.{body_of, fills_tail, with_first_result};
+ghost use Rattle.rv_model.specs.elements.Arithmetic.{fills_tail, with_first_result};
 ghost use Rattle.rv_model.specs.elements.Elements.{element};
 ghost use Rattle.rv_model.specs.elements.Formulas.{wrap};
 ghost use Rattle.rv_model.specs.elements.PermutationResults.{moved_to_scalar};
 ghost use Rattle.rv_model.specs.scalar.Registers.{read_register};
-ghost use Rattle.rv_model.specs.vector.Groups.{sew_bits, sew_width, width_bytes};
+ghost use Rattle.rv_model.specs.vector.Groups.{width_bytes};
 ghost use mir.Val.{bits};
 
-use crate::body::body_under;
-use crate::destination::Target;
+use crate::destination::{Extent, Target};
 use crate::first_element::write_first;
-use lane_arith::Lane;
-use reg_groups::mask_register;
-use rv_model::{Policy, Reg, Scalar, Sew, VFile, VReg, VState, VType};
+use crate::operation::Operation;
+use lane_arith::{Body, Lane};
+use rv_model::{Reg, Scalar, Sew, VFile, VReg, VType};
 
 /// Element 0 of a list of bytes, sign-extended to 64 bits.
 fn first_extended<L: Lane>(bytes: &[u8]) -> u64
@@ -40,34 +39,26 @@ pub(crate) fn scalar_of_first(vs2: VReg, vtype: VType, file: &VFile) -> u64
     }
 }
 
-/// Carries out a move of the low bits of `rs1` to element 0. The next instruction begins with the first
-/// element.
-pub(crate) fn carry_out_move_to_vector(
-    rs1: Reg,
-    vd: VReg,
-    vtype: VType,
-    policy: Policy,
-    state: &mut VState,
-    scalar: &Scalar,
-)
-    ensures { state.new ≡ record state.old {
-      file =
-          with_first_result (sew_width vtype.sew) vd (body_of true state.old)
-          (fills_tail policy vtype (body_of true state.old)) (read_register scalar.now rs1 % 2 ^ sew_bits vtype.sew)
-          state.old.file;
-      vstart = 0;
-    } }
-{
-    let mask = mask_register(&state.file);
-    let body = body_under(true, &mask, state);
-    let number = scalar.read(rs1);
-    let target = Target::new(vd, true, vtype, policy);
-    let file = &mut state.file;
-    match vtype.sew {
-        Sew::E8 => write_first(u8::low_bits(number), target, &body, file),
-        Sew::E16 => write_first(u16::low_bits(number), target, &body, file),
-        Sew::E32 => write_first(u32::low_bits(number), target, &body, file),
-        Sew::E64 => write_first(u64::low_bits(number), target, &body, file),
+/// A move of the low bits of `rs1` to element 0.
+#[derive(Clone, Copy)]
+pub(crate) struct MoveToVector {
+    pub rs1: Reg,
+}
+
+impl Operation for MoveToVector {
+    ghost written = { λ o target g body file x. with_first_result g.width target.vd body
+        (fills_tail target.policy target.vtype body) (read_register x o.rs1 % 2 ^ bits g.width) file };
+
+    ghost inside = { λ o target g end. ⊤ };
+
+    fn write<L: Lane>(
+        &self,
+        target: Target,
+        extent: Extent,
+        body: &Body<'_>,
+        file: &mut VFile,
+        scalar: &Scalar,
+    ) {
+        write_first(L::low_bits(scalar.read(self.rs1)), target, body, file);
     }
-    state.vstart = 0;
 }

@@ -1,13 +1,12 @@
-//! Instructions whose operands have two widths, carried out ("V" Vector Extension 1.0, sections 5.2, 11.2, 11.7,
-//! 11.12 and 11.14).
-ghost use Rattle.std.specs.Prelude.{◌≡◌, ◌*◌, ◌≤◌, List, length, ℕ};
+//! Instructions whose operands have two widths, and whose results may saturate, carried out ("V" Vector Extension
+//! 1.0, sections 3.9, 5.2, 11.2, 11.7, 11.12 and 11.14, and chapter 12).
+ghost use Rattle.std.specs.Prelude.{◌≡◌, ◌*◌, ◌≤◌, Bool, List, length, ℕ};
 ghost use Rattle.rv_model.specs.declared.scalar.Scalar.{Scalar as ScalarRegisters};
 ghost use Rattle.rv_model.specs.vector.Groups.{GroupType, group_type, lmul_eighths, sew_bits, vlmax};
-ghost use Rattle.rv_model.specs.vector.Groups.{width_bytes};
-ghost use Rattle.rv_model.specs.vector.Groups.{wide_type};
+ghost use Rattle.rv_model.specs.vector.Groups.{registers, wide_type, width_bytes};
 ghost use Rattle.rv_model.specs.lending.GroupBounds.{HasRoom, IsInside};
-ghost use Rattle.rv_model.specs.vector.Groups.{register_of, registers};
-ghost use Rattle.rv_model.specs.elements.Elements.{is_active};
+ghost use Rattle.rv_model.specs.elements.Arithmetic.{body_of};
+ghost use Rattle.rv_model.specs.elements.Elements.{Body as BodyOf, is_active};
 ghost use Rattle.rv_model.specs.lending.Writes.{Writes};
 ghost use Rattle.vec_unit.specs.Results.{carried_out};
 
@@ -17,18 +16,21 @@ use lane_arith::{Body, Lane};
 use reg_groups::{group_copy_mut, mask_register, put_group};
 use rv_model::{GROUP_BYTES, Scalar, Sew, VFile, VLENB, VState};
 
-/// An operation and its operands.
+/// An operation and its operands, of two widths or of one.
 pub(crate) trait TwoWidths {
     // The number for an element, by the types of the destination's groups and of the others, and what the registers
     // hold.
     ghost number: { Self → GroupType → GroupType → List ℕ → ScalarRegisters → ℕ → ℕ };
 
+    // Whether the exact number for an active element of a body is another.
+    ghost saturates: { Self → GroupType → GroupType → List ℕ → ScalarRegisters → BodyOf → Bool };
+
     // The operands lie inside the file, by the multipliers of the destination and of the others, in eighths of a
     // register.
     ghost inside: { Self → ℕ → ℕ → Type 0 };
 
-    /// Writes the results to a copy of the destination, with elements of the width of `D`; `O` is the other width. The
-    /// mask of the body is v0.
+    /// Writes the results to a copy of the destination, with elements of the width of `D`, and says whether an active
+    /// element saturates; `O` is the other width.
     fn write<D: Lane, O: Lane>(
         &self,
         groups: Groups,
@@ -36,15 +38,16 @@ pub(crate) trait TwoWidths {
         file: &VFile,
         scalar: &Scalar,
         made: &mut [u8],
-    )
+    ) -> bool
         requires operands { inside self.now groups.emul groups.other }
         requires room { HasRoom D.width groups.emul body.now.end }
         requires other_room { HasRoom O.width groups.other body.now.end }
-        requires mask { body.now.mask ≡ register_of file.now 0 }
         requires whole { length made.old ≡ VLENB * registers groups.emul }
-        ensures { Writes (width_bytes D.width) (is_active body.now)
+        ensures writes { Writes (width_bytes D.width) (is_active body.now)
             (number self.now (record { width = D.width; emul = groups.emul })
-            (record { width = O.width; emul = groups.other }) file.now scalar.now) made.old made.new };
+            (record { width = O.width; emul = groups.other }) file.now scalar.now) made.old made.new }
+        ensures saturated { result ≡ saturates self.now (record { width = D.width; emul = groups.emul })
+            (record { width = O.width; emul = groups.other }) file.now scalar.now body.now };
 }
 
 /// The multipliers of the destination's groups and of those of the other width, in eighths of a register.
@@ -54,9 +57,9 @@ pub(crate) struct Groups {
     pub other: u32,
 }
 
-/// Carries out an operation whose destination has elements of the width of `D`; `O` is the other width. The
-/// next instruction begins with the first element.
-pub(crate) fn carry_out<D: Lane, O: Lane, T: TwoWidths>(
+/// Performs an operation whose destination has elements of the width of `D`, and sets `vxsat` where an active
+/// element saturates; `O` is the other width.
+pub(crate) fn perform_at<D: Lane, O: Lane, T: TwoWidths>(
     operation: &T,
     groups: Groups,
     target: Target,
@@ -69,7 +72,10 @@ pub(crate) fn carry_out<D: Lane, O: Lane, T: TwoWidths>(
     requires other_room { HasRoom O.width groups.other state.old.conf.vl }
     ensures { state.new ≡ carried_out (record { width = D.width; emul = groups.emul }) target
         (T.number operation.now (record { width = D.width; emul = groups.emul })
-        (record { width = O.width; emul = groups.other }) state.old.file scalar.now) state.old }
+        (record { width = O.width; emul = groups.other }) state.old.file scalar.now)
+        (T.saturates operation.now (record { width = D.width; emul = groups.emul })
+        (record { width = O.width; emul = groups.other }) state.old.file scalar.now
+        (body_of target.unmasked state.old)) state.old }
 {
     let mask = mask_register(&state.file);
     let body = body_under(target.unmasked, &mask, state);
@@ -77,15 +83,14 @@ pub(crate) fn carry_out<D: Lane, O: Lane, T: TwoWidths>(
     let mut copy = [0; GROUP_BYTES];
     let made = group_copy_mut(&state.file, target.vd, groups.emul, &mut copy);
     fill_agnostic::<D>(agnostic, groups.emul, &body, made);
-    operation.write::<D, O>(groups, &body, &state.file, scalar, made);
+    let saturated = operation.write::<D, O>(groups, &body, &state.file, scalar, made);
     put_group(&mut state.file, target.vd, groups.emul, made);
-    state.vstart = 0;
+    state.vxsat = state.vxsat || saturated;
 }
 
-/// Carries out an operation whose destination has twice the vector type's width. The next instruction begins
-/// with the first element.
+/// Performs an operation whose destination has twice the vector type's width.
 #[tactic(auto, using(crate::proofs::LegalGroups::wide_groups))]
-pub(crate) fn carry_out_widening<T: TwoWidths>(
+pub(crate) fn perform_widening<T: TwoWidths>(
     operation: &T,
     target: Target,
     state: &mut VState,
@@ -98,23 +103,23 @@ pub(crate) fn carry_out_widening<T: TwoWidths>(
     requires length { state.old.conf.vl ≤ vlmax target.vtype }
     ensures { state.new ≡ carried_out (wide_type target.vtype) target
         (T.number operation.now (wide_type target.vtype) (group_type target.vtype) state.old.file scalar.now)
-        state.old }
+        (T.saturates operation.now (wide_type target.vtype) (group_type target.vtype) state.old.file scalar.now
+        (body_of target.unmasked state.old)) state.old }
 {
     let other = u32::from(target.vtype.lmul.eighths());
     let emul = 2 * other;
     let groups = Groups { emul, other };
     match target.vtype.sew {
-        Sew::E8 => carry_out::<u16, u8, T>(operation, groups, target, state, scalar),
-        Sew::E16 => carry_out::<u32, u16, T>(operation, groups, target, state, scalar),
-        Sew::E32 => carry_out::<u64, u32, T>(operation, groups, target, state, scalar),
+        Sew::E8 => perform_at::<u16, u8, T>(operation, groups, target, state, scalar),
+        Sew::E16 => perform_at::<u32, u16, T>(operation, groups, target, state, scalar),
+        Sew::E32 => perform_at::<u64, u32, T>(operation, groups, target, state, scalar),
         Sew::E64 => unreachable!(),
     }
 }
 
-/// Carries out an operation with a source of twice the vector type's width. The next instruction begins with
-/// the first element.
+/// Performs an operation with a source of twice the vector type's width.
 #[tactic(auto, using(crate::proofs::LegalGroups::wide_groups))]
-pub(crate) fn carry_out_narrowing<T: TwoWidths>(
+pub(crate) fn perform_narrowing<T: TwoWidths>(
     operation: &T,
     target: Target,
     state: &mut VState,
@@ -127,15 +132,42 @@ pub(crate) fn carry_out_narrowing<T: TwoWidths>(
     requires length { state.old.conf.vl ≤ vlmax target.vtype }
     ensures { state.new ≡ carried_out (group_type target.vtype) target
         (T.number operation.now (group_type target.vtype) (wide_type target.vtype) state.old.file scalar.now)
-        state.old }
+        (T.saturates operation.now (group_type target.vtype) (wide_type target.vtype) state.old.file scalar.now
+        (body_of target.unmasked state.old)) state.old }
 {
     let emul = u32::from(target.vtype.lmul.eighths());
     let other = 2 * emul;
     let groups = Groups { emul, other };
     match target.vtype.sew {
-        Sew::E8 => carry_out::<u8, u16, T>(operation, groups, target, state, scalar),
-        Sew::E16 => carry_out::<u16, u32, T>(operation, groups, target, state, scalar),
-        Sew::E32 => carry_out::<u32, u64, T>(operation, groups, target, state, scalar),
+        Sew::E8 => perform_at::<u8, u16, T>(operation, groups, target, state, scalar),
+        Sew::E16 => perform_at::<u16, u32, T>(operation, groups, target, state, scalar),
+        Sew::E32 => perform_at::<u32, u64, T>(operation, groups, target, state, scalar),
         Sew::E64 => unreachable!(),
+    }
+}
+
+/// Performs an operation on groups of the vector type.
+#[tactic(auto, using(crate::proofs::LegalGroups::wide_groups))]
+pub(crate) fn perform_single<T: TwoWidths>(
+    operation: &T,
+    target: Target,
+    state: &mut VState,
+    scalar: &Scalar,
+)
+    requires operands { T.inside operation.now (lmul_eighths target.vtype.lmul) (lmul_eighths target.vtype.lmul) }
+    requires destination { IsInside target.vd (lmul_eighths target.vtype.lmul) }
+    requires length { state.old.conf.vl ≤ vlmax target.vtype }
+    ensures { state.new ≡ carried_out (group_type target.vtype) target
+        (T.number operation.now (group_type target.vtype) (group_type target.vtype) state.old.file scalar.now)
+        (T.saturates operation.now (group_type target.vtype) (group_type target.vtype) state.old.file scalar.now
+        (body_of target.unmasked state.old)) state.old }
+{
+    let emul = u32::from(target.vtype.lmul.eighths());
+    let groups = Groups { emul, other: emul };
+    match target.vtype.sew {
+        Sew::E8 => perform_at::<u8, u8, T>(operation, groups, target, state, scalar),
+        Sew::E16 => perform_at::<u16, u16, T>(operation, groups, target, state, scalar),
+        Sew::E32 => perform_at::<u32, u32, T>(operation, groups, target, state, scalar),
+        Sew::E64 => perform_at::<u64, u64, T>(operation, groups, target, state, scalar),
     }
 }

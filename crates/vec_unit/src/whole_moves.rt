@@ -46,10 +46,9 @@ impl WholeMoveOperation {
     }
 }
 
-/// Carries out a move of whole registers, of elements of SEW, whatever `vl` is. The next instruction begins
-/// with the first element.
+/// Performs a move of whole registers, of elements of SEW, whatever `vl` is.
 #[tactic(auto, using(rv_model::proofs::legality_lemmas::Moves::whole_groups_hold_body))]
-pub(crate) fn carry_out_whole_move(
+pub(crate) fn perform_whole_move(
     count: RegisterCount,
     vd: VReg,
     vs2: VReg,
@@ -62,7 +61,6 @@ pub(crate) fn carry_out_whole_move(
       file =
           with_results (whole_type vtype count) vd (whole_body (whole_type vtype count) state.old) false false
           (group_element (whole_type vtype count) state.old.file vs2) state.old.file;
-      vstart = 0;
     } }
 {
     let registers = register_count(count);
@@ -77,5 +75,4 @@ pub(crate) fn carry_out_whole_move(
         Sew::E32 => operation.write::<u32>(start, length / 4, file),
         Sew::E64 => operation.write::<u64>(start, length / 8, file),
     }
-    state.vstart = 0;
 }

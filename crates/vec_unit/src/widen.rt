@@ -1,27 +1,19 @@
 //! Operations whose result has twice the width of an operand ("V" Vector Extension 1.0, sections 11.2, 11.12
 //! and 11.14).
-ghost use Rattle.std.specs.Prelude.{◌≡◌, ◌*◌, ◌<◌, get_or, length};
+ghost use Rattle.std.specs.Prelude.{◌≡◌, ◌*◌, ◌<◌, false, get_or, length};
 ghost use Rattle.rv_model.specs.elements.Arithmetic.{wide_source_result, widen_multiply_add_result, widen_result};
 ghost use Rattle.rv_model.specs.lending.GroupBounds.{HasRoom, IsInside, SourceIsInside};
 ghost use Rattle.rv_model.specs.lending.Writes.{Writes};
 ghost use Rattle.rv_model.specs.elements.Elements.{is_active};
 ghost use Rattle.rv_model.specs.vector.Groups.{width_bytes, registers};
 
-use crate::operands::{second_elements, second_in_place, signed_operand};
+use crate::operands::{WithSources, second_elements, second_in_place, signed_operand};
 use crate::two_widths::{Groups, TwoWidths};
 use lane_arith::{Body, Lane, WideSource, Widen, WidenMultiplyAdd, write_results};
 use reg_groups::group;
 use rv_model::instructions::operations::{WideSourceOp, WidenMultiplyAddOp, WidenOp};
 use rv_model::{GROUP_BYTES, Scalar, Source, VFile, VLENB, VReg};
 use std::marker::PhantomData;
-
-/// An operation and its sources.
-#[derive(Clone, Copy)]
-pub(crate) struct WidenOperation {
-    pub op: WidenOp,
-    pub vs2: VReg,
-    pub source: Source,
-}
 
 /// The operations, by the numbers that their loops are compiled for.
 const OPERATIONS: [WidenOp; 7] = [
@@ -36,7 +28,7 @@ const OPERATIONS: [WidenOp; 7] = [
 
 /// Writes the results of one operation on these sources: its loop tests neither which it is nor whether it is masked.
 fn write_one<D: Lane, O: Lane, const NUMBER: usize>(
-    sources: &WidenOperation,
+    sources: &WithSources<WidenOp>,
     groups: Groups,
     body: &Body<'_>,
     file: &VFile,
@@ -64,8 +56,10 @@ fn write_one<D: Lane, O: Lane, const NUMBER: usize>(
     write_results::<D, Widen<'_, O>>(&results, &body, made, false);
 }
 
-impl TwoWidths for WidenOperation {
+impl TwoWidths for WithSources<WidenOp> {
     ghost number = { λ o wide narrow file x. widen_result narrow wide o.op o.vs2 o.source file x };
+
+    ghost saturates = { λ o wide narrow file x body. false };
 
     ghost inside = { λ o wide narrow. IsInside o.vs2 narrow × SourceIsInside o.source narrow };
 
@@ -76,7 +70,7 @@ impl TwoWidths for WidenOperation {
         file: &VFile,
         scalar: &Scalar,
         made: &mut [u8],
-    ) {
+    ) -> bool {
         match self.op {
             WidenOp::Vwaddu => write_one::<D, O, 0>(self, groups, body, file, scalar, made),
             WidenOp::Vwadd => write_one::<D, O, 1>(self, groups, body, file, scalar, made),
@@ -86,19 +80,14 @@ impl TwoWidths for WidenOperation {
             WidenOp::Vwmulsu => write_one::<D, O, 5>(self, groups, body, file, scalar, made),
             WidenOp::Vwmul => write_one::<D, O, 6>(self, groups, body, file, scalar, made),
         }
+        false
     }
 }
 
-/// An operation and its sources, of which the first has twice the width.
-#[derive(Clone, Copy)]
-pub(crate) struct WideSourceOperation {
-    pub op: WideSourceOp,
-    pub vs2: VReg,
-    pub source: Source,
-}
-
-impl TwoWidths for WideSourceOperation {
+impl TwoWidths for WithSources<WideSourceOp> {
     ghost number = { λ o wide narrow file x. wide_source_result narrow wide o.op o.vs2 o.source file x };
+
+    ghost saturates = { λ o wide narrow file x body. false };
 
     ghost inside = { λ o wide narrow. IsInside o.vs2 wide × SourceIsInside o.source narrow };
 
@@ -109,7 +98,7 @@ impl TwoWidths for WideSourceOperation {
         file: &VFile,
         scalar: &Scalar,
         made: &mut [u8],
-    ) {
+    ) -> bool {
         let mut copies = [0; GROUP_BYTES];
         let operand = signed_operand(self.source, groups.other);
         let results = WideSource::<'_, O> {
@@ -119,6 +108,7 @@ impl TwoWidths for WideSourceOperation {
             element: PhantomData,
         };
         write_results::<D, WideSource<'_, O>>(&results, body, made, false);
+        false
     }
 }
 
@@ -148,6 +138,8 @@ impl WidenMultiplyAddOperation {
 impl TwoWidths for WidenMultiplyAddOperation {
     ghost number = { λ o wide narrow file x. widen_multiply_add_result narrow wide o.op o.vd o.vs2 o.source file x };
 
+    ghost saturates = { λ o wide narrow file x body. false };
+
     ghost inside = { λ o wide narrow. IsInside o.vd wide × IsInside o.vs2 narrow × SourceIsInside o.source narrow };
 
     fn write<D: Lane, O: Lane>(
@@ -157,7 +149,7 @@ impl TwoWidths for WidenMultiplyAddOperation {
         file: &VFile,
         scalar: &Scalar,
         made: &mut [u8],
-    ) {
+    ) -> bool {
         let mut copies = [0; GROUP_BYTES];
         let operand = signed_operand(self.source, groups.other);
         let results = WidenMultiplyAdd::<'_, O> {
@@ -168,5 +160,6 @@ impl TwoWidths for WidenMultiplyAddOperation {
             element: PhantomData,
         };
         write_results::<D, WidenMultiplyAdd<'_, O>>(&results, body, made, false);
+        false
     }
 }

@@ -1,4 +1,4 @@
-use Rattle.std.proofs.Common.{◌∙◌, List, ap, refl, ℕ}
+use Rattle.std.proofs.Common.{◌∙◌, ap, refl}
 use Rattle.rv_model.specs.vector.Groups.{register_of, with_group}
 use Rattle.rv_model.proofs.element_lemmas.Arithmetic.{mask_results_are}
 use Rattle.vec_unit.proofs.mask_wise.set_mask.Goals as goal
@@ -6,7 +6,5 @@ use Rattle.vec_unit.proofs.mask_wise.set_mask.Goals as goal
 pub returns : goal.returns
 unfolding register_of
 returns c = λ body bit was.
-    let state = c.args.state.now in
-    ap (λ (file : List ℕ). record state { file = file; vstart = 0 })
-    (ap (with_group state.file c.args.vd) c.copy_from_slice.ensures.after
-    ∙ mask_results_are c.args.vd body bit bit state.file c.args.mask.now (λ i h. refl) was)
+    ap (with_group c.args.file.now c.args.vd) c.copy_from_slice.ensures.after
+    ∙ mask_results_are c.args.vd body bit bit c.args.file.now c.args.mask.now (λ i h. refl) was

@@ -6,8 +6,8 @@ use Rattle.rv_model.specs.elements.Formulas.{ones, extend_formula, wrap}
 use Rattle.vec_unit.proofs.MadeResults.{active_written}
 use Rattle.vec_unit.proofs.extend.ExtendOperationTwoWidths.write.Goals as goal
 
-pub returns : goal.returns
-returns g c =
+pub returns-clause-writes : goal.returns-clause-writes
+returns-clause-writes g c =
     let t : GroupType = record { width = g.D.Lane.width; emul = c.args.groups.emul } in
     let u : GroupType = record { width = g.O.Lane.width; emul = c.args.groups.other } in
     let o = c.args.self.now in
