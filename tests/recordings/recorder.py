@@ -47,13 +47,16 @@ def built_recorder() -> pathlib.Path:
     return pathlib.Path(named or beside).absolute()
 
 
-def record(folder: pathlib.Path, *words: object, more: Sequence[int] = ()) -> Recorded:
-    """Runs the recorder in a folder with `--counts counts` before other words. `more`: descriptors that it is given."""
-    counts = folder / "counts"
-    counts.unlink(missing_ok=True)
-    command = [str(built_recorder()), "--counts", "counts", *map(str, words)]
+def record(folder: pathlib.Path, *words: object, more: Sequence[int] = (), counts: bool = True) -> Recorded:
+    """Runs the recorder in a folder with `--counts counts` before other words, or without.
+
+    more: descriptors that it is given
+    """
+    file = folder / "counts"
+    file.unlink(missing_ok=True)
+    command = [str(built_recorder()), *(["--counts", "counts"] if counts else []), *map(str, words)]
     ran = subprocess.run(command, cwd=folder, capture_output=True, check=False, pass_fds=more)
-    told = counts.read_text("ascii") if counts.exists() else ""
+    told = file.read_text("ascii") if file.exists() else ""
     return Recorded(ran.stdout, ran.stderr.decode(), ran.returncode, told)
 
 

@@ -2,7 +2,8 @@
 
 import pathlib
 from collections import Counter
-from dataclasses import replace
+from collections.abc import Sequence
+from dataclasses import dataclass, replace
 
 from tests.recordings.recorder import Counts
 from vecmon_lab.guest.changes import Carried, Stepper
@@ -37,6 +38,39 @@ def stepped(image: pathlib.Path, policy: str = "keep", most: int | None = None) 
         end = end or f"running pc={guest.pc:016x}"
         ticks = sum(numbers[1] for numbers in words.values())
         return Counts(words, lengths, calls, end, instructions, ticks), guest.output()
+
+
+@dataclass(frozen=True)
+class Place:
+    """A place in memory, of some bytes."""
+
+    address: int
+    length: int
+
+
+def stepped_changes(image: pathlib.Path, places: Sequence[Place], most: int) -> tuple[int, list[str]]:
+    """The ticks of an image until it stops, or until so many instructions; and the lines of what changed in places.
+
+    The places are looked at after each step.
+    """
+    lines = list[str]()
+    ticks = 0
+    with started(image) as guest:
+        stepper = Stepper(guest)
+        held = [guest.peek(place.address, place.length) for place in places]
+        for number in range(1, most + 1):
+            found, v0 = stepper.registers.control, bytes(stepper.registers.v[:REGISTER_BYTES])
+            carried = stepper.step()
+            ticks += _numbers(carried, found, stepper.registers.control.vl, v0)[0][1]
+            for index, place in enumerate(places):
+                now = guest.peek(place.address, place.length)
+                if now != held[index]:
+                    change = f"{place.address:016x} {held[index].hex()} {now.hex()}"
+                    lines.append(f"{number} {ticks} {carried.pc:016x} {change}")
+                held[index] = now
+            if carried.stop:
+                break
+        return ticks, lines
 
 
 def _numbers(carried: Carried, found: ControlRegisters, vl: int, v0: bytes) -> tuple[tuple[int, ...], bool]:

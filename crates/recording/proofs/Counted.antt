@@ -13,11 +13,11 @@ use Rattle.recording.specs.declared.class.Class.TheVariants.{Plain}
 use Rattle.recording.specs.declared.found.Found.{Found}
 use Rattle.recording.specs.declared.found.Left.{Left}
 use Rattle.recording.specs.declared.key.Key.TheVariants.{Word}
-use Rattle.recording.specs.Found.{Finds, both_of, counted_by, ran_by}
+use Rattle.recording.specs.Found.{Finds, IsRowFor, both_of, counted_by, ran_by}
 use Rattle.recording.specs.Runs.{carried_out, counted, is_counted, key_beside, once_more, share, word_of}
-use Rattle.recording.specs.Sums.{HasMore, Key, Row, Sums, more_of, no_more, plain}
+use Rattle.recording.specs.Sums.{HasMore, IsRowOf, Key, Row, Sums, more_of, no_more, plain}
 use Rattle.recording.proofs.Actives.{all_are_active, no_elements}
-use Rattle.recording.proofs.TableTotals.{composed, none_more}
+use Rattle.recording.specs.CountLaws.{composed, none_more}
 
 -- ---- in its row, and beside it
 
@@ -123,3 +123,21 @@ share_by found s next word k left old new is class made conf pc word_is more =
     HasMore (counted left.end (Word s.scalar.pc word) (carried_out left.ticks (body found.class found.mask found.start d) (tail_end found.class d)) (key_beside found.class found.conf found.pc next.scalar.pc)) old new) conf
     (subst (λ (p : ℕ).
     HasMore (counted left.end (Word s.scalar.pc word) (carried_out left.ticks (body found.class found.mask found.start left.conf) (tail_end found.class left.conf)) (key_beside found.class found.conf found.pc p)) old new) pc more))
+
+-- ---- by what was noted
+
+pub row_for : (s : HartState) (word index : ℕ) (found : Found) (k : Class) (rows : List Row) → (can_access Fetch s.memory s.scalar.pc 4 ≡ true → word ≡ word_of s)
+    → IsRowOf (Word s.scalar.pc word) index rows → Finds k s.scalar.pc s.vector found → k ≡ class_of (scan table word) → IsRowFor s index found rows
+row_for s word index found k rows word_is row finds class =
+    record {
+      word = word;
+      word_is = word_is;
+      row = row;
+      finds = subst (λ (j : Class). Finds j s.scalar.pc s.vector found) class finds;
+    }
+
+pub share_noted : (s next : HartState) (left : Left) (index : ℕ) (found : Found) (old new : List Row) (noted : IsRowFor s index found old) → step 256 s ≡ ends_after left.ticks left.end next
+    → left.pc ≡ next.scalar.pc → left.conf ≡ next.vector.conf
+    → HasMore (counted_by found left (Word s.scalar.pc noted.word)) old new → HasMore (share s) old new
+share_noted s next left index found old new noted made pc conf more =
+    share_by found s next noted.word (class_of (scan table noted.word)) left old new noted.finds refl made conf pc noted.word_is more

@@ -2,15 +2,12 @@
 use Rattle.std.proofs.Common.{◌≡◌, refl, ℕ, suc, zero, ◌-◌, Bool, true, false, List, [], ◌∷◌, ◌++◌, is_none, ap, ◌∙◌, sym, subst, append-nil, append_assoc, flat_map, take, drop, arith}
 use Rattle.std.proofs.lemmas.List.{take-append-drop}
 use Rattle.std.proofs.lemmas.List.Concat.{flat_map-append}
-use Rattle.std.proofs.lemmas.List.Sums.{sum_by_push}
 use Rattle.rv_model.specs.declared.step.step_end.StepEnd.{StepEnd}
 use Rattle.rv_model.specs.machine.UserMachine.{stop_of}
 use Rattle.rv_model.specs.step.Hart.{HartState, Stepped, ends_after}
 use Rattle.rv_model.specs.step.Step.{step}
 use Rattle.recording.specs.Machines.{Advances, taken}
-use Rattle.recording.specs.Runs.{Run, TakesFirst, all_of, begins, put_out, run, stays}
-use Rattle.recording.specs.Sums.{HasMore, Key, Row, Sums}
-use Rattle.recording.proofs.TableTotals.{composed, none_more}
+use Rattle.recording.specs.Runs.{Run, TakesFirst, begins, put_out, run, stays}
 
 -- ---- no instruction is carried out, without fuel or ticks
 
@@ -56,41 +53,42 @@ run_begins k left n m s fuel some =
 
 -- ---- the states so far
 
--- what the loop has seen of a run, what is still to come, and what was counted of what it has seen
-pub record SoFar (counts : HartState → (Sums → ℕ) → (Key → Bool) → ℕ) (all rest : Run) (seen : List HartState) (old new : List Row) : Type 0 where
+-- what the loop has seen of a run, what is still to come, and that what it has seen was recorded
+pub record SoFar {R : Type 0} (Recorded : R → List HartState → R → Type 0) (all rest : Run) (seen : List HartState) (old new : R) : Type 0 where
   pub found : seen ++ rest.found ≡ all.found
   pub state : rest.state ≡ all.state
   pub end : rest.end ≡ all.end
-  pub rows : HasMore (all_of counts seen) old new
+  pub recorded : Recorded old seen new
 
-pub nothing_yet : (counts : HartState → (Sums → ℕ) → (Key → Bool) → ℕ) (k n : ℕ) (s : HartState) (rows : List Row) → k ≡ n → SoFar counts (run n n s) (run k n s) [] rows rows
-nothing_yet counts k n s rows same =
+pub nothing_yet : {R : Type 0} (Recorded : R → List HartState → R → Type 0) (k n : ℕ) (s : HartState) (old : R) → k ≡ n → Recorded old [] old → SoFar Recorded (run n n s) (run k n s) [] old old
+nothing_yet Recorded k n s old same none =
     let e : run k n s ≡ run n n s = ap (λ (f : ℕ). run f n s) same in
     record {
       found = ap (λ (r : Run). r.found) e;
       state = ap (λ (r : Run). r.state) e;
       end = ap (λ (r : Run). r.end) e;
-      rows = none_more rows;
+      recorded = none;
     }
 
 -- one instruction more
-pub one_more : (counts : HartState → (Sums → ℕ) → (Key → Bool) → ℕ) (all now rest : Run) (seen : List HartState) (s : HartState) (old mid new : List Row) → now ≡ record { found = s ∷ rest.found; state = rest.state; end = rest.end }
-    → HasMore (counts s) mid new → SoFar counts all now seen old mid → SoFar counts all rest (seen ++ s ∷ []) old new
-one_more counts all now rest seen s old mid new is more so_far =
+pub one_more : {R : Type 0} (Recorded : R → List HartState → R → Type 0) → ((a b c : R) (xs ys : List HartState) → Recorded a xs b → Recorded b ys c → Recorded a (xs ++ ys) c)
+    → (all now rest : Run) (seen : List HartState) (s : HartState) (old mid new : R) → now ≡ record { found = s ∷ rest.found; state = rest.state; end = rest.end }
+    → Recorded mid (s ∷ []) new → SoFar Recorded all now seen old mid → SoFar Recorded all rest (seen ++ s ∷ []) old new
+one_more Recorded recorded_more all now rest seen s old mid new is more so_far =
     record {
       found = append_assoc seen (s ∷ []) rest.found ∙ ap (λ (r : Run). seen ++ r.found) (sym is) ∙ so_far.found;
       state = ap (λ (r : Run). r.state) (sym is) ∙ so_far.state;
       end = ap (λ (r : Run). r.end) (sym is) ∙ so_far.end;
-      rows = composed (all_of counts seen) (counts s) (all_of counts (seen ++ s ∷ [])) old mid new (λ number asked. sym (sum_by_push (λ (x : HartState). counts x number asked) seen s)) so_far.rows more;
+      recorded = recorded_more old mid new seen (s ∷ []) so_far.recorded more;
     }
 
 -- nothing is still to come
-module _ (counts : HartState → (Sums → ℕ) → (Key → Bool) → ℕ) (all rest : Run) (seen : List HartState) (old new : List Row) (so_far : SoFar counts all rest seen old new) (none : rest.found ≡ []) where
+module _ {R : Type 0} (Recorded : R → List HartState → R → Type 0) (all rest : Run) (seen : List HartState) (old new : R) (so_far : SoFar Recorded all rest seen old new) (none : rest.found ≡ []) where
   all_seen : seen ≡ all.found
   all_seen = sym (append-nil seen) ∙ ap (λ (l : List HartState). seen ++ l) (sym none) ∙ so_far.found
 
-  pub all_counted : HasMore (all_of counts all.found) old new
-  all_counted = subst (λ (l : List HartState). HasMore (all_of counts l) old new) all_seen so_far.rows
+  pub all_recorded : Recorded old all.found new
+  all_recorded = subst (λ (l : List HartState). Recorded old l new) all_seen so_far.recorded
 
   pub all_put_out : flat_map put_out seen ≡ flat_map put_out all.found
   all_put_out = ap (λ (l : List HartState). flat_map put_out l) all_seen

@@ -1,6 +1,9 @@
 pub mod Classes
+pub mod CountLaws
 pub mod Found
 pub mod Laws
 pub mod Machines
 pub mod Runs
 pub mod Sums
+pub mod TotalLaws
+pub mod Totals

@@ -1,8 +1,7 @@
 -- What is counted of instructions, and the table of it: a row for each key.
-use Rattle.std.specs.Prelude.{ℕ, ◌≡◌, ◌<◌, ◌+◌, ◌%◌, ◌^◌, Bool, true, false, List, length, get_or, Some, if◌then◌else◌}
+use Rattle.std.specs.Prelude.{ℕ, ◌≡◌, ◌<◌, ◌+◌, ◌%◌, ◌^◌, Bool, true, false, List, length, get_or, if◌then◌else◌}
 use Rattle.std.specs.Int.{w64}
 use Rattle.std.specs.List.{sum_by}
-use Rattle.std.specs.Option.{option_map_or}
 use Rattle.rv_model.specs.scalar.Arithmetic.{sum}
 pub use Rattle.recording.specs.declared.key.Key.{Key}
 use Rattle.recording.specs.declared.key.Key.TheVariants.{Word}
@@ -42,7 +41,7 @@ pub record OfEach (Holds : (Sums → ℕ) → Type 0) : Type 0 where
 
 -- a number of a row, if its key is asked for
 abbrev pub part_of : (Sums → ℕ) → (Key → Bool) → Row → ℕ
-part_of number asked row = option_map_or (λ key. if asked key then number row.sums else 0) row.key 0
+part_of number asked row = if asked row.key then number row.sums else 0
 
 -- what the rows have whose keys are asked for
 abbrev pub total : (Sums → ℕ) → (Key → Bool) → List Row → ℕ
@@ -57,10 +56,6 @@ abbrev pub is_word : Key → Bool
 is_word (Word pc word) = true
 is_word _ = false
 
--- The rows have nothing of any key.
-abbrev pub HasNothing : List Row → Type 0
-HasNothing rows = (number : Sums → ℕ) (asked : Key → Bool) → total number asked rows ≡ 0
-
 -- no more of any
 abbrev pub no_more : (Sums → ℕ) → (Key → Bool) → ℕ
 no_more number asked = 0
@@ -72,4 +67,4 @@ more_of key sums number asked = if asked key then number sums else 0
 -- The row with an index is of a key.
 pub record IsRowOf (key : Key) (index : ℕ) (rows : List Row) : Type 0 where
   pub there : index < length rows
-  pub of : (d : Row) → (get_or rows index d).key ≡ Some key
+  pub of : (d : Row) → (get_or rows index d).key ≡ key

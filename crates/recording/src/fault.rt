@@ -1,10 +1,14 @@
 //! Why a run can't be recorded.
 
-/// Why a run can't be counted to its end.
+/// Why a run can't be recorded to its end.
 #[derive(Debug, Drop)]
-pub enum CountFault {
-    /// The table has no row left.
+pub enum RecordFault {
+    /// The table of counts has no row left.
     TableFull,
+    /// A place that is watched has no memory.
+    NoPlace,
+    /// The changes can't be written.
+    Changes,
     /// The output can't be written.
     Output,
 }

@@ -1,27 +1,39 @@
-//! Runs of a machine of one user, counted or not.
+//! Runs of a machine of one user, recorded or not.
 #![tactic(auto)]
 
 mod alone;
+mod both;
+mod carried;
 mod class;
-mod counter;
 mod counting;
+mod counts;
 mod elements;
 mod fault;
 mod found;
 mod key;
 mod laws;
+mod nothing;
+mod recorder;
 mod row;
 mod rows;
-mod run;
+mod running;
+mod short_writes;
 mod sums;
 mod table;
 
 pub use alone::{Alone, OneSeat};
+pub use both::Both;
+pub use carried::Carried;
 pub use class::Class;
-pub use fault::CountFault;
+pub use counts::Counts;
+pub use fault::RecordFault;
 pub use key::Key;
 pub use laws::recording_laws;
+pub use nothing::Nothing;
+pub use recorder::Recorder;
 pub use row::Row;
-pub use rows::{ROWS, totals, unused_rows};
-pub use run::{count, run_uncounted};
+pub use rows::totals;
+pub use running::run;
+pub use short_writes::ShortWrites;
 pub use sums::Sums;
+pub use table::{ROWS, Table};

@@ -1,26 +1,10 @@
-//! Rows that are made, and summed up.
-ghost use Rattle.std.specs.Prelude.{◌≡◌, ◌%◌, ◌^◌, vec_len, IfOk};
-ghost use Rattle.recording.specs.Sums.{HasNothing, OfEach, is_word, part_of, total};
+//! Rows that are summed up.
+ghost use Rattle.std.specs.Prelude.{◌≡◌, ◌%◌, ◌^◌};
+ghost use Rattle.recording.specs.Sums.{OfEach, is_word, part_of, total};
 
 use crate::key::Key;
 use crate::row::Row;
 use crate::sums::Sums;
-use std::alloc::{AllocError, Allocator};
-
-/// So many rows as a run of that many different words, lengths and jumps takes: some 10 MB.
-pub const ROWS: usize = 1 << 17;
-
-/// So many rows that aren't used.
-pub fn unused_rows<A: Allocator>(alloc: A, count: usize) -> Result<Vec<Row, A>, AllocError>
-    ensures nothing { IfOk result (λ rows. HasNothing rows.items) }
-    ensures count { IfOk result (λ rows. vec_len rows ≡ count) }
-{
-    let mut rows = Vec::with_capacity(alloc, count)?;
-    for _ in 0..count {
-        rows.push(Row::unused())?;
-    }
-    Ok(rows)
-}
 
 /// Whether a key is a word's.
 fn is_word(key: Key) -> bool
@@ -36,9 +20,10 @@ fn is_word(key: Key) -> bool
 fn word_sums(row: &Row) -> Sums
     ensures { OfEach (λ number. number result ≡ part_of number is_word row.now) }
 {
-    match row.key {
-        Some(key) => { if is_word(key) { row.sums } else { Sums::none() } }
-        None => Sums::none(),
+    if is_word(row.key) {
+        row.sums
+    } else {
+        Sums::none()
     }
 }
 

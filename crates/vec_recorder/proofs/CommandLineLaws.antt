@@ -1,5 +1,5 @@
 -- What the program reads of clap's matches.
-use Rattle.std.proofs.Common.{◌≡◌, ◌∙◌, ap, sym, true, List, [], Option, Some, None, codes}
+use Rattle.std.proofs.Common.{◌≡◌, ◌∙◌, ap, sym, true, List, [], Option, Some, None}
 use Rattle.std.specs.Prelude.{unwrap_or, option_map}
 use Rattle.std.specs.Borrow.{Bor}
 use Rattle.std.specs.Option.{UnwrapsOrElse}
@@ -19,9 +19,9 @@ pub word_read : (m : ArgMatches) (words : List Text) (name : Text) → rows_of (
     → first_value (found_of m) name ≡ word_of name words
 word_read m words name rows = first_value-rows (found_of m) name ∙ ap (first_of name) rows
 
-pub memory_read : (m : ArgMatches) (words : List Text) → rows_of (found_of m) ≡ matches_of command_line words
-    → option_map raw_values (matched_of (found_of m) (codes "memory")) ≡ all_of (codes "memory") (matches_of command_line words)
-memory_read m words rows = raw_values-rows (found_of m) (codes "memory") ∙ ap (all_of (codes "memory")) rows
+pub words_read : (m : ArgMatches) (words : List Text) (name : Text) → rows_of (found_of m) ≡ matches_of command_line words
+    → option_map raw_values (matched_of (found_of m) name) ≡ all_of name (matches_of command_line words)
+words_read m words name rows = raw_values-rows (found_of m) name ∙ ap (all_of name) rows
 
 -- the words that were found, or none
 pub texts_in : (P : Bor (List (Bor Text)) → Type 0) (o : Option (Bor (List (Bor Text)))) (d : Bor (List (Bor Text))) (words : Option (List Text))

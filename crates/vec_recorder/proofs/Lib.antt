@@ -1,3 +1,4 @@
 mod CommandLineLaws
 mod MemoryWordLaws
 mod RunLaws
+mod WatchWordLaws

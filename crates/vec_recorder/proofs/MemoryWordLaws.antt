@@ -1,14 +1,13 @@
 -- Words of memory, divided at their first two colons.
 use Rattle.std.proofs.Common.{◌≡◌, ◌∙◌, ◌<◌, ◌+◌, ◌++◌, [], ◌∷◌, ℕ, List, ap, arith, false, length, refl, subst, sym, take, true}
-use Rattle.std.specs.Prelude.{nat_lt, None, Some}
+use Rattle.std.specs.Prelude.{None, Some}
 use Rattle.std.specs.Borrow.{Bor}
 use Rattle.std.specs.List.{AllZip, Any, after_first, before_first, position_or_len, slice_index_or}
 use Rattle.std.proofs.lemmas.Bool.Decides.{nat_tests}
 use Rattle.std.proofs.lemmas.List.{get_or-map, length-map, take_more}
 use Rattle.clap.specs.Walk.{Text, texts}
 use Rattle.rv_model.specs.commands.Arguments.{address, permissions}
-use Rattle.vec_recorder.specs.MemoryWords.{Parts, NamesNone, IsMemoryAt, IsMemoryOf, are_memory, has_colon, is_colon, parts_behind, parts_of}
-use Rattle.vec_recorder.specs.declared.memory_words.MemoryPath.{MemoryPath}
+use Rattle.vec_recorder.specs.MemoryWords.{Parts, NamesNone, are_memory, has_colon, is_colon, parts_behind, parts_of}
 
 no_colon : (word : Text) → position_or_len is_colon word ≡ length word → has_colon word ≡ false
 no_colon word is = grind (arith, nat_tests)
@@ -55,16 +54,16 @@ pub zip_next : {A B : Type 0} (R : A → B → Type 0) (xs : List A) (ys : List 
     → AllZip R (take (i + 1) xs) (ys ++ y ∷ [])
 zip_next R xs ys i d y lt all one = subst (λ zs. AllZip R zs (ys ++ y ∷ [])) (sym (take_more xs i d lt)) (zip_push R (take i xs) ys (slice_index_or xs i d) y all one)
 
-pub some_names_none : (words : List (Bor Text)) (k : ℕ) (d : Bor Text) → k < length words → NamesNone (slice_index_or words k d).now → Any NamesNone (texts words)
-some_names_none words k d lt none =
+pub some_holds : (P : Text → Type 0) (words : List (Bor Text)) (k : ℕ) (d : Bor Text) → k < length words → P (slice_index_or words k d).now → Any P (texts words)
+some_holds P words k d lt none =
     let text = (slice_index_or words k d).now in
     let at : slice_index_or (texts words) k text ≡ text = get_or-map (λ (word : Bor Text). word.now) words k d text lt in
     let counted : length (texts words) ≡ length words = grind (arith, length-map) in
     (k, text, omega arith, at, none)
 
--- where each word names memory, none names none
-pub zip_texts : (words : List (Bor Text)) (paths : List MemoryPath) → AllZip IsMemoryAt words paths → AllZip IsMemoryOf (texts words) paths
-zip_texts [] [] all = tt
-zip_texts [] (p ∷ ps) all = absurd all
-zip_texts (w ∷ ws) [] all = absurd all
-zip_texts (w ∷ ws) (p ∷ ps) all = (all.0, zip_texts ws ps all.1)
+-- where each word names something, each text does
+pub zip_texts : {B : Type 0} (R : Text → B → Type 0) (words : List (Bor Text)) (named : List B) → AllZip (λ word b. R word.now b) words named → AllZip R (texts words) named
+zip_texts R [] [] all = tt
+zip_texts R [] (b ∷ bs) all = absurd all
+zip_texts R (w ∷ ws) [] all = absurd all
+zip_texts R (w ∷ ws) (b ∷ bs) all = (all.0, zip_texts R ws bs all.1)

@@ -1,22 +1,34 @@
 -- The counts of a run that began with rows of nothing, and the files that it began with.
-use Rattle.std.proofs.Common.{◌≡◌, ◌∙◌, ◌<◌, ◌+◌, ◌++◌, [], ◌∷◌, ℕ, Bool, List, ap, append-nil, arith, codes, drop, length, refl, subst, sym, take, Option, flat_map}
-use Rattle.std.specs.Prelude.{IsPermutation, ◌%◌, ◌^◌}
-use Rattle.std.specs.List.{slice_index_or}
+use Rattle.std.proofs.Common.{◌≡◌, ◌∙◌, ◌<◌, ◌+◌, ◌++◌, [], ◌∷◌, ℕ, Bool, true, false, List, ap, ap₂, append-nil, arith, codes, drop, length, refl, subst, sym, take, Option, flat_map}
+use Rattle.std.specs.Prelude.{IsPermutation, ◌%◌, ◌^◌, if◌then◌else◌}
+use Rattle.std.specs.List.{slice_index_or, sum_by}
+use Rattle.std.proofs.lemmas.List.Sums.{sum_by-cons}
 use Rattle.std.proofs.lemmas.List.{drop_all, drop_more, take_more}
 use Rattle.std.proofs.lemmas.List.Concat.{flat_map-append}
 use Rattle.std.proofs.lemmas.List.Sorted.{sum_by-IsPermutation}
 use Rattle.clap.specs.Walk.{Text}
-use Rattle.recording.specs.Runs.{ran, shares}
-use Rattle.recording.specs.Sums.{HasMore, HasNothing, is_word, part_of, total}
+use Rattle.memory_changes.specs.Changes.{changes_from}
+use Rattle.memory_changes.specs.declared.place.Place.{Place}
+use Rattle.memory_changes.specs.Recorded.{IsRecorded}
+use Rattle.memory_changes.specs.declared.changes.Changes.{Changes}
+use Rattle.recording.specs.Classes.{class_of}
+use Rattle.recording.specs.Runs.{is_counted, key_beside, once_more, ran, share, shares, word_of as found_word}
+use Rattle.recording.specs.Sums.{HasMore, is_word, part_of, total}
+use Rattle.recording.specs.Totals.{AddsUp, counted_ticks, times_of}
+use Rattle.recording.specs.declared.class.Class.{Class}
+use Rattle.recording.specs.declared.class.Class.TheVariants as class
 use Rattle.recording.specs.declared.key.Key.{Key}
 use Rattle.recording.specs.declared.row.Row.{Row}
 use Rattle.recording.specs.declared.sums.Sums.{Sums}
 use Rattle.rv_model.specs.declared.step.step_end.StepEnd.{StepEnd}
+use Rattle.rv_model.specs.instructions.Table.{scan, table}
 use Rattle.rv_model.specs.memory.Memory.{Memory}
 use Rattle.rv_model.specs.step.Hart.{HartState}
+use Rattle.rv_model.specs.step.Step.{step}
+use Rattle.rv_model.specs.vector.Groups.{Configuration}
 use Rattle.vec_recorder.specs.Beginning.{ArePlaced}
 use Rattle.vec_recorder.specs.RecordLines.{last_line, row_line}
-use Rattle.vec_recorder.specs.CommandLine.{memory_words, word_of, words_fault}
+use Rattle.vec_recorder.specs.CommandLine.{memory_words, watch_words, word_of, words_fault}
 use Rattle.vec_recorder.specs.Recorded.{AreCountsOf, Recorded, RecordedBy, end_of}
 use Rattle.vec_recorder.specs.declared.memory_words.MemoryPath.{MemoryPath}
 
@@ -40,15 +52,15 @@ line_taken rows i row shown after before lt shown_is after_is empty at =
 -- ---- counts
 
 -- one number, in rows that were sorted
-counted_of : (found : List HartState) (old rows sorted : List Row) (number : Sums → ℕ) (asked : Key → Bool) → HasNothing old → IsPermutation rows sorted
+counted_of : (found : List HartState) (old rows sorted : List Row) (number : Sums → ℕ) (asked : Key → Bool) → old ≡ [] → IsPermutation rows sorted
     → total number asked rows % 2 ^ 64 ≡ (total number asked old + shares found number asked) % 2 ^ 64
     → total number asked sorted % 2 ^ 64 ≡ shares found number asked % 2 ^ 64
 counted_of found old rows sorted number asked nothing same more =
     let none : 0 + shares found number asked ≡ shares found number asked = omega arith in
     ap (λ n. n % 2 ^ 64) (sum_by-IsPermutation (part_of number asked) rows sorted same)
-    ∙ (more ∙ (ap (λ n. (n + shares found number asked) % 2 ^ 64) (nothing number asked) ∙ ap (λ n. n % 2 ^ 64) none))
+    ∙ (more ∙ (ap (λ them. (total number asked them + shares found number asked) % 2 ^ 64) nothing ∙ ap (λ n. n % 2 ^ 64) none))
 
-pub counted : (found : List HartState) (old rows sorted : List Row) → HasNothing old → HasMore (shares found) old rows → IsPermutation rows sorted → AreCountsOf found sorted
+pub counted : (found : List HartState) (old rows sorted : List Row) → old ≡ [] → HasMore (shares found) old rows → IsPermutation rows sorted → AreCountsOf found sorted
 counted found old rows sorted nothing more same = λ asked.
     let each = more asked in
     record {
@@ -69,6 +81,69 @@ end_is ticks s left rows end counts left_is stops =
     ∙ (ap (λ e. last_line (ran ticks s).state.scalar.pc e (total (λ sums. sums.times) is_word rows % 2 ^ 64) (total (λ sums. sums.ticks) is_word rows % 2 ^ 64)) stops
     ∙ (ap (λ n. last_line (ran ticks s).state.scalar.pc (ran ticks s).end n (total (λ sums. sums.ticks) is_word rows % 2 ^ 64)) words.times
     ∙ ap (λ n. last_line (ran ticks s).state.scalar.pc (ran ticks s).end (shares (ran ticks s).found (λ sums. sums.times) is_word % 2 ^ 64) n) words.ticks))
+
+-- the last line, by what the rows have together
+pub end_by_sums : (ticks times spent : ℕ) (s left : HartState) (rows : List Row) (end : Option StepEnd) → times ≡ total (λ sums. sums.times) is_word rows % 2 ^ 64
+    → spent ≡ total (λ sums. sums.ticks) is_word rows % 2 ^ 64 → AreCountsOf (ran ticks s).found rows → left ≡ (ran ticks s).state → end ≡ (ran ticks s).end
+    → last_line left.scalar.pc end times spent ≡ end_of ticks s
+end_by_sums ticks times spent s left rows end times_are ticks_are counts left_is stops =
+    ap (λ (n : ℕ). last_line left.scalar.pc end n spent) times_are
+    ∙ (ap (λ (n : ℕ). last_line left.scalar.pc end (total (λ sums. sums.times) is_word rows % 2 ^ 64) n) ticks_are
+    ∙ end_is ticks s left rows end counts left_is stops)
+
+-- ---- all instructions together
+
+-- what is counted beside a word is of no word
+none_beside : (number : Sums → ℕ) (k : Class) (c : Configuration) (pc target : ℕ) → once_more (key_beside k c pc target) number is_word ≡ 0
+none_beside number class.Plain c pc target = refl
+none_beside number class.Link c pc target = refl
+none_beside number _ c pc target = refl
+
+of_words : (counts : Bool) (n beside : ℕ) → beside ≡ 0 → (if counts then n + beside else 0) ≡ (if counts then n else 0)
+of_words true n beside none = omega (arith, none)
+of_words false n beside none = refl
+
+word_times : (s : HartState) → times_of s ≡ share s (λ sums. sums.times) is_word
+word_times s = sym (of_words (is_counted (step 256 s).end) _ _ (none_beside (λ sums. sums.times) (class_of (scan table (found_word s))) s.vector.conf s.scalar.pc (step 256 s).state.scalar.pc))
+
+word_ticks : (s : HartState) → counted_ticks s ≡ share s (λ sums. sums.ticks) is_word
+word_ticks s = sym (of_words (is_counted (step 256 s).end) _ _ (none_beside (λ sums. sums.ticks) (class_of (scan table (found_word s))) s.vector.conf s.scalar.pc (step 256 s).state.scalar.pc))
+
+same_sum : (f g : HartState → ℕ) → ((s : HartState) → f s ≡ g s) → (states : List HartState) → sum_by f states ≡ sum_by g states
+same_sum f g same [] = refl
+same_sum f g same (s ∷ states) =
+    sum_by-cons f s states ∙ (ap₂ (λ (a b : ℕ). a + b) (same s) (same_sum f g same states) ∙ sym (sum_by-cons g s states))
+
+wrapped : (n old sum all : ℕ) → n < 2 ^ 64 → old ≡ 0 → sum ≡ all → n % 2 ^ 64 ≡ (old + sum) % 2 ^ 64 → n ≡ all % 2 ^ 64
+wrapped n old sum all small none same is = omega (arith, small, none, same, is)
+
+-- the last line, by totals
+pub end_by_totals : (ticks times spent old_times old_spent : ℕ) (s left : HartState) (end : Option StepEnd) → times < 2 ^ 64 → spent < 2 ^ 64 → old_times ≡ 0 → old_spent ≡ 0
+    → AddsUp times_of old_times (ran ticks s).found times → AddsUp counted_ticks old_spent (ran ticks s).found spent
+    → left ≡ (ran ticks s).state → end ≡ (ran ticks s).end → last_line left.scalar.pc end times spent ≡ end_of ticks s
+end_by_totals ticks times spent old_times old_spent s left end few little no_times no_ticks times_are ticks_are left_is stops =
+    let all = (ran ticks s).found in
+    let one = wrapped times old_times (sum_by times_of all) (shares all (λ sums. sums.times) is_word) few no_times (same_sum _ _ word_times all) times_are in
+    let two = wrapped spent old_spent (sum_by counted_ticks all) (shares all (λ sums. sums.ticks) is_word) little no_ticks (same_sum _ _ word_ticks all) ticks_are in
+    ap (λ (h : HartState). last_line h.scalar.pc end times spent) left_is
+    ∙ (ap (λ e. last_line (ran ticks s).state.scalar.pc e times spent) stops
+    ∙ (ap (λ n. last_line (ran ticks s).state.scalar.pc (ran ticks s).end n spent) one
+    ∙ ap (λ n. last_line (ran ticks s).state.scalar.pc (ran ticks s).end (shares all (λ sums. sums.times) is_word % 2 ^ 64) n) two))
+
+-- ---- changes
+
+-- the lines of the changes, and then another
+pub changes_told : {F A : Type 0} (took : F → List ℕ → F → Type 0) → ((a b c : F) (xs ys : List ℕ) → took a xs b → took b ys c → took a (xs ++ ys) c)
+    → (first new : Changes F A) (file after : F) (places : List Place) (found : List HartState) (told last : List ℕ) → first.sink ≡ file → first.places.items ≡ places
+    → first.number ≡ 0 → first.ticks ≡ 0 → IsRecorded took first found new → told ≡ last → took new.sink told after → took file (changes_from places 0 0 found ++ last) after
+changes_told took more first new file after places found told last sink_is places_are number_is ticks_are recorded last_is end =
+    let lines : took first.sink (changes_from places 0 0 found) new.sink =
+    subst (λ (l : List ℕ). took first.sink l new.sink)
+    (ap (λ (them : List Place). changes_from them first.number first.ticks found) places_are
+    ∙ (ap (λ (n : ℕ). changes_from places n first.ticks found) number_is ∙ ap (λ (t : ℕ). changes_from places 0 t found) ticks_are))
+    recorded.lines in
+    subst (λ f. took f (changes_from places 0 0 found ++ last) after) sink_is
+    (more first.sink new.sink after (changes_from places 0 0 found) last lines (subst (λ (l : List ℕ). took new.sink l after) last_is end))
 
 -- ---- files of memory
 
@@ -93,18 +168,25 @@ none_left file_bytes memories m = rw (drop_all (length memories) memories (omega
 
 -- ---- from the options to the words
 
-pub recorded_by_words : {F : Type 0} (file_bytes : Text → Option (List ℕ)) (is_made : Text → F → Type 0) (took : F → List ℕ → F → Type 0) (put : List ℕ → Type 0) (words : List Text) (policy ticks : Option Text) (memory : List Text) (registers counts image : Option Text)
+pub recorded_by_words : {F : Type 0} (file_bytes : Text → Option (List ℕ)) (is_made : Text → F → Type 0) (took : F → List ℕ → F → Type 0) (put : List ℕ → Type 0) (words : List Text) (policy ticks : Option Text) (memory : List Text) (registers counts : Option Text) (watch : List Text) (changes image : Option Text)
     → words_fault words ≡ [] → policy ≡ word_of (codes "policy") words → ticks ≡ word_of (codes "ticks") words → memory ≡ memory_words words
-    → registers ≡ word_of (codes "registers") words → counts ≡ word_of (codes "counts") words → image ≡ word_of (codes "image") words
-    → RecordedBy file_bytes is_made took put policy ticks memory registers counts image → Recorded file_bytes is_made took words put
-recorded_by_words file_bytes is_made took put words policy ticks memory registers counts image accepted policy_is ticks_are memory_is registers_are counts_are image_is run =
+    → registers ≡ word_of (codes "registers") words → counts ≡ word_of (codes "counts") words → watch ≡ watch_words words → changes ≡ word_of (codes "changes") words
+    → image ≡ word_of (codes "image") words
+    → RecordedBy file_bytes is_made took put policy ticks memory registers counts watch changes image → Recorded file_bytes is_made took words put
+recorded_by_words file_bytes is_made took put words policy ticks memory registers counts watch changes image accepted policy_is ticks_are memory_is registers_are counts_are watch_is changes_are image_is run =
     let by = RecordedBy file_bytes is_made took put in
-    let one = subst (λ it. by it ticks memory registers counts image) policy_is run in
-    let two = subst (λ it. by (word_of (codes "policy") words) it memory registers counts image) ticks_are one in
-    let three = subst (λ it. by (word_of (codes "policy") words) (word_of (codes "ticks") words) it registers counts image) memory_is two in
-    let four = subst (λ it. by (word_of (codes "policy") words) (word_of (codes "ticks") words) (memory_words words) it counts image) registers_are three in
-    let five = subst (λ it. by (word_of (codes "policy") words) (word_of (codes "ticks") words) (memory_words words) (word_of (codes "registers") words) it image) counts_are four in
+    let p = word_of (codes "policy") words in
+    let t = word_of (codes "ticks") words in
+    let r = word_of (codes "registers") words in
+    let n = word_of (codes "counts") words in
+    let one = subst (λ it. by it ticks memory registers counts watch changes image) policy_is run in
+    let two = subst (λ it. by p it memory registers counts watch changes image) ticks_are one in
+    let three = subst (λ it. by p t it registers counts watch changes image) memory_is two in
+    let four = subst (λ it. by p t (memory_words words) it counts watch changes image) registers_are three in
+    let five = subst (λ it. by p t (memory_words words) r it watch changes image) counts_are four in
+    let six = subst (λ it. by p t (memory_words words) r n it changes image) watch_is five in
+    let seven = subst (λ it. by p t (memory_words words) r n (watch_words words) it image) changes_are six in
     record {
       accepted = accepted;
-      run = subst (λ it. by (word_of (codes "policy") words) (word_of (codes "ticks") words) (memory_words words) (word_of (codes "registers") words) (word_of (codes "counts") words) it) image_is five;
+      run = subst (λ it. by p t (memory_words words) r n (watch_words words) (word_of (codes "changes") words) it) image_is seven;
     }

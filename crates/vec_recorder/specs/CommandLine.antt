@@ -30,14 +30,23 @@ registers_rule = option_rule (codes "registers")
 abbrev pub counts_rule : Rule
 counts_rule = option_rule (codes "counts")
 
+-- `--watch ADDR:LEN`, `--changes FILE`
+abbrev pub watch_rule : Rule
+watch_rule = record (option_rule (codes "watch")) { action = Some Append }
+
+abbrev pub changes_rule : Rule
+changes_rule = option_rule (codes "changes")
+
 -- `[IMAGE]`
 abbrev pub image_rule : Rule
 image_rule = record (new_rule (codes "image")) { value_names = 1 }
 
--- `vecmon-record [--policy POLICY] [--ticks N] [--memory ADDR:PERMS:FILE]... [--registers FILE] [--counts FILE] [IMAGE]`
+-- `vecmon-record [--policy POLICY] [--ticks N] [--memory ADDR:PERMS:FILE]... [--registers FILE] [--counts FILE]
+-- [--watch ADDR:LEN]... [--changes FILE] [IMAGE]`
 abbrev pub command_line : App
 command_line =
-    with_rule (with_rule (with_rule (with_rule (with_rule (with_rule (new_app (codes "vecmon-record")) policy_rule) ticks_rule) memory_rule) registers_rule) counts_rule) image_rule
+    with_rule (with_rule (with_rule (with_rule (with_rule (with_rule (with_rule (with_rule (new_app (codes "vecmon-record")) policy_rule) ticks_rule) memory_rule) registers_rule) counts_rule) watch_rule)
+    changes_rule) image_rule
 
 -- the word that clap gives to the option of a name, or to IMAGE, the program's name first
 abbrev pub word_of : Text → List Text → Option Text
@@ -46,6 +55,10 @@ word_of name words = first_of name (matches_of command_line words)
 -- the words that clap gives to `--memory`
 abbrev pub memory_words : List Text → List Text
 memory_words words = unwrap_or (all_of (codes "memory") (matches_of command_line words)) []
+
+-- the words that clap gives to `--watch`
+abbrev pub watch_words : List Text → List Text
+watch_words words = unwrap_or (all_of (codes "watch") (matches_of command_line words)) []
 
 -- the policy that a word asks for, if it is one; without a word agnostic elements keep what they have
 abbrev pub asked_policy : Option Text → Option Policy

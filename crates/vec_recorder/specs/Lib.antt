@@ -4,3 +4,4 @@ pub mod MemoryWords
 pub mod RecordLines
 pub mod Recorded
 pub mod Statuses
+pub mod WatchWords

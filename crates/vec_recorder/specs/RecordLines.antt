@@ -30,13 +30,12 @@ unfoldable pub jump_line : ℕ → ℕ → Sums → List ℕ
 jump_line pc target sums = codes "call " ++ hex16 pc ++ codes " " ++ hex16 target ++ spaced sums.times ++ codes "\n"
 
 -- of a key
-abbrev pub key_line : Option Key → Sums → List ℕ
-key_line None sums = []
-key_line (Some (Word pc word)) sums = word_line pc word sums
-key_line (Some (Length vtype vl)) sums = length_line vtype vl sums
-key_line (Some (Jump pc target)) sums = jump_line pc target sums
+abbrev pub key_line : Key → Sums → List ℕ
+key_line (Word pc word) sums = word_line pc word sums
+key_line (Length vtype vl) sums = length_line vtype vl sums
+key_line (Jump pc target) sums = jump_line pc target sums
 
--- of a row; one that isn't used, or of which nothing was counted, has none
+-- of a row; one of which nothing was counted has none
 unfoldable pub row_line : Row → List ℕ
 row_line row = if row.sums.times == 0 then [] else key_line row.key row.sums
 

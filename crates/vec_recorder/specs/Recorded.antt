@@ -1,7 +1,9 @@
--- What the program did with its words: the machine that a run began with, what it put out, and what was counted of it.
+-- What the program did with its words: the machine that a run began with, what it put out, and what was recorded of it.
 use Rattle.std.specs.Prelude.{◌≡◌, ◌%◌, ◌^◌, ◌++◌, ⊤, ℕ, Bool, List, [], Option, None, Some, codes, flat_map}
 use Rattle.std.specs.List.{AllZip}
 use Rattle.clap.specs.Walk.{Text}
+use Rattle.memory_changes.specs.Changes.{changes_from}
+use Rattle.memory_changes.specs.declared.place.Place.{Place}
 use Rattle.recording.specs.Runs.{put_out, ran, shares}
 use Rattle.recording.specs.Sums.{OfEach, is_word, total}
 use Rattle.recording.specs.declared.key.Key.{Key}
@@ -9,16 +11,17 @@ use Rattle.recording.specs.declared.row.Row.{Row}
 use Rattle.rv_model.specs.declared.vector.policy.Policy.{Policy}
 use Rattle.rv_model.specs.step.Hart.{HartState}
 use Rattle.vec_recorder.specs.Beginning.{Begins}
-use Rattle.vec_recorder.specs.CommandLine.{asked_policy, asked_ticks, memory_words, word_of, words_fault}
+use Rattle.vec_recorder.specs.CommandLine.{asked_policy, asked_ticks, memory_words, watch_words, word_of, words_fault}
 use Rattle.vec_recorder.specs.MemoryWords.{IsMemoryOf}
 use Rattle.vec_recorder.specs.RecordLines.{last_line, row_line}
+use Rattle.vec_recorder.specs.WatchWords.{IsPlaceOf}
 use Rattle.vec_recorder.specs.declared.memory_words.MemoryPath.{MemoryPath}
 
 -- These rows have what is counted of all instructions of a run, for each set of keys, as far as 64 bits tell.
 abbrev pub AreCountsOf : List HartState → List Row → Type 0
 AreCountsOf found rows = (asked : Key → Bool) → OfEach (λ number. total number asked rows % 2 ^ 64 ≡ shares found number asked % 2 ^ 64)
 
--- the last line of a run's counts, by its number of ticks and the state that it began with
+-- the last line of any record of a run, by its number of ticks and the state that it began with
 abbrev pub end_of : ℕ → HartState → List ℕ
 end_of ticks s =
     let run = ran ticks s in
@@ -30,6 +33,10 @@ pub record AreCounted (took : List ℕ → Type 0) (ticks : ℕ) (s : HartState)
   pub counts : AreCountsOf (ran ticks s).found rows
   pub taken : took (flat_map row_line rows ++ end_of ticks s)
 
+-- The changes of places in a run are the lines of each instruction, in order, and the last line.
+abbrev pub AreChanged : (List ℕ → Type 0) → List Place → ℕ → HartState → Type 0
+AreChanged took places ticks s = took (changes_from places 0 0 (ran ticks s).found ++ end_of ticks s)
+
 -- A file was made at a path and took what is said.
 pub record IsWritten {F : Type 0} (is_made : Text → F → Type 0) (took : F → List ℕ → F → Type 0) (path : Text) (Says : (List ℕ → Type 0) → Type 0) : Type 0 where
   pub before : F
@@ -37,26 +44,30 @@ pub record IsWritten {F : Type 0} (is_made : Text → F → Type 0) (took : F �
   pub made : is_made path before
   pub says : Says (λ told. took before told after)
 
--- the counts of a run, in the file at a path, if there is one
-abbrev pub AreKept : {F : Type 0} → (Text → F → Type 0) → (F → List ℕ → F → Type 0) → Option Text → ℕ → HartState → Type 0
-AreKept is_made took None ticks s = ⊤
-AreKept is_made took (Some path) ticks s = IsWritten is_made took path (λ told. AreCounted told ticks s)
+-- a record in the file at a path, if there is one
+abbrev pub AreKept : {F : Type 0} → (Text → F → Type 0) → (F → List ℕ → F → Type 0) → Option Text → ((List ℕ → Type 0) → Type 0) → Type 0
+AreKept is_made took None Says = ⊤
+AreKept is_made took (Some path) Says = IsWritten is_made took path Says
 
--- The run that words ask for was carried out: it put this out, and its counts were kept.
-pub record RecordedBy {F : Type 0} (file_bytes : Text → Option (List ℕ)) (is_made : Text → F → Type 0) (took : F → List ℕ → F → Type 0) (put : List ℕ → Type 0) (policy_word ticks_word : Option Text) (memory : List Text) (registers counts image : Option Text) : Type 0 where
+-- The run that words ask for was carried out: it put this out, and its records were kept.
+pub record RecordedBy {F : Type 0} (file_bytes : Text → Option (List ℕ)) (is_made : Text → F → Type 0) (took : F → List ℕ → F → Type 0) (put : List ℕ → Type 0) (policy_word ticks_word : Option Text) (memory : List Text) (registers counts : Option Text) (watch : List Text) (changes image : Option Text) : Type 0 where
   pub policy : Policy
   pub policy_is : asked_policy policy_word ≡ Some policy
   pub ticks : ℕ
   pub ticks_are : asked_ticks ticks_word ≡ Some ticks
   pub memories : List MemoryPath
   pub memories_are : AllZip IsMemoryOf memory memories
+  pub places : List Place
+  pub places_are : AllZip IsPlaceOf watch places
   pub state : HartState
   pub begins : Begins file_bytes policy image memories registers state
   pub output : put (flat_map put_out (ran ticks state).found)
-  pub counted : AreKept is_made took counts ticks state
+  pub counted : AreKept is_made took counts (λ told. AreCounted told ticks state)
+  pub changed : AreKept is_made took changes (λ told. AreChanged told places ticks state)
 
 -- clap took the words, and the run that they ask for was carried out
 pub record Recorded {F : Type 0} (file_bytes : Text → Option (List ℕ)) (is_made : Text → F → Type 0) (took : F → List ℕ → F → Type 0) (words : List Text) (put : List ℕ → Type 0) : Type 0 where
   pub accepted : words_fault words ≡ []
   pub run : RecordedBy file_bytes is_made took put (word_of (codes "policy") words) (word_of (codes "ticks") words) (memory_words words)
-      (word_of (codes "registers") words) (word_of (codes "counts") words) (word_of (codes "image") words)
+      (word_of (codes "registers") words) (word_of (codes "counts") words) (watch_words words) (word_of (codes "changes") words)
+      (word_of (codes "image") words)

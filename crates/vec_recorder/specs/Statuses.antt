@@ -4,12 +4,12 @@ use Rattle.std.specs.List.{Any}
 use Rattle.clap.specs.Words.{IsAmong, Text}
 use Rattle.clap.specs.declared.error.kind.ErrorKind.{ErrorKind}
 use Rattle.clap.specs.declared.error.kind.ErrorKind.TheVariants.{DisplayHelp}
-use Rattle.recording.specs.declared.fault.CountFault.{CountFault}
-use Rattle.recording.specs.declared.fault.CountFault.TheVariants as count
+use Rattle.recording.specs.declared.fault.RecordFault.{RecordFault}
+use Rattle.recording.specs.declared.fault.RecordFault.TheVariants as stopped
 use Rattle.vec_recorder.specs.CommandLine.{asked_policy, asked_ticks, memory_words, word_of, words_fault}
 use Rattle.vec_recorder.specs.MemoryWords.{NamesNone}
 use Rattle.vec_recorder.specs.declared.program_fault.ProgramFault.{ProgramFault}
-use Rattle.vec_recorder.specs.declared.program_fault.ProgramFault.TheVariants.{NoText, Usage, Policy, Ticks, MemoryWord, Counts, TableFull, Output, NoMemory}
+use Rattle.vec_recorder.specs.declared.program_fault.ProgramFault.TheVariants.{NoText, Usage, Policy, Ticks, MemoryWord, WatchWord, WatchAlone, NoPlace, Record, TableFull, Changes, Output, NoMemory}
 
 -- of the words 2, of what a run begins with 4, of what is written 5, of memory 6
 abbrev pub program_status : ProgramFault → ℕ
@@ -18,16 +18,21 @@ program_status (Usage e) = 2
 program_status Policy = 2
 program_status Ticks = 2
 program_status (MemoryWord word) = 2
-program_status (Counts path) = 5
+program_status (WatchWord word) = 2
+program_status WatchAlone = 2
+program_status (Record path) = 5
 program_status TableFull = 5
+program_status Changes = 5
 program_status Output = 5
 program_status NoMemory = 6
 program_status _ = 4
 
--- why a run isn't counted to its end
-abbrev pub count_fault : CountFault → ProgramFault
-count_fault count.TableFull = TableFull
-count_fault count.Output = Output
+-- why a run isn't recorded to its end
+abbrev pub record_fault : RecordFault → ProgramFault
+record_fault stopped.TableFull = TableFull
+record_fault stopped.NoPlace = NoPlace
+record_fault stopped.Changes = Changes
+record_fault stopped.Output = Output
 
 -- the words ask for no policy, no number of ticks, or for memory that there can't be
 abbrev pub AskForNone : List Text → Type 0

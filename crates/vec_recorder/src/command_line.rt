@@ -3,12 +3,14 @@ ghost use Rattle.std.specs.Prelude.{◌≡◌, IfOk, false};
 ghost use Rattle.clap.specs.Words.{app_of, kind_of, rule_of};
 ghost use Rattle.vec_recorder.specs.CommandLine.{
   command_line,
+  changes_rule,
   counts_rule,
   image_rule,
   memory_rule,
   policy_rule,
   registers_rule,
   ticks_rule,
+  watch_rule,
   IsFaultOf,
 };
 ghost use Rattle.vec_recorder.specs.declared.command_line.UsageFault.TheVariants.{NoMemory};
@@ -40,6 +42,10 @@ pub struct Options<'a> {
     pub registers: Option<&'a str>,
     /// The path of the file of counts.
     pub counts: Option<&'a str>,
+    /// The words that name places that are watched, in their order.
+    pub watch: Vec<&'a str>,
+    /// The path of the file of changes.
+    pub changes: Option<&'a str>,
     /// The path of the image.
     pub image: Option<&'a str>,
 }
@@ -130,6 +136,29 @@ fn counts<'a>(alloc: Global) -> Arg<'a>
         .help("Where to write how often each instruction was carried out")
 }
 
+/// The option `--watch ADDR:LEN`.
+fn watch<'a>(alloc: Global) -> Arg<'a>
+    ensures rule { rule_of result ≡ watch_rule }
+    ensures local { result.global ≡ false }
+{
+    Arg::new(alloc, "watch")
+        .long("watch")
+        .value_name("ADDR:LEN")
+        .action(ArgAction::Append)
+        .help("A place in memory, of 1 to 256 bytes, whose changes are written")
+}
+
+/// The option `--changes FILE`.
+fn changes<'a>(alloc: Global) -> Arg<'a>
+    ensures rule { rule_of result ≡ changes_rule }
+    ensures local { result.global ≡ false }
+{
+    Arg::new(alloc, "changes")
+        .long("changes")
+        .value_name("FILE")
+        .help("Where to write which instruction changed a place that is watched")
+}
+
 /// The word `[IMAGE]`.
 fn image<'a>(alloc: Global) -> Arg<'a>
     ensures rule { rule_of result ≡ image_rule }
@@ -145,12 +174,14 @@ pub fn command<'a>(alloc: Global) -> Result<Command<'a>, AllocError>
     ensures { IfOk result (λ command. app_of command ≡ command_line) }
 {
     Command::new(alloc, "vecmon-record")
-        .about("Runs a program alone on the machine of vecmon, and counts what it does")
+        .about("Runs a program alone on the machine of vecmon, and records what it does")
         .after_help(AFTER_HELP)
         .arg(policy(alloc))?
         .arg(ticks(alloc))?
         .arg(memory(alloc))?
         .arg(registers(alloc))?
         .arg(counts(alloc))?
+        .arg(watch(alloc))?
+        .arg(changes(alloc))?
         .arg(image(alloc))
 }

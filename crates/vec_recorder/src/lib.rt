@@ -1,5 +1,5 @@
 //! The recorder: the program by the words of its command line, over a machine of one user that runs
-//! alone and is counted.
+//! alone and is recorded.
 #![tactic(auto)]
 
 mod beginning;
@@ -10,6 +10,8 @@ mod outputs;
 mod program;
 mod program_fault;
 mod record_lines;
+mod runs;
+mod watch_words;
 mod words;
 
 pub use command_line::{Options, UsageFault};

@@ -1,11 +1,12 @@
 //! What the words of options with one value mean.
-ghost use Rattle.std.specs.Prelude.{◌≡◌, ◌^◌, MatchResult, None, Some, option_map};
+ghost use Rattle.std.specs.Prelude.{◌≡◌, ◌<◌, ◌≤◌, ◌^◌, IfSome, MatchResult, None, Some, option_map};
 ghost use Rattle.rv_model.specs.commands.Arguments.{decimal_number, number_between};
 ghost use Rattle.rv_model.specs.lending.Text.{capped};
 ghost use Rattle.vec_recorder.specs.CommandLine.{asked_policy, asked_ticks};
 ghost use Rattle.vec_recorder.specs.declared.program_fault.ProgramFault.TheVariants as program_fault;
 
 use crate::program_fault::ProgramFault;
+use memory_changes::MAX_LENGTH;
 use rv_model::Policy;
 use rv_model::text::digits;
 
@@ -32,6 +33,19 @@ fn ticks_number(word: &[u8]) -> Option<u64>
     let value = decimal_number(word)?;
     if value >= 1 && value <= u128::from(MOST_TICKS) {
         Some(value as u64)
+    } else {
+        None
+    }
+}
+
+/// A decimal number from 1 to `MAX_LENGTH`.
+pub(crate) fn length_number(word: &[u8]) -> Option<usize>
+    ensures value { result ≡ number_between 1 256 word.now }
+    ensures bound { IfSome result (λ n. (0 < n) × (n ≤ 256)) }
+{
+    let value = decimal_number(word)?;
+    if value >= 1 && value <= MAX_LENGTH as u128 {
+        Some(value as usize)
     } else {
         None
     }

@@ -1,15 +1,10 @@
-//! The program: a run of one user alone, its output to an output, its counts to a file.
-ghost use Rattle.std.specs.Prelude.{IsPermutation, ◌≡◌, ◌⊎◌, ◌%◌, ◌^◌, ◌++◌, OnOk, flat_map, option_map, ⊤};
+//! The program: a run of one user alone, its output to an output, its records to files.
+ghost use Rattle.std.specs.Prelude.{◌≡◌, ◌⊎◌, OnOk, option_map, ⊤};
 ghost use Rattle.clap.specs.Walk.{texts};
 ghost use Rattle.clap.specs.Words.{IsAmong};
 ghost use Rattle.clap.specs.declared.error.kind.ErrorKind.TheVariants.{DisplayHelp};
-ghost use Rattle.recording.specs.Machines.{state_of};
-ghost use Rattle.recording.specs.Runs.{put_out, ran};
-ghost use Rattle.recording.specs.Sums.{HasNothing, is_word, total};
-ghost use Rattle.first_state.specs.OwnMemory.{own_memory};
 ghost use Rattle.vec_recorder.specs.CommandLine.{words_fault};
-ghost use Rattle.vec_recorder.specs.RecordLines.{last_line, row_line};
-ghost use Rattle.vec_recorder.specs.Recorded.{AreKept, Recorded, RecordedBy};
+ghost use Rattle.vec_recorder.specs.Recorded.{Recorded, RecordedBy};
 ghost use Rattle.vec_recorder.specs.Statuses.{program_status};
 
 use crate::beginning::first_machine;
@@ -18,79 +13,50 @@ use crate::memory_words::memory_paths;
 use crate::numbers::{policy, ticks};
 use crate::outputs::Outputs;
 use crate::program_fault::{ProgramFault, STATUS_DONE};
-use crate::record_lines::{sort_rows, write_last, write_rows};
+use crate::runs::run_machine;
+use crate::watch_words::watched_places;
 use crate::words::options;
-use devices::{DeviceFault, Sink, WriterSink};
+use devices::{Sink, WriterSink};
 use first_state::OwnBytes;
+use memory_changes::{Place, has_memory};
 use program_files::Inputs;
-use recording::{Alone, ROWS, Row, count, run_uncounted, totals, unused_rows};
-use rv_model::StepEnd;
+use recording::Alone;
 use std::alloc::Global;
 use std::io;
 
-/// Sorts the rows, and writes them as the counts of a run that ended so and stands there.
-fn write_counts<C: Sink>(
-    file: &mut C,
-    rows: &mut [Row],
-    pc: u64,
-    end: Option<StepEnd>,
-) -> Result<(), DeviceFault>
-    ensures same { IsPermutation rows.old rows.new }
-    ensures text { OnOk result (C.took file.old (flat_map row_line rows.new ++ last_line pc end
-        (total (λ sums. sums.times) is_word rows.new % 2 ^ 64)
-        (total (λ sums. sums.ticks) is_word rows.new % 2 ^ 64)) file.new) }
-{
-    sort_rows(&mut *rows);
-    write_rows(file, &*rows)?;
-    write_last(file, pc, end, &totals(rows))
-}
-
-/// Carries out a run, and keeps its counts in the file at a path, if there is one.
-fn run_machine<'a, R: Outputs, K: Sink>(
-    rt: &R,
-    alone: &mut Alone<OwnBytes>,
-    rows: &mut [Row],
-    output: &mut K,
-    ticks: u64,
-    counts: Option<&'a str>,
-) -> Result<(), ProgramFault<'a>>
-    requires { HasNothing rows.old }
-    ensures output { OnOk result (K.took output.old
-        (flat_map put_out (ran ticks (state_of own_memory alone.old)).found) output.new) }
-    ensures counts { OnOk result (AreKept (R.is_made rt.now) R.Made.took
-        (option_map (λ path. path.now) counts.entry) ticks (state_of own_memory alone.old)) }
-{
-    let Some(path) = counts else {
-        run_uncounted(alone, output, ticks)?;
-        return Ok(());
-    };
-    let Ok(mut record) = rt.create(path) else {
-        return Err(ProgramFault::Counts(path));
-    };
-    let end = count(alone, &mut *rows, output, ticks)?;
-    let Ok(()) = write_counts(&mut record, rows, alone.scalar.pc, end) else {
-        return Err(ProgramFault::Counts(path));
-    };
+/// Refused where a place that is to be watched has no memory.
+fn check_places<'a>(alone: &Alone<OwnBytes>, places: &[Place]) -> Result<(), ProgramFault<'a>> {
+    for place in places {
+        if !has_memory(&alone.memory, place) {
+            return Err(ProgramFault::NoPlace);
+        }
+    }
     Ok(())
 }
 
-/// Does what the options ask for. The words are read before any file is opened, and the file of
-/// counts is made once there is a machine to run.
+/// Does what the options ask for. The words are read before any file is opened, and the files of
+/// records are made once there is a machine to run. Answers how many calls wrote less than they were
+/// asked to.
 fn record_options<'a, R: Inputs + Outputs, K: Sink>(
     rt: &R,
     alloc: Global,
     options: &Options<'a>,
     output: &mut K,
-) -> Result<(), ProgramFault<'a>>
+) -> Result<u64, ProgramFault<'a>>
     ensures { OnOk result (RecordedBy (R.file_bytes rt.now) (R.is_made rt.now) R.Made.took
         (λ told. K.took output.old told output.new)
         (option_map (λ word. word.now) options.now.policy) (option_map (λ word. word.now) options.now.ticks)
         (texts options.now.memory.items) (option_map (λ path. path.now) options.now.registers)
-        (option_map (λ path. path.now) options.now.counts) (option_map (λ path. path.now) options.now.image)) }
+        (option_map (λ path. path.now) options.now.counts) (texts options.now.watch.items)
+        (option_map (λ path. path.now) options.now.changes) (option_map (λ path. path.now) options.now.image)) }
 {
     let policy = policy(options.policy)?;
     let ticks = ticks(options.ticks)?;
     let memories = memory_paths(alloc, options.memory.as_slice())?;
+    let places = watched_places(alloc, options.watch.as_slice())?;
+    if places.is_empty() != options.changes.is_none() {
+        return Err(ProgramFault::WatchAlone);
+    }
     let mut alone = first_machine(
         rt,
         alloc,
@@ -99,25 +65,20 @@ fn record_options<'a, R: Inputs + Outputs, K: Sink>(
         memories.as_slice(),
         options.registers,
     )?;
-    let mut rows = unused_rows(alloc, ROWS)?;
-    run_machine(
-        rt,
-        &mut alone,
-        rows.as_mut_slice(),
-        output,
-        ticks,
-        options.counts,
-    )?;
-    Ok(())
+    check_places(&alone, places.as_slice())?;
+    let paths = (options.counts, options.changes);
+    let short = run_machine(rt, alloc, &mut alone, output, ticks, paths, places)?;
+    Ok(short)
 }
 
-/// Does what the words ask for: help, or a run.
+/// Does what the words ask for: help, or a run. Answers how many calls wrote less than they were asked
+/// to.
 fn record_words<'a, R: Inputs + Outputs + Print, K: Sink>(
     rt: &R,
     alloc: Global,
     words: &'a [&'a str],
     output: &mut K,
-) -> Result<(), ProgramFault<'a>>
+) -> Result<u64, ProgramFault<'a>>
     ensures { OnOk result (IsAmong DisplayHelp (words_fault (texts words.now))
         ⊎ Recorded (R.file_bytes rt.now) (R.is_made rt.now) R.Made.took (texts words.now)
         (λ told. K.took output.old told output.new)) }
@@ -125,7 +86,7 @@ fn record_words<'a, R: Inputs + Outputs + Print, K: Sink>(
     match options(alloc, words) {
         Ok(options) => record_options(rt, alloc, &options, output),
         Err(UsageFault::Help(text)) => match print!(rt; "{text}") {
-            Ok(()) => Ok(()),
+            Ok(()) => Ok(0),
             Err(_) => Err(ProgramFault::Output),
         },
         Err(UsageFault::Usage(text)) => Err(ProgramFault::Usage(text)),
@@ -141,9 +102,19 @@ pub fn report<R: Eprint>(rt: &R, fault: &ProgramFault<'_>) -> u8
     fault.status()
 }
 
+/// Says on standard error how many calls wrote less than they were asked to, if any did.
+fn report_short<R: Eprint>(rt: &R, short: u64) {
+    if short > 0 {
+        let _ = eprint!(rt;
+            "vecmon-record: calls that wrote less than they were asked to: {short}\n"
+        );
+    }
+}
+
 /// The program. `words` is the command line, the program's name first. What the program that runs
 /// puts out goes to `output`; help and messages are printed. Answers the status that the program
-/// ends with; for any but `STATUS_DONE` standard error says why.
+/// ends with; for any but `STATUS_DONE` standard error says why. Calls that wrote less than they were
+/// asked to are told there too.
 pub fn record_into<R: Inputs + Outputs + Print + Eprint, K: Sink>(
     rt: &R,
     alloc: Global,
@@ -152,13 +123,16 @@ pub fn record_into<R: Inputs + Outputs + Print + Eprint, K: Sink>(
 ) -> u8
     ensures statuses { (result ≡ 0) ⊎ ((result ≡ 2) ⊎ ((result ≡ 4) ⊎ ((result ≡ 5) ⊎ (result ≡ 6)))) }
     // It ends with 0 where help was asked for, or where the run that the words ask for was carried out,
-    // put out what the definitions say, and left its counts in the file that they name.
+    // put out what the definitions say, and left its counts and changes in the files that they name.
     ensures recorded { result ≡ 0 → IsAmong DisplayHelp (words_fault (texts words.now))
         ⊎ Recorded (R.file_bytes rt.now) (R.is_made rt.now) R.Made.took (texts words.now)
         (λ told. K.took output.old told output.new) }
 {
     match record_words(rt, alloc, words, output) {
-        Ok(()) => STATUS_DONE,
+        Ok(short) => {
+            report_short(rt, short);
+            STATUS_DONE
+        }
         Err(fault) => report(rt, &fault),
     }
 }

@@ -1,10 +1,10 @@
 //! Why the program ends before its run does, with the status and the text of each fault.
 ghost use Rattle.std.specs.Prelude.{◌≡◌};
-ghost use Rattle.vec_recorder.specs.Statuses.{count_fault, program_status};
+ghost use Rattle.vec_recorder.specs.Statuses.{record_fault, program_status};
 ghost use Rattle.vec_recorder.specs.declared.program_fault.ProgramFault.TheVariants.{NoMemory};
 
 use first_state::{LoadFault, PlaceFault, RegistersFault};
-use recording::CountFault;
+use recording::RecordFault;
 use std::alloc::{AllocError, AllocFailed};
 use thiserror::Error;
 
@@ -41,6 +41,12 @@ pub enum ProgramFault<'a> {
     /// A word of `--memory` that isn't an address, permissions and a path.
     #[error("vecmon-record: --memory needs ADDR:PERMS:FILE, not {0}\n")]
     MemoryWord(&'a str),
+    /// A word of `--watch` that isn't an address and a length.
+    #[error("vecmon-record: --watch needs ADDR:LEN, with LEN from 1 to 256, not {0}\n")]
+    WatchWord(&'a str),
+    /// One of `--watch` and `--changes` without the other.
+    #[error("vecmon-record: --watch and --changes need each other\n")]
+    WatchAlone,
     /// The file at this path can't be read.
     #[error("vecmon-record: cannot read {0}\n")]
     Read(&'a str),
@@ -56,9 +62,15 @@ pub enum ProgramFault<'a> {
     /// The registers of the file at this path are refused.
     #[error("vecmon-record: {0}: {1}\n")]
     Registers(&'a str, RegistersFault),
-    /// The file of counts at this path can't be written.
+    /// A place of `--watch` has no memory.
+    #[error("vecmon-record: a place of --watch has no memory\n")]
+    NoPlace,
+    /// The changes can't be written.
+    #[error("vecmon-record: cannot write changes\n")]
+    Changes,
+    /// The file of a record at this path can't be written.
     #[error("vecmon-record: cannot write {0}\n")]
-    Counts(&'a str),
+    Record(&'a str),
     /// There are more rows to count than the table has.
     #[error("vecmon-record: more than 131072 rows of counts\n")]
     TableFull,
@@ -79,15 +91,19 @@ impl ProgramFault<'_> {
             | ProgramFault::Usage(_)
             | ProgramFault::Policy
             | ProgramFault::Ticks
-            | ProgramFault::MemoryWord(_) => STATUS_USAGE,
+            | ProgramFault::MemoryWord(_)
+            | ProgramFault::WatchWord(_)
+            | ProgramFault::WatchAlone => STATUS_USAGE,
             ProgramFault::Read(_)
             | ProgramFault::TooLong(_)
             | ProgramFault::Image(_, _)
             | ProgramFault::Memory(_, _)
-            | ProgramFault::Registers(_, _) => STATUS_BEGINNING,
-            ProgramFault::Counts(_) | ProgramFault::TableFull | ProgramFault::Output => {
-                STATUS_WRITE
-            }
+            | ProgramFault::Registers(_, _)
+            | ProgramFault::NoPlace => STATUS_BEGINNING,
+            ProgramFault::Record(_)
+            | ProgramFault::TableFull
+            | ProgramFault::Changes
+            | ProgramFault::Output => STATUS_WRITE,
             ProgramFault::NoMemory => STATUS_NO_MEMORY,
         }
     }
@@ -109,13 +125,15 @@ impl<T: Drop> From<AllocFailed<T>> for ProgramFault<'_> {
     }
 }
 
-impl From<CountFault> for ProgramFault<'_> {
-    ghost from_gives = { λ stopped fault. fault ≡ count_fault stopped };
+impl From<RecordFault> for ProgramFault<'_> {
+    ghost from_gives = { λ stopped fault. fault ≡ record_fault stopped };
 
-    fn from(stopped: CountFault) -> Self {
+    fn from(stopped: RecordFault) -> Self {
         match stopped {
-            CountFault::TableFull => ProgramFault::TableFull,
-            CountFault::Output => ProgramFault::Output,
+            RecordFault::TableFull => ProgramFault::TableFull,
+            RecordFault::NoPlace => ProgramFault::NoPlace,
+            RecordFault::Changes => ProgramFault::Changes,
+            RecordFault::Output => ProgramFault::Output,
         }
     }
 }

@@ -1,5 +1,5 @@
-//! The lines of a file of counts.
-ghost use Rattle.std.specs.Prelude.{IsPermutation, ◌≡◌, ◌++◌, ◌+◌, ◌≤◌, length, flat_map, OnOk};
+//! The lines of a file of counts, and the last line of any record.
+ghost use Rattle.std.specs.Prelude.{IsPermutation, ◌≡◌, ◌++◌, ◌+◌, ◌<◌, ◌≤◌, ◌^◌, length, flat_map, OnOk};
 ghost use Rattle.std.specs.Option.{option_and_then};
 ghost use Rattle.rv_model.specs.commands.Running.{running_line};
 ghost use Rattle.rv_model.specs.machine.UserMachine.{stop_of};
@@ -84,20 +84,18 @@ fn push_row(reply: &mut Reply, row: &Row)
         return;
     }
     match row.key {
-        Some(Key::Word { pc, word }) => push_word(reply, pc, word, &row.sums),
-        Some(Key::Length { vtype, vl }) => push_length(reply, vtype, vl, &row.sums),
-        Some(Key::Jump { pc, target }) => push_jump(reply, pc, target, &row.sums),
-        None => {}
+        Key::Word { pc, word } => push_word(reply, pc, word, &row.sums),
+        Key::Length { vtype, vl } => push_length(reply, vtype, vl, &row.sums),
+        Key::Jump { pc, target } => push_jump(reply, pc, target, &row.sums),
     }
 }
 
 /// Where the line of a row stands: words by their addresses, then lengths by their types, then jumps.
 fn place_of(row: &Row) -> (u8, u64, u64) {
     match row.key {
-        Some(Key::Word { pc, word }) => (0, pc, u64::from(word)),
-        Some(Key::Length { vtype, vl }) => (1, vtype, u64::from(vl)),
-        Some(Key::Jump { pc, target }) => (2, pc, target),
-        None => (3, 0, 0),
+        Key::Word { pc, word } => (0, pc, u64::from(word)),
+        Key::Length { vtype, vl } => (1, vtype, u64::from(vl)),
+        Key::Jump { pc, target } => (2, pc, target),
     }
 }
 
@@ -163,17 +161,17 @@ fn push_end(reply: &mut Reply, pc: u64, stop: Option<Stop>)
 
 /// Adds the last line.
 #[tactic(auto, unfolding(crate::specs::RecordLines::last_line))]
-fn push_last(reply: &mut Reply, pc: u64, end: Option<StepEnd>, sums: &Sums)
+fn push_last(reply: &mut Reply, pc: u64, end: Option<StepEnd>, times: u64, ticks: u64)
     requires { length reply.old + 118 ≤ 4096 }
-    ensures { reply.new ≡ reply.old ++ last_line pc end sums.now.times sums.now.ticks }
+    ensures { reply.new ≡ reply.old ++ last_line pc end times ticks }
 {
     let stop = match end {
         Some(end) => stop_of(end),
         None => None,
     };
     push_end(reply, pc, stop);
-    push_number(reply, sums.times);
-    push_number(reply, sums.ticks);
+    push_number(reply, times);
+    push_number(reply, ticks);
     reply.push(b"\n");
 }
 
@@ -183,11 +181,14 @@ pub(crate) fn write_last<K: Sink>(
     sink: &mut K,
     pc: u64,
     end: Option<StepEnd>,
-    sums: &Sums,
+    times: u64,
+    ticks: u64,
 ) -> Result<(), DeviceFault>
-    ensures { OnOk result (K.took sink.old (last_line pc end sums.now.times sums.now.ticks) sink.new) }
+    ensures text { OnOk result (K.took sink.old (last_line pc end times ticks) sink.new) }
+    ensures times { times < 2 ^ 64 }
+    ensures ticks { ticks < 2 ^ 64 }
 {
     let mut reply = Reply::new();
-    push_last(&mut reply, pc, end, sums);
+    push_last(&mut reply, pc, end, times, ticks);
     write_all(sink, reply.as_slice())
 }

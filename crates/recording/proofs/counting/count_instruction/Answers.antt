@@ -5,19 +5,19 @@ use Rattle.recording.proofs.Counted.{is_then_counted, not_counted, plain_counted
 use Rattle.recording.proofs.counting.count_instruction.Goals as goal
 
 pub returns-then-not-is_counted : goal.returns-then-not-is_counted
-returns-then-not-is_counted c = λ (key : Key) (row : IsRowOf key c.args.index c.args.rows.now).
-    not_counted c.args.found.now c.args.left.now key c.args.rows.now (sym c.is_counted.ensures ∙ c.if-not-is_counted.true)
+returns-then-not-is_counted g c = λ (key : Key) (row : IsRowOf key c.args.index c.args.table.now.rows.items).
+    not_counted c.args.found.now c.args.left.now key c.args.table.now.rows.items (sym c.is_counted.ensures ∙ c.if-not-is_counted.true)
 
 pub returns-then-is_plain : goal.returns-then-is_plain
-returns-then-is_plain c = λ (key : Key) (row : IsRowOf key c.args.index c.args.rows.now).
-    is_then_counted c.args.found.now c.args.left.now key c.args.rows.now c.count_at.new.rows (sym c.is_counted.ensures ∙ c.if-not-is_counted.false)
-    (plain_counted c.args.found.now c.args.left.now key c.plain.result c.args.rows.now c.count_at.new.rows (c.is_plain.ensures c.if-is_plain.true)
+returns-then-is_plain g c = λ (key : Key) (row : IsRowOf key c.args.index c.args.table.now.rows.items).
+    is_then_counted c.args.found.now c.args.left.now key c.args.table.now.rows.items c.count_at.new.self.rows.items (sym c.is_counted.ensures ∙ c.if-not-is_counted.false)
+    (plain_counted c.args.found.now c.args.left.now key c.plain.result c.args.table.now.rows.items c.count_at.new.self.rows.items (c.is_plain.ensures c.if-is_plain.true)
     c.plain.ensures (c.count_at.ensures key row))
 
 pub returns : goal.returns
-returns c =
+returns g c =
     on_ok_weaker c.count_found.result
-    (λ more. λ (key : Key) (row : IsRowOf key c.args.index c.args.rows.now).
-    is_then_counted c.args.found.now c.args.left.now key c.args.rows.now c.count_found.new.rows
+    (λ more. λ (key : Key) (row : IsRowOf key c.args.index c.args.table.now.rows.items).
+    is_then_counted c.args.found.now c.args.left.now key c.args.table.now.rows.items c.count_found.new.table.rows.items
     (sym c.is_counted.ensures ∙ c.if-not-is_counted.false) (more key row))
     c.count_found.ensures

@@ -14,4 +14,6 @@ returns c =
     let third = c.in_ok-arg-3.ensures.shape c.memory.ensures.local ∙ ap₂ with_rule second c.memory.ensures.rule in
     let fourth = c.in_ok-arg-4.ensures.shape c.registers.ensures.local ∙ ap₂ with_rule third c.registers.ensures.rule in
     let fifth = c.in_ok-arg-5.ensures.shape c.counts.ensures.local ∙ ap₂ with_rule fourth c.counts.ensures.rule in
-    IfOk-weaker c.arg-6.result _ _ (λ command added. added.shape c.image.ensures.local ∙ ap₂ with_rule fifth c.image.ensures.rule) c.arg-6.ensures
+    let sixth = c.in_ok-arg-6.ensures.shape c.watch.ensures.local ∙ ap₂ with_rule fifth c.watch.ensures.rule in
+    let seventh = c.in_ok-arg-7.ensures.shape c.changes.ensures.local ∙ ap₂ with_rule sixth c.changes.ensures.rule in
+    IfOk-weaker c.arg-8.result _ _ (λ command added. added.shape c.image.ensures.local ∙ ap₂ with_rule seventh c.image.ensures.rule) c.arg-8.ensures

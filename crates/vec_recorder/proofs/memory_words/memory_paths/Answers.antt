@@ -1,13 +1,13 @@
 use Rattle.std.proofs.Common.{rules, inr, refl, subst, sym, ◌<◌, length}
 use Rattle.std.specs.List.{AllZip}
-use Rattle.vec_recorder.specs.MemoryWords.{IsMemoryAt}
-use Rattle.vec_recorder.proofs.MemoryWordLaws.{some_names_none, zip_next}
+use Rattle.vec_recorder.specs.MemoryWords.{IsMemoryAt, NamesNone}
+use Rattle.vec_recorder.proofs.MemoryWordLaws.{some_holds, zip_next}
 use Rattle.vec_recorder.proofs.memory_words.memory_paths.Goals as goal
 
 pub returns-in_default-clause-refused : goal.returns-in_default-clause-refused
 returns-in_default-clause-refused g c =
     let below : c.loop-word.word-index < length c.args.words.now = search rules in
-    inr (refl, some_names_none c.args.words.now c.loop-word.word-index _ below c.in_default.ensures)
+    inr (refl, some_holds NamesNone c.args.words.now c.loop-word.word-index _ below c.in_default.ensures)
 
 pub loop-word-preserved : goal.loop-word-preserved
 loop-word-preserved g c =

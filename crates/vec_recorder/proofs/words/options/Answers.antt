@@ -1,6 +1,6 @@
 use Rattle.std.proofs.Common.{◌∙◌, ◌++◌, ap}
 use Rattle.clap.specs.Walk.{texts}
-use Rattle.vec_recorder.proofs.CommandLineLaws.{memory_read, rows_by, taken_by, texts_in, word_read}
+use Rattle.vec_recorder.proofs.CommandLineLaws.{rows_by, taken_by, texts_in, word_read, words_read}
 use Rattle.vec_recorder.proofs.words.options.Goals as goal
 
 pub returns : goal.returns
@@ -13,10 +13,13 @@ returns c =
       policy = c.get_str.ensures ∙ word_read matches words _ rows;
       ticks = c.get_str-2.ensures ∙ word_read matches words _ rows;
       memory = ap texts (c.in_ok-extend_from_slice.ensures.items ∙ ap (λ items. items ++ c.unwrap_or_default.result.now) c.new-memory.ensures.items)
-          ∙ texts_in _ c.get_strs.result c.unwrap_or_default.result _ (c.get_strs.ensures ∙ memory_read matches words rows) c.unwrap_or_default.ensures (λ none is. is);
+          ∙ texts_in _ c.get_strs.result c.unwrap_or_default.result _ (c.get_strs.ensures ∙ words_read matches words _ rows) c.unwrap_or_default.ensures (λ none is. is);
       registers = c.get_str-3.ensures ∙ word_read matches words _ rows;
       counts = c.get_str-4.ensures ∙ word_read matches words _ rows;
-      image = c.get_str-5.ensures ∙ word_read matches words _ rows;
+      watch = ap texts (c.in_ok-extend_from_slice-2.ensures.items ∙ ap (λ items. items ++ c.unwrap_or_default-2.result.now) c.new-watch.ensures.items)
+          ∙ texts_in _ c.get_strs-2.result c.unwrap_or_default-2.result _ (c.get_strs-2.ensures ∙ words_read matches words _ rows) c.unwrap_or_default-2.ensures (λ none is. is);
+      changes = c.get_str-5.ensures ∙ word_read matches words _ rows;
+      image = c.get_str-6.ensures ∙ word_read matches words _ rows;
       taken = λ taken. taken_by command words c.in_ok-command.ensures c.in_ok-matches.ensures.kinds;
       refused = tt;
     }

@@ -1,0 +1,51 @@
+-- The changes by one instruction, as they are kept.
+use Rattle.std.proofs.Common.{◌≡◌, ◌∙◌, ◌+◌, ◌%◌, ◌^◌, ◌∷◌, [], ℕ, List, ap, append-nil, flat_map, refl, subst, sym}
+use Rattle.rv_model.specs.declared.step.step_end.StepEnd.{StepEnd}
+use Rattle.rv_model.specs.memory.Memory.{Memory}
+use Rattle.rv_model.specs.step.Hart.{HartState, Stepped, ends_after}
+use Rattle.rv_model.specs.step.Step.{step}
+use Rattle.memory_changes.specs.Changes.{Place, changes_at, changes_by, changes_from, held, one_more, ticks_more}
+use Rattle.memory_changes.specs.Recorded.{IsNoted, IsRecorded, number_after, ticks_after}
+use Rattle.memory_changes.specs.declared.changes.Changes.{Changes}
+
+one_from : (places : List Place) (number ticks : ℕ) (s : HartState) → changes_by places (one_more number) (ticks_more ticks s) s ≡ changes_from places number ticks (s ∷ [])
+unfolding changes_from
+one_from places number ticks s = sym (append-nil (changes_by places (one_more number) (ticks_more ticks s) s))
+
+one_number : (number : ℕ) (s : HartState) → number_after number (s ∷ []) ≡ one_more number
+unfolding number_after
+one_number number s = refl
+
+one_ticks : (ticks : ℕ) (s : HartState) → ticks_after ticks (s ∷ []) ≡ ticks_more ticks s
+unfolding ticks_after
+one_ticks ticks s = refl
+
+pub kept : {K A : Type 0} (took : K → List ℕ → K → Type 0) (before old new : Changes K A) (s next : HartState) (end : StepEnd) (ticks : ℕ) → IsNoted before s old
+    → step 256 s ≡ ends_after ticks end next → new.places ≡ old.places → new.number ≡ one_more old.number → new.ticks ≡ (old.ticks + ticks) % 2 ^ 64
+    → ((m : Memory) → old.before.items ≡ flat_map (held m) old.places.items → took old.sink (changes_at new.number new.ticks old.pc m next.memory old.places.items) new.sink)
+    → IsRecorded took before (s ∷ []) new
+kept took before old new s next end ticks noted made places number spent lines =
+    let u : new.ticks ≡ ticks_more before.ticks s =
+    spent ∙ (ap (λ (t : ℕ). (t + ticks) % 2 ^ 64) noted.ticks ∙ ap (λ (o : Stepped). (before.ticks + o.ticks) % 2 ^ 64) (sym made)) in
+    let n : new.number ≡ one_more before.number = number ∙ ap one_more noted.number in
+    let line : changes_at new.number new.ticks old.pc s.memory next.memory old.places.items ≡ changes_from before.places.items before.number before.ticks (s ∷ []) =
+    ap (λ (k : ℕ). changes_at k new.ticks old.pc s.memory next.memory old.places.items) n
+    ∙ (ap (λ (t : ℕ). changes_at (one_more before.number) t old.pc s.memory next.memory old.places.items) u
+    ∙ (ap (λ (p : ℕ). changes_at (one_more before.number) (ticks_more before.ticks s) p s.memory next.memory old.places.items) noted.pc
+    ∙ (ap (λ (o : Stepped). changes_at (one_more before.number) (ticks_more before.ticks s) s.scalar.pc s.memory o.state.memory old.places.items) (sym made)
+    ∙ (ap (λ them. changes_by them.items (one_more before.number) (ticks_more before.ticks s) s) noted.places
+    ∙ one_from before.places.items before.number before.ticks s)))) in
+    record {
+      places = places ∙ noted.places;
+      number = n ∙ sym (one_number before.number s);
+      ticks = u ∙ sym (one_ticks before.ticks s);
+      lines = subst (λ (l : List ℕ). took before.sink l new.sink) line
+          (subst (λ sink. took sink (changes_at new.number new.ticks old.pc s.memory next.memory old.places.items) new.sink) noted.sink (lines s.memory noted.bytes));
+    }
+
+-- what is said of slices, said of what they are of
+pub of_slices : {K : Type 0} (took : K → List ℕ → K → Type 0) (sink new : K) (lines : Memory → List Place → List ℕ) (bytes items : List ℕ) (them places : List Place) → bytes ≡ items
+    → them ≡ places → ((m : Memory) → bytes ≡ flat_map (held m) them → took sink (lines m them) new) → (m : Memory) → items ≡ flat_map (held m) places
+    → took sink (lines m places) new
+of_slices took sink new lines bytes items them places bytes_are are told m is =
+    subst (λ (ps : List Place). took sink (lines m ps) new) are (told m (bytes_are ∙ (is ∙ ap (λ (ps : List Place). flat_map (held m) ps) (sym are))))

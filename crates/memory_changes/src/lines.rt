@@ -1,0 +1,153 @@
+//! The lines of changes.
+ghost use Rattle.std.specs.Prelude.{◌≡◌, ◌++◌, ◌+◌, ◌≤◌, length, flat_map, OnOk};
+ghost use Rattle.hex.specs.Hex.{encode_lower};
+ghost use Rattle.rv_model.specs.commands.Printing.{hex16};
+ghost use Rattle.rv_model.specs.memory.Memory.{Memory};
+ghost use Rattle.memory_changes.specs.Changes.{change, change_line, changes_at, held, spaced};
+
+use crate::place::{MAX_LENGTH, Place, SMALL_LENGTH};
+use crate::reading::read_bytes;
+use devices::{Sink, write_all};
+use monitor_cmds::{Reply, push_decimal, push_hex16};
+use recording::RecordFault;
+use vector_memory::UserBytes;
+
+/// An instruction that may have changed something: its number, the ticks that were used up with it, and where it stands.
+#[derive(Clone, Copy)]
+pub(crate) struct Moment {
+    pub(crate) number: u64,
+    pub(crate) ticks: u64,
+    pub(crate) pc: u64,
+}
+
+/// Adds bytes after a space, two hexadecimal digits each.
+fn push_bytes(reply: &mut Reply, bytes: &[u8])
+    requires few { length bytes.now ≤ 256 }
+    requires room { length reply.old + 513 ≤ 4096 }
+    ensures text { reply.new ≡ reply.old ++ spaced (encode_lower bytes.now) }
+    ensures bound { length reply.new ≤ length reply.old + 513 }
+{
+    let mut digits = [0; 2 * MAX_LENGTH];
+    let size = 2 * bytes.len();
+    let _ = hex::encode_to_slice(bytes, &mut digits[..size]);
+    reply.push(b" ");
+    reply.push(&digits[..size]);
+}
+
+/// Adds a number after a space, in 16 hexadecimal digits.
+fn push_address(reply: &mut Reply, addr: u64)
+    requires { length reply.old + 17 ≤ 4096 }
+    ensures text { reply.new ≡ reply.old ++ spaced (hex16 addr) }
+    ensures bound { length reply.new ≡ length reply.old + 17 }
+{
+    reply.push(b" ");
+    push_hex16(reply, addr);
+}
+
+/// Adds the line of a change.
+#[tactic(auto, unfolding(crate::specs::Changes::change_line))]
+fn push_change(reply: &mut Reply, moment: &Moment, addr: u64, old: &[u8], new: &[u8])
+    requires empty { length reply.old ≡ 0 }
+    requires few { length old.now ≤ 256 }
+    requires few_new { length new.now ≤ 256 }
+    ensures { reply.new ≡ reply.old
+        ++ change_line moment.now.number moment.now.ticks moment.now.pc addr old.now new.now }
+{
+    push_decimal(reply, moment.number);
+    reply.push(b" ");
+    push_decimal(reply, moment.ticks);
+    push_address(reply, moment.pc);
+    push_address(reply, addr);
+    push_bytes(reply, old);
+    push_bytes(reply, new);
+    reply.push(b"\n");
+}
+
+/// Writes the line of a change.
+#[inline(never)]
+fn write_change<K: Sink>(
+    sink: &mut K,
+    moment: &Moment,
+    addr: u64,
+    old: &[u8],
+    new: &[u8],
+) -> Result<(), RecordFault>
+    requires few { length old.now ≤ 256 }
+    requires few_new { length new.now ≤ 256 }
+    ensures { OnOk result (K.took sink.old
+        (change_line moment.now.number moment.now.ticks moment.now.pc addr old.now new.now) sink.new) }
+{
+    let mut reply = Reply::new();
+    push_change(&mut reply, moment, addr, old, new);
+    match write_all(sink, reply.as_slice()) {
+        Ok(()) => Ok(()),
+        Err(_) => Err(RecordFault::Changes),
+    }
+}
+
+/// Writes the line of a place that held these bytes, if it holds others now, which are read into a buffer.
+#[inline(always)]
+fn compare_bytes<M: UserBytes, K: Sink>(
+    sink: &mut K,
+    memory: &M,
+    moment: &Moment,
+    place: &Place,
+    old: &[u8],
+    buffer: &mut [u8],
+) -> Result<(), RecordFault>
+    requires small { length old.now ≤ 256 }
+    requires within { place.now.len ≤ length buffer.old }
+    ensures { OnOk result (K.took sink.old (change moment.now.number moment.now.ticks moment.now.pc
+        place.now.addr old.now (held (M.memory memory.now) place.now)) sink.new) }
+{
+    let new = &mut buffer[..place.len];
+    read_bytes(memory, place.addr, new)?;
+    if old == &*new {
+        return Ok(());
+    }
+    write_change(sink, moment, place.addr, old, new)
+}
+
+/// Writes the line of a place that held these bytes, if it holds others now; what is small costs less.
+#[inline(always)]
+fn compare_place<M: UserBytes, K: Sink>(
+    sink: &mut K,
+    memory: &M,
+    moment: &Moment,
+    place: &Place,
+    old: &[u8],
+) -> Result<(), RecordFault>
+    requires { length old.now ≤ 256 }
+    ensures { OnOk result (K.took sink.old (change moment.now.number moment.now.ticks moment.now.pc
+        place.now.addr old.now (held (M.memory memory.now) place.now)) sink.new) }
+{
+    if place.len <= SMALL_LENGTH {
+        return compare_bytes(sink, memory, moment, place, old, &mut [0; SMALL_LENGTH]);
+    }
+    compare_bytes(sink, memory, moment, place, old, &mut [0; MAX_LENGTH])
+}
+
+/// Writes the lines of the places that hold other bytes now than they held, by what they held, one place after another.
+#[inline(always)]
+pub(crate) fn write_changes<M: UserBytes, K: Sink>(
+    sink: &mut K,
+    memory: &M,
+    moment: &Moment,
+    places: &[Place],
+    old: &[u8],
+) -> Result<(), RecordFault>
+    ensures { OnOk result ((m : Memory) → old.now ≡ flat_map (held m) places.now
+        → K.took sink.old (changes_at moment.now.number moment.now.ticks moment.now.pc m (M.memory memory.now)
+        places.now) sink.new) }
+{
+    let mut rest = old;
+    for place in places {
+        if rest.len() < place.len {
+            return Err(RecordFault::NoPlace);
+        }
+        let (before, others) = rest.split_at(place.len);
+        compare_place(sink, memory, moment, place, before)?;
+        rest = others;
+    }
+    Ok(())
+}

@@ -1,0 +1,56 @@
+//! How many instructions a run carried out, in how many ticks.
+ghost use Rattle.std.specs.Prelude.{◌≡◌};
+
+use crate::alone::Alone;
+use crate::counting::is_counted;
+use crate::fault::RecordFault;
+use crate::recorder::Recorder;
+use rv_model::StepEnd;
+use vector_memory::UserBytes;
+
+/// Counts all instructions that are counted, and their ticks; modulo 2^64.
+#[derive(Drop)]
+pub struct Carried {
+    pub times: u64,
+    pub ticks: u64,
+}
+
+impl Carried {
+    /// None yet.
+    pub fn none() -> Carried
+        ensures times { result.times ≡ 0 }
+        ensures ticks { result.ticks ≡ 0 }
+    {
+        Carried { times: 0, ticks: 0 }
+    }
+}
+
+impl<M: UserBytes> Recorder<M> for Carried {
+    ghost use Rattle.recording.specs.Totals.{AddsUp, times_of, counted_ticks};
+    ghost use Rattle.recording.specs.TotalLaws.{none_added, more_added};
+
+    ghost recorded = { λ a states b. AddsUp times_of a.times states b.times × AddsUp counted_ticks a.ticks states b.ticks };
+
+    ghost noted = { λ a _ b. b ≡ a };
+
+    #[inline(always)]
+    fn note(&mut self, _alone: &Alone<M>) -> Result<(), RecordFault> {
+        Ok(())
+    }
+
+    #[inline(always)]
+    fn keep(&mut self, _alone: &Alone<M>, end: StepEnd, ticks: usize) -> Result<(), RecordFault> {
+        if is_counted(end) {
+            self.times = self.times.wrapping_add(1);
+            self.ticks = self.ticks.wrapping_add(ticks as u64);
+        }
+        Ok(())
+    }
+
+    ghost recorded_none = { λ r. (none_added times_of r.times, none_added counted_ticks r.ticks) };
+
+    ghost recorded_more = { λ a b c xs ys one two. (
+      more_added times_of xs ys a.times b.times c.times one.0 two.0,
+      more_added counted_ticks xs ys a.ticks b.ticks c.ticks one.1 two.1,
+    ) };
+}

@@ -1,0 +1,63 @@
+//! Calls that wrote less than they were asked to.
+ghost use Rattle.std.specs.Prelude.{◌≡◌};
+ghost use Rattle.recording.specs.Machines.{state_of};
+ghost use Rattle.recording.specs.Totals.{has_written_less};
+
+use crate::alone::Alone;
+use crate::fault::RecordFault;
+use crate::recorder::Recorder;
+use rv_model::{Reg, StepEnd};
+use vector_memory::UserBytes;
+
+/// The register with the number of bytes that a call is to write, which a call leaves.
+const LENGTH_REGISTER: u32 = 12;
+
+/// Whether a call just put out some bytes, but less than it was asked to.
+#[inline(always)]
+fn has_written_less<M: UserBytes>(alone: &Alone<M>) -> bool
+    ensures { result ≡ has_written_less (state_of M.memory alone.now) }
+{
+    !alone.output.is_empty()
+        && (alone.output.len() as u64) < alone.scalar.read(Reg::new(LENGTH_REGISTER))
+}
+
+/// Counts the calls that put out some bytes, but less than they were asked to; modulo 2^64.
+#[derive(Drop)]
+pub struct ShortWrites {
+    pub count: u64,
+}
+
+impl ShortWrites {
+    /// None yet.
+    pub fn none() -> ShortWrites
+        ensures { result.count ≡ 0 }
+    {
+        ShortWrites { count: 0 }
+    }
+}
+
+impl<M: UserBytes> Recorder<M> for ShortWrites {
+    ghost use Rattle.recording.specs.Totals.{AddsUp, short_of};
+    ghost use Rattle.recording.specs.TotalLaws.{none_added, more_added};
+
+    ghost recorded = { λ a states b. AddsUp short_of a.count states b.count };
+
+    ghost noted = { λ a _ b. b ≡ a };
+
+    #[inline(always)]
+    fn note(&mut self, _alone: &Alone<M>) -> Result<(), RecordFault> {
+        Ok(())
+    }
+
+    #[inline(always)]
+    fn keep(&mut self, alone: &Alone<M>, _end: StepEnd, _ticks: usize) -> Result<(), RecordFault> {
+        if has_written_less(alone) {
+            self.count = self.count.wrapping_add(1);
+        }
+        Ok(())
+    }
+
+    ghost recorded_none = { λ r. none_added short_of r.count };
+
+    ghost recorded_more = { λ a b c xs ys. more_added short_of xs ys a.count b.count c.count };
+}

@@ -1,0 +1,47 @@
+use Rattle.std.proofs.Common.{ap, ◌++◌, List, ℕ, flat_map, subst}
+use Rattle.std.specs.Prelude.{IsPermutation}
+use Rattle.devices.proofs.Moves.{moved}
+use Rattle.recording.specs.Machines.{state_of}
+use Rattle.recording.specs.Runs.{ran}
+use Rattle.first_state.specs.OwnMemory.{own_memory}
+use Rattle.vec_recorder.specs.RecordLines.{row_line}
+use Rattle.vec_recorder.proofs.RunLaws.{changes_told, counted, end_by_sums, end_is}
+use Rattle.vec_recorder.proofs.runs.run_counted_and_watched.Goals as goal
+
+pub returns-clause-counts : goal.returns-clause-counts
+returns-clause-counts g c =
+    let s = state_of own_memory c.args.alone.now in
+    let rows = c.run.new.recorder.second.first.table.rows.items in
+    let same : IsPermutation rows c.write_counts.new.rows = subst (λ them. IsPermutation them c.write_counts.new.rows) c.as_mut_slice-rows.ensures.value c.write_counts.ensures.same in
+    let counts = counted (ran c.args.ticks s).found _ rows c.write_counts.new.rows c.in_ok-counts.ensures c.in_ok-end.ensures.recorded.1.0 same in
+    record {
+      before = c.in_ok-file.file;
+      after = c.write_counts.new.file;
+      made = c.in_ok-file.ensures;
+      says = record {
+        rows = c.write_counts.new.rows;
+        counts = counts;
+        taken = moved g.R.Made.Sink.took _ _ _ _
+            (ap (λ (l : List ℕ). flat_map row_line c.write_counts.new.rows ++ l)
+            (end_is c.args.ticks s (state_of own_memory c.run.new.alone) c.write_counts.new.rows c.in_ok-end.end counts c.in_ok-end.ensures.machine c.in_ok-end.ensures.end))
+            c.in-Ok.ensures.text;
+      };
+    }
+
+pub returns-clause-changes : goal.returns-clause-changes
+returns-clause-changes g c =
+    let s = state_of own_memory c.args.alone.now in
+    let rows = c.run.new.recorder.second.first.table.rows.items in
+    let same : IsPermutation rows c.write_counts.new.rows = subst (λ them. IsPermutation them c.write_counts.new.rows) c.as_mut_slice-rows.ensures.value c.write_counts.ensures.same in
+    let counts = counted (ran c.args.ticks s).found _ rows c.write_counts.new.rows c.in_ok-counts.ensures c.in_ok-end.ensures.recorded.1.0 same in
+    let made = c.in_ok-changes.ensures in
+    record {
+      before = c.in_ok-lines.lines;
+      after = c.write_last.new.sink;
+      made = c.in_ok-lines.ensures;
+      says = changes_told g.R.Made.Sink.took g.met.R.Made.Sink.took_more c.in_ok-changes.changes c.run.new.recorder.second.second _ _ _ (ran c.args.ticks s).found _ _
+          made.sink (ap (λ them. them.items) made.places) made.number made.ticks c.in_ok-end.ensures.recorded.1.1
+          (end_by_sums c.args.ticks _ _ s (state_of own_memory c.run.new.alone) c.write_counts.new.rows c.in_ok-end.end c.in-Ok.ensures.times c.in-Ok.ensures.ticks counts
+          c.in_ok-end.ensures.machine c.in_ok-end.ensures.end)
+          c.in-Ok-write_last.ensures.text;
+    }

@@ -1,0 +1,42 @@
+//! Words of places that are watched, `ADDR:LEN`.
+ghost use Rattle.std.specs.Prelude.{◌≡◌, ◌⊎◌, IfErr, IfOk, MatchOption};
+ghost use Rattle.std.specs.List.{AllZip, Any};
+ghost use Rattle.clap.specs.Walk.{texts};
+ghost use Rattle.vec_recorder.specs.Statuses.{program_status};
+ghost use Rattle.vec_recorder.specs.WatchWords.{IsPlaceAt, IsPlaceOf, NamesNoPlace};
+ghost use Rattle.vec_recorder.specs.declared.program_fault.ProgramFault.TheVariants.{NoMemory};
+
+use crate::numbers::length_number;
+use crate::program_fault::ProgramFault;
+use memory_changes::Place;
+use monitor_cmds::address;
+use std::alloc::Allocator;
+
+/// Splits a word of a place at its first colon.
+fn watched_place(word: &str) -> Option<Place>
+    ensures { MatchOption result (NamesNoPlace word.now) (IsPlaceOf word.now) }
+{
+    let (first, second) = word.split_once(':')?;
+    let addr = address(first.as_bytes())?;
+    let len = length_number(second.as_bytes())?;
+    Place::new(addr, len)
+}
+
+/// Splits each word of a place, in their order. Refused where one names none, and for want of memory.
+pub(crate) fn watched_places<'a, A: Allocator>(
+    alloc: A,
+    words: &[&'a str],
+) -> Result<Vec<Place, A>, ProgramFault<'a>>
+    ensures places { IfOk result (λ places. AllZip IsPlaceAt words.now places.items) }
+    ensures refused { IfErr result (λ fault. (fault ≡ NoMemory)
+        ⊎ ((program_status fault ≡ 2) × Any NamesNoPlace (texts words.now))) }
+{
+    let mut places = Vec::new(alloc);
+    for word in words {
+        let Some(place) = watched_place(*word) else {
+            return Err(ProgramFault::WatchWord(*word));
+        };
+        places.push(place)?;
+    }
+    Ok(places)
+}
