@@ -280,6 +280,7 @@ class Timeline:
             lines = [f"1 policy {user.policy}"]
             for page, allowed in pages_of(user, session.images):
                 lines.append(f"1 map {page:x} 1 {''.join(it for it, bit in PERMISSIONS.items() if allowed & bit)}")
+            lines.append("1 go")  # the program may have written to each of them
             beginning = beginning_at(Guest(session, self._guest.user), lines)
         done = record(beginning, leg.ticks)
         return done.instructions - (done.ticks > leg.ticks)  # the last one may have been cut
