@@ -7,13 +7,13 @@ ghost use Rattle.rv_model.specs.legality.Legality.{is_legal};
 ghost use Rattle.rv_model.specs.step.Step.{arith_step, typed, typed_step, vector_ends};
 ghost use Rattle.vec_unit.specs.Arithmetic.{is_binary};
 
-use crate::compare::CarryOutOperation;
+use crate::compare::Carried;
 use crate::destination::Target;
 use crate::extend::ExtendOperation;
 use crate::operands::{Rounded, WithSources};
 use crate::operation::perform;
 use crate::two_widths::{perform_narrowing, perform_single, perform_widening};
-use crate::widen::WidenMultiplyAddOperation;
+use crate::widen::Added;
 use rv_model::instructions::operations::VectorOp;
 use rv_model::{ArithOperation, Instr, Policy, Scalar, Source, VEnd, VReg, VState, VectorInstr};
 
@@ -49,7 +49,9 @@ fn perform_rest(
             perform(&WithSources { op, vs2, source }, target, state, scalar);
         }
         VectorOp::CarryOut(op) => {
-            let operation = CarryOutOperation::new(op, vs2, source, target.unmasked);
+            let alone = target.unmasked;
+            let op = Carried { op, alone };
+            let operation = WithSources { op, vs2, source };
             perform(&operation, target.whole_body(), state, scalar);
         }
         VectorOp::FixedPoint(op) => {
@@ -69,8 +71,9 @@ fn perform_rest(
             perform_widening(&WithSources { op, vs2, source }, target, state, scalar);
         }
         VectorOp::WidenMultiplyAdd(op) => {
-            let operation = WidenMultiplyAddOperation::new(op, target.vd, vs2, source);
-            perform_widening(&operation, target, state, scalar);
+            let vd = target.vd;
+            let op = Added { op, vd };
+            perform_widening(&WithSources { op, vs2, source }, target, state, scalar);
         }
         VectorOp::NarrowShift(op) => {
             perform_narrowing(&WithSources { op, vs2, source }, target, state, scalar);
