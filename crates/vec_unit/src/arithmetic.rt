@@ -9,7 +9,6 @@ ghost use Rattle.vec_unit.specs.Arithmetic.{is_binary};
 
 use crate::compare::Carried;
 use crate::destination::Target;
-use crate::extend::ExtendOperation;
 use crate::operands::{Rounded, WithSources};
 use crate::operation::perform;
 use crate::two_widths::{perform_narrowing, perform_single, perform_widening};
@@ -124,33 +123,6 @@ pub(crate) fn perform_arith(
             perform_rest(op, vs2, source, target, state, scalar);
         }
     }
-    state.vstart = 0;
-    VEnd::Done
-}
-
-/// Performs a legal extension.
-#[tactic(auto, using(crate::proofs::LegalGroups::extension_groups))]
-pub(crate) fn perform_extension(
-    operation: ExtendOperation,
-    vd: VReg,
-    unmasked: bool,
-    state: &mut VState,
-    scalar: &Scalar,
-    policy: Policy,
-) -> VEnd
-    requires legal { IsTrue (is_legal (Instr.Vector (VectorInstr.Extend operation.op vd operation.vs2 unmasked))
-        state.old.conf.vtype state.old.vstart) }
-    ensures model { (memory : Memory) (output : List ℕ)
-        → typed state.old.conf.vtype (typed_step (VectorInstr.Extend operation.op vd operation.vs2 unmasked))
-        (hart_state scalar.now state.old memory policy output)
-        ≡ vector_ends result (hart_state scalar.now state.new memory policy output) }
-    ensures illegal { result ≡ VEnd.Illegal → state.new ≡ state.old }
-{
-    let Some(vtype) = state.conf.vtype() else {
-        return VEnd::Illegal;
-    };
-    let target = Target::new(vd, unmasked, vtype, policy);
-    operation.perform(target, state, scalar);
     state.vstart = 0;
     VEnd::Done
 }

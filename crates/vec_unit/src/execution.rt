@@ -7,8 +7,7 @@ ghost use Rattle.rv_model.specs.step.Step.{is_vector, operation_step, vector_end
 ghost use Rattle.rv_model.specs.legality.Legality.{is_legal};
 ghost use Rattle.rv_model.specs.lending.Irregular.{is_irregular};
 
-use crate::arithmetic::{perform_arith, perform_extension};
-use crate::extend::ExtendOperation;
+use crate::arithmetic::perform_arith;
 use crate::irregular_operations::perform_typed;
 use crate::memory_instructions::exec_access;
 use crate::vset::{configure, requested_length};
@@ -45,9 +44,6 @@ fn perform_irregular(
         VectorInstr::SetVl { rd, rs1, rs2 } => {
             let length = requested_length(rd, rs1, scalar);
             configure(rd, scalar.read(rs2), length, state, scalar)
-        }
-        VectorInstr::Extend { op, vd, vs2, vm } => {
-            perform_extension(ExtendOperation { op, vs2 }, vd, vm, state, scalar, policy)
         }
         _ => {
             let Some(vtype) = state.conf.vtype() else {

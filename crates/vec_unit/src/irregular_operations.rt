@@ -10,6 +10,7 @@ ghost use Rattle.vec_unit.specs.Arithmetic.{is_typed};
 
 use crate::compress::CompressOperation;
 use crate::destination::Target;
+use crate::extend::ExtendOperation;
 use crate::masks::{
     IndexOperation, IotaOperation, count_mask, perform_logic, perform_scan, scalar_of_mask,
 };
@@ -76,6 +77,10 @@ pub(crate) fn perform_typed(
         }
         VectorInstr::Move { source, vd } => {
             perform_apart(&Move { source }, vd, true, vtype, policy, state, scalar);
+        }
+        VectorInstr::Extend { op, vd, vs2, vm } => {
+            let target = Target::new(vd, vm, vtype, policy);
+            ExtendOperation { op, vs2 }.perform(target, state, scalar);
         }
         VectorInstr::MaskLogic { op, vd, vs1, vs2 } => perform_logic(op, vd, vs1, vs2, state),
         VectorInstr::MaskToScalar { op, rd, vs2, vm } => {
