@@ -1,11 +1,10 @@
 //! Arithmetic instructions, once they are known to be legal ("V" Vector Extension 1.0, chapter 11).
-ghost use Rattle.std.specs.Prelude.{◌≡◌, ◌≢◌, ◌≤◌, IsTrue, List, Some, not, ℕ};
+ghost use Rattle.std.specs.Prelude.{◌≡◌, ◌≢◌, ◌≤◌, IsTrue, Some, not, ℕ};
 ghost use Rattle.rv_model.specs.vector.Groups.{group_type, vlmax, wide_type};
-ghost use Rattle.rv_model.specs.step.Hart.{hart_state};
-ghost use Rattle.rv_model.specs.memory.Memory.{Memory};
 ghost use Rattle.rv_model.specs.legality.Legality.{is_legal};
-ghost use Rattle.rv_model.specs.step.Step.{arith_step, typed, typed_step, vector_ends};
+ghost use Rattle.rv_model.specs.step.Step.{arith_step, typed, typed_step};
 ghost use Rattle.vec_unit.specs.Arithmetic.{is_binary};
+ghost use Rattle.vec_unit.specs.Steps.{Performs};
 
 use crate::compare::Carried;
 use crate::destination::Target;
@@ -32,11 +31,9 @@ fn perform_rest(
         (Some target.vtype) state.old.vstart) }
     requires rest { IsTrue (not (is_binary op)) }
     requires length { state.old.conf.vl ≤ vlmax target.vtype }
-    ensures model { (memory : Memory) (output : List ℕ)
-        → arith_step target.vtype (group_type target.vtype) (wide_type target.vtype) op source target.vd vs2
-        target.unmasked (hart_state scalar.now state.old memory target.policy output)
-        ≡ vector_ends VEnd.Done
-        (hart_state scalar.now (record state.new { vstart = 0 }) memory target.policy output) }
+    ensures model { Performs (arith_step target.vtype (group_type target.vtype) (wide_type target.vtype) op source
+        target.vd vs2 target.unmasked)
+        target.policy scalar.now state.old VEnd.Done scalar.now (record state.new { vstart = 0 }) }
 {
     let mode = state.vxrm;
     match op {
@@ -99,11 +96,9 @@ pub(crate) fn perform_arith(
     requires legal { IsTrue (is_legal
         (Instr.Vector (VectorInstr.Arith operation.arith operation.vd operation.vs2 operation.unmasked))
         state.old.conf.vtype state.old.vstart) }
-    ensures model { (memory : Memory) (output : List ℕ)
-        → typed state.old.conf.vtype
-        (typed_step (VectorInstr.Arith operation.arith operation.vd operation.vs2 operation.unmasked))
-        (hart_state scalar.now state.old memory policy output)
-        ≡ vector_ends result (hart_state scalar.now state.new memory policy output) }
+    ensures model { Performs (typed state.old.conf.vtype
+        (typed_step (VectorInstr.Arith operation.arith operation.vd operation.vs2 operation.unmasked)))
+        policy scalar.now state.old result scalar.now state.new }
     ensures illegal { result ≡ VEnd.Illegal → state.new ≡ state.old }
     ensures uncut { (index : ℕ) → result ≢ VEnd.Cut index }
 {

@@ -1,11 +1,11 @@
 //! One vector instruction, carried out.
 ghost use Rattle.std.specs.Prelude.{◌≡◌, ◌≢◌, ◌≤◌, IsTrue, List, ℕ};
-ghost use Rattle.rv_model.specs.memory.Memory.{Memory};
 ghost use Rattle.rv_model.specs.step.Hart.{hart_state};
 ghost use Rattle.rv_model.specs.step.Resumes.{InstructionGoesOn};
 ghost use Rattle.rv_model.specs.step.Step.{is_vector, operation_step, vector_ends, vector_executed};
 ghost use Rattle.rv_model.specs.legality.Legality.{is_legal};
 ghost use Rattle.rv_model.specs.lending.Irregular.{is_irregular};
+ghost use Rattle.vec_unit.specs.Steps.{Performs};
 
 use crate::arithmetic::perform_arith;
 use crate::irregular_operations::perform_typed;
@@ -26,9 +26,7 @@ fn perform_irregular(
 ) -> VEnd
     requires irregular { IsTrue (is_irregular operation.now) }
     requires legal { IsTrue (is_legal (Instr.Vector operation.now) state.old.conf.vtype state.old.vstart) }
-    ensures model { (memory : Memory) (output : List ℕ)
-        → operation_step operation.now (hart_state scalar.old state.old memory policy output)
-        ≡ vector_ends result (hart_state scalar.new state.new memory policy output) }
+    ensures model { Performs (operation_step operation.now) policy scalar.old state.old result scalar.new state.new }
     ensures illegal_state { result ≡ VEnd.Illegal → state.new ≡ state.old }
     ensures illegal_scalar { result ≡ VEnd.Illegal → scalar.new ≡ scalar.old }
 {
@@ -66,11 +64,9 @@ pub fn exec_arith(
     scalar: &Scalar,
     policy: Policy,
 ) -> VEnd
-    ensures model { (limit : ℕ) (memory : Memory) (output : List ℕ)
-        → vector_executed limit
-        (Instr.Vector (VectorInstr.Arith operation.arith operation.vd operation.vs2 operation.unmasked))
-        (hart_state scalar.now state.old memory policy output)
-        ≡ vector_ends result (hart_state scalar.now state.new memory policy output) }
+    ensures model { (limit : ℕ) → Performs (vector_executed limit
+        (Instr.Vector (VectorInstr.Arith operation.arith operation.vd operation.vs2 operation.unmasked)))
+        policy scalar.now state.old result scalar.now state.new }
 
     // What the illegal instruction finds is what it leaves.
     ensures illegal_state { result ≡ VEnd.Illegal → state.new ≡ state.old }
@@ -101,9 +97,8 @@ pub fn exec_operation(
     policy: Policy,
 ) -> VEnd
     requires irregular { IsTrue (is_irregular operation.now) }
-    ensures model { (limit : ℕ) (memory : Memory) (output : List ℕ)
-        → vector_executed limit (Instr.Vector operation.now) (hart_state scalar.old state.old memory policy output)
-        ≡ vector_ends result (hart_state scalar.new state.new memory policy output) }
+    ensures model { (limit : ℕ) → Performs (vector_executed limit (Instr.Vector operation.now))
+        policy scalar.old state.old result scalar.new state.new }
 
     // What the illegal instruction finds is what it leaves.
     ensures illegal_state { result ≡ VEnd.Illegal → state.new ≡ state.old }

@@ -1,11 +1,10 @@
 //! Operations on groups of the vector type, carried out ("V" Vector Extension 1.0, sections 5.2 to 5.4 and chapter 11).
 ghost use Rattle.std.specs.Prelude.{◌≡◌, ◌<◌, ◌≤◌, List, ℕ};
 ghost use Rattle.rv_model.specs.declared.scalar.Scalar.{Scalar as ScalarRegisters};
-ghost use Rattle.rv_model.specs.elements.Arithmetic.{body_of};
 ghost use Rattle.rv_model.specs.elements.Elements.{Body as BodyOf};
 ghost use Rattle.rv_model.specs.vector.Groups.{GroupType, group_type, vlmax, register_of};
 ghost use Rattle.rv_model.specs.lending.GroupBounds.{HoldsBody, IsInside};
-ghost use Rattle.vec_unit.specs.Results.{with_elements};
+ghost use Rattle.vec_unit.specs.Results.{registers_left, with_elements};
 ghost use Rattle.vec_unit.specs.declared.destination.Target.{Target as OperationTarget};
 
 use crate::body::body_under;
@@ -49,11 +48,7 @@ pub(crate) fn perform<O: Operation>(
 )
     requires operands { O.inside operation.now target (group_type target.vtype) state.old.conf.vl }
     requires length { state.old.conf.vl ≤ vlmax target.vtype }
-    ensures { state.new ≡ record state.old {
-      file =
-          O.written operation.now target (group_type target.vtype) (body_of target.unmasked state.old) state.old.file
-          scalar.now;
-    } }
+    ensures { state.new ≡ registers_left (O.written operation.now) target scalar.now state.old }
 {
     let mask = mask_register(&state.file);
     let body = body_under(target.unmasked, &mask, state);
@@ -91,11 +86,8 @@ pub(crate) fn perform_apart<O: Operation>(
     requires operands { O.inside operation.now
         (record { vd = vd; unmasked = unmasked; vtype = vtype; policy = policy }) (group_type vtype) state.old.conf.vl }
     requires length { state.old.conf.vl ≤ vlmax vtype }
-    ensures { state.new ≡ record state.old {
-      file =
-          O.written operation.now (record { vd = vd; unmasked = unmasked; vtype = vtype; policy = policy })
-          (group_type vtype) (body_of unmasked state.old) state.old.file scalar.now;
-    } }
+    ensures { state.new ≡ registers_left (O.written operation.now)
+        (record { vd = vd; unmasked = unmasked; vtype = vtype; policy = policy }) scalar.now state.old }
 {
     let target = Target::new(vd, unmasked, vtype, policy);
     perform(operation, target, state, scalar);
