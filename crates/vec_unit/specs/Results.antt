@@ -6,6 +6,7 @@ use Rattle.rv_model.specs.declared.vector.state.VState.{VState}
 use Rattle.rv_model.specs.elements.Arithmetic.{body_of, fills_masked_off, fills_tail, with_results}
 use Rattle.rv_model.specs.elements.Elements.{Body}
 use Rattle.rv_model.specs.vector.Groups.{GroupType, group_type}
+use Rattle.vec_unit.specs.declared.destination.Agnostic.{Agnostic}
 use Rattle.vec_unit.specs.declared.destination.Destination.{Destination}
 use Rattle.vec_unit.specs.declared.destination.Target.{Target}
 
@@ -19,6 +20,13 @@ with_written w destination body number file =
 abbrev pub with_elements : GroupType → Target → Body → (ℕ → ℕ) → List ℕ → List ℕ
 with_elements t target body number file =
     with_results t target.vd body (fills_masked_off target.policy target.vtype body) (fills_tail target.policy target.vtype body) number file
+
+-- what becomes of the agnostic elements of a body, under a target's policy and type
+abbrev pub agnostic_of : Target → Body → Agnostic
+agnostic_of target body = record {
+  fill_masked_off = fills_masked_off target.policy target.vtype body;
+  fill_tail = fills_tail target.policy target.vtype body;
+}
 
 -- a state, with these numbers in the target's group of this type; the flag says whether a result saturated
 abbrev pub carried_out : GroupType → Target → (ℕ → ℕ) → Bool → VState → VState

@@ -4,7 +4,7 @@ ghost use Rattle.rv_model.specs.declared.scalar.Scalar.{Scalar as ScalarRegister
 ghost use Rattle.rv_model.specs.elements.Elements.{Body as BodyOf};
 ghost use Rattle.rv_model.specs.vector.Groups.{GroupType, group_type, vlmax, register_of};
 ghost use Rattle.rv_model.specs.lending.GroupBounds.{HoldsBody, IsInside};
-ghost use Rattle.vec_unit.specs.Results.{registers_left, with_elements};
+ghost use Rattle.vec_unit.specs.Results.{agnostic_of, registers_left, with_elements};
 ghost use Rattle.vec_unit.specs.declared.destination.Target.{Target as OperationTarget};
 
 use crate::body::body_under;
@@ -32,6 +32,7 @@ pub(crate) trait Operation {
     )
         requires operands { inside self.now target (record { width = L.width; emul = extent.emul }) body.now.end }
         requires holds { HoldsBody L.width extent.emul extent.count body.now.end }
+        requires agnostic { extent.agnostic ≡ agnostic_of target body.now }
         requires mask { body.now.mask ≡ register_of file.old 0 }
         ensures { file.new ≡ written self.now target (record { width = L.width; emul = extent.emul }) body.now file.old
             scalar.now };
@@ -53,21 +54,25 @@ pub(crate) fn perform<O: Operation>(
     let mask = mask_register(&state.file);
     let body = body_under(target.unmasked, &mask, state);
     let emul = u32::from(target.vtype.lmul.eighths());
-    let count = VLENB * registers(emul) as usize;
+    let mut extent = Extent {
+        emul,
+        count: VLENB * registers(emul) as usize,
+        agnostic: agnostic_under(target.policy, target.vtype, &body),
+    };
     let file = &mut state.file;
     match target.vtype.sew {
-        Sew::E8 => operation.write::<u8>(target, Extent { emul, count }, &body, file, scalar),
+        Sew::E8 => operation.write::<u8>(target, extent, &body, file, scalar),
         Sew::E16 => {
-            let count = count / 2;
-            operation.write::<u16>(target, Extent { emul, count }, &body, file, scalar);
+            extent.count /= 2;
+            operation.write::<u16>(target, extent, &body, file, scalar);
         }
         Sew::E32 => {
-            let count = count / 4;
-            operation.write::<u32>(target, Extent { emul, count }, &body, file, scalar);
+            extent.count /= 4;
+            operation.write::<u32>(target, extent, &body, file, scalar);
         }
         Sew::E64 => {
-            let count = count / 8;
-            operation.write::<u64>(target, Extent { emul, count }, &body, file, scalar);
+            extent.count /= 8;
+            operation.write::<u64>(target, extent, &body, file, scalar);
         }
     }
 }
@@ -105,6 +110,7 @@ pub(crate) fn write_elements<L: Lane, R: Results<L>>(
     requires operands { (i : ℕ) → i < body.now.end → R.has results.now i }
     requires inside { IsInside target.vd extent.emul }
     requires holds { HoldsBody L.width extent.emul extent.count body.now.end }
+    requires agnostic { extent.agnostic ≡ agnostic_of target body.now }
     ensures { file.new ≡ with_elements (record { width = L.width; emul = extent.emul }) target body.now
         (R.number results.now) file.old }
 {
@@ -112,7 +118,7 @@ pub(crate) fn write_elements<L: Lane, R: Results<L>>(
         vd: target.vd,
         emul: extent.emul,
         count: extent.count,
-        agnostic: agnostic_under(target.policy, target.vtype, body),
+        agnostic: extent.agnostic,
     };
     write_group(results, destination, body, file);
 }
