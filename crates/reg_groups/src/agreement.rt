@@ -34,10 +34,7 @@ fn is_width(content: Content) -> bool
 fn is_mask(content: Content) -> bool
     ensures { result ≡ is_mask content }
 {
-    match content {
-        Content::Mask => true,
-        Content::Elements(_) => false,
-    }
+    matches!(content, Content::Mask)
 }
 
 /// The number of the register after the last.

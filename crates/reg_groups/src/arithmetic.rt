@@ -182,10 +182,7 @@ pub(crate) fn is_legal_move(source: Source, vd: VReg, vtype: VType) -> bool
 fn has_wide_product(op: BinaryOp) -> bool
     ensures { result ≡ is_narrow_only (VectorOp.Binary op) }
 {
-    match op {
-        BinaryOp::Vmulhu | BinaryOp::Vmulhsu | BinaryOp::Vmulh => true,
-        _ => false,
-    }
+    matches!(op, BinaryOp::Vmulhu | BinaryOp::Vmulhsu | BinaryOp::Vmulh)
 }
 
 /// Whether it is a fractional product.
@@ -193,10 +190,7 @@ fn has_wide_product(op: BinaryOp) -> bool
 fn is_fractional_product(op: FixedPointOp) -> bool
     ensures { result ≡ is_narrow_only (VectorOp.FixedPoint op) }
 {
-    match op {
-        FixedPointOp::Vsmul => true,
-        _ => false,
-    }
+    matches!(op, FixedPointOp::Vsmul)
 }
 
 /// Whether a move of elements may have these operands.

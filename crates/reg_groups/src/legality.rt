@@ -201,10 +201,7 @@ fn are_legal_fields(
 fn is_apart_from_mask(role: Role) -> bool
     ensures { result ≡ is_apart_from_mask role }
 {
-    match role {
-        Role::Write | Role::Apart => true,
-        _ => false,
-    }
+    matches!(role, Role::Write | Role::Apart)
 }
 
 /// Whether one group of elements of SEW may be loaded or stored. An aligned group that holds v0 begins with it.

@@ -31,11 +31,9 @@ use Rattle.rv_model.proofs.legality_lemmas.Moves.{compress_inside, whole_move_in
 pub ruleset operation_groups =
     (or-false, multiply_add_inside, compare_inside, carry_out_inside, widen_inside, wide_source_inside, widen_multiply_add_inside, narrow_shift_inside, fixed_point_inside, clip_inside, reduce_inside, widen_reduce_inside, permute_inside)
 
--- of an extension, which never saturates
-pub ruleset extension_groups = (or-false, extension_inside)
-
--- of one without such a line that takes the vector type
-pub ruleset typed_groups = (carry_inside, move_inside, index_inside, length_below, compress_inside, whole_move_inside)
+-- of one without such a line that takes the vector type; an extension never saturates
+pub ruleset typed_groups =
+    (or-false, carry_inside, move_inside, extension_inside, index_inside, length_below, compress_inside, whole_move_inside)
 
 -- of one on a mask
 pub ruleset mask_groups = (length_below, iota_inside)

@@ -1,7 +1,7 @@
 -- The step of an operation that takes the vector type.
 use Rattle.std.proofs.Common.{◌≡◌, refl, true}
 use Rattle.rv_model.specs.declared.instructions.vector.VectorInstr.{VectorInstr}
-use Rattle.rv_model.specs.declared.instructions.vector.VectorInstr.TheVariants.{Arith, Extend, SetIvli, SetVl, SetVli}
+use Rattle.rv_model.specs.declared.instructions.vector.VectorInstr.TheVariants.{Arith, SetIvli, SetVl, SetVli}
 use Rattle.rv_model.specs.step.Hart.{HartState}
 use Rattle.rv_model.proofs.element_lemmas.Numbers.{extends_sign}
 use Rattle.rv_model.specs.step.Step.{operation_step, typed, typed_step}
@@ -13,7 +13,6 @@ unfolding operation_step
 by_type (SetVli rd rs1 vtype) s h = absurd (cc)
 by_type (SetIvli rd avl vtype) s h = absurd (cc)
 by_type (SetVl rd rs1 rs2) s h = absurd (cc)
-by_type (Extend op vd vs2 vm) s h = absurd (cc)
 by_type (Arith arith vd vs2 vm) s h = absurd (cc)
 by_type _ s h = refl
 

@@ -3,3 +3,4 @@ pub mod Arithmetic
 pub mod InTurn
 pub mod MemoryInstructions
 pub mod Results
+pub mod Steps

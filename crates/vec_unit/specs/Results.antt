@@ -1,10 +1,12 @@
 -- What vector instructions write to groups of elements ("V" Vector Extension 1.0, sections 3.4.3, 5.3 and 5.4).
 use Rattle.std.specs.Prelude.{ℕ, ◌||◌, Bool, List}
 use Rattle.std.specs.Int.{Width}
+use Rattle.rv_model.specs.declared.scalar.Scalar.{Scalar}
 use Rattle.rv_model.specs.declared.vector.state.VState.{VState}
 use Rattle.rv_model.specs.elements.Arithmetic.{body_of, fills_masked_off, fills_tail, with_results}
 use Rattle.rv_model.specs.elements.Elements.{Body}
-use Rattle.rv_model.specs.vector.Groups.{GroupType}
+use Rattle.rv_model.specs.vector.Groups.{GroupType, group_type}
+use Rattle.vec_unit.specs.declared.destination.Agnostic.{Agnostic}
 use Rattle.vec_unit.specs.declared.destination.Destination.{Destination}
 use Rattle.vec_unit.specs.declared.destination.Target.{Target}
 
@@ -19,9 +21,28 @@ abbrev pub with_elements : GroupType → Target → Body → (ℕ → ℕ) → L
 with_elements t target body number file =
     with_results t target.vd body (fills_masked_off target.policy target.vtype body) (fills_tail target.policy target.vtype body) number file
 
+-- what becomes of the agnostic elements of a body, under a target's policy and type
+abbrev pub agnostic_of : Target → Body → Agnostic
+agnostic_of target body = record {
+  fill_masked_off = fills_masked_off target.policy target.vtype body;
+  fill_tail = fills_tail target.policy target.vtype body;
+}
+
 -- a state, with these numbers in the target's group of this type; the flag says whether a result saturated
 abbrev pub carried_out : GroupType → Target → (ℕ → ℕ) → Bool → VState → VState
 carried_out t target number saturates state = record state {
   file = with_elements t target (body_of target.unmasked state) number state.file;
   vxsat = state.vxsat || saturates;
+}
+
+-- a state, with the results of an operation of two widths in the target's group of the first type
+abbrev pub performed : (GroupType → GroupType → List ℕ → Scalar → ℕ → ℕ) → (GroupType → GroupType → List ℕ → Scalar → Body → Bool)
+    → GroupType → GroupType → Target → Scalar → VState → VState
+performed number saturates t u target x state =
+    carried_out t target (number t u state.file x) (saturates t u state.file x (body_of target.unmasked state)) state
+
+-- a state, with the registers that an operation leaves under the target's type
+abbrev pub registers_left : (Target → GroupType → Body → List ℕ → Scalar → List ℕ) → Target → Scalar → VState → VState
+registers_left written target x state = record state {
+  file = written target (group_type target.vtype) (body_of target.unmasked state) state.file x;
 }

@@ -1,21 +1,21 @@
 //! Arithmetic instructions, once they are known to be legal ("V" Vector Extension 1.0, chapter 11).
-ghost use Rattle.std.specs.Prelude.{◌≡◌, ◌≢◌, ◌≤◌, IsTrue, List, Some, not, ℕ};
+ghost use Rattle.std.specs.Prelude.{◌≡◌, ◌≤◌, IsTrue, Some, not};
 ghost use Rattle.rv_model.specs.vector.Groups.{group_type, vlmax, wide_type};
-ghost use Rattle.rv_model.specs.step.Hart.{hart_state};
-ghost use Rattle.rv_model.specs.memory.Memory.{Memory};
 ghost use Rattle.rv_model.specs.legality.Legality.{is_legal};
-ghost use Rattle.rv_model.specs.step.Step.{arith_step, typed, typed_step, vector_ends};
+ghost use Rattle.rv_model.specs.step.Step.{arith_step, typed_step};
 ghost use Rattle.vec_unit.specs.Arithmetic.{is_binary};
+ghost use Rattle.vec_unit.specs.Steps.{Performs};
 
-use crate::compare::CarryOutOperation;
+use crate::compare::Carried;
 use crate::destination::Target;
-use crate::extend::ExtendOperation;
 use crate::operands::{Rounded, WithSources};
 use crate::operation::perform;
 use crate::two_widths::{perform_narrowing, perform_single, perform_widening};
-use crate::widen::WidenMultiplyAddOperation;
+use crate::widen::Added;
 use rv_model::instructions::operations::VectorOp;
-use rv_model::{ArithOperation, Instr, Policy, Scalar, Source, VEnd, VReg, VState, VectorInstr};
+use rv_model::{
+    ArithOperation, Instr, Policy, Scalar, Source, VEnd, VReg, VState, VType, VectorInstr,
+};
 
 /// Performs a legal operation with a line of its own in the manual's table, but for vstart, and not one of one width
 /// on two operands.
@@ -33,11 +33,9 @@ fn perform_rest(
         (Some target.vtype) state.old.vstart) }
     requires rest { IsTrue (not (is_binary op)) }
     requires length { state.old.conf.vl ≤ vlmax target.vtype }
-    ensures model { (memory : Memory) (output : List ℕ)
-        → arith_step target.vtype (group_type target.vtype) (wide_type target.vtype) op source target.vd vs2
-        target.unmasked (hart_state scalar.now state.old memory target.policy output)
-        ≡ vector_ends VEnd.Done
-        (hart_state scalar.now (record state.new { vstart = 0 }) memory target.policy output) }
+    ensures model { Performs (arith_step target.vtype (group_type target.vtype) (wide_type target.vtype) op source
+        target.vd vs2 target.unmasked)
+        target.policy scalar.now state.old VEnd.Done scalar.now (record state.new { vstart = 0 }) }
 {
     let mode = state.vxrm;
     match op {
@@ -49,7 +47,9 @@ fn perform_rest(
             perform(&WithSources { op, vs2, source }, target, state, scalar);
         }
         VectorOp::CarryOut(op) => {
-            let operation = CarryOutOperation::new(op, vs2, source, target.unmasked);
+            let alone = target.unmasked;
+            let op = Carried { op, alone };
+            let operation = WithSources { op, vs2, source };
             perform(&operation, target.whole_body(), state, scalar);
         }
         VectorOp::FixedPoint(op) => {
@@ -69,8 +69,9 @@ fn perform_rest(
             perform_widening(&WithSources { op, vs2, source }, target, state, scalar);
         }
         VectorOp::WidenMultiplyAdd(op) => {
-            let operation = WidenMultiplyAddOperation::new(op, target.vd, vs2, source);
-            perform_widening(&operation, target, state, scalar);
+            let vd = target.vd;
+            let op = Added { op, vd };
+            perform_widening(&WithSources { op, vs2, source }, target, state, scalar);
         }
         VectorOp::NarrowShift(op) => {
             perform_narrowing(&WithSources { op, vs2, source }, target, state, scalar);
@@ -85,29 +86,24 @@ fn perform_rest(
     }
 }
 
-/// Performs a legal operation with a line of its own in the manual's table.
+/// Performs a legal operation with a line of its own in the manual's table under its vector type, but for vstart.
 #[tactic(auto, using(rv_model::proofs::legality_lemmas::Bounds::binary_inside))]
 #[inline(always)]
 pub(crate) fn perform_arith(
     operation: ArithOperation,
+    vtype: VType,
+    policy: Policy,
     state: &mut VState,
     scalar: &Scalar,
-    policy: Policy,
-) -> VEnd
+)
     requires legal { IsTrue (is_legal
-        (Instr.Vector (VectorInstr.Arith operation.arith operation.vd operation.vs2 operation.unmasked))
-        state.old.conf.vtype state.old.vstart) }
-    ensures model { (memory : Memory) (output : List ℕ)
-        → typed state.old.conf.vtype
-        (typed_step (VectorInstr.Arith operation.arith operation.vd operation.vs2 operation.unmasked))
-        (hart_state scalar.now state.old memory policy output)
-        ≡ vector_ends result (hart_state scalar.now state.new memory policy output) }
-    ensures illegal { result ≡ VEnd.Illegal → state.new ≡ state.old }
-    ensures uncut { (index : ℕ) → result ≢ VEnd.Cut index }
+        (Instr.Vector (VectorInstr.Arith operation.arith operation.vd operation.vs2 operation.unmasked)) (Some vtype)
+        state.old.vstart) }
+    requires length { state.old.conf.vl ≤ vlmax vtype }
+    ensures model { Performs
+        (typed_step (VectorInstr.Arith operation.arith operation.vd operation.vs2 operation.unmasked) vtype)
+        policy scalar.now state.old VEnd.Done scalar.now (record state.new { vstart = 0 }) }
 {
-    let Some(vtype) = state.conf.vtype() else {
-        return VEnd::Illegal;
-    };
     let (op, source) = operation.arith.parts();
     let vs2 = operation.vs2;
     let target = Target::new(operation.vd, operation.unmasked, vtype, policy);
@@ -121,33 +117,4 @@ pub(crate) fn perform_arith(
             perform_rest(op, vs2, source, target, state, scalar);
         }
     }
-    state.vstart = 0;
-    VEnd::Done
-}
-
-/// Performs a legal extension.
-#[tactic(auto, using(crate::proofs::LegalGroups::extension_groups))]
-pub(crate) fn perform_extension(
-    operation: ExtendOperation,
-    vd: VReg,
-    unmasked: bool,
-    state: &mut VState,
-    scalar: &Scalar,
-    policy: Policy,
-) -> VEnd
-    requires legal { IsTrue (is_legal (Instr.Vector (VectorInstr.Extend operation.op vd operation.vs2 unmasked))
-        state.old.conf.vtype state.old.vstart) }
-    ensures model { (memory : Memory) (output : List ℕ)
-        → typed state.old.conf.vtype (typed_step (VectorInstr.Extend operation.op vd operation.vs2 unmasked))
-        (hart_state scalar.now state.old memory policy output)
-        ≡ vector_ends result (hart_state scalar.now state.new memory policy output) }
-    ensures illegal { result ≡ VEnd.Illegal → state.new ≡ state.old }
-{
-    let Some(vtype) = state.conf.vtype() else {
-        return VEnd::Illegal;
-    };
-    let target = Target::new(vd, unmasked, vtype, policy);
-    operation.perform(target, state, scalar);
-    state.vstart = 0;
-    VEnd::Done
 }

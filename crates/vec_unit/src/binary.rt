@@ -8,7 +8,7 @@ ghost use Rattle.std.specs.Prelude.{◌≡◌, ◌≤◌, IsTrue, false, true};
 ghost use Rattle.vec_unit.specs.InTurn.{IsInTurn, IsReadFirst, SourceIsReadFirst, with_binary_results};
 ghost use Rattle.vec_unit.specs.Results.{with_elements};
 
-use crate::destination::{Destination, Extent, Target, agnostic_under, write_group};
+use crate::destination::{Destination, Extent, Target, write_group};
 use crate::in_turn::{InTurn, is_read_first, is_source_read_first};
 use crate::operands::{SecondOperand, WithSources, second_copy, second_number};
 use crate::operation::Operation;
@@ -183,7 +183,7 @@ impl Operation for WithSources<BinaryOp> {
             vd: target.vd,
             emul: extent.emul,
             count: extent.count,
-            agnostic: agnostic_under(target.policy, target.vtype, body),
+            agnostic: extent.agnostic,
         };
         let has_tail = destination.agnostic.fill_tail && body.end() != destination.count;
         if !has_tail && self.is_in_turn(destination.vd, registers(destination.emul)) {

@@ -10,7 +10,7 @@ use crate::operation::Operation;
 use lane_arith::{Body, CarryOut, Compare, Lane, write_mask_results};
 use reg_groups::{group, register_copy};
 use rv_model::instructions::operations::{CarryOutOp, CompareOp};
-use rv_model::{GROUP_BYTES, Scalar, Source, VFile, VReg};
+use rv_model::{GROUP_BYTES, Scalar, VFile};
 
 impl Operation for WithSources<CompareOp> {
     ghost written = { λ o target g body file x.
@@ -36,32 +36,16 @@ impl Operation for WithSources<CompareOp> {
     }
 }
 
-/// Carries or borrows, and their sources; a bit of v0 comes in for each unless `alone`.
+/// Carries or borrows; a bit of v0 comes in for each unless `alone`.
 #[derive(Clone, Copy)]
-pub(crate) struct CarryOutOperation {
+pub(crate) struct Carried {
     pub op: CarryOutOp,
-    pub vs2: VReg,
-    pub source: Source,
     pub alone: bool,
 }
 
-impl CarryOutOperation {
-    /// The operation on `vs2` and a source.
-    pub(crate) fn new(op: CarryOutOp, vs2: VReg, source: Source, alone: bool) -> Self
-        ensures { result ≡ record { op = op; vs2 = vs2; source = source; alone = alone } }
-    {
-        CarryOutOperation {
-            op,
-            vs2,
-            source,
-            alone,
-        }
-    }
-}
-
-impl Operation for CarryOutOperation {
+impl Operation for WithSources<Carried> {
     ghost written = { λ o target g body file x.
-        with_mask_results target.vd body (carry_out_result g o.op o.alone o.vs2 o.source file x) file };
+        with_mask_results target.vd body (carry_out_result g o.op.op o.op.alone o.vs2 o.source file x) file };
 
     ghost inside = { λ o target g end. IsInside o.vs2 g.emul × SourceIsInside o.source g.emul };
 
@@ -79,11 +63,11 @@ impl Operation for CarryOutOperation {
         let operand = signed_operand(self.source, emul);
         let b = second_in_place::<L>(operand, body.end(), file, scalar, &mut copies);
         let results = CarryOut {
-            op: self.op,
+            op: self.op.op,
             a,
             b,
             v0: body.mask(),
-            alone: self.alone,
+            alone: self.op.alone,
         };
         let mut bits = register_copy(file, target.vd);
         write_mask_results::<L, CarryOut<'_>>(&results, body, &mut bits);

@@ -9,7 +9,7 @@ ghost use Rattle.rv_model.specs.elements.PermutationResults.{is_packed_or_filled
 ghost use Rattle.rv_model.specs.lending.Writes.{Writes};
 ghost use Rattle.rv_model.specs.lending.GroupBounds.{IsInside};
 
-use crate::destination::{Extent, Target, agnostic_under};
+use crate::destination::{Extent, Target};
 use crate::operation::Operation;
 use lane_arith::{Body, Lane, fill};
 use lane_permute::compress;
@@ -64,12 +64,11 @@ impl Operation for CompressOperation {
         file: &mut VFile,
         scalar: &Scalar,
     ) {
-        let agnostic = agnostic_under(target.policy, target.vtype, body);
         let (end, count) = (body.end(), extent.count);
         let mut copy = [0; GROUP_BYTES];
         let a: &[u8] = group_copy_mut(file, self.vs2, extent.emul, &mut copy);
         let select = register_copy(file, self.vs1);
         let group = group_mut(file, target.vd, extent.emul);
-        compress_filled::<L>(a, &select, end, agnostic.fill_tail, count, group);
+        compress_filled::<L>(a, &select, end, extent.agnostic.fill_tail, count, group);
     }
 }

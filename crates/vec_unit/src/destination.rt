@@ -72,11 +72,13 @@ pub(crate) fn agnostic_under(policy: Policy, vtype: VType, body: &Body<'_>) -> A
     }
 }
 
-/// How large groups are: their multiplier in eighths of a register, and how many elements their registers hold.
+/// How large groups are, their multiplier in eighths of a register and how many elements their registers hold, and what
+/// becomes of those that are agnostic.
 #[derive(Clone, Copy)]
 pub(crate) struct Extent {
     pub emul: u32,
     pub count: usize,
+    pub agnostic: Agnostic,
 }
 
 /// A group inside the file that takes results: its first register, its multiplier in eighths of a register, how many

@@ -1,14 +1,13 @@
 //! One vector instruction, carried out.
 ghost use Rattle.std.specs.Prelude.{◌≡◌, ◌≢◌, ◌≤◌, IsTrue, List, ℕ};
-ghost use Rattle.rv_model.specs.memory.Memory.{Memory};
 ghost use Rattle.rv_model.specs.step.Hart.{hart_state};
 ghost use Rattle.rv_model.specs.step.Resumes.{InstructionGoesOn};
 ghost use Rattle.rv_model.specs.step.Step.{is_vector, operation_step, vector_ends, vector_executed};
 ghost use Rattle.rv_model.specs.legality.Legality.{is_legal};
 ghost use Rattle.rv_model.specs.lending.Irregular.{is_irregular};
+ghost use Rattle.vec_unit.specs.Steps.{Performs};
 
-use crate::arithmetic::{perform_arith, perform_extension};
-use crate::extend::ExtendOperation;
+use crate::arithmetic::perform_arith;
 use crate::irregular_operations::perform_typed;
 use crate::memory_instructions::exec_access;
 use crate::vset::{configure, requested_length};
@@ -27,9 +26,7 @@ fn perform_irregular(
 ) -> VEnd
     requires irregular { IsTrue (is_irregular operation.now) }
     requires legal { IsTrue (is_legal (Instr.Vector operation.now) state.old.conf.vtype state.old.vstart) }
-    ensures model { (memory : Memory) (output : List ℕ)
-        → operation_step operation.now (hart_state scalar.old state.old memory policy output)
-        ≡ vector_ends result (hart_state scalar.new state.new memory policy output) }
+    ensures model { Performs (operation_step operation.now) policy scalar.old state.old result scalar.new state.new }
     ensures illegal_state { result ≡ VEnd.Illegal → state.new ≡ state.old }
     ensures illegal_scalar { result ≡ VEnd.Illegal → scalar.new ≡ scalar.old }
 {
@@ -46,9 +43,6 @@ fn perform_irregular(
             let length = requested_length(rd, rs1, scalar);
             configure(rd, scalar.read(rs2), length, state, scalar)
         }
-        VectorInstr::Extend { op, vd, vs2, vm } => {
-            perform_extension(ExtendOperation { op, vs2 }, vd, vm, state, scalar, policy)
-        }
         _ => {
             let Some(vtype) = state.conf.vtype() else {
                 return VEnd::Illegal;
@@ -62,7 +56,9 @@ fn perform_irregular(
 
 /// Carries out a vector operation of a user that has a line of its own in the manual's table, by its operands: the same
 /// as `exec` of the instruction.
-#[tactic(auto, unfolding(rv_model::specs::step::Step::vector_executed))]
+#[tactic(auto, unfolding(rv_model::specs::step::Step::vector_executed,
+// Without a vector type it isn't legal.
+rv_model::specs::legality::Legality::is_legal, rv_model::specs::legality::Legality::operands))]
 #[inline(always)]
 pub fn exec_arith(
     operation: ArithOperation,
@@ -70,11 +66,9 @@ pub fn exec_arith(
     scalar: &Scalar,
     policy: Policy,
 ) -> VEnd
-    ensures model { (limit : ℕ) (memory : Memory) (output : List ℕ)
-        → vector_executed limit
-        (Instr.Vector (VectorInstr.Arith operation.arith operation.vd operation.vs2 operation.unmasked))
-        (hart_state scalar.now state.old memory policy output)
-        ≡ vector_ends result (hart_state scalar.now state.new memory policy output) }
+    ensures model { (limit : ℕ) → Performs (vector_executed limit
+        (Instr.Vector (VectorInstr.Arith operation.arith operation.vd operation.vs2 operation.unmasked)))
+        policy scalar.now state.old result scalar.now state.new }
 
     // What the illegal instruction finds is what it leaves.
     ensures illegal_state { result ≡ VEnd.Illegal → state.new ≡ state.old }
@@ -88,10 +82,16 @@ pub fn exec_arith(
         vs2,
         unmasked,
     } = operation;
+    // Read once for both, before the match of which the compiler doesn't see that it leaves the type as it is.
+    let Some(vtype) = state.conf.vtype() else {
+        return VEnd::Illegal;
+    };
     if !legal_arith(arith, vd, vs2, unmasked, &state.conf, state.vstart) {
         return VEnd::Illegal;
     }
-    perform_arith(operation, state, scalar, policy)
+    perform_arith(operation, vtype, policy, state, scalar);
+    state.vstart = 0;
+    VEnd::Done
 }
 
 /// Carries out a vector operation of a user that has no line of its own in the manual's table: the same as `exec` of
@@ -105,9 +105,8 @@ pub fn exec_operation(
     policy: Policy,
 ) -> VEnd
     requires irregular { IsTrue (is_irregular operation.now) }
-    ensures model { (limit : ℕ) (memory : Memory) (output : List ℕ)
-        → vector_executed limit (Instr.Vector operation.now) (hart_state scalar.old state.old memory policy output)
-        ≡ vector_ends result (hart_state scalar.new state.new memory policy output) }
+    ensures model { (limit : ℕ) → Performs (vector_executed limit (Instr.Vector operation.now))
+        policy scalar.old state.old result scalar.new state.new }
 
     // What the illegal instruction finds is what it leaves.
     ensures illegal_state { result ≡ VEnd.Illegal → state.new ≡ state.old }

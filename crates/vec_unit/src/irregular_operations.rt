@@ -1,15 +1,15 @@
 //! Operations without a line of their own in the manual's table, under the vector type that they need, once they are
 //! known to be legal ("V" Vector Extension 1.0, sections 11.4, 11.15 and 11.16, and chapters 15 and 16).
-ghost use Rattle.std.specs.Prelude.{◌≡◌, ◌≤◌, IsTrue, List, Some, ℕ};
+ghost use Rattle.std.specs.Prelude.{◌≡◌, ◌≤◌, IsTrue, Some};
 ghost use Rattle.rv_model.specs.vector.Groups.{vlmax};
 ghost use Rattle.rv_model.specs.legality.Legality.{is_legal};
-ghost use Rattle.rv_model.specs.memory.Memory.{Memory};
-ghost use Rattle.rv_model.specs.step.Hart.{hart_state};
-ghost use Rattle.rv_model.specs.step.Step.{typed_step, vector_ends};
+ghost use Rattle.rv_model.specs.step.Step.{typed_step};
 ghost use Rattle.vec_unit.specs.Arithmetic.{is_typed};
+ghost use Rattle.vec_unit.specs.Steps.{Performs};
 
 use crate::compress::CompressOperation;
 use crate::destination::Target;
+use crate::extend::ExtendOperation;
 use crate::masks::{
     IndexOperation, IotaOperation, count_mask, perform_logic, perform_scan, scalar_of_mask,
 };
@@ -34,11 +34,8 @@ fn perform_mask_unary(
     requires legal { IsTrue (is_legal (Instr.Vector (VectorInstr.MaskUnary op target.vd vs2 target.unmasked))
         (Some target.vtype) state.old.vstart) }
     requires length { state.old.conf.vl ≤ vlmax target.vtype }
-    ensures model { (memory : Memory) (output : List ℕ)
-        → typed_step (VectorInstr.MaskUnary op target.vd vs2 target.unmasked) target.vtype
-        (hart_state scalar.now state.old memory target.policy output)
-        ≡ vector_ends VEnd.Done
-        (hart_state scalar.now (record state.new { vstart = 0 }) memory target.policy output) }
+    ensures model { Performs (typed_step (VectorInstr.MaskUnary op target.vd vs2 target.unmasked) target.vtype)
+        target.policy scalar.now state.old VEnd.Done scalar.now (record state.new { vstart = 0 }) }
 {
     match op {
         MaskUnaryOp::Scan(op) => perform_scan(op, target.vd, vs2, target.unmasked, state),
@@ -64,9 +61,8 @@ pub(crate) fn perform_typed(
     requires typed { IsTrue (is_typed operation.now) }
     requires legal { IsTrue (is_legal (Instr.Vector operation.now) (Some vtype) state.old.vstart) }
     requires length { state.old.conf.vl ≤ vlmax vtype }
-    ensures model { (memory : Memory) (output : List ℕ)
-        → typed_step operation.now vtype (hart_state scalar.old state.old memory policy output)
-        ≡ vector_ends VEnd.Done (hart_state scalar.new (record state.new { vstart = 0 }) memory policy output) }
+    ensures model { Performs (typed_step operation.now vtype) policy scalar.old state.old VEnd.Done scalar.new
+        (record state.new { vstart = 0 }) }
 {
     match *operation {
         VectorInstr::Carry { carry, vd, vs2 } => {
@@ -76,6 +72,10 @@ pub(crate) fn perform_typed(
         }
         VectorInstr::Move { source, vd } => {
             perform_apart(&Move { source }, vd, true, vtype, policy, state, scalar);
+        }
+        VectorInstr::Extend { op, vd, vs2, vm } => {
+            let target = Target::new(vd, vm, vtype, policy);
+            ExtendOperation { op, vs2 }.perform(target, state, scalar);
         }
         VectorInstr::MaskLogic { op, vd, vs1, vs2 } => perform_logic(op, vd, vs1, vs2, state),
         VectorInstr::MaskToScalar { op, rd, vs2, vm } => {

@@ -1,11 +1,10 @@
 //! Vector loads and stores: whether they are legal, what they fill, and their ends. What they move is
 //! `vector_memory`'s ("V" Vector Extension 1.0, sections 3.4.3, 3.7, 5.4 and chapter 7).
-ghost use Rattle.std.specs.Prelude.{◌≡◌, ◌≢◌, ◌≤◌, IfSome, IsTrue, List, ℕ, false, true};
+ghost use Rattle.std.specs.Prelude.{◌≡◌, ◌≢◌, ◌≤◌, IfSome, IsTrue, false, true};
 ghost use Rattle.rv_model.specs.lending.GroupBounds.{SegmentsInside};
 ghost use Rattle.rv_model.specs.legality.Legality.{is_legal};
-ghost use Rattle.rv_model.specs.step.Hart.{hart_state};
 ghost use Rattle.rv_model.specs.step.MemoryStep.{access_end};
-ghost use Rattle.rv_model.specs.step.Step.{performed, vector_ends, vector_executed};
+ghost use Rattle.rv_model.specs.step.Step.{performed, vector_executed};
 ghost use Rattle.vec_unit.specs.MemoryInstructions.{
   direction_of,
   filled_by,
@@ -15,6 +14,7 @@ ghost use Rattle.vec_unit.specs.MemoryInstructions.{
   tail_fields,
   with_filled,
 };
+ghost use Rattle.vec_unit.specs.Steps.{Accesses};
 
 use crate::body::body_under;
 use crate::destination::agnostic_under;
@@ -69,10 +69,9 @@ fn perform_unfilled<M: UserBytes>(
 ) -> VEnd
     requires limit { 1 ≤ limit }
     requires legal { IsTrue (is_legal (Instr.Access access.now) state.old.conf.vtype state.old.vstart) }
-    ensures model { (policy : Policy) (output : List ℕ) → filled_by access.now policy state.old ≡ nothing
-        → performed limit (Instr.Access access.now)
-        (hart_state scalar.now state.old (M.memory memory.old) policy output)
-        ≡ vector_ends result (hart_state scalar.now state.new (M.memory memory.new) policy output) }
+    ensures model { (policy : Policy) → filled_by access.now policy state.old ≡ nothing
+        → Accesses (performed limit (Instr.Access access.now)) policy scalar.now
+        state.old (M.memory memory.old) result state.new (M.memory memory.new) }
     ensures memory { memory.new ≡ M.with_memory memory.old (M.memory memory.new) }
     ensures carried_out { result ≢ VEnd.Illegal }
 {
@@ -165,10 +164,8 @@ fn perform_access<M: UserBytes>(
 ) -> VEnd
     requires limit { 1 ≤ limit }
     requires legal { IsTrue (is_legal (Instr.Access access.now) state.old.conf.vtype state.old.vstart) }
-    ensures model { (output : List ℕ)
-        → performed limit (Instr.Access access.now)
-        (hart_state scalar.now state.old (M.memory memory.old) policy output)
-        ≡ vector_ends result (hart_state scalar.now state.new (M.memory memory.new) policy output) }
+    ensures model { Accesses (performed limit (Instr.Access access.now)) policy scalar.now
+        state.old (M.memory memory.old) result state.new (M.memory memory.new) }
     ensures memory { memory.new ≡ M.with_memory memory.old (M.memory memory.new) }
     ensures carried_out { result ≢ VEnd.Illegal }
 {
@@ -192,10 +189,8 @@ pub fn exec_access<M: UserBytes>(
     policy: Policy,
 ) -> VEnd
     requires limit { 1 ≤ limit }
-    ensures model { (output : List ℕ)
-        → vector_executed limit (Instr.Access access.now)
-        (hart_state scalar.now state.old (M.memory memory.old) policy output)
-        ≡ vector_ends result (hart_state scalar.now state.new (M.memory memory.new) policy output) }
+    ensures model { Accesses (vector_executed limit (Instr.Access access.now)) policy scalar.now
+        state.old (M.memory memory.old) result state.new (M.memory memory.new) }
 
     // All else that the user's bytes hold stays.
     ensures memory { memory.new ≡ M.with_memory memory.old (M.memory memory.new) }

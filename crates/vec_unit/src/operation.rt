@@ -1,11 +1,10 @@
 //! Operations on groups of the vector type, carried out ("V" Vector Extension 1.0, sections 5.2 to 5.4 and chapter 11).
 ghost use Rattle.std.specs.Prelude.{◌≡◌, ◌<◌, ◌≤◌, List, ℕ};
 ghost use Rattle.rv_model.specs.declared.scalar.Scalar.{Scalar as ScalarRegisters};
-ghost use Rattle.rv_model.specs.elements.Arithmetic.{body_of};
 ghost use Rattle.rv_model.specs.elements.Elements.{Body as BodyOf};
 ghost use Rattle.rv_model.specs.vector.Groups.{GroupType, group_type, vlmax, register_of};
 ghost use Rattle.rv_model.specs.lending.GroupBounds.{HoldsBody, IsInside};
-ghost use Rattle.vec_unit.specs.Results.{with_elements};
+ghost use Rattle.vec_unit.specs.Results.{agnostic_of, registers_left, with_elements};
 ghost use Rattle.vec_unit.specs.declared.destination.Target.{Target as OperationTarget};
 
 use crate::body::body_under;
@@ -33,6 +32,7 @@ pub(crate) trait Operation {
     )
         requires operands { inside self.now target (record { width = L.width; emul = extent.emul }) body.now.end }
         requires holds { HoldsBody L.width extent.emul extent.count body.now.end }
+        requires agnostic { extent.agnostic ≡ agnostic_of target body.now }
         requires mask { body.now.mask ≡ register_of file.old 0 }
         ensures { file.new ≡ written self.now target (record { width = L.width; emul = extent.emul }) body.now file.old
             scalar.now };
@@ -49,30 +49,30 @@ pub(crate) fn perform<O: Operation>(
 )
     requires operands { O.inside operation.now target (group_type target.vtype) state.old.conf.vl }
     requires length { state.old.conf.vl ≤ vlmax target.vtype }
-    ensures { state.new ≡ record state.old {
-      file =
-          O.written operation.now target (group_type target.vtype) (body_of target.unmasked state.old) state.old.file
-          scalar.now;
-    } }
+    ensures { state.new ≡ registers_left (O.written operation.now) target scalar.now state.old }
 {
     let mask = mask_register(&state.file);
     let body = body_under(target.unmasked, &mask, state);
     let emul = u32::from(target.vtype.lmul.eighths());
-    let count = VLENB * registers(emul) as usize;
+    let mut extent = Extent {
+        emul,
+        count: VLENB * registers(emul) as usize,
+        agnostic: agnostic_under(target.policy, target.vtype, &body),
+    };
     let file = &mut state.file;
     match target.vtype.sew {
-        Sew::E8 => operation.write::<u8>(target, Extent { emul, count }, &body, file, scalar),
+        Sew::E8 => operation.write::<u8>(target, extent, &body, file, scalar),
         Sew::E16 => {
-            let count = count / 2;
-            operation.write::<u16>(target, Extent { emul, count }, &body, file, scalar);
+            extent.count /= 2;
+            operation.write::<u16>(target, extent, &body, file, scalar);
         }
         Sew::E32 => {
-            let count = count / 4;
-            operation.write::<u32>(target, Extent { emul, count }, &body, file, scalar);
+            extent.count /= 4;
+            operation.write::<u32>(target, extent, &body, file, scalar);
         }
         Sew::E64 => {
-            let count = count / 8;
-            operation.write::<u64>(target, Extent { emul, count }, &body, file, scalar);
+            extent.count /= 8;
+            operation.write::<u64>(target, extent, &body, file, scalar);
         }
     }
 }
@@ -91,11 +91,8 @@ pub(crate) fn perform_apart<O: Operation>(
     requires operands { O.inside operation.now
         (record { vd = vd; unmasked = unmasked; vtype = vtype; policy = policy }) (group_type vtype) state.old.conf.vl }
     requires length { state.old.conf.vl ≤ vlmax vtype }
-    ensures { state.new ≡ record state.old {
-      file =
-          O.written operation.now (record { vd = vd; unmasked = unmasked; vtype = vtype; policy = policy })
-          (group_type vtype) (body_of unmasked state.old) state.old.file scalar.now;
-    } }
+    ensures { state.new ≡ registers_left (O.written operation.now)
+        (record { vd = vd; unmasked = unmasked; vtype = vtype; policy = policy }) scalar.now state.old }
 {
     let target = Target::new(vd, unmasked, vtype, policy);
     perform(operation, target, state, scalar);
@@ -113,6 +110,7 @@ pub(crate) fn write_elements<L: Lane, R: Results<L>>(
     requires operands { (i : ℕ) → i < body.now.end → R.has results.now i }
     requires inside { IsInside target.vd extent.emul }
     requires holds { HoldsBody L.width extent.emul extent.count body.now.end }
+    requires agnostic { extent.agnostic ≡ agnostic_of target body.now }
     ensures { file.new ≡ with_elements (record { width = L.width; emul = extent.emul }) target body.now
         (R.number results.now) file.old }
 {
@@ -120,7 +118,7 @@ pub(crate) fn write_elements<L: Lane, R: Results<L>>(
         vd: target.vd,
         emul: extent.emul,
         count: extent.count,
-        agnostic: agnostic_under(target.policy, target.vtype, body),
+        agnostic: extent.agnostic,
     };
     write_group(results, destination, body, file);
 }

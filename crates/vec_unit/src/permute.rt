@@ -14,7 +14,7 @@ ghost use Rattle.rv_model.specs.elements.PermutationResults.{gathered};
 ghost use Rattle.rv_model.specs.lending.GroupBounds.{HasIndices, HoldsBody, IsInside};
 ghost use Rattle.vec_unit.specs.Results.{with_written};
 
-use crate::destination::{Destination, Extent, Target, agnostic_under, write_group};
+use crate::destination::{Destination, Extent, Target, write_group};
 use crate::operands::WithSources;
 use crate::operation::Operation;
 use lane_arith::{Body, Lane};
@@ -165,7 +165,7 @@ impl Operation for WithSources<PermuteOp> {
             vd: target.vd,
             emul: extent.emul,
             count: extent.count,
-            agnostic: agnostic_under(target.policy, target.vtype, body),
+            agnostic: extent.agnostic,
         };
         self.move_elements::<L>(destination, limit, body, file, scalar);
     }

@@ -5,10 +5,9 @@ ghost use Rattle.rv_model.specs.declared.scalar.Scalar.{Scalar as ScalarRegister
 ghost use Rattle.rv_model.specs.vector.Groups.{GroupType, group_type, lmul_eighths, sew_bits, vlmax};
 ghost use Rattle.rv_model.specs.vector.Groups.{registers, wide_type, width_bytes};
 ghost use Rattle.rv_model.specs.lending.GroupBounds.{HasRoom, IsInside};
-ghost use Rattle.rv_model.specs.elements.Arithmetic.{body_of};
 ghost use Rattle.rv_model.specs.elements.Elements.{Body as BodyOf, is_active};
 ghost use Rattle.rv_model.specs.lending.Writes.{Writes};
-ghost use Rattle.vec_unit.specs.Results.{carried_out};
+ghost use Rattle.vec_unit.specs.Results.{performed};
 
 use crate::body::body_under;
 use crate::destination::{Target, agnostic_under, fill_agnostic};
@@ -70,12 +69,9 @@ pub(crate) fn perform_at<D: Lane, O: Lane, T: TwoWidths>(
     requires destination { IsInside target.vd groups.emul }
     requires room { HasRoom D.width groups.emul state.old.conf.vl }
     requires other_room { HasRoom O.width groups.other state.old.conf.vl }
-    ensures { state.new ≡ carried_out (record { width = D.width; emul = groups.emul }) target
-        (T.number operation.now (record { width = D.width; emul = groups.emul })
-        (record { width = O.width; emul = groups.other }) state.old.file scalar.now)
-        (T.saturates operation.now (record { width = D.width; emul = groups.emul })
-        (record { width = O.width; emul = groups.other }) state.old.file scalar.now
-        (body_of target.unmasked state.old)) state.old }
+    ensures { state.new ≡ performed (T.number operation.now) (T.saturates operation.now)
+        (record { width = D.width; emul = groups.emul }) (record { width = O.width; emul = groups.other })
+        target scalar.now state.old }
 {
     let mask = mask_register(&state.file);
     let body = body_under(target.unmasked, &mask, state);
@@ -101,10 +97,8 @@ pub(crate) fn perform_widening<T: TwoWidths>(
     requires narrow { sew_bits target.vtype.sew ≤ 32 }
     requires most { 2 * lmul_eighths target.vtype.lmul ≤ 64 }
     requires length { state.old.conf.vl ≤ vlmax target.vtype }
-    ensures { state.new ≡ carried_out (wide_type target.vtype) target
-        (T.number operation.now (wide_type target.vtype) (group_type target.vtype) state.old.file scalar.now)
-        (T.saturates operation.now (wide_type target.vtype) (group_type target.vtype) state.old.file scalar.now
-        (body_of target.unmasked state.old)) state.old }
+    ensures { state.new ≡ performed (T.number operation.now) (T.saturates operation.now) (wide_type target.vtype)
+        (group_type target.vtype) target scalar.now state.old }
 {
     let other = u32::from(target.vtype.lmul.eighths());
     let emul = 2 * other;
@@ -130,10 +124,8 @@ pub(crate) fn perform_narrowing<T: TwoWidths>(
     requires narrow { sew_bits target.vtype.sew ≤ 32 }
     requires most { 2 * lmul_eighths target.vtype.lmul ≤ 64 }
     requires length { state.old.conf.vl ≤ vlmax target.vtype }
-    ensures { state.new ≡ carried_out (group_type target.vtype) target
-        (T.number operation.now (group_type target.vtype) (wide_type target.vtype) state.old.file scalar.now)
-        (T.saturates operation.now (group_type target.vtype) (wide_type target.vtype) state.old.file scalar.now
-        (body_of target.unmasked state.old)) state.old }
+    ensures { state.new ≡ performed (T.number operation.now) (T.saturates operation.now) (group_type target.vtype)
+        (wide_type target.vtype) target scalar.now state.old }
 {
     let emul = u32::from(target.vtype.lmul.eighths());
     let other = 2 * emul;
@@ -157,10 +149,8 @@ pub(crate) fn perform_single<T: TwoWidths>(
     requires operands { T.inside operation.now (lmul_eighths target.vtype.lmul) (lmul_eighths target.vtype.lmul) }
     requires destination { IsInside target.vd (lmul_eighths target.vtype.lmul) }
     requires length { state.old.conf.vl ≤ vlmax target.vtype }
-    ensures { state.new ≡ carried_out (group_type target.vtype) target
-        (T.number operation.now (group_type target.vtype) (group_type target.vtype) state.old.file scalar.now)
-        (T.saturates operation.now (group_type target.vtype) (group_type target.vtype) state.old.file scalar.now
-        (body_of target.unmasked state.old)) state.old }
+    ensures { state.new ≡ performed (T.number operation.now) (T.saturates operation.now) (group_type target.vtype)
+        (group_type target.vtype) target scalar.now state.old }
 {
     let emul = u32::from(target.vtype.lmul.eighths());
     let groups = Groups { emul, other: emul };

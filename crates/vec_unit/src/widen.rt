@@ -12,7 +12,7 @@ use crate::two_widths::{Groups, TwoWidths};
 use lane_arith::{Body, Lane, WideSource, Widen, WidenMultiplyAdd, write_results};
 use reg_groups::group;
 use rv_model::instructions::operations::{WideSourceOp, WidenMultiplyAddOp, WidenOp};
-use rv_model::{GROUP_BYTES, Scalar, Source, VFile, VLENB, VReg};
+use rv_model::{GROUP_BYTES, Scalar, VFile, VLENB, VReg};
 use std::marker::PhantomData;
 
 /// The operations, by the numbers that their loops are compiled for.
@@ -112,35 +112,20 @@ impl TwoWidths for WithSources<WideSourceOp> {
     }
 }
 
-/// An operation and its sources, of which `vd` is one.
+/// Products that are added to the group at `vd`.
 #[derive(Clone, Copy)]
-pub(crate) struct WidenMultiplyAddOperation {
+pub(crate) struct Added {
     pub op: WidenMultiplyAddOp,
     pub vd: VReg,
-    pub vs2: VReg,
-    pub source: Source,
 }
 
-impl WidenMultiplyAddOperation {
-    /// The operation on `vs2` and a source, and on `vd`.
-    pub(crate) fn new(op: WidenMultiplyAddOp, vd: VReg, vs2: VReg, source: Source) -> Self
-        ensures { result ≡ record { op = op; vd = vd; vs2 = vs2; source = source } }
-    {
-        WidenMultiplyAddOperation {
-            op,
-            vd,
-            vs2,
-            source,
-        }
-    }
-}
-
-impl TwoWidths for WidenMultiplyAddOperation {
-    ghost number = { λ o wide narrow file x. widen_multiply_add_result narrow wide o.op o.vd o.vs2 o.source file x };
+impl TwoWidths for WithSources<Added> {
+    ghost number = { λ o wide narrow file x.
+        widen_multiply_add_result narrow wide o.op.op o.op.vd o.vs2 o.source file x };
 
     ghost saturates = { λ o wide narrow file x body. false };
 
-    ghost inside = { λ o wide narrow. IsInside o.vd wide × IsInside o.vs2 narrow × SourceIsInside o.source narrow };
+    ghost inside = { λ o wide narrow. IsInside o.op.vd wide × IsInside o.vs2 narrow × SourceIsInside o.source narrow };
 
     fn write<D: Lane, O: Lane>(
         &self,
@@ -153,10 +138,10 @@ impl TwoWidths for WidenMultiplyAddOperation {
         let mut copies = [0; GROUP_BYTES];
         let operand = signed_operand(self.source, groups.other);
         let results = WidenMultiplyAdd::<'_, O> {
-            op: self.op,
+            op: self.op.op,
             a: group(file, self.vs2, groups.other),
             b: second_in_place::<O>(operand, body.end(), file, scalar, &mut copies),
-            d: group(file, self.vd, groups.emul),
+            d: group(file, self.op.vd, groups.emul),
             element: PhantomData,
         };
         write_results::<D, WidenMultiplyAdd<'_, O>>(&results, body, made, false);

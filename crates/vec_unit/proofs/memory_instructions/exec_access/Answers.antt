@@ -19,14 +19,14 @@ returns-in-WholeLoad-clause-model g c = λ output.
       | inr (inl (count, vd, rs1, is)) ↦ fills_nothing i c.args.policy v (ap is_unmasked is) (λ t. ap (λ x. tail_fields x t) is)
       | inr (inr (direction, vd, rs1, is)) ↦ fills_nothing i c.args.policy v (ap is_unmasked is) (λ t. ap (λ x. tail_fields x t) is)
     ] in
-    rw allowed (c.perform_unfilled.ensures.model c.args.policy output unfilled)
+    rw allowed (c.perform_unfilled.ensures.model c.args.policy unfilled output)
 
 pub returns-in-Keep-clause-model : goal.returns-in-Keep-clause-model
 unfolding vector_executed
 returns-in-Keep-clause-model g c = λ output.
     let allowed : is_legal (instr.Access c.args.access.now) c.args.state.now.conf.vtype c.args.state.now.vstart ≡ true =
     sym (c.legal_access.ensures c.args.state.now.vstart) ∙ c.if-not-legal_access.false in
-    rw (allowed, c.in-Keep.is) (c.perform_unfilled-in-Keep.ensures.model Keep output (keeps c.args.access.now c.args.state.now))
+    rw (allowed, c.in-Keep.is) (c.perform_unfilled-in-Keep.ensures.model Keep (keeps c.args.access.now c.args.state.now) output)
 
 pub returns-in-Ones-clause-model : goal.returns-in-Ones-clause-model
 unfolding vector_executed

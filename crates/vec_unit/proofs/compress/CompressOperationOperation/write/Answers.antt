@@ -16,7 +16,7 @@ returns g c =
     let target = c.args.target in
     let body : Body = c.args.body.now in
     let end : ℕ = c.end-end.result in
-    let fill_tail : Bool = c.agnostic_under-agnostic.result.fill_tail in
+    let fill_tail : Bool = c.args.extent.agnostic.fill_tail in
     let numbers : List ℕ = packed c.register_copy-select.result (element k c.group_copy_mut.result.now) end in
     let same : numbers ≡ packed (register_of file o.vs1) (group_element t file o.vs2) end =
     ap (λ (select : List ℕ). packed select (element k c.group_copy_mut.result.now) end) c.register_copy-select.ensures
@@ -25,6 +25,6 @@ returns g c =
     (rw (← c.group_mut-group.ensures.value) c.compress_filled.ensures)
     ∙ ap (λ (l : List ℕ). with_packed t target.vd end fill_tail l file) same
     ∙ ap (λ (a : Agnostic). with_packed t target.vd end a.fill_tail (packed (register_of file o.vs1) (group_element t file o.vs2) end) file)
-    c.agnostic_under-agnostic.ensures
+    c.requires.agnostic
     ∙ ap (λ (e : ℕ). with_packed t target.vd e (fills_tail target.policy target.vtype body)
     (packed (register_of file o.vs1) (group_element t file o.vs2) e) file) c.end-end.ensures.value

@@ -6,7 +6,7 @@ use Rattle.rv_model.specs.elements.Formulas.{ones, widen_multiply_add_formula, w
 use Rattle.vec_unit.proofs.CopiedOperands.{three_operands}
 use Rattle.vec_unit.proofs.MadeResults.{active_written}
 use Rattle.vec_unit.specs.declared.operands.SecondOperand.{SecondOperand}
-use Rattle.vec_unit.proofs.widen.WidenMultiplyAddOperationTwoWidths.write.Goals as goal
+use Rattle.vec_unit.proofs.widen.WithSourcesAddedTwoWidths.write.Goals as goal
 
 pub returns-clause-writes : goal.returns-clause-writes
 returns-clause-writes g c =
@@ -15,11 +15,11 @@ returns-clause-writes g c =
     let o = c.args.self.now in
     let file = c.args.file.now in
     let x = c.args.scalar.now in
-    active_written (width_bytes t.width) c.args.body.now _ (widen_multiply_add_result u t o.op o.vd o.vs2 o.source file x) (ones t.width) c.args.made.now c.write_results.new.destination
-    (three_operands u u (λ a b d. wrap t.width (widen_multiply_add_formula o.op u.width a b d))
+    active_written (width_bytes t.width) c.args.body.now _ (widen_multiply_add_result u t o.op.op o.op.vd o.vs2 o.source file x) (ones t.width) c.args.made.now c.write_results.new.destination
+    (three_operands u u (λ a b d. wrap t.width (widen_multiply_add_formula o.op.op u.width a b d))
     c.group.result.now c.second_in_place.result.now file o.vs2
     c.args.body.now.end (second_element u false o.source file x)
-    (λ i. element (width_bytes t.width) c.group-2.result.now i) (group_element t file o.vd) c.group.ensures.value
+    (λ i. element (width_bytes t.width) c.group-2.result.now i) (group_element t file o.op.vd) c.group.ensures.value
     (λ i h. c.second_in_place.ensures.elements i (omega (arith, h, c.end.ensures.value))
     ∙ ap (λ (s : SecondOperand). second_element (record { width = u.width; emul = s.emul }) s.unsigned s.source file x i) c.signed_operand-operand.ensures)
     (λ i. ap (λ bytes. element (width_bytes t.width) bytes i) c.group-2.ensures.value))
