@@ -75,7 +75,7 @@ fn retire_vector(
     }
 }
 
-/// Carries out the vector operation that a word is which has no line of its own in the manual's table.
+/// Executes the vector operation that a word is which has no line of its own in the manual's table.
 #[inline(never)]
 fn execute_irregular<M: UserBytes, V: Vectors>(
     word: u32,
@@ -103,7 +103,7 @@ fn execute_irregular<M: UserBytes, V: Vectors>(
     retire_vector(end, 1, word, scalar, seat, ending)
 }
 
-/// Carries out the vector operation that a word of OP-V is: a regular one in line.
+/// Executes the vector operation that a word of OP-V is: a regular one in line.
 #[inline(never)]
 fn execute_operation<M: UserBytes, V: Vectors>(
     word: u32,
@@ -129,7 +129,7 @@ fn execute_operation<M: UserBytes, V: Vectors>(
     retire_vector(end, 1, word, scalar, seat, ending)
 }
 
-/// Carries out the load or store that a word is: one of unit stride, or any other one.
+/// Executes the load or store that a word is: one of unit stride, or any other one.
 #[inline(never)]
 fn execute_access<M: UserBytes, V: Vectors, const UNIT_STRIDE: bool>(
     word: u32,
@@ -159,12 +159,13 @@ fn execute_access<M: UserBytes, V: Vectors, const UNIT_STRIDE: bool>(
     seat.state.conf.length_law();
     let vl = usize::from(seat.state.conf.vl());
     let vstart = usize::from(seat.state.vstart);
-    let end = exec_access(access, &mut seat.state, scalar, memory, limit, policy);
+    let state = &mut seat.state;
+    let end = exec_access::<M, UNIT_STRIDE>(access, state, scalar, memory, limit, policy);
     let ticks = access_ticks(access, limit, vl, vstart, &seat.state, end);
     retire_vector(end, ticks, word, scalar, seat, ending)
 }
 
-/// Carries out the vector operation that a word of OP-V is.
+/// Executes the vector operation that a word of OP-V is.
 #[inline(always)]
 pub(crate) fn operation<M: UserBytes, V: Vectors>(
     word: u32,
@@ -188,7 +189,7 @@ pub(crate) fn operation<M: UserBytes, V: Vectors>(
     }
 }
 
-/// Carries out the load or store that a word of LOAD-FP or STORE-FP is.
+/// Executes the load or store that a word of LOAD-FP or STORE-FP is.
 #[inline(always)]
 pub(crate) fn access<M: UserBytes, V: Vectors>(
     word: u32,

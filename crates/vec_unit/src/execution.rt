@@ -15,7 +15,7 @@ use reg_groups::{legal_arith, legal_irregular};
 use rv_model::{ArithOperation, Instr, Policy, RequestedLength, Scalar, VEnd, VState, VectorInstr};
 use vector_memory::UserBytes;
 
-/// Carries out a legal vector operation that has no line of its own in the manual's table.
+/// Performs a legal vector operation that has no line of its own in the manual's table.
 #[tactic(auto, unfolding(rv_model::specs::step::Step::operation_step), using(crate::proofs::TypedSteps::by_type))]
 #[inline(always)]
 fn perform_irregular(
@@ -160,7 +160,9 @@ pub fn exec<M: UserBytes>(
             exec_arith(operation, state, scalar, policy)
         }
         Instr::Vector(operation) => exec_operation(operation, state, scalar, policy),
-        Instr::Access(access) => exec_access(access, state, scalar, memory, limit, policy),
+        Instr::Access(access) => {
+            exec_access::<M, false>(access, state, scalar, memory, limit, policy)
+        }
         Instr::Scalar(_) | Instr::Csr(_) => unreachable!(),
     }
 }

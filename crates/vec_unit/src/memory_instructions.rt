@@ -58,7 +58,7 @@ fn access_end(access: &AccessInstr, end: MemEnd) -> VEnd
     }
 }
 
-/// Carries out a legal load or store that fills nothing, and answers how it ended.
+/// Performs a legal load or store that fills nothing, and answers how it ended.
 #[inline(always)]
 fn perform_unfilled<M: UserBytes>(
     access: &AccessInstr,
@@ -140,6 +140,19 @@ fn filled_by(access: &AccessInstr, state: &VState, policy: Policy) -> Filled
     }
 }
 
+/// Whether an access fills nothing, whatever state it finds: whole registers and masks have no tail.
+#[inline(always)]
+fn fills_nothing(access: &AccessInstr, policy: Policy) -> bool
+    ensures { (state : VState) → result ≡ true → filled_by access.now policy state ≡ nothing }
+{
+    match *access {
+        AccessInstr::WholeLoad { .. }
+        | AccessInstr::WholeStore { .. }
+        | AccessInstr::MaskAccess { .. } => true,
+        _ => matches!(policy, Policy::Keep),
+    }
+}
+
 /// Fills the tails of these fields, from the length on that the access found, once it is done.
 fn fill_when_done(tails: Option<Fields>, length: usize, end: MemEnd, file: &mut VFile)
     requires { IfSome tails (λ f. SegmentsInside (groups_of f) f.vd f.nf length) }
@@ -152,7 +165,7 @@ fn fill_when_done(tails: Option<Fields>, length: usize, end: MemEnd, file: &mut 
     }
 }
 
-/// Carries out a legal load or store, of at most `limit` indices, under a policy, and answers how it ended.
+/// Performs a legal load or store, of at most `limit` indices, under a policy, and answers how it ended.
 #[inline(never)]
 fn perform_access<M: UserBytes>(
     access: &AccessInstr,
@@ -177,10 +190,12 @@ fn perform_access<M: UserBytes>(
     access_end(access, end)
 }
 
-/// Carries out a vector load or store of a user, of at most `limit` indices, and answers how it ended.
+/// Carries out a vector load or store of a user, of at most `limit` indices, and answers how it ended. It does the same
+/// whatever `UNIT_STRIDE` is, which makes a copy of its own for each of two callers: one with a single caller is taken in
+/// line.
 #[tactic(auto, unfolding(rv_model::specs::step::Step::vector_executed))]
 #[inline(always)]
-pub fn exec_access<M: UserBytes>(
+pub fn exec_access<M: UserBytes, const UNIT_STRIDE: bool>(
     access: &AccessInstr,
     state: &mut VState,
     scalar: &Scalar,
@@ -202,18 +217,10 @@ pub fn exec_access<M: UserBytes>(
     if !legal_access(access, &state.conf) {
         return VEnd::Illegal;
     }
-    match *access {
-        // Those that fill nothing under any policy, by themselves, so that their way is short.
-        AccessInstr::WholeLoad { .. }
-        | AccessInstr::WholeStore { .. }
-        | AccessInstr::MaskAccess { .. } => perform_unfilled(access, state, scalar, memory, limit),
-        _ => match policy {
-            Policy::Keep => perform_unfilled(access, state, scalar, memory, limit),
-            Policy::Ones => {
-                // A copy of its own for the other function, so that the operands need no place in memory before.
-                let copy = *access;
-                perform_access(&copy, state, scalar, memory, limit, policy)
-            }
-        },
+    if fills_nothing(access, policy) {
+        return perform_unfilled(access, state, scalar, memory, limit);
     }
+    // A copy of its own for the other function, so that the operands need no place in memory before.
+    let copy = *access;
+    perform_access(&copy, state, scalar, memory, limit, policy)
 }
