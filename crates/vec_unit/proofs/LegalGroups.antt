@@ -1,5 +1,9 @@
 -- What a legal instruction and a vector length that its type allows tell of the groups, for the tactics.
+use Rattle.std.proofs.Common.{arith}
 use Rattle.std.proofs.Math.Bool.{or-false}
+use Rattle.rv_model.specs.declared.vector.types.VType.{VType}
+use Rattle.rv_model.specs.lending.GroupBounds.{HasRoom}
+use Rattle.rv_model.specs.vector.Groups.{lmul_eighths, sew_width, vlmax}
 use Rattle.rv_model.proofs.legality_lemmas.Bounds.{
   carry_inside,
   extension_inside,
@@ -27,9 +31,13 @@ use Rattle.rv_model.proofs.legality_lemmas.Bounds.{
 }
 use Rattle.rv_model.proofs.legality_lemmas.Moves.{compress_inside, whole_move_inside}
 
+-- groups of the vector type have room for all their elements
+pub all_have_room : (t : VType) → HasRoom (sew_width t.sew) (lmul_eighths t.lmul) (vlmax t)
+all_have_room t = groups_have_room t (vlmax t) (omega arith)
+
 -- of an operation with a line of its own in the manual's table, but for those of one width on two operands; most never saturate
 pub ruleset operation_groups =
-    (or-false, multiply_add_inside, compare_inside, carry_out_inside, widen_inside, wide_source_inside, widen_multiply_add_inside, narrow_shift_inside, fixed_point_inside, clip_inside, reduce_inside, widen_reduce_inside, permute_inside)
+    (or-false, multiply_add_inside, compare_inside, carry_out_inside, widen_inside, wide_source_inside, widen_multiply_add_inside, narrow_shift_inside, fixed_point_inside, clip_inside, reduce_inside, widen_reduce_inside, permute_inside, all_have_room)
 
 -- of one without such a line that takes the vector type; an extension never saturates
 pub ruleset typed_groups =

@@ -72,6 +72,7 @@ with_binary_results w o destination body file x =
 -- an operation made by SIMD whose results can be written in turn, to a destination without a tail that is filled: its groups
 -- lie inside the file and hold the body
 pub record IsInTurn (width : Width) (o : WithSources BinaryOp) (destination : Destination) (body : Body) : Type 0 where
+  pub inside : IsInside destination.vd destination.emul
   pub holds : HoldsBody width destination.emul destination.count body.end
   pub first : IsInside o.vs2 destination.emul
   pub second : SourceIsInside o.source destination.emul

@@ -10,16 +10,15 @@ use Rattle.vec_unit.specs.declared.destination.Agnostic.{Agnostic}
 use Rattle.vec_unit.specs.declared.destination.Destination.{Destination}
 use Rattle.vec_unit.specs.declared.destination.Target.{Target}
 
--- the bytes of all registers, with these numbers as elements of this width in the destination's group
+-- the bytes of all registers, with these numbers in the group of this type from a register on, where this becomes of agnostic
+-- elements
+abbrev pub with_elements : ℕ → Agnostic → GroupType → Body → (ℕ → ℕ) → List ℕ → List ℕ
+with_elements vd agnostic t body number file = with_results t vd body agnostic.fill_masked_off agnostic.fill_tail number file
+
+-- the same, as elements of this width in the destination's group
 abbrev pub with_written : Width → Destination → Body → (ℕ → ℕ) → List ℕ → List ℕ
 with_written w destination body number file =
-    with_results (record { width = w; emul = destination.emul }) destination.vd body
-    destination.agnostic.fill_masked_off destination.agnostic.fill_tail number file
-
--- the same, in the target's group of this type
-abbrev pub with_elements : GroupType → Target → Body → (ℕ → ℕ) → List ℕ → List ℕ
-with_elements t target body number file =
-    with_results t target.vd body (fills_masked_off target.policy target.vtype body) (fills_tail target.policy target.vtype body) number file
+    with_elements destination.vd destination.agnostic (record { width = w; emul = destination.emul }) body number file
 
 -- what becomes of the agnostic elements of a body, under a target's policy and type
 abbrev pub agnostic_of : Target → Body → Agnostic
@@ -31,7 +30,7 @@ agnostic_of target body = record {
 -- a state, with these numbers in the target's group of this type; the flag says whether a result saturated
 abbrev pub carried_out : GroupType → Target → (ℕ → ℕ) → Bool → VState → VState
 carried_out t target number saturates state = record state {
-  file = with_elements t target (body_of target.unmasked state) number state.file;
+  file = with_elements target.vd (agnostic_of target (body_of target.unmasked state)) t (body_of target.unmasked state) number state.file;
   vxsat = state.vxsat || saturates;
 }
 
@@ -42,7 +41,7 @@ performed number saturates t u target x state =
     carried_out t target (number t u state.file x) (saturates t u state.file x (body_of target.unmasked state)) state
 
 -- a state, with the registers that an operation leaves under the target's type
-abbrev pub registers_left : (Target → GroupType → Body → List ℕ → Scalar → List ℕ) → Target → Scalar → VState → VState
-registers_left written target x state = record state {
-  file = written target (group_type target.vtype) (body_of target.unmasked state) state.file x;
-}
+abbrev pub registers_left : (ℕ → Agnostic → GroupType → Body → List ℕ → Scalar → List ℕ) → Target → Scalar → VState → VState
+registers_left written target x state =
+    let body = body_of target.unmasked state in
+    record state { file = written target.vd (agnostic_of target body) (group_type target.vtype) body state.file x }

@@ -1,5 +1,5 @@
 //! Arithmetic instructions, once they are known to be legal ("V" Vector Extension 1.0, chapter 11).
-ghost use Rattle.std.specs.Prelude.{◌≡◌, ◌≤◌, IsTrue, Some, not};
+ghost use Rattle.std.specs.Prelude.{◌≤◌, IsTrue, Some, not};
 ghost use Rattle.rv_model.specs.vector.Groups.{group_type, vlmax, wide_type};
 ghost use Rattle.rv_model.specs.legality.Legality.{is_legal};
 ghost use Rattle.rv_model.specs.step.Step.{arith_step, typed_step};
@@ -8,7 +8,7 @@ ghost use Rattle.vec_unit.specs.Steps.{Performs};
 
 use crate::compare::Carried;
 use crate::destination::Target;
-use crate::operands::{Rounded, WithSources};
+use crate::operands::{Rounded, Sources, WithSources};
 use crate::operation::perform;
 use crate::two_widths::{perform_narrowing, perform_single, perform_widening};
 use crate::widen::Added;
@@ -37,52 +37,35 @@ fn perform_rest(
         target.vd vs2 target.unmasked)
         target.policy scalar.now state.old VEnd.Done scalar.now (record state.new { vstart = 0 }) }
 {
-    let mode = state.vxrm;
+    let (mode, sources) = (state.vxrm, Sources { vs2, source });
     match op {
         VectorOp::Binary(_) => unreachable!(),
-        VectorOp::MultiplyAdd(op) => {
-            perform(&WithSources { op, vs2, source }, target, state, scalar);
-        }
-        VectorOp::Compare(op) => {
-            perform(&WithSources { op, vs2, source }, target, state, scalar);
-        }
+        VectorOp::MultiplyAdd(op) => perform(&sources.with(op), target, state, scalar),
+        VectorOp::Compare(op) => perform(&sources.with(op), target, state, scalar),
         VectorOp::CarryOut(op) => {
             let alone = target.unmasked;
             let op = Carried { op, alone };
-            let operation = WithSources { op, vs2, source };
-            perform(&operation, target.whole_body(), state, scalar);
+            perform(&sources.with(op), target.whole_body(), state, scalar);
         }
         VectorOp::FixedPoint(op) => {
             let op = Rounded { op, mode };
-            perform_single(&WithSources { op, vs2, source }, target, state, scalar);
+            perform_single(&sources.with(op), target, state, scalar);
         }
-        VectorOp::Reduce(op) => {
-            perform(&WithSources { op, vs2, source }, target, state, scalar);
-        }
-        VectorOp::Permute(op) => {
-            perform(&WithSources { op, vs2, source }, target, state, scalar);
-        }
-        VectorOp::Widen(op) => {
-            perform_widening(&WithSources { op, vs2, source }, target, state, scalar);
-        }
-        VectorOp::WideSource(op) => {
-            perform_widening(&WithSources { op, vs2, source }, target, state, scalar);
-        }
+        VectorOp::Reduce(op) => perform(&sources.with(op), target, state, scalar),
+        VectorOp::Permute(op) => perform(&sources.with(op), target, state, scalar),
+        VectorOp::Widen(op) => perform_widening(&sources.with(op), target, state, scalar),
+        VectorOp::WideSource(op) => perform_widening(&sources.with(op), target, state, scalar),
         VectorOp::WidenMultiplyAdd(op) => {
             let vd = target.vd;
             let op = Added { op, vd };
-            perform_widening(&WithSources { op, vs2, source }, target, state, scalar);
+            perform_widening(&sources.with(op), target, state, scalar);
         }
-        VectorOp::NarrowShift(op) => {
-            perform_narrowing(&WithSources { op, vs2, source }, target, state, scalar);
-        }
+        VectorOp::NarrowShift(op) => perform_narrowing(&sources.with(op), target, state, scalar),
         VectorOp::Clip(op) => {
             let op = Rounded { op, mode };
-            perform_narrowing(&WithSources { op, vs2, source }, target, state, scalar);
+            perform_narrowing(&sources.with(op), target, state, scalar);
         }
-        VectorOp::WidenReduce(op) => {
-            WithSources { op, vs2, source }.perform(target, state, scalar);
-        }
+        VectorOp::WidenReduce(op) => sources.with(op).perform(target, state, scalar),
     }
 }
 

@@ -8,7 +8,7 @@ ghost use Rattle.std.specs.Prelude.{◌≡◌, ◌≤◌, IsTrue, false, true};
 ghost use Rattle.vec_unit.specs.InTurn.{IsInTurn, IsReadFirst, SourceIsReadFirst, with_binary_results};
 ghost use Rattle.vec_unit.specs.Results.{with_elements};
 
-use crate::destination::{Destination, Extent, Target, write_group};
+use crate::destination::{Destination, write_group};
 use crate::in_turn::{InTurn, is_read_first, is_source_read_first};
 use crate::operands::{SecondOperand, WithSources, second_copy, second_number};
 use crate::operation::Operation;
@@ -123,13 +123,13 @@ impl WithSources<BinaryOp> {
     {
         let keeps = !destination.agnostic.fill_masked_off;
         if !(body.start() == 0 && body.end() == destination.count && keeps) {
-            let destination = destination.copied();
+            let destination = Destination { ..destination };
             (*self).write_part_in_turn::<L>(destination, &body.copied(), file, scalar);
         } else if body.is_unmasked() {
             let all = Body::new(true, body.mask(), 0, body.end());
             self.write_in_turn::<L>(true, destination.keeping(), &all, file, scalar);
         } else {
-            let destination = destination.copied();
+            let destination = Destination { ..destination };
             (*self).write_masked_in_turn::<L>(destination, &body.copied(), file, scalar);
         }
     }
@@ -143,7 +143,8 @@ impl WithSources<BinaryOp> {
         file: &mut VFile,
         scalar: &Scalar,
     )
-        requires operands { IsInside self.vs2 destination.emul × SourceIsInside self.source destination.emul }
+        requires operands { IsInside destination.vd destination.emul × IsInside self.vs2 destination.emul
+            × SourceIsInside self.source destination.emul }
         requires holds { HoldsBody L.width destination.emul destination.count body.now.end }
         ensures { file.new ≡ with_binary_results L.width self destination body.now file.old scalar.now }
     {
@@ -163,34 +164,21 @@ impl WithSources<BinaryOp> {
 }
 
 impl Operation for WithSources<BinaryOp> {
-    ghost written = { λ o target g body file x.
-        with_elements g target body (binary_result g o.op o.vs2 o.source file x) file };
+    ghost written = { λ o vd agnostic g body file x.
+        with_elements vd agnostic g body (binary_result g o.op o.vs2 o.source file x) file };
 
-    ghost inside = { λ o target g end. IsInside target.vd g.emul × IsInside o.vs2 g.emul
+    ghost inside = { λ o vd g end. IsInside vd g.emul × IsInside o.vs2 g.emul
         × SourceIsInside o.source g.emul };
 
     // The elements of a body that begins with the first one and isn't masked are in line.
     #[inline(always)]
-    fn write<L: Lane>(
-        &self,
-        target: Target,
-        extent: Extent,
-        body: &Body<'_>,
-        file: &mut VFile,
-        scalar: &Scalar,
-    ) {
-        let destination = Destination {
-            vd: target.vd,
-            emul: extent.emul,
-            count: extent.count,
-            agnostic: extent.agnostic,
-        };
-        let has_tail = destination.agnostic.fill_tail && body.end() != destination.count;
-        if !has_tail && self.is_in_turn(destination.vd, registers(destination.emul)) {
-            self.write_all::<L>(destination, body, file, scalar);
+    fn write<L: Lane>(&self, to: Destination, body: &Body<'_>, file: &mut VFile, scalar: &Scalar) {
+        let has_tail = to.agnostic.fill_tail && body.end() != to.count;
+        if !has_tail && self.is_in_turn(to.vd, registers(to.emul)) {
+            self.write_all::<L>(to, body, file, scalar);
         } else {
-            let destination = destination.copied();
-            (*self).write_copied::<L>(destination, &body.copied(), file, scalar);
+            let to = Destination { ..to };
+            (*self).write_copied::<L>(to, &body.copied(), file, scalar);
         }
     }
 }

@@ -1,6 +1,6 @@
-//! Compressions, carried out ("V" Vector Extension 1.0, section 16.5).
+//! Compressions ("V" Vector Extension 1.0, section 16.5).
 ghost use Rattle.std.specs.Prelude.{◌≡◌, ◌*◌, ◌≤◌, length};
-ghost use Rattle.rv_model.specs.elements.Arithmetic.{fills_tail, group_element};
+ghost use Rattle.rv_model.specs.elements.Arithmetic.{group_element};
 ghost use Rattle.rv_model.specs.vector.Groups.{register_of, width_bytes};
 ghost use Rattle.rv_model.specs.elements.Elements.{element};
 ghost use Rattle.rv_model.specs.elements.Formulas.{ones};
@@ -9,7 +9,7 @@ ghost use Rattle.rv_model.specs.elements.PermutationResults.{is_packed_or_filled
 ghost use Rattle.rv_model.specs.lending.Writes.{Writes};
 ghost use Rattle.rv_model.specs.lending.GroupBounds.{IsInside};
 
-use crate::destination::{Extent, Target};
+use crate::destination::Destination;
 use crate::operation::Operation;
 use lane_arith::{Body, Lane, fill};
 use lane_permute::compress;
@@ -50,25 +50,17 @@ pub(crate) struct CompressOperation {
 }
 
 impl Operation for CompressOperation {
-    ghost written = { λ o target g body file x. with_packed g target.vd body.end
-        (fills_tail target.policy target.vtype body)
+    ghost written = { λ o vd agnostic g body file x. with_packed g vd body.end agnostic.fill_tail
         (packed (register_of file o.vs1) (group_element g file o.vs2) body.end) file };
 
-    ghost inside = { λ o target g end. IsInside target.vd g.emul × IsInside o.vs2 g.emul };
+    ghost inside = { λ o vd g end. IsInside vd g.emul × IsInside o.vs2 g.emul };
 
-    fn write<L: Lane>(
-        &self,
-        target: Target,
-        extent: Extent,
-        body: &Body<'_>,
-        file: &mut VFile,
-        scalar: &Scalar,
-    ) {
-        let (end, count) = (body.end(), extent.count);
+    fn write<L: Lane>(&self, to: Destination, body: &Body<'_>, file: &mut VFile, scalar: &Scalar) {
+        let (end, count) = (body.end(), to.count);
         let mut copy = [0; GROUP_BYTES];
-        let a: &[u8] = group_copy_mut(file, self.vs2, extent.emul, &mut copy);
+        let a: &[u8] = group_copy_mut(file, self.vs2, to.emul, &mut copy);
         let select = register_copy(file, self.vs1);
-        let group = group_mut(file, target.vd, extent.emul);
-        compress_filled::<L>(a, &select, end, extent.agnostic.fill_tail, count, group);
+        let group = group_mut(file, to.vd, to.emul);
+        compress_filled::<L>(a, &select, end, to.agnostic.fill_tail, count, group);
     }
 }

@@ -1,13 +1,14 @@
 //! The destination of an element-wise instruction: lent to a kernel, and then filled ("V" Vector Extension
 //! 1.0, sections 3.4.3, 5.3 and 5.4).
-ghost use Rattle.std.specs.Prelude.{◌≡◌, ◌*◌, ◌<◌, ◌≤◌, ℕ, false, if◌then◌else◌, length, true};
+ghost use Rattle.std.specs.Prelude.{◌≡◌, ◌*◌, ◌/◌, ◌<◌, ◌≤◌, ℕ, false, if◌then◌else◌, length, true};
 ghost use Rattle.rv_model.specs.elements.Arithmetic.{fills_masked_off, fills_tail, with_results};
 ghost use Rattle.rv_model.specs.elements.Elements.{is_changed, result_or_ones};
 ghost use Rattle.rv_model.specs.elements.Formulas.{ones};
 ghost use Rattle.rv_model.specs.lending.Writes.{Writes};
 ghost use Rattle.rv_model.specs.lending.GroupBounds.{HoldsBody, IsInside};
-ghost use Rattle.rv_model.specs.vector.Groups.{width_bytes, registers};
+ghost use Rattle.rv_model.specs.vector.Groups.{lmul_eighths, registers, width_bytes};
 ghost use Rattle.vec_unit.specs.Agnostic.{is_agnostic};
+ghost use Rattle.vec_unit.specs.Results.{agnostic_of};
 
 use lane_arith::{Body, Lane, Results, fill, write_results};
 use reg_groups::{group_mut, registers};
@@ -33,6 +34,26 @@ impl Target {
             unmasked,
             vtype,
             policy,
+        }
+    }
+
+    /// Where it writes the elements of a body, of so many bytes each.
+    #[inline(always)]
+    pub(crate) fn destination(self, size: usize, body: &Body<'_>) -> Destination
+        requires { 1 ≤ size }
+        ensures { result ≡ record {
+          vd = self.vd;
+          emul = lmul_eighths self.vtype.lmul;
+          count = VLENB * registers (lmul_eighths self.vtype.lmul) / size;
+          agnostic = agnostic_of self body.now;
+        } }
+    {
+        let emul = u32::from(self.vtype.lmul.eighths());
+        Destination {
+            vd: self.vd,
+            emul,
+            count: VLENB * registers(emul) as usize / size,
+            agnostic: agnostic_under(self.policy, self.vtype, body),
         }
     }
 
@@ -72,24 +93,14 @@ pub(crate) fn agnostic_under(policy: Policy, vtype: VType, body: &Body<'_>) -> A
     }
 }
 
-/// How large groups are, their multiplier in eighths of a register and how many elements their registers hold, and what
-/// becomes of those that are agnostic.
-#[derive(Clone, Copy)]
-pub(crate) struct Extent {
-    pub emul: u32,
-    pub count: usize,
-    pub agnostic: Agnostic,
-}
-
-/// A group inside the file that takes results: its first register, its multiplier in eighths of a register, how many
-/// elements its registers hold, and what becomes of those that are agnostic.
+/// Where an operation writes: its first register, the multiplier of its groups in eighths of a register, how many
+/// elements the registers of a group hold, and what becomes of those that are agnostic.
 #[derive(Clone, Copy)]
 pub(crate) struct Destination {
     pub vd: VReg,
     pub emul: u32,
     pub count: usize,
     pub agnostic: Agnostic,
-    ghost inside: { IsInside vd emul },
 }
 
 impl Destination {
@@ -99,26 +110,11 @@ impl Destination {
         ensures { result ≡ record self { agnostic = record self.agnostic { fill_masked_off = false } } }
     {
         Destination {
-            vd: self.vd,
-            emul: self.emul,
-            count: self.count,
             agnostic: Agnostic {
                 fill_masked_off: false,
                 ..self.agnostic
             },
-        }
-    }
-
-    /// A copy, in a place of its own.
-    #[inline(always)]
-    pub(crate) fn copied(self) -> Destination
-        ensures { result ≡ self }
-    {
-        Destination {
-            vd: self.vd,
-            emul: self.emul,
-            count: self.count,
-            agnostic: self.agnostic,
+            ..self
         }
     }
 }
@@ -183,6 +179,7 @@ pub(crate) fn write_group<L: Lane, R: Results<L>>(
     file: &mut VFile,
 )
     requires operands { (i : ℕ) → i < body.now.end → R.has results.now i }
+    requires inside { IsInside destination.vd destination.emul }
     requires holds { HoldsBody L.width destination.emul destination.count body.now.end }
     ensures { file.new ≡ with_results (record { width = L.width; emul = destination.emul }) destination.vd body.now
         destination.agnostic.fill_masked_off destination.agnostic.fill_tail (R.number results.now) file.old }

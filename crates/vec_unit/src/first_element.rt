@@ -1,8 +1,8 @@
 //! One number, written to element 0 of a register ("V" Vector Extension 1.0, chapter 14 and section 16.1).
-ghost use Rattle.std.specs.Prelude.{◌≡◌, ⊤};
-ghost use Rattle.rv_model.specs.elements.Arithmetic.{fills_tail, with_first_result};
+ghost use Rattle.std.specs.Prelude.{◌≡◌, ⊤, nat_lt, true};
+ghost use Rattle.rv_model.specs.elements.Arithmetic.{with_first_result};
 
-use crate::destination::{Agnostic, Destination, Target, agnostic_under, write_group};
+use crate::destination::{Destination, write_group};
 use lane_arith::{Body, Lane, Results};
 use rv_model::VFile;
 
@@ -22,20 +22,17 @@ impl<L: Lane> Results<L> for Same<L> {
     }
 }
 
-/// Writes a number to element 0 of the target's register, where the body has an element, and fills its tail.
-pub(crate) fn write_first<L: Lane>(number: L, target: Target, body: &Body<'_>, file: &mut VFile)
-    ensures { file.new ≡ with_first_result L.width target.vd body.now (fills_tail target.policy target.vtype body.now)
-        (L.value number) file.old }
+/// Writes a number to element 0 of the destination's first register, where the body has an element, and fills the tail of
+/// that register.
+pub(crate) fn write_first<L: Lane>(number: L, to: Destination, body: &Body<'_>, file: &mut VFile)
+    requires tail { to.agnostic.fill_tail ≡ true → nat_lt body.now.start body.now.end ≡ true }
+    ensures { file.new ≡ with_first_result L.width to.vd body.now to.agnostic.fill_tail (L.value number) file.old }
 {
     let first = Body::new(true, body.mask(), 0, usize::from(body.start() < body.end()));
     let destination = Destination {
-        vd: target.vd,
         emul: 8,
         count: L::count(),
-        agnostic: Agnostic {
-            fill_masked_off: false,
-            fill_tail: agnostic_under(target.policy, target.vtype, body).fill_tail,
-        },
+        ..to.keeping()
     };
     write_group::<L, Same<L>>(&Same { number }, destination, &first, file);
 }

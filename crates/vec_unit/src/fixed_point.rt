@@ -1,4 +1,4 @@
-//! Fixed-point operations of one width, carried out ("V" Vector Extension 1.0, chapter 12).
+//! Fixed-point operations of one width ("V" Vector Extension 1.0, chapter 12).
 ghost use Rattle.std.specs.Prelude.{◌≡◌};
 ghost use Rattle.rv_model.specs.elements.Arithmetic.{fixed_point_result, saturates_at};
 ghost use Rattle.rv_model.specs.elements.Elements.{some_active};

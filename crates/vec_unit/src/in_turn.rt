@@ -20,7 +20,7 @@ ghost use mir.Val.{bits};
 use lane_arith::chunk::simd_results;
 use lane_arith::{Body, Lane, active_bits, chunk_elements, enabled_bits, filled_bits, put_results};
 use rv_model::instructions::operations::BinaryOp;
-use rv_model::{FILE_BYTES, GROUP_BYTES, Scalar, Source, VECTOR_REGISTERS, VLENB, VReg};
+use rv_model::{FILE_BYTES, GROUP_BYTES, Source, VECTOR_REGISTERS, VLENB, VReg};
 
 /// Whether each of so many registers from one on is read before it is written, where those from `written` on are
 /// written in turn.

@@ -1,6 +1,6 @@
 //! Operations without a line of their own in the manual's table, under the vector type that they need, once they are
 //! known to be legal ("V" Vector Extension 1.0, sections 11.4, 11.15 and 11.16, and chapters 15 and 16).
-ghost use Rattle.std.specs.Prelude.{◌≡◌, ◌≤◌, IsTrue, Some};
+ghost use Rattle.std.specs.Prelude.{◌≤◌, IsTrue, Some};
 ghost use Rattle.rv_model.specs.vector.Groups.{vlmax};
 ghost use Rattle.rv_model.specs.legality.Legality.{is_legal};
 ghost use Rattle.rv_model.specs.step.Step.{typed_step};
@@ -96,15 +96,8 @@ pub(crate) fn perform_typed(
             scalar.write(rd, scalar_of_first(vs2, vtype, &state.file));
         }
         VectorInstr::MoveToVector { vd, rs1 } => {
-            perform_apart(
-                &MoveToVector { rs1 },
-                vd,
-                true,
-                vtype,
-                policy,
-                state,
-                scalar,
-            );
+            let operation = MoveToVector { rs1 };
+            perform_apart(&operation, vd, true, vtype, policy, state, scalar);
         }
         VectorInstr::WholeMove { count, vd, vs2 } => {
             perform_whole_move(count, vd, vs2, vtype, state);

@@ -3,31 +3,24 @@ ghost use Rattle.rv_model.specs.elements.Arithmetic.{carry_result};
 ghost use Rattle.rv_model.specs.lending.GroupBounds.{IsInside, SourceIsInside};
 ghost use Rattle.vec_unit.specs.Results.{with_elements};
 
-use crate::destination::{Extent, Target};
+use crate::destination::{Destination, write_group};
 use crate::operands::{WithSources, second_copy, signed_operand};
-use crate::operation::{Operation, write_elements};
+use crate::operation::Operation;
 use lane_arith::{Body, Lane, WithMaskOperand};
 use reg_groups::group_copy_mut;
 use rv_model::instructions::operations::CarryOp;
 use rv_model::{GROUP_BYTES, Scalar, VFile};
 
 impl Operation for WithSources<CarryOp> {
-    ghost written = { λ o target g body file x.
-        with_elements g target body (carry_result g o.op o.vs2 o.source file x) file };
+    ghost written = { λ o vd agnostic g body file x.
+        with_elements vd agnostic g body (carry_result g o.op o.vs2 o.source file x) file };
 
-    ghost inside = { λ o target g end. IsInside target.vd g.emul × IsInside o.vs2 g.emul
+    ghost inside = { λ o vd g end. IsInside vd g.emul × IsInside o.vs2 g.emul
         × SourceIsInside o.source g.emul };
 
-    fn write<L: Lane>(
-        &self,
-        target: Target,
-        extent: Extent,
-        body: &Body<'_>,
-        file: &mut VFile,
-        scalar: &Scalar,
-    ) {
+    fn write<L: Lane>(&self, to: Destination, body: &Body<'_>, file: &mut VFile, scalar: &Scalar) {
         let (mut first, mut second) = ([0; GROUP_BYTES], [0; GROUP_BYTES]);
-        let emul = extent.emul;
+        let emul = to.emul;
         let a: &[u8] = group_copy_mut(file, self.vs2, emul, &mut first);
         let operand = signed_operand(self.source, emul);
         let b = second_copy::<L>(operand, body.end(), file, scalar, &mut second);
@@ -37,6 +30,6 @@ impl Operation for WithSources<CarryOp> {
             b,
             v0: body.mask(),
         };
-        write_elements::<L, WithMaskOperand<'_>>(&results, target, extent, body, file);
+        write_group::<L, WithMaskOperand<'_>>(&results, to, body, file);
     }
 }

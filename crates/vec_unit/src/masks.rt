@@ -1,4 +1,4 @@
-//! Mask instructions, carried out ("V" Vector Extension 1.0, chapter 15).
+//! Mask instructions ("V" Vector Extension 1.0, chapter 15).
 ghost use Rattle.std.specs.Prelude.{◌≡◌, ◌%◌, ◌^◌, ◌<◌, ℕ, slice_index, true};
 ghost use Rattle.rv_model.specs.elements.Arithmetic.{body_of, index_result, mask_logic_result, with_mask_results};
 ghost use Rattle.rv_model.specs.elements.Masks.{first_set, mask_scan_formula, mask_to_scalar_formula, set_count};
@@ -8,9 +8,9 @@ ghost use mir.Val.{bits};
 ghost use Rattle.vec_unit.specs.Results.{with_elements};
 
 use crate::body::body_under;
-use crate::destination::{Extent, Target};
+use crate::destination::{Destination, write_group};
 use crate::mask_wise::set_mask;
-use crate::operation::{Operation, write_elements};
+use crate::operation::Operation;
 use lane_arith::{Body, Lane, write_mask_results};
 use mask_unit::{Index, Iota, MaskLogic, MaskScan, count, counts_below, first};
 use reg_groups::{mask_register, register_copy};
@@ -90,23 +90,16 @@ pub(crate) struct IotaOperation<'a> {
 }
 
 impl<'a> Operation for IotaOperation<'a> {
-    ghost written = { λ o target g body file x.
-        with_elements g target body (λ i. slice_index o.counts.now i % 2 ^ bits g.width) file };
+    ghost written = { λ o vd agnostic g body file x.
+        with_elements vd agnostic g body (λ i. slice_index o.counts.now i % 2 ^ bits g.width) file };
 
-    ghost inside = { λ o target g end. IsInside target.vd g.emul };
+    ghost inside = { λ o vd g end. IsInside vd g.emul };
 
-    fn write<L: Lane>(
-        &self,
-        target: Target,
-        extent: Extent,
-        body: &Body<'_>,
-        file: &mut VFile,
-        scalar: &Scalar,
-    ) {
+    fn write<L: Lane>(&self, to: Destination, body: &Body<'_>, file: &mut VFile, scalar: &Scalar) {
         let results = Iota {
             counts: self.counts,
         };
-        write_elements::<L, Iota<'_>>(&results, target, extent, body, file);
+        write_group::<L, Iota<'_>>(&results, to, body, file);
     }
 }
 
@@ -115,18 +108,11 @@ impl<'a> Operation for IotaOperation<'a> {
 pub(crate) struct IndexOperation;
 
 impl Operation for IndexOperation {
-    ghost written = { λ o target g body file x. with_elements g target body (index_result g) file };
+    ghost written = { λ o vd agnostic g body file x. with_elements vd agnostic g body (index_result g) file };
 
-    ghost inside = { λ o target g end. IsInside target.vd g.emul };
+    ghost inside = { λ o vd g end. IsInside vd g.emul };
 
-    fn write<L: Lane>(
-        &self,
-        target: Target,
-        extent: Extent,
-        body: &Body<'_>,
-        file: &mut VFile,
-        scalar: &Scalar,
-    ) {
-        write_elements::<L, Index>(&Index, target, extent, body, file);
+    fn write<L: Lane>(&self, to: Destination, body: &Body<'_>, file: &mut VFile, scalar: &Scalar) {
+        write_group::<L, Index>(&Index, to, body, file);
     }
 }

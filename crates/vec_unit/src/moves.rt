@@ -4,9 +4,9 @@ ghost use Rattle.rv_model.specs.lending.GroupBounds.{IsInside, SourceIsInside};
 ghost use Rattle.std.specs.Prelude.{false};
 ghost use Rattle.vec_unit.specs.Results.{with_elements};
 
-use crate::destination::{Extent, Target};
+use crate::destination::{Destination, write_group};
 use crate::operands::{second_copy, signed_operand};
-use crate::operation::{Operation, write_elements};
+use crate::operation::Operation;
 use lane_arith::{Body, Copies, Lane};
 use rv_model::{GROUP_BYTES, Scalar, Source, VFile};
 
@@ -17,24 +17,17 @@ pub(crate) struct Move {
 }
 
 impl Operation for Move {
-    ghost written = { λ o target g body file x.
-        with_elements g target body (second_element g false o.source file x) file };
+    ghost written = { λ o vd agnostic g body file x.
+        with_elements vd agnostic g body (second_element g false o.source file x) file };
 
-    ghost inside = { λ o target g end. IsInside target.vd g.emul × SourceIsInside o.source g.emul };
+    ghost inside = { λ o vd g end. IsInside vd g.emul × SourceIsInside o.source g.emul };
 
     #[inline(always)]
-    fn write<L: Lane>(
-        &self,
-        target: Target,
-        extent: Extent,
-        body: &Body<'_>,
-        file: &mut VFile,
-        scalar: &Scalar,
-    ) {
+    fn write<L: Lane>(&self, to: Destination, body: &Body<'_>, file: &mut VFile, scalar: &Scalar) {
         let mut copy = [0; GROUP_BYTES];
-        let emul = extent.emul;
+        let emul = to.emul;
         let operand = signed_operand(self.source, emul);
         let b = second_copy::<L>(operand, body.end(), file, scalar, &mut copy);
-        write_elements::<L, Copies<'_>>(&Copies { b }, target, extent, body, file);
+        write_group::<L, Copies<'_>>(&Copies { b }, to, body, file);
     }
 }

@@ -1,7 +1,6 @@
-//! Slides and gathers, carried out ("V" Vector Extension 1.0, sections 16.3 and 16.4).
+//! Slides and gathers ("V" Vector Extension 1.0, sections 16.3 and 16.4).
 ghost use Rattle.std.specs.Prelude.{◌≡◌, ◌*◌, ◌<◌, ◌≤◌, length};
-ghost use Rattle.rv_model.specs.elements.Arithmetic.{fills_masked_off, fills_tail, with_results};
-ghost use Rattle.rv_model.specs.vector.Groups.{element_count, group_type, width_bytes};
+ghost use Rattle.rv_model.specs.vector.Groups.{element_count, width_bytes};
 ghost use Rattle.rv_model.specs.elements.Elements.{element};
 ghost use Rattle.rv_model.specs.elements.PermutationResults.{
   index_of,
@@ -11,10 +10,10 @@ ghost use Rattle.rv_model.specs.elements.PermutationResults.{
   source_type,
 };
 ghost use Rattle.rv_model.specs.elements.PermutationResults.{gathered};
-ghost use Rattle.rv_model.specs.lending.GroupBounds.{HasIndices, HoldsBody, IsInside};
-ghost use Rattle.vec_unit.specs.Results.{with_written};
+ghost use Rattle.rv_model.specs.lending.GroupBounds.{HasIndices, HasRoom, HoldsBody, IsInside};
+ghost use Rattle.vec_unit.specs.Results.{with_elements, with_written};
 
-use crate::destination::{Destination, Extent, Target, write_group};
+use crate::destination::{Destination, write_group};
 use crate::operands::WithSources;
 use crate::operation::Operation;
 use lane_arith::{Body, Lane};
@@ -33,6 +32,14 @@ fn scalar_operand(source: Source, scalar: &Scalar) -> u64
         Source::X(rs1) => scalar.read(rs1),
         Source::I(imm) => u64::from(imm.value()),
     }
+}
+
+/// How many elements of a width groups of a multiplier, in eighths of a register, have: of those of the vector type, VLMAX.
+#[inline(always)]
+fn element_count<L: Lane>(emul: u32) -> usize
+    ensures { result ≡ element_count (record { width = L.width; emul = emul }) }
+{
+    L::count() * emul as usize / 8
 }
 
 /// A gather from the elements of `a`, those of vs2, of which there are `limit`, and where its indices come from.
@@ -56,6 +63,7 @@ impl<'a> GatherOperation<'a> {
     )
         requires limit { width_bytes L.width * self.now.limit ≤ length self.now.a.now }
         requires indices { HasIndices self.now.source I.width emul body.now.end }
+        requires inside { IsInside destination.vd destination.emul }
         requires holds { HoldsBody L.width destination.emul destination.count body.now.end }
         ensures { file.new ≡ with_written L.width destination body.now
             (λ i. gathered self.now.limit (element (width_bytes L.width) self.now.a.now)
@@ -83,90 +91,50 @@ impl<'a> GatherOperation<'a> {
     }
 }
 
-impl WithSources<PermuteOp> {
-    /// Writes the results to a destination; `limit` is VLMAX.
-    fn move_elements<L: Lane>(
-        &self,
-        destination: Destination,
-        limit: usize,
-        body: &Body<'_>,
-        file: &mut VFile,
-        scalar: &Scalar,
-    )
-        requires first { IsInside self.now.vs2 destination.emul }
-        requires indices { HasIndices self.now.source
-            (source_type self.now.op (record { width = L.width; emul = destination.emul })).width
-            (source_type self.now.op (record { width = L.width; emul = destination.emul })).emul body.now.end }
-        requires holds { HoldsBody L.width destination.emul destination.count body.now.end }
-        requires limit { limit ≡ element_count (record { width = L.width; emul = destination.emul }) }
-        requires room { HoldsBody L.width destination.emul destination.count limit }
-        ensures { file.new ≡ with_written L.width destination
-            (permute_body self.now.op self.now.source scalar.now body.now)
-            (permute_result (record { width = L.width; emul = destination.emul }) self.now.op body.now.end self.now.vs2
-            self.now.source file.old scalar.now) file.old }
-    {
+impl Operation for WithSources<PermuteOp> {
+    ghost written = { λ o vd agnostic g body file x.
+        with_elements vd agnostic g (permute_body o.op o.source x body)
+        (permute_result g o.op body.end o.vs2 o.source file x) file };
+
+    ghost inside = { λ o vd g end. IsInside vd g.emul × IsInside o.vs2 g.emul
+        × HasIndices o.source (source_type o.op g).width (source_type o.op g).emul end
+        × HasRoom g.width g.emul (element_count g) };
+
+    fn write<L: Lane>(&self, to: Destination, body: &Body<'_>, file: &mut VFile, scalar: &Scalar) {
         let mut copy = [0; GROUP_BYTES];
-        let emul = destination.emul;
+        let emul = to.emul;
+        let limit = element_count::<L>(emul);
         let a: &[u8] = group_copy_mut(file, self.vs2, emul, &mut copy);
         let source = self.source;
         let offset = scalar_operand(self.source, scalar);
         match self.op {
             PermuteOp::Vrgather => {
                 let gather = GatherOperation { a, limit, source };
-                gather.write::<L, L>(emul, destination, body, file, scalar);
+                gather.write::<L, L>(emul, to, body, file, scalar);
             }
             PermuteOp::Vrgatherei16 => {
                 let gather = GatherOperation { a, limit, source };
                 let emul = 16 * emul / L::bits();
-                gather.write::<L, u16>(emul, destination, body, file, scalar);
+                gather.write::<L, u16>(emul, to, body, file, scalar);
             }
             PermuteOp::Vslideup => {
                 let slide = SlideUp { a, offset };
-                write_group::<L, SlideUp<'_>>(&slide, destination, &slide.body(body), file);
+                write_group::<L, SlideUp<'_>>(&slide, to, &slide.body(body), file);
             }
             PermuteOp::Vslidedown => {
                 let slide = SlideDown { a, limit, offset };
-                write_group::<L, SlideDown<'_>>(&slide, destination, body, file);
+                write_group::<L, SlideDown<'_>>(&slide, to, body, file);
             }
             PermuteOp::Vslide1up => {
                 let first = L::low_bits(offset);
                 let slide = SlideOneUp { a, first };
-                write_group::<L, SlideOneUp<'_, L>>(&slide, destination, body, file);
+                write_group::<L, SlideOneUp<'_, L>>(&slide, to, body, file);
             }
             PermuteOp::Vslide1down => {
                 let (end, last) = (body.end(), L::low_bits(offset));
                 let slide = SlideOneDown { a, end, last };
-                write_group::<L, SlideOneDown<'_, L>>(&slide, destination, body, file);
+                write_group::<L, SlideOneDown<'_, L>>(&slide, to, body, file);
             }
         }
-    }
-}
-
-impl Operation for WithSources<PermuteOp> {
-    ghost written = { λ o target g body file x. with_results g target.vd (permute_body o.op o.source x body)
-        (fills_masked_off target.policy target.vtype body) (fills_tail target.policy target.vtype body)
-        (permute_result g o.op body.end o.vs2 o.source file x) file };
-
-    ghost inside = { λ o target g end. IsInside target.vd g.emul × IsInside o.vs2 g.emul
-        × HasIndices o.source (source_type o.op g).width (source_type o.op g).emul end
-        × (g ≡ group_type target.vtype) };
-
-    fn write<L: Lane>(
-        &self,
-        target: Target,
-        extent: Extent,
-        body: &Body<'_>,
-        file: &mut VFile,
-        scalar: &Scalar,
-    ) {
-        let vtype = target.vtype;
-        let limit = usize::from(vtype.vlmax());
-        let destination = Destination {
-            vd: target.vd,
-            emul: extent.emul,
-            count: extent.count,
-            agnostic: extent.agnostic,
-        };
-        self.move_elements::<L>(destination, limit, body, file, scalar);
     }
 }

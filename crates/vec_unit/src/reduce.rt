@@ -1,5 +1,5 @@
-//! Reductions, carried out ("V" Vector Extension 1.0, chapter 14).
-ghost use Rattle.std.specs.Prelude.{◌≡◌, ◌*◌, ◌≤◌};
+//! Reductions ("V" Vector Extension 1.0, chapter 14).
+ghost use Rattle.std.specs.Prelude.{◌≡◌, ◌*◌, ◌≤◌, nat_lt, true};
 ghost use Rattle.rv_model.specs.elements.Arithmetic.{
   body_of,
   fills_tail,
@@ -11,7 +11,7 @@ ghost use Rattle.rv_model.specs.vector.Groups.{group_type, lmul_eighths, sew_bit
 ghost use Rattle.rv_model.specs.lending.GroupBounds.{HasRoom, IsInside, SourceIsInside};
 
 use crate::body::body_under;
-use crate::destination::{Extent, Target};
+use crate::destination::{Destination, Target};
 use crate::first_element::write_first;
 use crate::operands::{WithSources, second_elements, signed_operand};
 use crate::operation::Operation;
@@ -22,53 +22,45 @@ use rv_model::instructions::operations::{ReduceOp, WidenReduceOp};
 use rv_model::{Scalar, Sew, VFile, VState};
 
 impl Operation for WithSources<ReduceOp> {
-    ghost written = { λ o target g body file x. with_first_result g.width target.vd body
-        (fills_tail target.policy target.vtype body) (reduce_result g o.op body o.vs2 o.source file x) file };
+    ghost written = { λ o vd agnostic g body file x.
+        with_first_result g.width vd body agnostic.fill_tail (reduce_result g o.op body o.vs2 o.source file x) file };
 
-    ghost inside = { λ o target g end. IsInside o.vs2 g.emul × SourceIsInside o.source 8 };
+    ghost inside = { λ o vd g end. IsInside o.vs2 g.emul × SourceIsInside o.source 8 };
 
-    fn write<L: Lane>(
-        &self,
-        target: Target,
-        extent: Extent,
-        body: &Body<'_>,
-        file: &mut VFile,
-        scalar: &Scalar,
-    ) {
-        let a = group(file, self.vs2, extent.emul);
+    fn write<L: Lane>(&self, to: Destination, body: &Body<'_>, file: &mut VFile, scalar: &Scalar) {
+        let a = group(file, self.vs2, to.emul);
         let operand = signed_operand(self.source, 8);
         let start = second_elements(operand, file, scalar).element::<L>(0);
         let number = reduce::<L, L, Reduction>(&Reduction { op: self.op }, start, a, body);
-        write_first(number, target, body, file);
+        write_first(number, to, body, file);
     }
 }
 
 impl WithSources<WidenReduceOp> {
-    /// Writes the result to element 0 of a register of elements of the width of `W`; `emul` is the multiplier
-    /// of `vs2`, whose elements have the width of `N`.
+    /// Writes the result to element 0 of the destination's first register, of elements of the width of `W`; its
+    /// multiplier is that of `vs2`, whose elements have the width of `N`.
     fn write<N: Lane, W: Lane>(
         &self,
-        target: Target,
-        emul: u32,
+        to: Destination,
         body: &Body<'_>,
         file: &mut VFile,
         scalar: &Scalar,
     )
-        requires first { IsInside self.now.vs2 emul }
+        requires first { IsInside self.now.vs2 to.emul }
         requires second { SourceIsInside self.now.source 8 }
-        requires room { HasRoom N.width emul body.now.end }
-        ensures { file.new ≡ with_first_result W.width target.vd body.now
-            (fills_tail target.policy target.vtype body.now)
-            (widen_reduce_result (record { width = N.width; emul = emul })
-            (record { width = W.width; emul = 2 * emul }) self.now.op body.now self.now.vs2 self.now.source file.old
+        requires room { HasRoom N.width to.emul body.now.end }
+        requires tail { to.agnostic.fill_tail ≡ true → nat_lt body.now.start body.now.end ≡ true }
+        ensures { file.new ≡ with_first_result W.width to.vd body.now to.agnostic.fill_tail
+            (widen_reduce_result (record { width = N.width; emul = to.emul })
+            (record { width = W.width; emul = 2 * to.emul }) self.now.op body.now self.now.vs2 self.now.source file.old
             scalar.now) file.old }
     {
-        let a = group(file, self.vs2, emul);
+        let a = group(file, self.vs2, to.emul);
         let operand = signed_operand(self.source, 8);
         let start = second_elements(operand, file, scalar).element::<W>(0);
         let combine = WideningReduction { op: self.op };
         let number = reduce::<N, W, WideningReduction>(&combine, start, a, body);
-        write_first(number, target, body, file);
+        write_first(number, to, body, file);
     }
 
     /// Performs the reduction of a group of the vector type to twice its width.
@@ -87,14 +79,14 @@ impl WithSources<WidenReduceOp> {
               state.old.file;
         } }
     {
+        let sew = target.vtype.sew;
         let mask = mask_register(&state.file);
         let body = body_under(target.unmasked, &mask, state);
-        let emul = u32::from(target.vtype.lmul.eighths());
         let file = &mut state.file;
-        match target.vtype.sew {
-            Sew::E8 => self.write::<u8, u16>(target, emul, &body, file, scalar),
-            Sew::E16 => self.write::<u16, u32>(target, emul, &body, file, scalar),
-            Sew::E32 => self.write::<u32, u64>(target, emul, &body, file, scalar),
+        match sew {
+            Sew::E8 => self.write::<u8, u16>(target.destination(1, &body), &body, file, scalar),
+            Sew::E16 => self.write::<u16, u32>(target.destination(2, &body), &body, file, scalar),
+            Sew::E32 => self.write::<u32, u64>(target.destination(4, &body), &body, file, scalar),
             Sew::E64 => unreachable!(),
         }
     }

@@ -2,7 +2,7 @@
 //! 16.1).
 ghost use Rattle.std.specs.Prelude.{◌≡◌, ◌%◌, ◌^◌, ◌<◌, ◌≤◌, ⊤, length};
 ghost use Rattle.std.specs.Int.{cast_signed, w64};
-ghost use Rattle.rv_model.specs.elements.Arithmetic.{fills_tail, with_first_result};
+ghost use Rattle.rv_model.specs.elements.Arithmetic.{with_first_result};
 ghost use Rattle.rv_model.specs.elements.Elements.{element};
 ghost use Rattle.rv_model.specs.elements.Formulas.{wrap};
 ghost use Rattle.rv_model.specs.elements.PermutationResults.{moved_to_scalar};
@@ -10,7 +10,7 @@ ghost use Rattle.rv_model.specs.scalar.Registers.{read_register};
 ghost use Rattle.rv_model.specs.vector.Groups.{width_bytes};
 ghost use mir.Val.{bits};
 
-use crate::destination::{Extent, Target};
+use crate::destination::Destination;
 use crate::first_element::write_first;
 use crate::operation::Operation;
 use lane_arith::{Body, Lane};
@@ -46,19 +46,12 @@ pub(crate) struct MoveToVector {
 }
 
 impl Operation for MoveToVector {
-    ghost written = { λ o target g body file x. with_first_result g.width target.vd body
-        (fills_tail target.policy target.vtype body) (read_register x o.rs1 % 2 ^ bits g.width) file };
+    ghost written = { λ o vd agnostic g body file x.
+        with_first_result g.width vd body agnostic.fill_tail (read_register x o.rs1 % 2 ^ bits g.width) file };
 
-    ghost inside = { λ o target g end. ⊤ };
+    ghost inside = { λ o vd g end. ⊤ };
 
-    fn write<L: Lane>(
-        &self,
-        target: Target,
-        extent: Extent,
-        body: &Body<'_>,
-        file: &mut VFile,
-        scalar: &Scalar,
-    ) {
-        write_first(L::low_bits(scalar.read(self.rs1)), target, body, file);
+    fn write<L: Lane>(&self, to: Destination, body: &Body<'_>, file: &mut VFile, scalar: &Scalar) {
+        write_first(L::low_bits(scalar.read(self.rs1)), to, body, file);
     }
 }

@@ -1,4 +1,4 @@
-//! Instructions whose operands have two widths, and whose results may saturate, carried out ("V" Vector Extension
+//! Instructions whose operands have two widths, and whose results may saturate ("V" Vector Extension
 //! 1.0, sections 3.9, 5.2, 11.2, 11.7, 11.12 and 11.14, and chapter 12).
 ghost use Rattle.std.specs.Prelude.{◌≡◌, ◌*◌, ◌≤◌, Bool, List, length, ℕ};
 ghost use Rattle.rv_model.specs.declared.scalar.Scalar.{Scalar as ScalarRegisters};

@@ -67,5 +67,5 @@ returns g c =
     rw (first, all_put file new was.same_length)
     (turned_results t n c.args.destination.vd c.second_number.result o.op o.vs2 o.source c.args.scalar.now c.args.body.now
     c.args.destination.agnostic.fill_masked_off c.args.destination.agnostic.fill_tail c.args.destination.count file new
-    (bytes_positive g.L.Lane.width) g.met.L.Lane.fills long c.args.destination.inside
+    (bytes_positive g.L.Lane.width) g.met.L.Lane.fills long c.requires.in_turn.inside
     (rw (← c.has_unsigned_immediate-unsigned.ensures) c.second_number.ensures) c.requires.in_turn.holds.room c.requires.in_turn.holds.whole c.requires.in_turn.no_tail was)

@@ -1,5 +1,5 @@
 use Rattle.std.proofs.Common.{◌∙◌, ap, arith, false}
-use Rattle.rv_model.specs.elements.Arithmetic.{carry_result, fills_masked_off, fills_tail, second_element}
+use Rattle.rv_model.specs.elements.Arithmetic.{carry_result, second_element}
 use Rattle.rv_model.specs.vector.Groups.{GroupType, register_of}
 use Rattle.rv_model.specs.elements.Elements.{mask_bit}
 use Rattle.rv_model.specs.elements.Formulas.{carry_formula, wrap}
@@ -10,14 +10,13 @@ use Rattle.vec_unit.proofs.mask_operand.WithSourcesCarryOpOperation.write.Goals 
 
 pub returns : goal.returns
 returns g c =
-    let t : GroupType = record { width = g.L.Lane.width; emul = c.args.extent.emul } in
+    let t : GroupType = record { width = g.L.Lane.width; emul = c.args.to.emul } in
     let o = c.args.self.now in
-    let target = c.args.target in
+    let to = c.args.to in
     let file = c.args.file.now in
     let x = c.args.scalar.now in
-    c.write_elements.ensures
-    ∙ results_same t target.vd c.args.body.now (fills_masked_off target.policy target.vtype c.args.body.now)
-    (fills_tail target.policy target.vtype c.args.body.now)
+    c.write_group.ensures
+    ∙ results_same t to.vd c.args.body.now to.agnostic.fill_masked_off to.agnostic.fill_tail
     _ (carry_result t o.op o.vs2 o.source file x) file
     (three_operands t t (λ a b bit. wrap t.width (carry_formula o.op a b bit))
     c.group_copy_mut.result.now c.second_copy-b.result.now file o.vs2

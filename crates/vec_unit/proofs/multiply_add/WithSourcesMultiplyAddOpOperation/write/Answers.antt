@@ -1,5 +1,5 @@
 use Rattle.std.proofs.Common.{◌∙◌, ap, arith, false}
-use Rattle.rv_model.specs.elements.Arithmetic.{fills_masked_off, fills_tail, group_element, multiply_add_result, second_element}
+use Rattle.rv_model.specs.elements.Arithmetic.{group_element, multiply_add_result, second_element}
 use Rattle.rv_model.specs.vector.Groups.{GroupType, width_bytes}
 use Rattle.rv_model.specs.elements.Elements.{element}
 use Rattle.rv_model.specs.elements.Formulas.{multiply_add_formula, wrap}
@@ -10,19 +10,18 @@ use Rattle.vec_unit.proofs.multiply_add.WithSourcesMultiplyAddOpOperation.write.
 
 pub returns : goal.returns
 returns g c =
-    let t : GroupType = record { width = g.L.Lane.width; emul = c.args.extent.emul } in
+    let t : GroupType = record { width = g.L.Lane.width; emul = c.args.to.emul } in
     let o = c.args.self.now in
-    let target = c.args.target in
+    let to = c.args.to in
     let file = c.args.file.now in
     let x = c.args.scalar.now in
-    c.write_elements.ensures
-    ∙ results_same t target.vd c.args.body.now (fills_masked_off target.policy target.vtype c.args.body.now)
-    (fills_tail target.policy target.vtype c.args.body.now)
-    _ (multiply_add_result t o.op target.vd o.vs2 o.source file x) file
+    c.write_group.ensures
+    ∙ results_same t to.vd c.args.body.now to.agnostic.fill_masked_off to.agnostic.fill_tail
+    _ (multiply_add_result t o.op to.vd o.vs2 o.source file x) file
     (three_operands t t (λ a b d. wrap t.width (multiply_add_formula o.op a b d))
     c.group_copy_mut.result.now c.second_copy-b.result.now file o.vs2
     c.args.body.now.end (second_element t false o.source file x)
-    (λ i. element (width_bytes t.width) c.group_copy_mut-2.result.now i) (group_element t file target.vd) c.group_copy_mut.ensures.value
+    (λ i. element (width_bytes t.width) c.group_copy_mut-2.result.now i) (group_element t file to.vd) c.group_copy_mut.ensures.value
     (λ i h. c.second_copy-b.ensures.elements i (omega (arith, h, c.end.ensures.value))
     ∙ ap (λ (s : SecondOperand). second_element (record { width = t.width; emul = s.emul }) s.unsigned s.source file x i) c.signed_operand-operand.ensures)
     (λ i. ap (λ bytes. element (width_bytes t.width) bytes i) c.group_copy_mut-2.ensures.value))
