@@ -93,7 +93,7 @@ fn access_control<V: Vectors>(
     write_rd(access.rd, value, scalar)
 }
 
-/// Carries out the instruction that a word of SYSTEM is, and answers its one tick; none where it doesn't run on, and
+/// Executes the instruction that a word of SYSTEM is, and answers its one tick; none where it doesn't run on, and
 /// then notes how it ended.
 #[tactic(auto, unfolding(rv_model::specs::step::Step::executed, rv_model::specs::step::Step::dirties))]
 #[inline(never)]
