@@ -1,0 +1,6 @@
+pub mod Finds
+pub mod LineTexts
+pub mod Lines
+pub mod Moved
+pub mod Segments
+pub mod Targets
