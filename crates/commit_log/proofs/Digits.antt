@@ -1,6 +1,6 @@
 -- Hexadecimal digits, and those of bytes that are put together.
-use Rattle.std.proofs.Common.{◌≡◌, refl, sym, ap, ◌∙◌, ℕ, zero, suc, ◌+◌, ◌*◌, ◌-◌, ◌/◌, ◌%◌, ◌^◌, ◌<◌, ◌≤◌, cond, nat_lt, bit_and, List, [], ◌∷◌, ◌++◌, length, take, drop, append_assoc, arith}
-use Rattle.std.specs.Prelude.{reverse, slice_index, slice_index_or}
+use Rattle.std.proofs.Common.{◌≡◌, refl, sym, ap, ◌∙◌, ℕ, zero, suc, ◌+◌, ◌/◌, ◌%◌, ◌<◌, ◌≤◌, cond, nat_lt, bit_and, List, [], ◌∷◌, ◌++◌, length, take, drop, append_assoc, arith}
+use Rattle.std.specs.Prelude.{reverse, slice_index}
 use Rattle.std.proofs.lemmas.List.{reverse-append, take-append-drop, drop-drop, take_all, length-drop}
 use Rattle.std.proofs.lemmas.Nat.{and_mask}
 use lib.Lanes.{top}

@@ -1,5 +1,5 @@
 -- What an instruction finds, as far as its line is made of it.
-use Rattle.std.specs.Prelude.{ℕ, ◌≡◌, Option, Some, None, ⊤}
+use Rattle.std.specs.Prelude.{ℕ, ◌≡◌, Option, Some, ⊤}
 use Rattle.rv_model.specs.declared.instructions.instruction.Instr.{Instr}
 use Rattle.rv_model.specs.declared.instructions.instruction.Instr.TheVariants as instr
 use Rattle.rv_model.specs.declared.instructions.scalar.ScalarInstr.{ScalarInstr}

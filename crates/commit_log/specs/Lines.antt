@@ -1,20 +1,19 @@
 -- What the line of an instruction says: where it stood, and what it wrote, by the state that it found and the one that it left.
-use Rattle.std.specs.Prelude.{ℕ, ◌+◌, ◌-◌, ◌==◌, false, List, [], ◌∷◌, ◌++◌, map, flat_map, Option, Some, None, if◌then◌else◌}
-use Rattle.std.specs.Int.{byte_len, to_le_bytes, w64}
-use Rattle.std.specs.Option.{option_map, option_map_or}
+use Rattle.std.specs.Prelude.{ℕ, ◌==◌, List, [], ◌∷◌, map, flat_map, Some, None, if◌then◌else◌}
+use Rattle.std.specs.Int.{to_le_bytes, w64}
+use Rattle.std.specs.Option.{option_map_or}
 use Rattle.rv_model.specs.declared.instructions.instruction.Instr.{Instr}
 use Rattle.rv_model.specs.declared.instructions.instruction.Instr.TheVariants as instr
 use Rattle.rv_model.specs.declared.instructions.scalar.ScalarInstr.TheVariants.{Load, Store}
 use Rattle.rv_model.specs.declared.vector.control_register.ControlRegister.TheVariants.{Vstart, Vxsat, Vxrm, Vl, Vtype}
 use Rattle.rv_model.specs.instructions.Immediates.{i_immediate, s_immediate}
-use Rattle.rv_model.specs.instructions.Table.{scan, table}
 use Rattle.rv_model.specs.scalar.Arithmetic.{sum}
 use Rattle.rv_model.specs.scalar.LoadsAndStores.{store_width}
 use Rattle.rv_model.specs.scalar.Registers.{read_register}
 use Rattle.rv_model.specs.declared.scalar.Scalar.{Scalar}
 use Rattle.rv_model.specs.declared.vector.state.VState.{VState}
 use Rattle.rv_model.specs.step.Hart.{HartState}
-use Rattle.rv_model.specs.step.Step.{is_vector, word_at}
+use Rattle.rv_model.specs.step.Step.{is_vector}
 use Rattle.rv_model.specs.vector.Control.{control_value}
 use Rattle.rv_model.specs.vector.Groups.{Configuration, register_of}
 use Rattle.rv_model.specs.declared.vector.control_register.ControlRegister.{ControlRegister}

@@ -1,8 +1,7 @@
 -- Which registers an instruction writes (Unprivileged ISA 20191213, chapters 2, 5, 7 and 9; "V" Vector Extension 1.0, section 5.2).
-use Rattle.std.specs.Prelude.{ℕ, ◌*◌, ◌-◌, ◌==◌, Bool, true, false, List, [], ◌∷◌, flat_map, min, Option, Some, None, if◌then◌else◌}
+use Rattle.std.specs.Prelude.{ℕ, ◌*◌, ◌-◌, Bool, true, false, List, [], flat_map, min, Option}
 use Rattle.std.specs.List.{filter, range_with_len}
-use Rattle.std.specs.Option.{option_map_or, unwrap_or}
-use Rattle.rv_model.specs.declared.instructions.csr.CsrInstr.{CsrInstr}
+use Rattle.std.specs.Option.{unwrap_or}
 use Rattle.rv_model.specs.declared.instructions.csr.CsrInstr.TheVariants as csr
 use Rattle.rv_model.specs.declared.instructions.instruction.Instr.{Instr}
 use Rattle.rv_model.specs.declared.instructions.instruction.Instr.TheVariants as instr
@@ -11,7 +10,7 @@ use Rattle.rv_model.specs.declared.instructions.operations.SystemOp.TheVariants 
 use Rattle.rv_model.specs.declared.instructions.access.AccessInstr.{AccessInstr}
 use Rattle.rv_model.specs.declared.instructions.access.AccessInstr.TheVariants.{WholeLoad, WholeStore}
 use Rattle.rv_model.specs.declared.instructions.scalar.ScalarInstr.{ScalarInstr}
-use Rattle.rv_model.specs.declared.instructions.scalar.ScalarInstr.TheVariants.{Upper, Jump, JumpRegister, Branch, Load, Store, RegisterImmediate, ShiftImmediate, ShiftImmediateWord, RegisterRegister, Fence, System}
+use Rattle.rv_model.specs.declared.instructions.scalar.ScalarInstr.TheVariants.{Upper, Jump, JumpRegister, Load, RegisterImmediate, ShiftImmediate, ShiftImmediateWord, RegisterRegister, System}
 use Rattle.rv_model.specs.declared.instructions.vector.VectorInstr.{VectorInstr}
 use Rattle.rv_model.specs.declared.instructions.vector.VectorInstr.TheVariants.{SetVli, SetIvli, SetVl, MaskToScalar, MoveToScalar}
 use Rattle.rv_model.specs.legality.Legality.{operands}

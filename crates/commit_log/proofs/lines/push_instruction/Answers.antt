@@ -1,5 +1,4 @@
-use Rattle.std.proofs.Common.{ap, ◌∙◌, ◌++◌, ◌∷◌, [], ℕ, Option, flat_map, if◌then◌else◌}
-use Rattle.rv_model.specs.declared.vector.types.VType.{VType}
+use Rattle.std.proofs.Common.{ap, ◌∙◌, ◌++◌, ◌∷◌, [], ℕ, flat_map, if◌then◌else◌}
 use Rattle.rv_model.specs.step.Step.{is_vector}
 use Rattle.rv_model.specs.vector.Groups.{Configuration}
 use Rattle.commit_log.specs.LineTexts.{configuration_text, control_text, moved_text, place_text, scalar_text, vector_text}

@@ -1,4 +1,4 @@
-use Rattle.std.proofs.Common.{◌≡◌, sym, ap, ◌∙◌, ℕ, ◌-◌, ◌++◌, [], List, append-nil, flat_map, Option}
+use Rattle.std.proofs.Common.{sym, ap, ◌∙◌, ℕ, ◌-◌, ◌++◌, [], List, append-nil, flat_map, Option}
 use Rattle.std.specs.Option.{option_map_or}
 use Rattle.rv_model.specs.declared.vector.types.VType.{VType}
 use Rattle.rv_model.specs.elements.Elements.{Body}

@@ -4,7 +4,7 @@ use Rattle.rv_model.specs.declared.instructions.operations.VectorOp.{VectorOp}
 use Rattle.rv_model.specs.declared.instructions.source.Source.{Source}
 use Rattle.rv_model.specs.declared.instructions.vector.VectorInstr.{VectorInstr}
 use Rattle.rv_model.specs.legality.OperandShapes.{destination, shape_of}
-use Rattle.rv_model.specs.vector.Groups.{lmul_eighths, registers}
+use Rattle.rv_model.specs.vector.Groups.{registers}
 use Rattle.commit_log.specs.declared.targets.Registers.{Registers}
 use Rattle.commit_log.specs.Targets.{registers_from, vector_targets}
 use Rattle.commit_log.proofs.Destinations.{arith_targets, carry_targets}
