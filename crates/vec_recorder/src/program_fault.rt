@@ -68,6 +68,9 @@ pub enum ProgramFault<'a> {
     /// The changes can't be written.
     #[error("vecmon-record: cannot write changes\n")]
     Changes,
+    /// The log can't be written.
+    #[error("vecmon-record: cannot write log\n")]
+    Log,
     /// The file of a record at this path can't be written.
     #[error("vecmon-record: cannot write {0}\n")]
     Record(&'a str),
@@ -103,6 +106,7 @@ impl ProgramFault<'_> {
             ProgramFault::Record(_)
             | ProgramFault::TableFull
             | ProgramFault::Changes
+            | ProgramFault::Log
             | ProgramFault::Output => STATUS_WRITE,
             ProgramFault::NoMemory => STATUS_NO_MEMORY,
         }
@@ -133,6 +137,7 @@ impl From<RecordFault> for ProgramFault<'_> {
             RecordFault::TableFull => ProgramFault::TableFull,
             RecordFault::NoPlace => ProgramFault::NoPlace,
             RecordFault::Changes => ProgramFault::Changes,
+            RecordFault::Log => ProgramFault::Log,
             RecordFault::Output => ProgramFault::Output,
         }
     }
