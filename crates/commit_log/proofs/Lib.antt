@@ -1,3 +1,4 @@
 pub mod Digits
 pub mod Destinations
+mod Kept
 pub mod Steps

@@ -4,6 +4,7 @@
 mod changes;
 mod found;
 mod lines;
+mod log;
 mod memory_words;
 mod moves;
 mod numbers;
@@ -13,4 +14,5 @@ mod text;
 
 pub use found::Found;
 pub use lines::push_line;
+pub use log::{Log, Window};
 pub use text::{LINE_SIZE, TEXT_SIZE, Text};
