@@ -1,6 +1,6 @@
 use Rattle.std.proofs.Common.{◌∙◌, ◌++◌, ap}
 use Rattle.clap.specs.Walk.{texts}
-use Rattle.vec_recorder.proofs.CommandLineLaws.{rows_by, taken_by, texts_in, word_read, words_read}
+use Rattle.vec_recorder.proofs.CommandLineLaws.{refused_by, rows_by, taken_by, texts_in, word_read, words_read}
 use Rattle.vec_recorder.proofs.words.options.Goals as goal
 
 pub returns : goal.returns
@@ -26,3 +26,8 @@ returns c =
       taken = λ taken. taken_by command words c.in_ok-command.ensures c.in_ok-matches.ensures.kinds;
       refused = tt;
     }
+
+pub returns-in_err-matches-clause-refused : goal.returns-in_err-matches-clause-refused
+returns-in_err-matches-clause-refused c =
+    refused_by c.in_ok-command.field-0 (texts c.args.words.now) c.in_err-matches.field-0.0 c.from_residual-in_err-matches.result c.in_ok-command.ensures
+    c.in_err-matches.ensures.kinds c.from_residual-in_err-matches.ensures.1
