@@ -24,6 +24,16 @@ class Recorded:
 
 
 @dataclass(frozen=True)
+class RecordedLog:
+    """What a run of the recorder gave, and its log, if it wrote one."""
+
+    stdout: bytes
+    stderr: str
+    status: int
+    log: str
+
+
+@dataclass(frozen=True)
 class Counts:
     """What stands in a file of counts.
 
@@ -58,6 +68,15 @@ def record(folder: pathlib.Path, *words: object, more: Sequence[int] = (), count
     ran = subprocess.run(command, cwd=folder, capture_output=True, check=False, pass_fds=more)
     told = file.read_text("ascii") if file.exists() else ""
     return Recorded(ran.stdout, ran.stderr.decode(), ran.returncode, told)
+
+
+def record_log(folder: pathlib.Path, *words: object) -> RecordedLog:
+    """Runs the recorder in a folder with `--log log` before other words."""
+    log = folder / "log"
+    log.unlink(missing_ok=True)
+    command = [str(built_recorder()), "--log", "log", *map(str, words)]
+    ran = subprocess.run(command, cwd=folder, capture_output=True, check=False)
+    return RecordedLog(ran.stdout, ran.stderr.decode(), ran.returncode, log.read_text("ascii") if log.exists() else "")
 
 
 def read_counts(text: str) -> Counts:

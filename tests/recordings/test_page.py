@@ -33,7 +33,7 @@ def test_examples(tmp_path: pathlib.Path) -> None:
 
 
 def test_there_are_examples() -> None:
-    assert len(SESSIONS) == 3
+    assert len(SESSIONS) == 4
 
 
 def test_words_of_the_page_are_those_of_help() -> None:

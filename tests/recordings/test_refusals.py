@@ -38,7 +38,7 @@ def test_words(tmp_path: pathlib.Path, words: list[str], message: str) -> None:
     assert refused(tmp_path, *words, "there is no such image") == (2, message)
 
 
-@pytest.mark.parametrize("words", [["--log", "file"], ["--ticks"], ["one", "two"], ["--ticks", "1", "--ticks", "2"]])
+@pytest.mark.parametrize("words", [["--trace", "file"], ["--ticks"], ["one", "two"], ["--ticks", "1", "--ticks", "2"]])
 def test_words_that_clap_refuses(tmp_path: pathlib.Path, words: list[str]) -> None:
     status, message = refused(tmp_path, *words)
     assert status == 2 and message.startswith("error: ") and message.endswith("For more information, try '--help'.")

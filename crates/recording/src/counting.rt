@@ -34,7 +34,7 @@ fn word_anywhere<M: UserBytes>(memory: &M, pc: u64) -> u32
 
 /// The word at an address; 0 where none may be fetched from there.
 #[inline(always)]
-pub(crate) fn word_at<M: UserBytes>(memory: &M, pc: u64) -> u32
+pub fn word_at<M: UserBytes>(memory: &M, pc: u64) -> u32
     ensures { can_access Fetch (M.memory memory.now) pc 4 ≡ true → result ≡ word_at_spec (M.memory memory.now) pc }
 {
     let mut bytes = [0; 4];
@@ -46,7 +46,7 @@ pub(crate) fn word_at<M: UserBytes>(memory: &M, pc: u64) -> u32
 
 /// Whether an instruction that ended so is counted: it ran, or it is the call that exits.
 #[inline(always)]
-pub(crate) fn is_counted(end: StepEnd) -> bool
+pub fn is_counted(end: StepEnd) -> bool
     ensures { result ≡ is_counted end }
 {
     matches!(end, StepEnd::Ran | StepEnd::Exit(_))

@@ -9,6 +9,8 @@ pub enum RecordFault {
     NoPlace,
     /// The changes can't be written.
     Changes,
+    /// The log can't be written.
+    Log,
     /// The output can't be written.
     Output,
 }

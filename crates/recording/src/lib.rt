@@ -25,6 +25,7 @@ pub use alone::{Alone, OneSeat};
 pub use both::Both;
 pub use carried::Carried;
 pub use class::Class;
+pub use counting::{is_counted, word_at};
 pub use counts::Counts;
 pub use fault::RecordFault;
 pub use key::Key;

@@ -1,15 +1,18 @@
 -- What the program reads of clap's matches.
-use Rattle.std.proofs.Common.{◌≡◌, ◌∙◌, ap, sym, true, List, [], Option, Some, None}
-use Rattle.std.specs.Prelude.{unwrap_or, option_map}
+use Rattle.std.proofs.Common.{◌≡◌, ◌∙◌, ap, sym, subst, true, List, [], Option, Some, None, inl, inr}
+use Rattle.std.specs.Prelude.{Result, Ok, Err, IfErr, IsErrAnd, unwrap_or, option_map}
 use Rattle.std.specs.Borrow.{Bor}
 use Rattle.std.specs.Option.{UnwrapsOrElse}
-use Rattle.clap.specs.Words.{Text, app_of, found_of, is_simple, matched_of, HasMatchesOf, all_of, first_of, first_value, matches_of, raw_values, rows_of}
+use Rattle.clap.specs.Words.{HasKind, IsAmong, Kinds, Text, app_of, kind_of, found_of, is_simple, matched_of, HasMatchesOf, all_of, first_of, first_value, matches_of, raw_values, rows_of}
 use Rattle.clap.specs.Words.{fault_of, is_simple_and_free}
 use Rattle.clap.specs.Walk.{texts}
 use Rattle.clap.proofs.WalkLemmas.{first_value-rows, raw_values-rows}
 use Rattle.clap.specs.declared.builder.command.Command.{Command}
+use Rattle.clap.specs.declared.error.Error.{Error}
 use Rattle.clap.specs.declared.parser.matches.ArgMatches.{ArgMatches}
-use Rattle.vec_recorder.specs.CommandLine.{command_line, word_of, words_fault}
+use Rattle.vec_recorder.specs.CommandLine.{command_line, word_of, words_fault, IsFaultOf, IsRefusedFor}
+use Rattle.vec_recorder.specs.declared.command_line.UsageFault.{UsageFault}
+use Rattle.vec_recorder.specs.declared.command_line.UsageFault.TheVariants.{Help, Usage, NoMemory}
 
 pub rows_by : (c : Command) (m : ArgMatches) (words : List Text) → app_of c ≡ command_line → HasMatchesOf (app_of c) words m
     → rows_of (found_of m) ≡ matches_of command_line words
@@ -32,3 +35,18 @@ texts_in P (Some s) d words e h empty = ap (λ (b : Bor (List (Bor Text))). text
 -- clap takes the words
 pub taken_by : (c : Command) (words : List Text) → app_of c ≡ command_line → (is_simple_and_free (app_of c) ≡ true → fault_of (app_of c) words ≡ []) → words_fault words ≡ []
 taken_by c words is free = sym (ap (λ a. fault_of a words) is) ∙ free (ap is_simple_and_free is)
+
+-- a fault that comes of clap's error, where that has one of these kinds
+fault_among : (kinds : Kinds) (e : Error) (fault : UsageFault) → IsFaultOf (kind_of e) fault → HasKind kinds e → IsRefusedFor kinds fault
+fault_among kinds e NoMemory is has = tt
+fault_among kinds e (Help told) is (inl none) = absurd (cc (is.0, none))
+fault_among kinds e (Help told) is (inr among) = (is.1, subst (λ k. IsAmong k kinds) (is.0 ∙ sym is.1) among)
+fault_among kinds e (Usage told) is (inl none) = absurd (is.1 none)
+fault_among kinds e (Usage told) is (inr among) = (λ help. is.0 (sym is.2 ∙ help), subst (λ k. IsAmong k kinds) (sym is.2) among)
+
+-- clap refuses the words
+pub refused_by : {T : Type 0} (c : Command) (words : List Text) (e : Error) (r : Result T UsageFault) → app_of c ≡ command_line
+    → (is_simple_and_free (app_of c) ≡ true → HasKind (fault_of (app_of c) words) e) → IsErrAnd r (IsFaultOf (kind_of e)) → IfErr r (IsRefusedFor (words_fault words))
+refused_by c words e (Ok _) is fails given = tt
+refused_by c words e (Err fault) is fails given =
+    fault_among (words_fault words) e fault given (subst (λ a. HasKind (fault_of a words) e) is (fails (ap is_simple_and_free is)))

@@ -7,6 +7,9 @@ use Rattle.std.proofs.lemmas.List.{drop_all, drop_more, take_more}
 use Rattle.std.proofs.lemmas.List.Concat.{flat_map-append}
 use Rattle.std.proofs.lemmas.List.Sorted.{sum_by-IsPermutation}
 use Rattle.clap.specs.Walk.{Text}
+use Rattle.commit_log.specs.Logged.{IsLogged, logged_from}
+use Rattle.commit_log.specs.declared.log.Log.{Log}
+use Rattle.commit_log.specs.declared.log.Window.{Window}
 use Rattle.memory_changes.specs.Changes.{changes_from}
 use Rattle.memory_changes.specs.declared.place.Place.{Place}
 use Rattle.memory_changes.specs.Recorded.{IsRecorded}
@@ -145,6 +148,24 @@ changes_told took more first new file after places found told last sink_is place
     subst (λ f. took f (changes_from places 0 0 found ++ last) after) sink_is
     (more first.sink new.sink after (changes_from places 0 0 found) last lines (subst (λ (l : List ℕ). took new.sink l after) last_is end))
 
+-- ---- logs
+
+-- the lines of a log, those that were gathered last among them, and then another
+pub log_told : {F : Type 0} (took : F → List ℕ → F → Type 0) → ((a b c : F) (xs ys : List ℕ) → took a xs b → took b ys c → took a (xs ++ ys) c)
+    → (first new : Log F) (file mid after : F) (window : Window) (found : List HartState) (told last : List ℕ) → first.sink ≡ file → first.window ≡ window
+    → first.number ≡ 0 → first.text ≡ [] → IsLogged took first found new → took new.sink new.text mid → told ≡ last → took mid told after
+    → took file (logged_from window 0 found ++ last) after
+log_told took more first new file mid after window found told last sink_is window_is number_is text_is logged gathered last_is end =
+    let told_all = logged.lines in
+    let lines : told_all.written ++ new.text ≡ logged_from window 0 found =
+    told_all.all
+    ∙ (ap (λ (l : List ℕ). l ++ logged_from first.window first.number found) text_is
+    ∙ (ap (λ (w : Window). logged_from w first.number found) window_is ∙ ap (λ (n : ℕ). logged_from window n found) number_is)) in
+    let written : took first.sink (logged_from window 0 found) mid =
+    subst (λ (l : List ℕ). took first.sink l mid) lines (more first.sink new.sink mid told_all.written new.text told_all.took gathered) in
+    subst (λ f. took f (logged_from window 0 found ++ last) after) sink_is
+    (more first.sink mid after (logged_from window 0 found) last written (subst (λ (l : List ℕ). took mid l after) last_is end))
+
 -- ---- files of memory
 
 -- one file, and then the others
@@ -168,25 +189,32 @@ none_left file_bytes memories m = rw (drop_all (length memories) memories (omega
 
 -- ---- from the options to the words
 
-pub recorded_by_words : {F : Type 0} (file_bytes : Text → Option (List ℕ)) (is_made : Text → F → Type 0) (took : F → List ℕ → F → Type 0) (put : List ℕ → Type 0) (words : List Text) (policy ticks : Option Text) (memory : List Text) (registers counts : Option Text) (watch : List Text) (changes image : Option Text)
+pub recorded_by_words : {F : Type 0} (file_bytes : Text → Option (List ℕ)) (is_made : Text → F → Type 0) (took : F → List ℕ → F → Type 0) (put : List ℕ → Type 0) (words : List Text) (policy ticks : Option Text) (memory : List Text) (registers counts : Option Text) (watch : List Text) (changes log from to image : Option Text)
     → words_fault words ≡ [] → policy ≡ word_of (codes "policy") words → ticks ≡ word_of (codes "ticks") words → memory ≡ memory_words words
     → registers ≡ word_of (codes "registers") words → counts ≡ word_of (codes "counts") words → watch ≡ watch_words words → changes ≡ word_of (codes "changes") words
+    → log ≡ word_of (codes "log") words → from ≡ word_of (codes "from") words → to ≡ word_of (codes "to") words
     → image ≡ word_of (codes "image") words
-    → RecordedBy file_bytes is_made took put policy ticks memory registers counts watch changes image → Recorded file_bytes is_made took words put
-recorded_by_words file_bytes is_made took put words policy ticks memory registers counts watch changes image accepted policy_is ticks_are memory_is registers_are counts_are watch_is changes_are image_is run =
+    → RecordedBy file_bytes is_made took put policy ticks memory registers counts watch changes log from to image → Recorded file_bytes is_made took words put
+recorded_by_words file_bytes is_made took put words policy ticks memory registers counts watch changes log from to image accepted policy_is ticks_are memory_is registers_are counts_are watch_is changes_are log_is from_is to_is image_is run =
     let by = RecordedBy file_bytes is_made took put in
     let p = word_of (codes "policy") words in
     let t = word_of (codes "ticks") words in
     let r = word_of (codes "registers") words in
     let n = word_of (codes "counts") words in
-    let one = subst (λ it. by it ticks memory registers counts watch changes image) policy_is run in
-    let two = subst (λ it. by p it memory registers counts watch changes image) ticks_are one in
-    let three = subst (λ it. by p t it registers counts watch changes image) memory_is two in
-    let four = subst (λ it. by p t (memory_words words) it counts watch changes image) registers_are three in
-    let five = subst (λ it. by p t (memory_words words) r it watch changes image) counts_are four in
-    let six = subst (λ it. by p t (memory_words words) r n it changes image) watch_is five in
-    let seven = subst (λ it. by p t (memory_words words) r n (watch_words words) it image) changes_are six in
+    let c = word_of (codes "changes") words in
+    let l = word_of (codes "log") words in
+    let f = word_of (codes "from") words in
+    let one = subst (λ it. by it ticks memory registers counts watch changes log from to image) policy_is run in
+    let two = subst (λ it. by p it memory registers counts watch changes log from to image) ticks_are one in
+    let three = subst (λ it. by p t it registers counts watch changes log from to image) memory_is two in
+    let four = subst (λ it. by p t (memory_words words) it counts watch changes log from to image) registers_are three in
+    let five = subst (λ it. by p t (memory_words words) r it watch changes log from to image) counts_are four in
+    let six = subst (λ it. by p t (memory_words words) r n it changes log from to image) watch_is five in
+    let seven = subst (λ it. by p t (memory_words words) r n (watch_words words) it log from to image) changes_are six in
+    let eight = subst (λ it. by p t (memory_words words) r n (watch_words words) c it from to image) log_is seven in
+    let nine = subst (λ it. by p t (memory_words words) r n (watch_words words) c l it to image) from_is eight in
+    let ten = subst (λ it. by p t (memory_words words) r n (watch_words words) c l f it image) to_is nine in
     record {
       accepted = accepted;
-      run = subst (λ it. by p t (memory_words words) r n (watch_words words) (word_of (codes "changes") words) it) image_is seven;
+      run = subst (λ it. by p t (memory_words words) r n (watch_words words) c l f (word_of (codes "to") words) it) image_is ten;
     }

@@ -37,16 +37,26 @@ watch_rule = record (option_rule (codes "watch")) { action = Some Append }
 abbrev pub changes_rule : Rule
 changes_rule = option_rule (codes "changes")
 
+-- `--log FILE`, `--from N`, `--to N`
+abbrev pub log_rule : Rule
+log_rule = option_rule (codes "log")
+
+abbrev pub from_rule : Rule
+from_rule = option_rule (codes "from")
+
+abbrev pub to_rule : Rule
+to_rule = option_rule (codes "to")
+
 -- `[IMAGE]`
 abbrev pub image_rule : Rule
 image_rule = record (new_rule (codes "image")) { value_names = 1 }
 
 -- `vecmon-record [--policy POLICY] [--ticks N] [--memory ADDR:PERMS:FILE]... [--registers FILE] [--counts FILE]
--- [--watch ADDR:LEN]... [--changes FILE] [IMAGE]`
+-- [--watch ADDR:LEN]... [--changes FILE] [--log FILE [--from N] [--to N]] [IMAGE]`
 abbrev pub command_line : App
 command_line =
-    with_rule (with_rule (with_rule (with_rule (with_rule (with_rule (with_rule (with_rule (new_app (codes "vecmon-record")) policy_rule) ticks_rule) memory_rule) registers_rule) counts_rule) watch_rule)
-    changes_rule) image_rule
+    with_rule (with_rule (with_rule (with_rule (with_rule (with_rule (with_rule (with_rule (with_rule (with_rule (with_rule (new_app (codes "vecmon-record")) policy_rule) ticks_rule) memory_rule) registers_rule) counts_rule) watch_rule)
+    changes_rule) log_rule) from_rule) to_rule) image_rule
 
 -- the word that clap gives to the option of a name, or to IMAGE, the program's name first
 abbrev pub word_of : Text → List Text → Option Text
@@ -69,6 +79,11 @@ asked_policy (Some word) = policy_of word
 abbrev pub asked_ticks : Option Text → Option ℕ
 asked_ticks None = Some (2 ^ 63)
 asked_ticks (Some word) = number_between 1 (2 ^ 63) word
+
+-- the number of an instruction that a word asks for, if it is one from 1 to 2^63; without a word another one
+abbrev pub asked_number : ℕ → Option Text → Option ℕ
+asked_number other None = Some other
+asked_number other (Some word) = number_between 1 (2 ^ 63) word
 
 -- the kinds of error that clap has for the words; none where it takes them
 abbrev pub words_fault : List Text → Kinds

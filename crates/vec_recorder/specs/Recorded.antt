@@ -2,6 +2,8 @@
 use Rattle.std.specs.Prelude.{◌≡◌, ◌%◌, ◌^◌, ◌++◌, ⊤, ℕ, Bool, List, [], Option, None, Some, codes, flat_map}
 use Rattle.std.specs.List.{AllZip}
 use Rattle.clap.specs.Walk.{Text}
+use Rattle.commit_log.specs.Logged.{logged_from}
+use Rattle.commit_log.specs.declared.log.Window.{Window}
 use Rattle.memory_changes.specs.Changes.{changes_from}
 use Rattle.memory_changes.specs.declared.place.Place.{Place}
 use Rattle.recording.specs.Runs.{put_out, ran, shares}
@@ -11,7 +13,7 @@ use Rattle.recording.specs.declared.row.Row.{Row}
 use Rattle.rv_model.specs.declared.vector.policy.Policy.{Policy}
 use Rattle.rv_model.specs.step.Hart.{HartState}
 use Rattle.vec_recorder.specs.Beginning.{Begins}
-use Rattle.vec_recorder.specs.CommandLine.{asked_policy, asked_ticks, memory_words, watch_words, word_of, words_fault}
+use Rattle.vec_recorder.specs.CommandLine.{asked_number, asked_policy, asked_ticks, memory_words, watch_words, word_of, words_fault}
 use Rattle.vec_recorder.specs.MemoryWords.{IsMemoryOf}
 use Rattle.vec_recorder.specs.RecordLines.{last_line, row_line}
 use Rattle.vec_recorder.specs.WatchWords.{IsPlaceOf}
@@ -37,6 +39,10 @@ pub record AreCounted (took : List ℕ → Type 0) (ticks : ℕ) (s : HartState)
 abbrev pub AreChanged : (List ℕ → Type 0) → List Place → ℕ → HartState → Type 0
 AreChanged took places ticks s = took (changes_from places 0 0 (ran ticks s).found ++ end_of ticks s)
 
+-- The log of a run has the line of each instruction that ran and whose number is in a window, in order, and the last line.
+abbrev pub AreLogged : (List ℕ → Type 0) → Window → ℕ → HartState → Type 0
+AreLogged took window ticks s = took (logged_from window 0 (ran ticks s).found ++ end_of ticks s)
+
 -- A file was made at a path and took what is said.
 pub record IsWritten {F : Type 0} (is_made : Text → F → Type 0) (took : F → List ℕ → F → Type 0) (path : Text) (Says : (List ℕ → Type 0) → Type 0) : Type 0 where
   pub before : F
@@ -50,7 +56,7 @@ AreKept is_made took None Says = ⊤
 AreKept is_made took (Some path) Says = IsWritten is_made took path Says
 
 -- The run that words ask for was carried out: it put this out, and its records were kept.
-pub record RecordedBy {F : Type 0} (file_bytes : Text → Option (List ℕ)) (is_made : Text → F → Type 0) (took : F → List ℕ → F → Type 0) (put : List ℕ → Type 0) (policy_word ticks_word : Option Text) (memory : List Text) (registers counts : Option Text) (watch : List Text) (changes image : Option Text) : Type 0 where
+pub record RecordedBy {F : Type 0} (file_bytes : Text → Option (List ℕ)) (is_made : Text → F → Type 0) (took : F → List ℕ → F → Type 0) (put : List ℕ → Type 0) (policy_word ticks_word : Option Text) (memory : List Text) (registers counts : Option Text) (watch : List Text) (changes log from to image : Option Text) : Type 0 where
   pub policy : Policy
   pub policy_is : asked_policy policy_word ≡ Some policy
   pub ticks : ℕ
@@ -59,15 +65,20 @@ pub record RecordedBy {F : Type 0} (file_bytes : Text → Option (List ℕ)) (is
   pub memories_are : AllZip IsMemoryOf memory memories
   pub places : List Place
   pub places_are : AllZip IsPlaceOf watch places
+  pub window : Window
+  pub first_is : asked_number 1 from ≡ Some window.from
+  pub last_is : asked_number (2 ^ 63) to ≡ Some window.to
   pub state : HartState
   pub begins : Begins file_bytes policy image memories registers state
   pub output : put (flat_map put_out (ran ticks state).found)
   pub counted : AreKept is_made took counts (λ told. AreCounted told ticks state)
   pub changed : AreKept is_made took changes (λ told. AreChanged told places ticks state)
+  pub logged : AreKept is_made took log (λ told. AreLogged told window ticks state)
 
 -- clap took the words, and the run that they ask for was carried out
 pub record Recorded {F : Type 0} (file_bytes : Text → Option (List ℕ)) (is_made : Text → F → Type 0) (took : F → List ℕ → F → Type 0) (words : List Text) (put : List ℕ → Type 0) : Type 0 where
   pub accepted : words_fault words ≡ []
   pub run : RecordedBy file_bytes is_made took put (word_of (codes "policy") words) (word_of (codes "ticks") words) (memory_words words)
       (word_of (codes "registers") words) (word_of (codes "counts") words) (watch_words words) (word_of (codes "changes") words)
+      (word_of (codes "log") words) (word_of (codes "from") words) (word_of (codes "to") words)
       (word_of (codes "image") words)

@@ -9,7 +9,7 @@ use Rattle.recording.specs.declared.fault.RecordFault.TheVariants as stopped
 use Rattle.vec_recorder.specs.CommandLine.{asked_policy, asked_ticks, memory_words, word_of, words_fault}
 use Rattle.vec_recorder.specs.MemoryWords.{NamesNone}
 use Rattle.vec_recorder.specs.declared.program_fault.ProgramFault.{ProgramFault}
-use Rattle.vec_recorder.specs.declared.program_fault.ProgramFault.TheVariants.{NoText, Usage, Policy, Ticks, MemoryWord, WatchWord, WatchAlone, NoPlace, Record, TableFull, Changes, Output, NoMemory}
+use Rattle.vec_recorder.specs.declared.program_fault.ProgramFault.TheVariants.{NoText, Usage, Policy, Ticks, MemoryWord, WatchWord, WatchAlone, From, To, LogAlone, LogEnd, NoPlace, Record, TableFull, Changes, Log, Output, NoMemory}
 
 -- of the words 2, of what a run begins with 4, of what is written 5, of memory 6
 abbrev pub program_status : ProgramFault → ℕ
@@ -20,9 +20,14 @@ program_status Ticks = 2
 program_status (MemoryWord word) = 2
 program_status (WatchWord word) = 2
 program_status WatchAlone = 2
+program_status From = 2
+program_status To = 2
+program_status LogAlone = 2
+program_status LogEnd = 2
 program_status (Record path) = 5
 program_status TableFull = 5
 program_status Changes = 5
+program_status Log = 5
 program_status Output = 5
 program_status NoMemory = 6
 program_status _ = 4
@@ -32,6 +37,7 @@ abbrev pub record_fault : RecordFault → ProgramFault
 record_fault stopped.TableFull = TableFull
 record_fault stopped.NoPlace = NoPlace
 record_fault stopped.Changes = Changes
+record_fault stopped.Log = Log
 record_fault stopped.Output = Output
 
 -- the words ask for no policy, no number of ticks, or for memory that there can't be

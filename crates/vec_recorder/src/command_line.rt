@@ -5,11 +5,14 @@ ghost use Rattle.vec_recorder.specs.CommandLine.{
   command_line,
   changes_rule,
   counts_rule,
+  from_rule,
   image_rule,
+  log_rule,
   memory_rule,
   policy_rule,
   registers_rule,
   ticks_rule,
+  to_rule,
   watch_rule,
   IsFaultOf,
 };
@@ -46,6 +49,12 @@ pub struct Options<'a> {
     pub watch: Vec<&'a str>,
     /// The path of the file of changes.
     pub changes: Option<&'a str>,
+    /// The path of the file of the log.
+    pub log: Option<&'a str>,
+    /// The first instruction that the log has.
+    pub from: Option<&'a str>,
+    /// The last instruction that the log has.
+    pub to: Option<&'a str>,
     /// The path of the image.
     pub image: Option<&'a str>,
 }
@@ -159,6 +168,38 @@ fn changes<'a>(alloc: Global) -> Arg<'a>
         .help("Where to write which instruction changed a place that is watched")
 }
 
+/// The option `--log FILE`.
+fn log<'a>(alloc: Global) -> Arg<'a>
+    ensures rule { rule_of result ≡ log_rule }
+    ensures local { result.global ≡ false }
+{
+    Arg::new(alloc, "log")
+        .long("log")
+        .value_name("FILE")
+        .help("Where to write a line for each instruction")
+}
+
+/// The option `--from N`.
+fn from<'a>(alloc: Global) -> Arg<'a>
+    ensures rule { rule_of result ≡ from_rule }
+    ensures local { result.global ≡ false }
+{
+    Arg::new(alloc, "from")
+        .long("from")
+        .value_name("N")
+        .help("The first instruction of the log, 1 to 2^63 [default: 1]")
+}
+
+/// The option `--to N`.
+fn to<'a>(alloc: Global) -> Arg<'a>
+    ensures rule { rule_of result ≡ to_rule }
+    ensures local { result.global ≡ false }
+{
+    Arg::new(alloc, "to").long("to").value_name("N").help(
+        "The last instruction of the log, 1 to 2^63 [default: 2^63]",
+    )
+}
+
 /// The word `[IMAGE]`.
 fn image<'a>(alloc: Global) -> Arg<'a>
     ensures rule { rule_of result ≡ image_rule }
@@ -183,5 +224,8 @@ pub fn command<'a>(alloc: Global) -> Result<Command<'a>, AllocError>
         .arg(counts(alloc))?
         .arg(watch(alloc))?
         .arg(changes(alloc))?
+        .arg(log(alloc))?
+        .arg(from(alloc))?
+        .arg(to(alloc))?
         .arg(image(alloc))
 }

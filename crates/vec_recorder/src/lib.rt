@@ -4,6 +4,7 @@
 
 mod beginning;
 mod command_line;
+mod log_words;
 mod memory_words;
 mod numbers;
 mod outputs;

@@ -1,11 +1,12 @@
 //! What the words of options with one value mean.
-ghost use Rattle.std.specs.Prelude.{◌≡◌, ◌<◌, ◌≤◌, ◌^◌, IfSome, MatchResult, None, Some, option_map};
+ghost use Rattle.std.specs.Prelude.{◌≡◌, ◌<◌, ◌≤◌, ◌^◌, IfOk, IfSome, MatchResult, None, Some, option_map};
 ghost use Rattle.rv_model.specs.commands.Arguments.{decimal_number, number_between};
 ghost use Rattle.rv_model.specs.lending.Text.{capped};
-ghost use Rattle.vec_recorder.specs.CommandLine.{asked_policy, asked_ticks};
+ghost use Rattle.vec_recorder.specs.CommandLine.{asked_number, asked_policy, asked_ticks};
 ghost use Rattle.vec_recorder.specs.declared.program_fault.ProgramFault.TheVariants as program_fault;
 
 use crate::program_fault::ProgramFault;
+use commit_log::Window;
 use memory_changes::MAX_LENGTH;
 use rv_model::Policy;
 use rv_model::text::digits;
@@ -65,6 +66,35 @@ pub(crate) fn policy<'a>(word: Option<&str>) -> Result<Policy, ProgramFault<'a>>
         Some(policy) => Ok(policy),
         None => Err(ProgramFault::Policy),
     }
+}
+
+/// The number that a word asks for; another one without a word.
+fn asked_number(word: Option<&str>, other: u64) -> Option<u64>
+    ensures { result ≡ asked_number other (option_map (λ word. word.now) word.entry) }
+{
+    let Some(word) = word else {
+        return Some(other);
+    };
+    ticks_number(word.as_bytes())
+}
+
+/// The instructions that the log has, by the words for the first and the last one.
+pub(crate) fn window<'a>(from: Option<&str>, to: Option<&str>) -> Result<Window, ProgramFault<'a>>
+    ensures from { IfOk result (λ window.
+        asked_number 1 (option_map (λ word. word.now) from.entry) ≡ Some window.from) }
+    ensures to { IfOk result (λ window.
+        asked_number (2 ^ 63) (option_map (λ word. word.now) to.entry) ≡ Some window.to) }
+{
+    let Some(first) = asked_number(from, 1) else {
+        return Err(ProgramFault::From);
+    };
+    let Some(last) = asked_number(to, MOST_TICKS) else {
+        return Err(ProgramFault::To);
+    };
+    Ok(Window {
+        from: first,
+        to: last,
+    })
 }
 
 /// The most ticks that a word asks for.

@@ -9,8 +9,9 @@ ghost use Rattle.vec_recorder.specs.Statuses.{program_status};
 
 use crate::beginning::first_machine;
 use crate::command_line::{Options, UsageFault};
+use crate::log_words::{LogWords, check_log};
 use crate::memory_words::memory_paths;
-use crate::numbers::{policy, ticks};
+use crate::numbers::{policy, ticks, window};
 use crate::outputs::Outputs;
 use crate::program_fault::{ProgramFault, STATUS_DONE};
 use crate::runs::run_machine;
@@ -48,10 +49,14 @@ fn record_options<'a, R: Inputs + Outputs, K: Sink>(
         (option_map (λ word. word.now) options.now.policy) (option_map (λ word. word.now) options.now.ticks)
         (texts options.now.memory.items) (option_map (λ path. path.now) options.now.registers)
         (option_map (λ path. path.now) options.now.counts) (texts options.now.watch.items)
-        (option_map (λ path. path.now) options.now.changes) (option_map (λ path. path.now) options.now.image)) }
+        (option_map (λ path. path.now) options.now.changes) (option_map (λ path. path.now) options.now.log)
+        (option_map (λ word. word.now) options.now.from) (option_map (λ word. word.now) options.now.to)
+        (option_map (λ path. path.now) options.now.image)) }
 {
     let policy = policy(options.policy)?;
     let ticks = ticks(options.ticks)?;
+    let window = window(options.from, options.to)?;
+    check_log(options)?;
     let memories = memory_paths(alloc, options.memory.as_slice())?;
     let places = watched_places(alloc, options.watch.as_slice())?;
     if places.is_empty() != options.changes.is_none() {
@@ -67,7 +72,11 @@ fn record_options<'a, R: Inputs + Outputs, K: Sink>(
     )?;
     check_places(&alone, places.as_slice())?;
     let paths = (options.counts, options.changes);
-    let short = run_machine(rt, alloc, &mut alone, output, ticks, paths, places)?;
+    let log = LogWords {
+        path: options.log,
+        window,
+    };
+    let short = run_machine(rt, alloc, &mut alone, output, ticks, paths, places, log)?;
     Ok(short)
 }
 
@@ -123,7 +132,7 @@ pub fn record_into<R: Inputs + Outputs + Print + Eprint, K: Sink>(
 ) -> u8
     ensures statuses { (result ≡ 0) ⊎ ((result ≡ 2) ⊎ ((result ≡ 4) ⊎ ((result ≡ 5) ⊎ (result ≡ 6)))) }
     // It ends with 0 where help was asked for, or where the run that the words ask for was carried out,
-    // put out what the definitions say, and left its counts and changes in the files that they name.
+    // put out what the definitions say, and left its counts, changes and log in the files that they name.
     ensures recorded { result ≡ 0 → IsAmong DisplayHelp (words_fault (texts words.now))
         ⊎ Recorded (R.file_bytes rt.now) (R.is_made rt.now) R.Made.took (texts words.now)
         (λ told. K.took output.old told output.new) }

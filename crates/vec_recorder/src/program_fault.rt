@@ -47,6 +47,18 @@ pub enum ProgramFault<'a> {
     /// One of `--watch` and `--changes` without the other.
     #[error("vecmon-record: --watch and --changes need each other\n")]
     WatchAlone,
+    /// The word of `--from` is no number from 1 to 2^63.
+    #[error("vecmon-record: --from needs a number from 1 to 9223372036854775808\n")]
+    From,
+    /// The word of `--to` is no number from 1 to 2^63.
+    #[error("vecmon-record: --to needs a number from 1 to 9223372036854775808\n")]
+    To,
+    /// `--from` or `--to` without `--log`.
+    #[error("vecmon-record: --from and --to need --log\n")]
+    LogAlone,
+    /// A log of a run without an end, to a file that is no device.
+    #[error("vecmon-record: --log needs --ticks or --to, unless FILE begins with /dev/\n")]
+    LogEnd,
     /// The file at this path can't be read.
     #[error("vecmon-record: cannot read {0}\n")]
     Read(&'a str),
@@ -68,6 +80,9 @@ pub enum ProgramFault<'a> {
     /// The changes can't be written.
     #[error("vecmon-record: cannot write changes\n")]
     Changes,
+    /// The log can't be written.
+    #[error("vecmon-record: cannot write log\n")]
+    Log,
     /// The file of a record at this path can't be written.
     #[error("vecmon-record: cannot write {0}\n")]
     Record(&'a str),
@@ -93,7 +108,11 @@ impl ProgramFault<'_> {
             | ProgramFault::Ticks
             | ProgramFault::MemoryWord(_)
             | ProgramFault::WatchWord(_)
-            | ProgramFault::WatchAlone => STATUS_USAGE,
+            | ProgramFault::WatchAlone
+            | ProgramFault::From
+            | ProgramFault::To
+            | ProgramFault::LogAlone
+            | ProgramFault::LogEnd => STATUS_USAGE,
             ProgramFault::Read(_)
             | ProgramFault::TooLong(_)
             | ProgramFault::Image(_, _)
@@ -103,6 +122,7 @@ impl ProgramFault<'_> {
             ProgramFault::Record(_)
             | ProgramFault::TableFull
             | ProgramFault::Changes
+            | ProgramFault::Log
             | ProgramFault::Output => STATUS_WRITE,
             ProgramFault::NoMemory => STATUS_NO_MEMORY,
         }
@@ -133,6 +153,7 @@ impl From<RecordFault> for ProgramFault<'_> {
             RecordFault::TableFull => ProgramFault::TableFull,
             RecordFault::NoPlace => ProgramFault::NoPlace,
             RecordFault::Changes => ProgramFault::Changes,
+            RecordFault::Log => ProgramFault::Log,
             RecordFault::Output => ProgramFault::Output,
         }
     }

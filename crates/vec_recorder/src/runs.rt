@@ -1,19 +1,23 @@
-//! A run, by what is recorded of it: counts, changes, both or nothing.
+//! A run, by what is recorded of it: counts, changes, both or nothing, and a log beside them.
 ghost use Rattle.std.specs.Prelude.{IsPermutation, ◌≡◌, ◌%◌, ◌^◌, ◌++◌, IfOk, OnOk, flat_map, option_map};
 ghost use Rattle.recording.specs.Machines.{state_of};
 ghost use Rattle.recording.specs.Runs.{put_out, ran};
 ghost use Rattle.recording.specs.Sums.{is_word, total};
 ghost use Rattle.first_state.specs.OwnMemory.{own_memory};
 ghost use Rattle.vec_recorder.specs.RecordLines.{last_line, row_line};
-ghost use Rattle.vec_recorder.specs.Recorded.{AreChanged, AreCounted, AreKept, IsWritten};
+ghost use Rattle.vec_recorder.specs.Recorded.{AreChanged, AreCounted, AreKept, AreLogged, IsWritten};
 
+use crate::log_words::LogWords;
 use crate::outputs::Outputs;
 use crate::program_fault::ProgramFault;
 use crate::record_lines::{sort_rows, write_last, write_rows};
+use commit_log::{Log, Window};
 use devices::{DeviceFault, Sink};
 use first_state::OwnBytes;
 use memory_changes::{Changes, Place};
-use recording::{Alone, Both, Carried, Counts, Nothing, Row, ShortWrites, Sums, run, totals};
+use recording::{
+    Alone, Both, Carried, Counts, Nothing, Recorder, Row, ShortWrites, Sums, run, totals,
+};
 use rv_model::StepEnd;
 use std::alloc::Global;
 
@@ -49,20 +53,96 @@ fn write_counts<C: Sink>(
     Ok(sums)
 }
 
-/// Carries out a run of which nothing is kept. Answers how many calls wrote less than they were asked to.
-fn run_unrecorded<'a, K: Sink>(
+/// Carries out a run that is recorded, with its log in the file at a path. Answers how the program ended, and the record.
+fn run_logged<'a, R: Outputs, K: Sink, O: Recorder<OwnBytes> + Drop>(
+    rt: &R,
+    alloc: Global,
     alone: &mut Alone<OwnBytes>,
     output: &mut K,
     ticks: u64,
-) -> Result<u64, ProgramFault<'a>>
-    ensures { OnOk result (K.took output.old
+    path: &'a str,
+    window: Window,
+    recorder: O,
+) -> Result<(Option<StepEnd>, O), ProgramFault<'a>>
+    ensures recorded { IfOk result
+        (λ ended. O.recorded recorder (ran ticks (state_of own_memory alone.old)).found ended.1) }
+    ensures end { IfOk result (λ ended. ended.0 ≡ (ran ticks (state_of own_memory alone.old)).end) }
+    ensures machine { OnOk result (state_of own_memory alone.new ≡ (ran ticks (state_of own_memory alone.old)).state) }
+    ensures output { OnOk result (K.took output.old
         (flat_map put_out (ran ticks (state_of own_memory alone.old)).found) output.new) }
+    ensures log { OnOk result (IsWritten (R.is_made rt.now) R.Made.took path.entry.now
+        (λ told. AreLogged told window ticks (state_of own_memory alone.old))) }
 {
-    let mut recorder = Both {
+    let file = made_file(rt, path)?;
+    let log = Log::new(alloc, file, window)?;
+    let mut both = Both {
+        first: recorder,
+        second: Both {
+            first: Carried::none(),
+            second: log,
+        },
+    };
+    let end = run(&mut both, alone, output, ticks)?;
+    let times = both.second.first.times;
+    let spent = both.second.first.ticks;
+    let log = &mut both.second.second;
+    log.finish()?;
+    let Ok(()) = write_last(&mut log.sink, alone.scalar.pc, end, times, spent) else {
+        return Err(ProgramFault::Record(path));
+    };
+    Ok((end, both.first))
+}
+
+/// Carries out a run that is recorded, with its log if one is asked for. Answers how the program ended, and the record.
+fn run_recorded<'a, R: Outputs, K: Sink, O: Recorder<OwnBytes> + Drop>(
+    rt: &R,
+    alloc: Global,
+    alone: &mut Alone<OwnBytes>,
+    output: &mut K,
+    ticks: u64,
+    log: LogWords<'a>,
+    recorder: O,
+) -> Result<(Option<StepEnd>, O), ProgramFault<'a>>
+    ensures recorded { IfOk result
+        (λ ended. O.recorded recorder (ran ticks (state_of own_memory alone.old)).found ended.1) }
+    ensures end { IfOk result (λ ended. ended.0 ≡ (ran ticks (state_of own_memory alone.old)).end) }
+    ensures machine { OnOk result (state_of own_memory alone.new ≡ (ran ticks (state_of own_memory alone.old)).state) }
+    ensures output { OnOk result (K.took output.old
+        (flat_map put_out (ran ticks (state_of own_memory alone.old)).found) output.new) }
+    ensures log { OnOk result (AreKept (R.is_made rt.now) R.Made.took
+        (option_map (λ path. path.now) log.entry.path)
+        (λ told. AreLogged told log.entry.window ticks (state_of own_memory alone.old))) }
+{
+    match log.path {
+        Some(path) => run_logged(rt, alloc, alone, output, ticks, path, log.window, recorder),
+        None => {
+            let mut only = recorder;
+            let end = run(&mut only, alone, output, ticks)?;
+            Ok((end, only))
+        }
+    }
+}
+
+/// Carries out a run of which nothing is kept but its log. Answers how many calls wrote less than they were asked to.
+fn run_uncounted<'a, R: Outputs, K: Sink>(
+    rt: &R,
+    alloc: Global,
+    alone: &mut Alone<OwnBytes>,
+    output: &mut K,
+    ticks: u64,
+    log: LogWords<'a>,
+) -> Result<u64, ProgramFault<'a>>
+    ensures output { OnOk result (K.took output.old
+        (flat_map put_out (ran ticks (state_of own_memory alone.old)).found) output.new) }
+    ensures log { OnOk result (AreKept (R.is_made rt.now) R.Made.took
+        (option_map (λ path. path.now) log.entry.path)
+        (λ told. AreLogged told log.entry.window ticks (state_of own_memory alone.old))) }
+{
+    let recorder = Both {
         first: ShortWrites::none(),
         second: Nothing,
     };
-    run(&mut recorder, alone, output, ticks)?;
+    let (_, recorder) = run_recorded(rt, alloc, alone, output, ticks, log, recorder)?;
     Ok(recorder.first.count)
 }
 
@@ -73,20 +153,24 @@ fn run_counted<'a, R: Outputs, K: Sink>(
     alone: &mut Alone<OwnBytes>,
     output: &mut K,
     ticks: u64,
+    log: LogWords<'a>,
     path: &'a str,
 ) -> Result<u64, ProgramFault<'a>>
     ensures output { OnOk result (K.took output.old
         (flat_map put_out (ran ticks (state_of own_memory alone.old)).found) output.new) }
     ensures counts { OnOk result (IsWritten (R.is_made rt.now) R.Made.took path.entry.now
         (λ told. AreCounted told ticks (state_of own_memory alone.old))) }
+    ensures log { OnOk result (AreKept (R.is_made rt.now) R.Made.took
+        (option_map (λ path. path.now) log.entry.path)
+        (λ told. AreLogged told log.entry.window ticks (state_of own_memory alone.old))) }
 {
     let counts = Counts::new(alloc)?;
     let mut file = made_file(rt, path)?;
-    let mut recorder = Both {
+    let recorder = Both {
         first: ShortWrites::none(),
         second: counts,
     };
-    let end = run(&mut recorder, alone, output, ticks)?;
+    let (end, mut recorder) = run_recorded(rt, alloc, alone, output, ticks, log, recorder)?;
     let rows = recorder.second.table.rows.as_mut_slice();
     let Ok(_) = write_counts(&mut file, rows, alone.scalar.pc, end) else {
         return Err(ProgramFault::Record(path));
@@ -101,6 +185,7 @@ fn run_watched<'a, R: Outputs, K: Sink>(
     alone: &mut Alone<OwnBytes>,
     output: &mut K,
     ticks: u64,
+    log: LogWords<'a>,
     path: &'a str,
     places: Vec<Place>,
 ) -> Result<u64, ProgramFault<'a>>
@@ -108,17 +193,20 @@ fn run_watched<'a, R: Outputs, K: Sink>(
         (flat_map put_out (ran ticks (state_of own_memory alone.old)).found) output.new) }
     ensures changes { OnOk result (IsWritten (R.is_made rt.now) R.Made.took path.entry.now
         (λ told. AreChanged told places.items ticks (state_of own_memory alone.old))) }
+    ensures log { OnOk result (AreKept (R.is_made rt.now) R.Made.took
+        (option_map (λ path. path.now) log.entry.path)
+        (λ told. AreLogged told log.entry.window ticks (state_of own_memory alone.old))) }
 {
     let file = made_file(rt, path)?;
     let changes = Changes::new(alloc, file, places)?;
-    let mut recorder = Both {
+    let recorder = Both {
         first: ShortWrites::none(),
         second: Both {
             first: Carried::none(),
             second: changes,
         },
     };
-    let end = run(&mut recorder, alone, output, ticks)?;
+    let (end, mut recorder) = run_recorded(rt, alloc, alone, output, ticks, log, recorder)?;
     let times = recorder.second.first.times;
     let spent = recorder.second.first.ticks;
     let lines = &mut recorder.second.second.sink;
@@ -135,6 +223,7 @@ fn run_counted_and_watched<'a, R: Outputs, K: Sink>(
     alone: &mut Alone<OwnBytes>,
     output: &mut K,
     ticks: u64,
+    log: LogWords<'a>,
     paths: (&'a str, &'a str),
     places: Vec<Place>,
 ) -> Result<u64, ProgramFault<'a>>
@@ -144,19 +233,22 @@ fn run_counted_and_watched<'a, R: Outputs, K: Sink>(
         (λ told. AreCounted told ticks (state_of own_memory alone.old))) }
     ensures changes { OnOk result (IsWritten (R.is_made rt.now) R.Made.took paths.entry.1.now
         (λ told. AreChanged told places.items ticks (state_of own_memory alone.old))) }
+    ensures log { OnOk result (AreKept (R.is_made rt.now) R.Made.took
+        (option_map (λ path. path.now) log.entry.path)
+        (λ told. AreLogged told log.entry.window ticks (state_of own_memory alone.old))) }
 {
     let counts = Counts::new(alloc)?;
     let mut file = made_file(rt, paths.0)?;
     let lines = made_file(rt, paths.1)?;
     let changes = Changes::new(alloc, lines, places)?;
-    let mut recorder = Both {
+    let recorder = Both {
         first: ShortWrites::none(),
         second: Both {
             first: counts,
             second: changes,
         },
     };
-    let end = run(&mut recorder, alone, output, ticks)?;
+    let (end, mut recorder) = run_recorded(rt, alloc, alone, output, ticks, log, recorder)?;
     let rows = recorder.second.first.table.rows.as_mut_slice();
     let Ok(sums) = write_counts(&mut file, rows, alone.scalar.pc, end) else {
         return Err(ProgramFault::Record(paths.0));
@@ -168,7 +260,7 @@ fn run_counted_and_watched<'a, R: Outputs, K: Sink>(
     Ok(recorder.first.count)
 }
 
-/// Carries out a run, and keeps its counts and the changes of places in the files at their paths, where there are some.
+/// Carries out a run, and keeps its counts, the changes of places and its log in the files at their paths, where there are some.
 /// Answers how many calls wrote less than they were asked to.
 pub(crate) fn run_machine<'a, R: Outputs, K: Sink>(
     rt: &R,
@@ -178,6 +270,7 @@ pub(crate) fn run_machine<'a, R: Outputs, K: Sink>(
     ticks: u64,
     paths: (Option<&'a str>, Option<&'a str>),
     places: Vec<Place>,
+    log: LogWords<'a>,
 ) -> Result<u64, ProgramFault<'a>>
     ensures output { OnOk result (K.took output.old
         (flat_map put_out (ran ticks (state_of own_memory alone.old)).found) output.new) }
@@ -187,14 +280,17 @@ pub(crate) fn run_machine<'a, R: Outputs, K: Sink>(
     ensures changes { OnOk result (AreKept (R.is_made rt.now) R.Made.took
         (option_map (λ path. path.now) paths.entry.1)
         (λ told. AreChanged told places.items ticks (state_of own_memory alone.old))) }
+    ensures log { OnOk result (AreKept (R.is_made rt.now) R.Made.took
+        (option_map (λ path. path.now) log.entry.path)
+        (λ told. AreLogged told log.entry.window ticks (state_of own_memory alone.old))) }
 {
     match paths {
-        (None, None) => run_unrecorded(alone, output, ticks),
-        (Some(counts), None) => run_counted(rt, alloc, alone, output, ticks, counts),
-        (None, Some(changes)) => run_watched(rt, alloc, alone, output, ticks, changes, places),
+        (None, None) => run_uncounted(rt, alloc, alone, output, ticks, log),
+        (Some(counts), None) => run_counted(rt, alloc, alone, output, ticks, log, counts),
+        (None, Some(changes)) => run_watched(rt, alloc, alone, output, ticks, log, changes, places),
         (Some(counts), Some(changes)) => {
             let paths = (counts, changes);
-            run_counted_and_watched(rt, alloc, alone, output, ticks, paths, places)
+            run_counted_and_watched(rt, alloc, alone, output, ticks, log, paths, places)
         }
     }
 }

@@ -24,6 +24,12 @@ pub fn options<'a>(alloc: Global, words: &'a [&'a str]) -> Result<Options<'a>, U
         texts options.watch.items ≡ watch_words (texts words.entry.now)) }
     ensures changes { IfOk result (λ options.
         option_map (λ path. path.now) options.changes ≡ word_of (codes "changes") (texts words.entry.now)) }
+    ensures log { IfOk result (λ options.
+        option_map (λ path. path.now) options.log ≡ word_of (codes "log") (texts words.entry.now)) }
+    ensures from { IfOk result (λ options.
+        option_map (λ word. word.now) options.from ≡ word_of (codes "from") (texts words.entry.now)) }
+    ensures to { IfOk result (λ options.
+        option_map (λ word. word.now) options.to ≡ word_of (codes "to") (texts words.entry.now)) }
     ensures image { IfOk result (λ options.
         option_map (λ path. path.now) options.image ≡ word_of (codes "image") (texts words.entry.now)) }
     ensures taken { IsOk result → words_fault (texts words.entry.now) ≡ [] }
@@ -42,6 +48,9 @@ pub fn options<'a>(alloc: Global, words: &'a [&'a str]) -> Result<Options<'a>, U
         counts: matches.get_str("counts"),
         watch,
         changes: matches.get_str("changes"),
+        log: matches.get_str("log"),
+        from: matches.get_str("from"),
+        to: matches.get_str("to"),
         image: matches.get_str("image"),
     })
 }

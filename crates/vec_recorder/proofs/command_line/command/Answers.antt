@@ -16,4 +16,7 @@ returns c =
     let fifth = c.in_ok-arg-5.ensures.shape c.counts.ensures.local ∙ ap₂ with_rule fourth c.counts.ensures.rule in
     let sixth = c.in_ok-arg-6.ensures.shape c.watch.ensures.local ∙ ap₂ with_rule fifth c.watch.ensures.rule in
     let seventh = c.in_ok-arg-7.ensures.shape c.changes.ensures.local ∙ ap₂ with_rule sixth c.changes.ensures.rule in
-    IfOk-weaker c.arg-8.result _ _ (λ command added. added.shape c.image.ensures.local ∙ ap₂ with_rule seventh c.image.ensures.rule) c.arg-8.ensures
+    let eighth = c.in_ok-arg-8.ensures.shape c.log.ensures.local ∙ ap₂ with_rule seventh c.log.ensures.rule in
+    let ninth = c.in_ok-arg-9.ensures.shape c.from.ensures.local ∙ ap₂ with_rule eighth c.from.ensures.rule in
+    let tenth = c.in_ok-arg-10.ensures.shape c.to.ensures.local ∙ ap₂ with_rule ninth c.to.ensures.rule in
+    IfOk-weaker c.arg-11.result _ _ (λ command added. added.shape c.image.ensures.local ∙ ap₂ with_rule tenth c.image.ensures.rule) c.arg-11.ensures

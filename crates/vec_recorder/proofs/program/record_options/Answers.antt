@@ -22,10 +22,14 @@ returns g c =
       memories_are = zip_texts IsMemoryOf _ _ words;
       places = c.in_ok-places.places.items;
       places_are = zip_texts IsPlaceOf _ _ places;
+      window = c.in_ok-window.window;
+      first_is = c.in_ok-window.ensures.from;
+      last_is = c.in_ok-window.ensures.to;
       state = state_of own_memory c.in_ok-alone.alone;
       begins = subst (λ them. Begins (g.R.Inputs.file_bytes c.args.rt.now) c.in_ok-policy.policy (option_map (λ path. path.now) c.args.options.now.image) them
           (option_map (λ path. path.now) c.args.options.now.registers) (state_of own_memory c.in_ok-alone.alone)) c.as_slice-3.ensures.value c.in_ok-alone.ensures.begins;
       output = c.in_ok-short.ensures.output;
       counted = c.in_ok-short.ensures.counts;
       changed = c.in_ok-short.ensures.changes;
+      logged = c.in_ok-short.ensures.log;
     }

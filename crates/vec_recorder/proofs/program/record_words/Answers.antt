@@ -10,8 +10,8 @@ pub returns-in-Ok : goal.returns-in-Ok
 returns-in-Ok g c =
     let asked = c.in-Ok.ensures in
     on_ok_weaker c.record_options.result
-    (λ ran. inr (recorded_by_words (g.R.Inputs.file_bytes c.args.rt.now) (g.R.Outputs.is_made c.args.rt.now) g.R.Made.Sink.took _ (texts c.args.words.now) _ _ _ _ _ _ _ _
-    (asked.taken refl) asked.policy asked.ticks asked.memory asked.registers asked.counts asked.watch asked.changes asked.image ran))
+    (λ ran. inr (recorded_by_words (g.R.Inputs.file_bytes c.args.rt.now) (g.R.Outputs.is_made c.args.rt.now) g.R.Made.Sink.took _ (texts c.args.words.now) _ _ _ _ _ _ _ _ _ _ _
+    (asked.taken refl) asked.policy asked.ticks asked.memory asked.registers asked.counts asked.watch asked.changes asked.log asked.from asked.to asked.image ran))
     c.record_options.ensures
 
 pub returns-in-Ok-print : goal.returns-in-Ok-print

@@ -11,7 +11,7 @@ use Rattle.vec_recorder.proofs.runs.run_counted_and_watched.Goals as goal
 pub returns-clause-counts : goal.returns-clause-counts
 returns-clause-counts g c =
     let s = state_of own_memory c.args.alone.now in
-    let rows = c.run.new.recorder.second.first.table.rows.items in
+    let rows = c.in_ok-end.recorder.second.first.table.rows.items in
     let same : IsPermutation rows c.write_counts.new.rows = subst (λ them. IsPermutation them c.write_counts.new.rows) c.as_mut_slice-rows.ensures.value c.write_counts.ensures.same in
     let counts = counted (ran c.args.ticks s).found _ rows c.write_counts.new.rows c.in_ok-counts.ensures c.in_ok-end.ensures.recorded.1.0 same in
     record {
@@ -23,7 +23,7 @@ returns-clause-counts g c =
         counts = counts;
         taken = moved g.R.Made.Sink.took _ _ _ _
             (ap (λ (l : List ℕ). flat_map row_line c.write_counts.new.rows ++ l)
-            (end_is c.args.ticks s (state_of own_memory c.run.new.alone) c.write_counts.new.rows c.in_ok-end.end counts c.in_ok-end.ensures.machine c.in_ok-end.ensures.end))
+            (end_is c.args.ticks s (state_of own_memory c.run_recorded.new.alone) c.write_counts.new.rows c.in_ok-end.end counts c.in_ok-end.ensures.machine c.in_ok-end.ensures.end))
             c.in-Ok.ensures.text;
       };
     }
@@ -31,7 +31,7 @@ returns-clause-counts g c =
 pub returns-clause-changes : goal.returns-clause-changes
 returns-clause-changes g c =
     let s = state_of own_memory c.args.alone.now in
-    let rows = c.run.new.recorder.second.first.table.rows.items in
+    let rows = c.in_ok-end.recorder.second.first.table.rows.items in
     let same : IsPermutation rows c.write_counts.new.rows = subst (λ them. IsPermutation them c.write_counts.new.rows) c.as_mut_slice-rows.ensures.value c.write_counts.ensures.same in
     let counts = counted (ran c.args.ticks s).found _ rows c.write_counts.new.rows c.in_ok-counts.ensures c.in_ok-end.ensures.recorded.1.0 same in
     let made = c.in_ok-changes.ensures in
@@ -39,9 +39,9 @@ returns-clause-changes g c =
       before = c.in_ok-lines.lines;
       after = c.write_last.new.sink;
       made = c.in_ok-lines.ensures;
-      says = changes_told g.R.Made.Sink.took g.met.R.Made.Sink.took_more c.in_ok-changes.changes c.run.new.recorder.second.second _ _ _ (ran c.args.ticks s).found _ _
+      says = changes_told g.R.Made.Sink.took g.met.R.Made.Sink.took_more c.in_ok-changes.changes c.in_ok-end.recorder.second.second _ _ _ (ran c.args.ticks s).found _ _
           made.sink (ap (λ them. them.items) made.places) made.number made.ticks c.in_ok-end.ensures.recorded.1.1
-          (end_by_sums c.args.ticks _ _ s (state_of own_memory c.run.new.alone) c.write_counts.new.rows c.in_ok-end.end c.in-Ok.ensures.times c.in-Ok.ensures.ticks counts
+          (end_by_sums c.args.ticks _ _ s (state_of own_memory c.run_recorded.new.alone) c.write_counts.new.rows c.in_ok-end.end c.in-Ok.ensures.times c.in-Ok.ensures.ticks counts
           c.in_ok-end.ensures.machine c.in_ok-end.ensures.end)
           c.in-Ok-write_last.ensures.text;
     }

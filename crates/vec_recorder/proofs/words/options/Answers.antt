@@ -1,6 +1,6 @@
 use Rattle.std.proofs.Common.{◌∙◌, ◌++◌, ap}
 use Rattle.clap.specs.Walk.{texts}
-use Rattle.vec_recorder.proofs.CommandLineLaws.{rows_by, taken_by, texts_in, word_read, words_read}
+use Rattle.vec_recorder.proofs.CommandLineLaws.{refused_by, rows_by, taken_by, texts_in, word_read, words_read}
 use Rattle.vec_recorder.proofs.words.options.Goals as goal
 
 pub returns : goal.returns
@@ -19,7 +19,15 @@ returns c =
       watch = ap texts (c.in_ok-extend_from_slice-2.ensures.items ∙ ap (λ items. items ++ c.unwrap_or_default-2.result.now) c.new-watch.ensures.items)
           ∙ texts_in _ c.get_strs-2.result c.unwrap_or_default-2.result _ (c.get_strs-2.ensures ∙ words_read matches words _ rows) c.unwrap_or_default-2.ensures (λ none is. is);
       changes = c.get_str-5.ensures ∙ word_read matches words _ rows;
-      image = c.get_str-6.ensures ∙ word_read matches words _ rows;
+      log = c.get_str-6.ensures ∙ word_read matches words _ rows;
+      from = c.get_str-7.ensures ∙ word_read matches words _ rows;
+      to = c.get_str-8.ensures ∙ word_read matches words _ rows;
+      image = c.get_str-9.ensures ∙ word_read matches words _ rows;
       taken = λ taken. taken_by command words c.in_ok-command.ensures c.in_ok-matches.ensures.kinds;
       refused = tt;
     }
+
+pub returns-in_err-matches-clause-refused : goal.returns-in_err-matches-clause-refused
+returns-in_err-matches-clause-refused c =
+    refused_by c.in_ok-command.field-0 (texts c.args.words.now) c.in_err-matches.field-0.0 c.from_residual-in_err-matches.result c.in_ok-command.ensures
+    c.in_err-matches.ensures.kinds c.from_residual-in_err-matches.ensures.1

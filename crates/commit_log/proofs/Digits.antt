@@ -1,0 +1,126 @@
+-- Hexadecimal digits, and those of bytes that are put together.
+use Rattle.std.proofs.Common.{◌≡◌, refl, sym, ap, ◌∙◌, ℕ, zero, suc, ◌+◌, ◌/◌, ◌%◌, ◌<◌, ◌≤◌, cond, nat_lt, bit_and, List, [], ◌∷◌, ◌++◌, length, take, drop, append_assoc, arith}
+use Rattle.std.specs.Prelude.{reverse, slice_index}
+use Rattle.std.proofs.lemmas.List.{reverse-append, take-append-drop, drop-drop, take_all, length-drop}
+use Rattle.std.proofs.lemmas.Nat.{and_mask}
+use lib.Lanes.{top}
+use Rattle.hex.specs.Hex.{encode_lower, encode_with, lower_digits}
+use Rattle.commit_log.specs.LineTexts.{highest_first}
+
+-- ---- one digit
+
+-- as the lanes have it
+abbrev pub digit_of : ℕ → ℕ
+digit_of n = (n + cond (top 7 (cond (nat_lt n 10) 255 0)) 48 87) % 256
+
+digit_is : (n : ℕ) → n < 16 → digit_of n ≡ slice_index lower_digits n
+digit_is zero h = refl
+digit_is (suc zero) h = refl
+digit_is (suc (suc zero)) h = refl
+digit_is (suc (suc (suc zero))) h = refl
+digit_is (suc (suc (suc (suc zero)))) h = refl
+digit_is (suc (suc (suc (suc (suc zero))))) h = refl
+digit_is (suc (suc (suc (suc (suc (suc zero)))))) h = refl
+digit_is (suc (suc (suc (suc (suc (suc (suc zero))))))) h = refl
+digit_is (suc (suc (suc (suc (suc (suc (suc (suc zero)))))))) h = refl
+digit_is (suc (suc (suc (suc (suc (suc (suc (suc (suc zero))))))))) h = refl
+digit_is (suc (suc (suc (suc (suc (suc (suc (suc (suc (suc zero)))))))))) h = refl
+digit_is (suc (suc (suc (suc (suc (suc (suc (suc (suc (suc (suc zero))))))))))) h = refl
+digit_is (suc (suc (suc (suc (suc (suc (suc (suc (suc (suc (suc (suc zero)))))))))))) h = refl
+digit_is (suc (suc (suc (suc (suc (suc (suc (suc (suc (suc (suc (suc (suc zero))))))))))))) h = refl
+digit_is (suc (suc (suc (suc (suc (suc (suc (suc (suc (suc (suc (suc (suc (suc zero)))))))))))))) h = refl
+digit_is (suc (suc (suc (suc (suc (suc (suc (suc (suc (suc (suc (suc (suc (suc (suc zero))))))))))))))) h = refl
+digit_is (suc (suc (suc (suc (suc (suc (suc (suc (suc (suc (suc (suc (suc (suc (suc (suc n)))))))))))))))) h = absurd (omega (arith, h))
+
+-- ---- of some bytes
+
+abbrev pub digits_by : List ℕ → List ℕ
+digits_by [] = []
+digits_by (b ∷ bs) = digit_of (b / 16) ∷ digit_of (bit_and b 15) ∷ digits_by bs
+
+-- each is a byte
+abbrev pub AreBytes : List ℕ → Type 0
+AreBytes [] = Unit {0}
+AreBytes (b ∷ bs) = (b < 256) × AreBytes bs
+
+pub digits_are : (bs : List ℕ) → AreBytes bs → digits_by bs ≡ encode_lower bs
+unfolding encode_with
+digits_are [] h = refl
+digits_are (b ∷ bs) h =
+    let high : b / 16 < 16 = omega (arith, h.0) in
+    let low : b % 16 < 16 = omega arith in
+    ap (λ (n : ℕ). n ∷ digit_of (bit_and b 15) ∷ digits_by bs) (digit_is (b / 16) high)
+    ∙ ap (λ (n : ℕ). slice_index lower_digits (b / 16) ∷ n ∷ digits_by bs) (ap digit_of (and_mask b 4) ∙ digit_is (b % 16) low)
+    ∙ ap (λ (l : List ℕ). slice_index lower_digits (b / 16) ∷ slice_index lower_digits (b % 16) ∷ l) (digits_are bs h.1)
+
+-- ---- lists of a known length
+
+pub list_of_4 : (xs : List ℕ) → length xs ≡ 4 → xs ≡ slice_index xs 0 ∷ slice_index xs 1 ∷ slice_index xs 2 ∷ slice_index xs 3 ∷ []
+list_of_4 ([]) h = absurd (omega (arith, h))
+list_of_4 (a0 ∷ []) h = absurd (omega (arith, h))
+list_of_4 (a0 ∷ a1 ∷ []) h = absurd (omega (arith, h))
+list_of_4 (a0 ∷ a1 ∷ a2 ∷ []) h = absurd (omega (arith, h))
+list_of_4 (a0 ∷ a1 ∷ a2 ∷ a3 ∷ []) h = refl
+list_of_4 (a0 ∷ a1 ∷ a2 ∷ a3 ∷ a4 ∷ rest) h = absurd (omega (arith, h))
+
+pub list_of_8 : (xs : List ℕ) → length xs ≡ 8 → xs ≡ slice_index xs 0 ∷ slice_index xs 1 ∷ slice_index xs 2 ∷ slice_index xs 3 ∷ slice_index xs 4 ∷ slice_index xs 5 ∷ slice_index xs 6 ∷ slice_index xs 7 ∷ []
+list_of_8 ([]) h = absurd (omega (arith, h))
+list_of_8 (a0 ∷ []) h = absurd (omega (arith, h))
+list_of_8 (a0 ∷ a1 ∷ []) h = absurd (omega (arith, h))
+list_of_8 (a0 ∷ a1 ∷ a2 ∷ []) h = absurd (omega (arith, h))
+list_of_8 (a0 ∷ a1 ∷ a2 ∷ a3 ∷ []) h = absurd (omega (arith, h))
+list_of_8 (a0 ∷ a1 ∷ a2 ∷ a3 ∷ a4 ∷ []) h = absurd (omega (arith, h))
+list_of_8 (a0 ∷ a1 ∷ a2 ∷ a3 ∷ a4 ∷ a5 ∷ []) h = absurd (omega (arith, h))
+list_of_8 (a0 ∷ a1 ∷ a2 ∷ a3 ∷ a4 ∷ a5 ∷ a6 ∷ []) h = absurd (omega (arith, h))
+list_of_8 (a0 ∷ a1 ∷ a2 ∷ a3 ∷ a4 ∷ a5 ∷ a6 ∷ a7 ∷ []) h = refl
+list_of_8 (a0 ∷ a1 ∷ a2 ∷ a3 ∷ a4 ∷ a5 ∷ a6 ∷ a7 ∷ a8 ∷ rest) h = absurd (omega (arith, h))
+
+-- ---- put together
+
+pub encode-append : (xs ys : List ℕ) → encode_lower (xs ++ ys) ≡ encode_lower xs ++ encode_lower ys
+unfolding encode_with
+encode-append [] ys = refl
+encode-append (x ∷ xs) ys =
+    ap (λ (l : List ℕ). slice_index lower_digits (x / 16) ∷ slice_index lower_digits (x % 16) ∷ l) (encode-append xs ys)
+
+pub highest_first-append : (xs ys : List ℕ) → highest_first (xs ++ ys) ≡ highest_first ys ++ highest_first xs
+highest_first-append xs ys = ap encode_lower (reverse-append xs ys) ∙ encode-append (reverse ys) (reverse xs)
+
+-- the last bytes of some, then the ones before
+split_at : (n : ℕ) (xs : List ℕ) → highest_first xs ≡ highest_first (drop n xs) ++ highest_first (take n xs)
+split_at n xs = ap highest_first (sym (take-append-drop n xs)) ∙ highest_first-append (take n xs) (drop n xs)
+
+-- a text, and then 32 bytes in four parts
+pub four_parts : (text bs : List ℕ) → length bs ≡ 32
+    → (((text ++ highest_first (take 8 (drop 24 bs))) ++ highest_first (take 8 (drop 16 bs))) ++ highest_first (take 8 (drop 8 bs))) ++ highest_first (take 8 bs)
+    ≡ text ++ highest_first bs
+four_parts text bs long =
+    let h : List ℕ → List ℕ = highest_first in
+    let few : length (drop 24 bs) ≤ 8 = omega (arith, length-drop 24 bs, long) in
+    let last : drop 8 (drop 16 bs) ≡ take 8 (drop 24 bs) = drop-drop 8 16 bs ∙ sym (take_all 8 (drop 24 bs) few) in
+    let third : h (drop 16 bs) ≡ h (take 8 (drop 24 bs)) ++ h (take 8 (drop 16 bs)) =
+    split_at 8 (drop 16 bs) ∙ ap (λ (l : List ℕ). h l ++ h (take 8 (drop 16 bs))) last in
+    let second : h (drop 8 bs) ≡ (h (take 8 (drop 24 bs)) ++ h (take 8 (drop 16 bs))) ++ h (take 8 (drop 8 bs)) =
+    split_at 8 (drop 8 bs) ∙ ap (λ (l : List ℕ). h l ++ h (take 8 (drop 8 bs))) (drop-drop 8 8 bs)
+    ∙ ap (λ (l : List ℕ). l ++ h (take 8 (drop 8 bs))) third in
+    let whole : h bs ≡ ((h (take 8 (drop 24 bs)) ++ h (take 8 (drop 16 bs))) ++ h (take 8 (drop 8 bs))) ++ h (take 8 bs) =
+    split_at 8 bs ∙ ap (λ (l : List ℕ). l ++ h (take 8 bs)) second in
+    let a : List ℕ = h (take 8 (drop 24 bs)) in
+    let b : List ℕ = h (take 8 (drop 16 bs)) in
+    let d : List ℕ = h (take 8 (drop 8 bs)) in
+    let e : List ℕ = h (take 8 bs) in
+    ap (λ (l : List ℕ). (l ++ d) ++ e) (append_assoc text a b)
+    ∙ ap (λ (l : List ℕ). l ++ e) (append_assoc text (a ++ b) d)
+    ∙ append_assoc text ((a ++ b) ++ d) e
+    ∙ ap (λ (l : List ℕ). text ++ l) (sym whole)
+
+pub four_pushed : (text t1 t2 t3 t4 bs : List ℕ) → length bs ≡ 32
+    → t1 ≡ text ++ highest_first (take 8 (drop 24 bs)) → t2 ≡ t1 ++ highest_first (take 8 (drop 16 bs))
+    → t3 ≡ t2 ++ highest_first (take 8 (drop 8 bs)) → t4 ≡ t3 ++ highest_first (take 8 bs)
+    → t4 ≡ text ++ highest_first bs
+four_pushed text t1 t2 t3 t4 bs long e1 e2 e3 e4 =
+    e4
+    ∙ ap (λ (l : List ℕ). l ++ highest_first (take 8 bs))
+    (e3 ∙ ap (λ (l : List ℕ). l ++ highest_first (take 8 (drop 8 bs)))
+    (e2 ∙ ap (λ (l : List ℕ). l ++ highest_first (take 8 (drop 16 bs))) e1))
+    ∙ four_parts text bs long

@@ -1,0 +1,4 @@
+pub mod Digits
+pub mod Destinations
+mod Kept
+pub mod Steps

@@ -1,0 +1,82 @@
+-- One register, field or segment more of a line.
+use Rattle.std.proofs.Common.{◌≡◌, sym, ap, ◌∙◌, ℕ, suc, ◌+◌, ◌-◌, ◌<◌, List, ◌∷◌, ◌++◌, zero, flat_map, map, append-nil, append_assoc, arith}
+use Rattle.std.specs.List.{range_with_len}
+use Rattle.std.proofs.lemmas.List.Concat.{flat_map-append}
+use Rattle.rv_model.specs.elements.Elements.{Body}
+use Rattle.rv_model.specs.vector.Groups.{register_of}
+use Rattle.commit_log.specs.declared.segments.Segments.{Segments}
+use Rattle.commit_log.specs.LineTexts.{moved_text, vector_text}
+use Rattle.commit_log.specs.Lines.{told_vectors}
+use Rattle.commit_log.specs.Segments.{moved_field, moved_fields, moved_segment, moved_segments}
+
+-- the first of some numbers, and the others
+range_more : (a i n : ℕ) → i < n → range_with_len (a + i) (n - i) ≡ (a + i) ∷ range_with_len (a + (i + 1)) (n - (i + 1))
+range_more a i n h =
+    let some : n - i ≡ suc (n - (i + 1)) = omega (arith, h) in
+    let next : a + i + 1 ≡ a + (i + 1) = omega arith in
+    ap (λ (k : ℕ). range_with_len (a + i) k) some ∙ ap (λ (b : ℕ). (a + i) ∷ range_with_len b (n - (i + 1))) next
+
+range_on : (i n : ℕ) → i < n → range_with_len i (n - i) ≡ i ∷ range_with_len (i + 1) (n - (i + 1))
+range_on i n h =
+    let some : n - i ≡ suc (n - (i + 1)) = omega (arith, h) in
+    ap (λ (k : ℕ). range_with_len i k) some
+
+-- what was put before the others
+joins : (text mid new first rest whole : List ℕ) → new ≡ text ++ first → mid ≡ first ++ rest → text ++ mid ≡ whole → new ++ rest ≡ whole
+joins text mid new first rest whole put parts all =
+    ap (λ (l : List ℕ). l ++ rest) put ∙ append_assoc text first rest ∙ ap (λ (l : List ℕ). text ++ l) (sym parts) ∙ all
+
+pub vectors_more : (file text new whole : List ℕ) (a i n : ℕ) → i < n → new ≡ text ++ vector_text (a + i, register_of file (a + i))
+    → text ++ flat_map vector_text (told_vectors file (range_with_len (a + i) (n - i))) ≡ whole
+    → new ++ flat_map vector_text (told_vectors file (range_with_len (a + (i + 1)) (n - (i + 1)))) ≡ whole
+vectors_more file text new whole a i n h put all =
+    joins text _ new _ _ whole put (ap (λ (rs : List ℕ). flat_map vector_text (told_vectors file rs)) (range_more a i n h)) all
+
+pub fields_more : (g : Segments) (file text new whole : List ℕ) (address j i n : ℕ) → i < n → new ≡ text ++ moved_text (moved_field g file address j i)
+    → text ++ flat_map moved_text (moved_fields g file address j i (n - i)) ≡ whole
+    → new ++ flat_map moved_text (moved_fields g file address j (i + 1) (n - (i + 1))) ≡ whole
+fields_more g file text new whole address j i n h put all =
+    joins text _ new _ _ whole put (ap (λ (fs : List ℕ). flat_map moved_text (map (moved_field g file address j) fs)) (range_on i n h)) all
+
+segments_on : (g : Segments) (b : Body) (file : List ℕ) (i n : ℕ) → i < n
+    → moved_segments g b file i (n - i) ≡ moved_segment g b file i ++ moved_segments g b file (i + 1) (n - (i + 1))
+unfolding moved_segments
+segments_on g b file i n h =
+    let some : n - i ≡ suc (n - (i + 1)) = omega (arith, h) in
+    ap (λ (k : ℕ). moved_segments g b file i k) some
+
+pub segments_more : (g : Segments) (b : Body) (file text new whole : List ℕ) (i n : ℕ) → i < n → new ≡ text ++ flat_map moved_text (moved_segment g b file i)
+    → text ++ flat_map moved_text (moved_segments g b file i (n - i)) ≡ whole
+    → new ++ flat_map moved_text (moved_segments g b file (i + 1) (n - (i + 1))) ≡ whole
+segments_more g b file text new whole i n h put all =
+    joins text _ new _ _ whole put
+    (ap (flat_map moved_text) (segments_on g b file i n h)
+    ∙ flat_map-append moved_text (moved_segment g b file i) (moved_segments g b file (i + 1) (n - (i + 1)))) all
+
+-- no segment more
+pub segments_end : (g : Segments) (b : Body) (file text whole : List ℕ) (i n : ℕ) → n ≡ 0
+    → text ++ flat_map moved_text (moved_segments g b file i n) ≡ whole → text ≡ whole
+unfolding moved_segments
+segments_end g b file text whole i zero none all = sym (append-nil text) ∙ all
+segments_end g b file text whole i (suc n) none all = absurd (omega (arith, none))
+
+-- ---- a whole line
+
+-- its parts, one after another
+parts_join : (text p s c v k m n : List ℕ)
+    → ((((((text ++ p) ++ s) ++ c) ++ v) ++ k) ++ m) ++ n ≡ text ++ ((((((p ++ s) ++ c) ++ v) ++ k) ++ m) ++ n)
+parts_join text p s c v k m n =
+    ap (λ (l : List ℕ). ((((l ++ c) ++ v) ++ k) ++ m) ++ n) (append_assoc text p s)
+    ∙ ap (λ (l : List ℕ). (((l ++ v) ++ k) ++ m) ++ n) (append_assoc text (p ++ s) c)
+    ∙ ap (λ (l : List ℕ). ((l ++ k) ++ m) ++ n) (append_assoc text ((p ++ s) ++ c) v)
+    ∙ ap (λ (l : List ℕ). (l ++ m) ++ n) (append_assoc text (((p ++ s) ++ c) ++ v) k)
+    ∙ ap (λ (l : List ℕ). l ++ n) (append_assoc text ((((p ++ s) ++ c) ++ v) ++ k) m)
+    ∙ append_assoc text (((((p ++ s) ++ c) ++ v) ++ k) ++ m) n
+
+pub line_pushed : (text t1 t2 t3 t4 t5 p s c v k m n : List ℕ)
+    → t1 ≡ text ++ p → t2 ≡ ((t1 ++ s) ++ c) ++ v → t3 ≡ t2 ++ k → t4 ≡ t3 ++ m → t5 ≡ t4 ++ n
+    → t5 ≡ text ++ ((((((p ++ s) ++ c) ++ v) ++ k) ++ m) ++ n)
+line_pushed text t1 t2 t3 t4 t5 p s c v k m n e1 e2 e3 e4 e5 =
+    e5 ∙ ap (λ (l : List ℕ). l ++ n) (e4 ∙ ap (λ (l : List ℕ). l ++ m) (e3 ∙ ap (λ (l : List ℕ). l ++ k)
+    (e2 ∙ ap (λ (l : List ℕ). ((l ++ s) ++ c) ++ v) e1)))
+    ∙ parts_join text p s c v k m n

@@ -1,0 +1,44 @@
+-- What an instruction finds, as far as its line is made of it.
+use Rattle.std.specs.Prelude.{ℕ, ◌≡◌, Option, Some, ⊤}
+use Rattle.rv_model.specs.declared.instructions.instruction.Instr.{Instr}
+use Rattle.rv_model.specs.declared.instructions.instruction.Instr.TheVariants as instr
+use Rattle.rv_model.specs.declared.instructions.scalar.ScalarInstr.{ScalarInstr}
+use Rattle.rv_model.specs.declared.instructions.scalar.ScalarInstr.TheVariants.{Load, Store}
+use Rattle.rv_model.specs.instructions.Immediates.{i_immediate, s_immediate}
+use Rattle.rv_model.specs.scalar.Arithmetic.{sum}
+use Rattle.rv_model.specs.scalar.Registers.{read_register}
+use Rattle.rv_model.specs.declared.scalar.Scalar.{Scalar}
+use Rattle.rv_model.specs.declared.vector.state.VState.{VState}
+use Rattle.std.specs.Int.{w64}
+use Rattle.commit_log.specs.declared.found.Found.{Found}
+
+-- where a scalar load or store moves, and what a store has
+abbrev pub Moves : ScalarInstr → Scalar → Found → Type 0
+Moves (Load op rd rs1 imm) x f = f.address ≡ sum w64 (read_register x rs1) (i_immediate imm)
+Moves (Store op rs1 rs2 imm) x f = (f.address ≡ sum w64 (read_register x rs1) (s_immediate imm)) × (f.value ≡ read_register x rs2)
+Moves _ x f = ⊤
+
+-- what is noted of the instruction itself: of a scalar load or store what it moves, of a vector one all registers
+abbrev pub Notes : Option Instr → Scalar → VState → Found → Type 0
+Notes (Some (instr.Scalar i)) x v f = Moves i x f
+Notes (Some (instr.Access i)) x v f = (f.scalar ≡ x) × (f.vector ≡ v)
+Notes _ x v f = ⊤
+
+-- all else that was noted stays
+abbrev pub SameOtherwise : Found → Found → Type 0
+SameOtherwise old new = new ≡ record old { address = new.address; value = new.value; scalar = new.scalar; vector = new.vector }
+
+-- the control registers as they were found
+pub record KeepsControls (v : VState) (f : Found) : Type 0 where
+  pub conf_is : f.conf ≡ v.conf
+  pub vstart_is : f.vstart ≡ v.vstart
+  pub vxrm_is : f.vxrm ≡ v.vxrm
+  pub vxsat_is : f.vxsat ≡ v.vxsat
+
+-- An instruction, which is this word, finds these registers.
+pub record Finds (word : ℕ) (i : Option Instr) (x : Scalar) (v : VState) (f : Found) : Type 0 where
+  pub pc_is : f.pc ≡ x.pc
+  pub word_is : f.word ≡ word
+  pub instr_is : f.instr ≡ i
+  pub controls : KeepsControls v f
+  pub notes : Notes i x v f

@@ -1,0 +1,8 @@
+pub mod Finds
+pub mod LineTexts
+pub mod Lines
+pub mod LogLaws
+pub mod Logged
+pub mod Moved
+pub mod Segments
+pub mod Targets

@@ -1,0 +1,93 @@
+-- What the line of an instruction says: where it stood, and what it wrote, by the state that it found and the one that it left.
+use Rattle.std.specs.Prelude.{ℕ, ◌==◌, List, [], ◌∷◌, map, flat_map, Some, None, if◌then◌else◌}
+use Rattle.std.specs.Int.{to_le_bytes, w64}
+use Rattle.std.specs.Option.{option_map_or}
+use Rattle.rv_model.specs.declared.instructions.instruction.Instr.{Instr}
+use Rattle.rv_model.specs.declared.instructions.instruction.Instr.TheVariants as instr
+use Rattle.rv_model.specs.declared.instructions.scalar.ScalarInstr.TheVariants.{Load, Store}
+use Rattle.rv_model.specs.declared.vector.control_register.ControlRegister.TheVariants.{Vstart, Vxsat, Vxrm, Vl, Vtype}
+use Rattle.rv_model.specs.instructions.Immediates.{i_immediate, s_immediate}
+use Rattle.rv_model.specs.scalar.Arithmetic.{sum}
+use Rattle.rv_model.specs.scalar.LoadsAndStores.{store_width}
+use Rattle.rv_model.specs.scalar.Registers.{read_register}
+use Rattle.rv_model.specs.declared.scalar.Scalar.{Scalar}
+use Rattle.rv_model.specs.declared.vector.state.VState.{VState}
+use Rattle.rv_model.specs.step.Hart.{HartState}
+use Rattle.rv_model.specs.step.Step.{is_vector}
+use Rattle.rv_model.specs.vector.Control.{control_value}
+use Rattle.rv_model.specs.vector.Groups.{Configuration, register_of}
+use Rattle.rv_model.specs.declared.vector.control_register.ControlRegister.{ControlRegister}
+use Rattle.rv_model.specs.declared.vector.types.VType.{VType}
+pub use Rattle.commit_log.specs.Moved.{Moved}
+use Rattle.commit_log.specs.Segments.{moved_by}
+use Rattle.commit_log.specs.Targets.{scalar_target, vector_targets}
+
+-- what a line says
+pub record Line : Type 0 where
+  pub pc : ℕ
+  pub word : ℕ
+  -- each scalar register that was written, and its value
+  pub scalars : List (ℕ × ℕ)
+  -- of a vector instruction the vector type and length that it left, if there is a type
+  pub configuration : List (VType × ℕ)
+  -- each vector register of the destination, and its bytes
+  pub vectors : List (ℕ × List ℕ)
+  -- each control register that changed, and its value
+  pub controls : List (ControlRegister × ℕ)
+  -- each element that was moved between registers and memory, in the order of the elements
+  pub moved : List Moved
+
+-- ---- registers
+
+-- a scalar register and its value, unless it is x0
+abbrev pub told_scalar : ℕ → Scalar → List (ℕ × ℕ)
+told_scalar register x = if register == 0 then [] else (register, read_register x register) ∷ []
+
+-- the vector type and the length, if there is a type
+abbrev pub told_configuration : Configuration → List (VType × ℕ)
+told_configuration c = option_map_or (λ t. (t, c.vl) ∷ []) c.vtype []
+
+-- of these registers each with its bytes
+abbrev pub told_vectors : List ℕ → List ℕ → List (ℕ × List ℕ)
+told_vectors file registers = map (λ r. (r, register_of file r)) registers
+
+-- the control registers that a line may name, by their numbers; vcsr shows two of them once more
+abbrev pub told_registers : List ControlRegister
+told_registers = Vstart ∷ Vxsat ∷ Vxrm ∷ Vl ∷ Vtype ∷ []
+
+-- one, if it reads otherwise than before
+abbrev pub told_control : VState → VState → ControlRegister → List (ControlRegister × ℕ)
+told_control old new r = if control_value r old == control_value r new then [] else (r, control_value r new) ∷ []
+
+-- all that do
+abbrev pub told_controls : VState → VState → List (ControlRegister × ℕ)
+told_controls old new = flat_map (told_control old new) told_registers
+
+-- ---- memory
+
+-- what an instruction moved, by the state that it found and the length that it left
+abbrev pub told_moved : Instr → HartState → ℕ → List Moved
+told_moved (instr.Scalar (Load op rd rs1 imm)) s vl =
+    record { address = sum w64 (read_register s.scalar rs1) (i_immediate imm); stored = None } ∷ []
+told_moved (instr.Scalar (Store op rs1 rs2 imm)) s vl =
+    record {
+      address = sum w64 (read_register s.scalar rs1) (s_immediate imm);
+      stored = Some (to_le_bytes (store_width op) (read_register s.scalar rs2));
+    } ∷ []
+told_moved (instr.Access i) s vl = moved_by i s.scalar s.vector vl
+told_moved _ s vl = []
+
+-- ---- all of it
+
+-- the line of an instruction that found this and left that
+abbrev pub instruction_line : Instr → ℕ → HartState → Scalar → VState → Line
+instruction_line i word s x v =
+    record {
+      pc = s.scalar.pc;
+      word = word;
+      scalars = told_scalar (scalar_target i) x;
+      configuration = if is_vector i then told_configuration v.conf else [];
+      vectors = told_vectors v.file (vector_targets i s.vector.conf.vtype);
+      controls = told_controls s.vector v;
+      moved = told_moved i s v.conf.vl;
+    }

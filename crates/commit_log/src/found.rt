@@ -1,0 +1,107 @@
+//! What an instruction found.
+ghost use Rattle.std.specs.Prelude.{◌≡◌, ℕ};
+ghost use Rattle.commit_log.specs.Finds.{Finds, Moves, Notes, SameOtherwise};
+
+use rv_model::{Instr, RoundingMode, Scalar, ScalarInstr, VConf, VState};
+use scalar_core::{i_immediate, s_immediate};
+
+/// What an instruction found, as far as its line says what it did: where it stood, its word and what it is, the control
+/// registers; of a scalar load or store the address, and the number that is stored; of a vector load or store all
+/// registers.
+#[derive(Drop)]
+pub struct Found {
+    pub(crate) pc: u64,
+    pub(crate) word: u32,
+    pub(crate) instr: Option<Instr>,
+    pub(crate) conf: VConf,
+    pub(crate) vstart: u8,
+    pub(crate) vxrm: RoundingMode,
+    pub(crate) vxsat: bool,
+    pub(crate) address: u64,
+    pub(crate) value: u64,
+    pub(crate) scalar: Scalar,
+    pub(crate) vector: VState,
+}
+
+impl Found {
+    /// Nothing yet.
+    pub fn new() -> Found {
+        Found {
+            pc: 0,
+            word: 0,
+            instr: None,
+            conf: VConf::vill(),
+            vstart: 0,
+            vxrm: RoundingMode::NearestUp,
+            vxsat: false,
+            address: 0,
+            value: 0,
+            scalar: Scalar::new(),
+            vector: VState::new(),
+        }
+    }
+
+    /// Notes the registers of a vector load or store.
+    #[inline(never)]
+    fn note_access(&mut self, scalar: &Scalar, vector: &VState)
+        ensures { self.new ≡ record self.old { scalar = scalar.now; vector = vector.now } }
+    {
+        self.scalar = *scalar;
+        self.vector.copy_from(vector);
+    }
+
+    /// Notes the address of a scalar load or store, and the number that a store has.
+    #[inline(always)]
+    fn note_scalar(&mut self, instr: &ScalarInstr, scalar: &Scalar)
+        ensures address { Moves instr.now scalar.now self.new }
+        ensures others { self.new ≡ record self.old { address = self.new.address; value = self.new.value } }
+    {
+        match instr {
+            ScalarInstr::Load { rs1, imm, .. } => {
+                self.address = scalar.read(*rs1).wrapping_add(i_immediate(*imm));
+            }
+            ScalarInstr::Store { rs1, rs2, imm, .. } => {
+                self.address = scalar.read(*rs1).wrapping_add(s_immediate(*imm));
+                self.value = scalar.read(*rs2);
+            }
+            ScalarInstr::Upper { .. }
+            | ScalarInstr::Jump { .. }
+            | ScalarInstr::JumpRegister { .. }
+            | ScalarInstr::Branch { .. }
+            | ScalarInstr::RegisterImmediate { .. }
+            | ScalarInstr::ShiftImmediate { .. }
+            | ScalarInstr::ShiftImmediateWord { .. }
+            | ScalarInstr::RegisterRegister { .. }
+            | ScalarInstr::Fence { .. }
+            | ScalarInstr::System { .. } => {}
+        }
+    }
+
+    /// Notes what an instruction moves.
+    #[inline(always)]
+    fn note_operands(&mut self, instr: &Option<Instr>, scalar: &Scalar, vector: &VState)
+        ensures notes { Notes instr.now scalar.now vector.now self.new }
+        ensures others { SameOtherwise self.old self.new }
+    {
+        match instr {
+            Some(Instr::Scalar(instr)) => self.note_scalar(instr, scalar),
+            Some(Instr::Access(_)) => self.note_access(scalar, vector),
+            Some(Instr::Csr(_)) | Some(Instr::Vector(_)) | None => {}
+        }
+    }
+
+    /// Notes what a word finds, which is this instruction.
+    #[inline(always)]
+    pub fn note(&mut self, word: u32, instr: &Option<Instr>, scalar: &Scalar, vector: &VState)
+        ensures { Finds word instr.now scalar.now vector.now self.new }
+    {
+        self.pc = scalar.pc;
+        self.word = word;
+        self.instr = *instr;
+        self.conf = vector.conf;
+        self.vstart = vector.vstart;
+        self.vxrm = vector.vxrm;
+        self.vxsat = vector.vxsat;
+        self.note_operands(instr, scalar, vector);
+    }
+}

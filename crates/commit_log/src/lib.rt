@@ -1,0 +1,18 @@
+//! A log of the instructions that ran: a line for each, in the form of Spike's `--log-commits`.
+#![tactic(auto)]
+
+mod changes;
+mod found;
+mod lines;
+mod log;
+mod memory_words;
+mod moves;
+mod numbers;
+mod segments;
+mod targets;
+mod text;
+
+pub use found::Found;
+pub use lines::push_line;
+pub use log::{Log, Window};
+pub use text::{LINE_SIZE, TEXT_SIZE, Text};

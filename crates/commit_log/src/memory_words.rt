@@ -1,0 +1,54 @@
+//! What an instruction moved between registers and memory.
+ghost use Rattle.std.specs.Prelude.{◌≡◌, ◌+◌, ◌≤◌, ◌++◌, ℕ, flat_map, length};
+ghost use Rattle.std.specs.Int.{byte_len};
+ghost use Rattle.rv_model.specs.scalar.LoadsAndStores.{store_width};
+ghost use Rattle.rv_model.specs.step.Hart.{HartState};
+ghost use Rattle.commit_log.specs.Finds.{Finds};
+ghost use Rattle.commit_log.specs.Lines.{told_moved};
+ghost use Rattle.commit_log.specs.LineTexts.{moved_text};
+
+use crate::found::Found;
+use crate::moves::push_moves;
+use crate::numbers::{push_hex16, push_reversed};
+use crate::text::{TEXT_SIZE, Text};
+use rv_model::instructions::operations::StoreOp;
+use rv_model::{GROUP_BYTES, Instr, ScalarInstr};
+
+/// How many bytes a store has.
+#[inline(always)]
+fn store_bytes(op: StoreOp) -> usize
+    ensures value { result ≡ byte_len (store_width op) }
+    ensures most { result ≤ 8 }
+{
+    match op {
+        StoreOp::Sb => 1,
+        StoreOp::Sh => 2,
+        StoreOp::Sw => 4,
+        StoreOp::Sd => 8,
+    }
+}
+
+/// Adds what an instruction moved, by what it found, and by the length that it left.
+#[inline(always)]
+pub(crate) fn push_memory(text: &mut Text, found: &Found, instr: &Instr, vl: u16)
+    requires vl { vl ≤ GROUP_BYTES }
+    requires room { length text.old + 86016 ≤ TEXT_SIZE }
+    ensures text { (word : ℕ) (s : HartState) → Finds word (Some instr.now) s.scalar s.vector found.now
+        → text.new ≡ text.old ++ flat_map moved_text (told_moved instr.now s vl) }
+    ensures bound { length text.new ≤ length text.old + 86016 }
+{
+    match instr {
+        Instr::Scalar(ScalarInstr::Load { .. }) => {
+            text.push(b" mem 0x");
+            push_hex16(text, found.address);
+        }
+        Instr::Scalar(ScalarInstr::Store { op, .. }) => {
+            text.push(b" mem 0x");
+            push_hex16(text, found.address);
+            text.push(b" 0x");
+            push_reversed(text, &found.value.to_le_bytes()[..store_bytes(*op)]);
+        }
+        Instr::Access(instr) => push_moves(text, instr, &found.scalar, &found.vector, vl),
+        Instr::Scalar(_) | Instr::Csr(_) | Instr::Vector(_) => {}
+    }
+}

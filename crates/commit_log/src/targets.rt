@@ -1,0 +1,319 @@
+//! The registers that an instruction writes.
+ghost use Rattle.std.specs.Prelude.{◌≡◌, ◌+◌, ◌*◌, ◌<◌, ◌≤◌, ℕ, Some, false, if◌then◌else◌};
+ghost use Rattle.rv_model.specs.legality.Legality.{data_role, mask_result, unit_role};
+ghost use Rattle.rv_model.specs.legality.OperandShapes.{destination, shape_of};
+ghost use Rattle.rv_model.specs.vector.Groups.{access_type, registers};
+ghost use Rattle.commit_log.specs.Targets.{is_destination, is_whole, registers_from, scalar_target};
+ghost use Rattle.commit_log.specs.Targets.{target_of_scalar, target_of_system, target_of_vector, vector_targets};
+
+use reg_groups::{emul, register_count, registers};
+use rv_model::instructions::operations::{Direction, Eew, MaskUnaryOp, SystemOp, UnitOp, VectorOp};
+use rv_model::{AccessInstr, CsrInstr, Field, Instr, ScalarInstr, Sew, VReg, VType, VectorInstr};
+
+/// The scalar register that ECALL answers in; EBREAK has none.
+#[inline(always)]
+fn target_of_system(op: SystemOp) -> u32
+    ensures value { result ≡ target_of_system op }
+    ensures small { result < 32 }
+{
+    match op {
+        SystemOp::Ecall => 10,
+        SystemOp::Ebreak => 0,
+    }
+}
+
+/// The scalar register that an instruction on scalar registers writes: x0, which never changes, if it writes none. ECALL
+/// answers in x10.
+#[inline(always)]
+fn target_of_scalar(instr: &ScalarInstr) -> u32
+    ensures value { result ≡ target_of_scalar instr.now }
+    ensures small { result < 32 }
+{
+    match instr {
+        ScalarInstr::Upper { rd, .. }
+        | ScalarInstr::Jump { rd, .. }
+        | ScalarInstr::JumpRegister { rd, .. }
+        | ScalarInstr::Load { rd, .. }
+        | ScalarInstr::RegisterImmediate { rd, .. }
+        | ScalarInstr::ShiftImmediate { rd, .. }
+        | ScalarInstr::ShiftImmediateWord { rd, .. }
+        | ScalarInstr::RegisterRegister { rd, .. } => rd.number(),
+        ScalarInstr::System { op } => target_of_system(*op),
+        ScalarInstr::Branch { .. } | ScalarInstr::Store { .. } | ScalarInstr::Fence { .. } => 0,
+    }
+}
+
+/// The same of a vector instruction that neither loads nor stores.
+#[inline(always)]
+fn target_of_vector(instr: &VectorInstr) -> u32
+    ensures value { result ≡ target_of_vector instr.now }
+    ensures small { result < 32 }
+{
+    match instr {
+        VectorInstr::SetVli { rd, .. }
+        | VectorInstr::SetIvli { rd, .. }
+        | VectorInstr::SetVl { rd, .. }
+        | VectorInstr::MaskToScalar { rd, .. }
+        | VectorInstr::MoveToScalar { rd, .. } => rd.number(),
+        VectorInstr::Arith { .. }
+        | VectorInstr::Carry { .. }
+        | VectorInstr::Move { .. }
+        | VectorInstr::WholeMove { .. }
+        | VectorInstr::MaskLogic { .. }
+        | VectorInstr::Compress { .. }
+        | VectorInstr::Extend { .. }
+        | VectorInstr::MaskUnary { .. }
+        | VectorInstr::ElementIndex { .. }
+        | VectorInstr::MoveToVector { .. } => 0,
+    }
+}
+
+/// The scalar register that an instruction writes: x0, which never changes, if it writes none.
+#[inline(always)]
+pub(crate) fn scalar_target(instr: &Instr) -> u32
+    ensures value { result ≡ scalar_target instr.now }
+    ensures small { result < 32 }
+{
+    match instr {
+        Instr::Scalar(instr) => target_of_scalar(instr),
+        Instr::Csr(CsrInstr::Register { rd, .. } | CsrInstr::Immediate { rd, .. }) => rd.number(),
+        Instr::Vector(instr) => target_of_vector(instr),
+        Instr::Access(_) => 0,
+    }
+}
+
+/// So many vector registers, from one on.
+#[derive(Clone, Copy)]
+pub(crate) struct Registers {
+    pub first: u32,
+    pub count: u64,
+}
+
+/// No vector register.
+#[inline(always)]
+fn none() -> Registers
+    ensures { result ≡ record { first = 0; count = 0 } }
+{
+    Registers { first: 0, count: 0 }
+}
+
+/// The registers of so many groups of a multiplier in eighths of a register.
+#[inline(always)]
+fn groups(first: VReg, fields: u32, emul: u32) -> Registers
+    requires { fields ≤ 8 }
+    ensures value { result ≡ record { first = first; count = fields * registers emul } }
+    ensures inside { result.first < 32 }
+{
+    Registers {
+        first: first.number(),
+        count: u64::from(fields) * u64::from(registers(emul)),
+    }
+}
+
+/// The multiplier of the destination of an operation, in eighths of a register.
+#[tactic(auto, using(crate::proofs::Destinations::permute_emul, crate::proofs::Destinations::wide_emul))]
+#[inline(always)]
+fn destination_emul(op: VectorOp, vtype: VType) -> u32
+    ensures { (vd : ℕ) → result ≡ (destination (shape_of op) vd vtype).emul }
+{
+    match op {
+        VectorOp::Binary(_)
+        | VectorOp::FixedPoint(_)
+        | VectorOp::MultiplyAdd(_)
+        | VectorOp::NarrowShift(_)
+        | VectorOp::Clip(_)
+        | VectorOp::Permute(_) => u32::from(vtype.lmul.eighths()),
+        VectorOp::Widen(_) | VectorOp::WideSource(_) | VectorOp::WidenMultiplyAdd(_) => {
+            2 * u32::from(vtype.lmul.eighths())
+        }
+        VectorOp::CarryOut(_)
+        | VectorOp::Compare(_)
+        | VectorOp::Reduce(_)
+        | VectorOp::WidenReduce(_) => 8,
+    }
+}
+
+/// The multiplier of the destination of an operation on one mask, in eighths of a register.
+#[inline(always)]
+fn unary_emul(op: MaskUnaryOp, vtype: VType) -> u32
+    ensures { (vd : ℕ) → result ≡ (mask_result op vd vtype).emul }
+{
+    match op {
+        MaskUnaryOp::Viota => u32::from(vtype.lmul.eighths()),
+        MaskUnaryOp::Scan(_) => 8,
+    }
+}
+
+/// The vector registers that an instruction writes which neither loads nor stores, under a vector type.
+#[tactic(auto, using(crate::proofs::Destinations::alone_written, crate::proofs::Destinations::mask_written, crate::proofs::Destinations::shape_written), unfolding(rv_model::specs::legality::Legality::operands))]
+#[inline(always)]
+fn typed_targets(instr: &VectorInstr, vtype: VType) -> Registers
+    ensures value { registers_from result.first result.count ≡ vector_targets (Instr.Vector instr.now) (Some vtype) }
+    ensures inside { result.first < 32 }
+{
+    let lmul = u32::from(vtype.lmul.eighths());
+    match instr {
+        VectorInstr::SetVli { .. }
+        | VectorInstr::SetIvli { .. }
+        | VectorInstr::SetVl { .. }
+        | VectorInstr::MaskToScalar { .. }
+        | VectorInstr::MoveToScalar { .. } => none(),
+        VectorInstr::Arith { arith, vd, .. } => {
+            let (op, _source) = arith.parts();
+            groups(*vd, 1, destination_emul(op, vtype))
+        }
+        VectorInstr::Carry {
+            carry: _carry,
+            vd,
+            vs2: _vs2,
+        } => groups(*vd, 1, lmul),
+        VectorInstr::Move { vd, .. }
+        | VectorInstr::Compress { vd, .. }
+        | VectorInstr::Extend { vd, .. }
+        | VectorInstr::ElementIndex { vd, .. } => groups(*vd, 1, lmul),
+        VectorInstr::MaskUnary { op, vd, .. } => groups(*vd, 1, unary_emul(*op, vtype)),
+        VectorInstr::MaskLogic { vd, .. } | VectorInstr::MoveToVector { vd, .. } => groups(
+            *vd, 1, 8,
+        ),
+        VectorInstr::WholeMove { count, vd, .. } => {
+            groups(*vd, 1, 8 * u32::from(register_count(*count)))
+        }
+    }
+}
+
+/// The registers of the fields of a load or store whose elements have a width of their own, under a vector type.
+#[inline(always)]
+fn fields(vd: VReg, nf: Field<3>, width: Eew, vtype: VType) -> Registers
+    ensures value { result ≡ record { first = vd; count = (nf + 1) * registers (access_type vtype width).emul } }
+    ensures inside { result.first < 32 }
+{
+    groups(
+        vd,
+        nf.value() + 1,
+        emul(Sew::from_width(width).bits(), vtype),
+    )
+}
+
+/// Whether a unit-stride operation loads.
+#[inline(always)]
+fn loads(op: UnitOp) -> bool
+    ensures { result ≡ is_destination (unit_role op) }
+{
+    match op {
+        UnitOp::Load | UnitOp::FaultOnlyFirst => true,
+        UnitOp::Store => false,
+    }
+}
+
+/// Whether a direction is that of a load.
+#[inline(always)]
+fn is_load(direction: Direction) -> bool
+    ensures { result ≡ is_destination (data_role direction) }
+{
+    match direction {
+        Direction::Load => true,
+        Direction::Store => false,
+    }
+}
+
+/// These registers, if they are written.
+#[inline(always)]
+fn if_written(written: bool, registers: Registers) -> Registers
+    requires { registers.first < 32 }
+    ensures value { result ≡ (if written then registers else record { first = 0; count = 0 }) }
+    ensures inside { result.first < 32 }
+{
+    if written { registers } else { none() }
+}
+
+/// The vector registers that a load of elements writes, under a vector type.
+#[tactic(auto, using(crate::proofs::Destinations::alone_written, crate::proofs::Destinations::mask_written, crate::proofs::Destinations::shape_written), unfolding(rv_model::specs::legality::Legality::operands))]
+#[inline(always)]
+fn typed_access_targets(instr: &AccessInstr, vtype: VType) -> Registers
+    ensures value { is_whole instr.now ≡ false
+        → registers_from result.first result.count ≡ vector_targets (Instr.Access instr.now) (Some vtype) }
+    ensures inside { result.first < 32 }
+{
+    match *instr {
+        AccessInstr::UnitStride {
+            op,
+            width,
+            nf,
+            vd,
+            rs1: _,
+            vm: _,
+        } => { if_written(loads(op), fields(vd, nf, width, vtype)) }
+        AccessInstr::Strided {
+            direction,
+            width,
+            nf,
+            vd,
+            rs1: _,
+            rs2: _,
+            vm: _,
+        } => { if_written(is_load(direction), fields(vd, nf, width, vtype)) }
+        AccessInstr::Indexed {
+            direction,
+            order: _,
+            width: _,
+            nf,
+            vd,
+            rs1: _,
+            vs2: _,
+            vm: _,
+        } => {
+            if_written(
+                is_load(direction),
+                groups(vd, nf.value() + 1, u32::from(vtype.lmul.eighths())),
+            )
+        }
+        AccessInstr::MaskAccess {
+            direction,
+            vd,
+            rs1: _,
+        } => { if_written(is_load(direction), groups(vd, 1, 8)) }
+        AccessInstr::WholeLoad { .. } | AccessInstr::WholeStore { .. } => none(),
+    }
+}
+
+/// The vector registers that a load writes, under the vector type that it finds, if there is one.
+#[tactic(auto, using(crate::proofs::Destinations::alone_written, crate::proofs::Destinations::mask_written, crate::proofs::Destinations::shape_written), unfolding(rv_model::specs::legality::Legality::operands))]
+#[inline(always)]
+fn access_targets(instr: &AccessInstr, vtype: Option<VType>) -> Registers
+    ensures value { registers_from result.first result.count ≡ vector_targets (Instr.Access instr.now) vtype }
+    ensures inside { result.first < 32 }
+{
+    match *instr {
+        AccessInstr::WholeLoad {
+            count,
+            width: _,
+            vd,
+            rs1: _,
+        } => { groups(vd, 1, 8 * u32::from(register_count(count))) }
+        AccessInstr::WholeStore { .. } => none(),
+        AccessInstr::UnitStride { .. }
+        | AccessInstr::Strided { .. }
+        | AccessInstr::Indexed { .. }
+        | AccessInstr::MaskAccess { .. } => match vtype {
+            Some(vtype) => typed_access_targets(instr, vtype),
+            None => none(),
+        },
+    }
+}
+
+/// The vector registers that an instruction writes, under the vector type that it finds, if there is one.
+#[tactic(auto, unfolding(rv_model::specs::legality::Legality::operands))]
+#[inline(always)]
+pub(crate) fn vector_targets(instr: &Instr, vtype: Option<VType>) -> Registers
+    ensures value { registers_from result.first result.count ≡ vector_targets instr.now vtype }
+    ensures inside { result.first < 32 }
+{
+    match instr {
+        Instr::Vector(instr) => match vtype {
+            Some(vtype) => typed_targets(instr, vtype),
+            None => none(),
+        },
+        Instr::Access(instr) => access_targets(instr, vtype),
+        Instr::Scalar(_) | Instr::Csr(_) => none(),
+    }
+}

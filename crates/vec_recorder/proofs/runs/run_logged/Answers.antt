@@ -1,0 +1,24 @@
+use Rattle.recording.specs.Machines.{state_of}
+use Rattle.recording.specs.Runs.{ran}
+use Rattle.first_state.specs.OwnMemory.{own_memory}
+use Rattle.vec_recorder.proofs.RunLaws.{end_by_totals, log_told}
+use Rattle.vec_recorder.proofs.runs.run_logged.Goals as goal
+
+pub returns-clause-recorded : goal.returns-clause-recorded
+returns-clause-recorded g c = c.in_ok-end.ensures.recorded.0
+
+pub returns-clause-log : goal.returns-clause-log
+returns-clause-log g c =
+    let s = state_of own_memory c.args.alone.now in
+    let told = c.in_ok-end.ensures.recorded.1 in
+    let made = c.in_ok-log.ensures in
+    record {
+      before = c.in_ok-file.file;
+      after = c.write_last.new.sink;
+      made = c.in_ok-file.ensures;
+      says = log_told g.R.Made.Sink.took g.met.R.Made.Sink.took_more c.in_ok-log.log c.run.new.recorder.second.second _ _ _ c.args.window (ran c.args.ticks s).found _ _
+          made.sink made.window made.number made.text told.1 c.in_ok-finish.ensures
+          (end_by_totals c.args.ticks _ _ _ _ s (state_of own_memory c.run.new.alone) c.in_ok-end.end c.write_last.ensures.times c.write_last.ensures.ticks c.none.ensures.times c.none.ensures.ticks
+          told.0.0 told.0.1 c.in_ok-end.ensures.machine c.in_ok-end.ensures.end)
+          c.in-Ok.ensures.text;
+    }

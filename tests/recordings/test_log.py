@@ -1,0 +1,121 @@
+"""The log of instructions: replayed beside the monitor's own steps, and lines that were worked out by hand."""
+
+import pathlib
+
+import pytest
+
+from tests.recordings.log_lines import LogLine, Replayed, bytes_stored, read_log
+from tests.recordings.recorder import record, record_log
+from tests.recordings.test_counts import IMAGES, MASKED_VECTORS, MOST, SCALAR_LOOP, lay
+from vecmon_lab.guest.changes import Carried, MemoryChange, Stepper
+from vecmon_lab.guest.guest import started
+
+HERE = pathlib.Path(__file__).parent
+LOOKS = 25  # after so many instructions the monitor is asked for all registers, also for those that an instruction needn't write
+
+
+def unlike(lines: list[LogLine], stepper: Stepper) -> list[str]:
+    """Where lines lead to other registers than the monitor's steps do, or leave out a byte that changed."""
+    found = stepper.registers.copy()
+    replayed, faults = Replayed(list(found.x), bytearray(found.v), found.control), list[str]()
+    for number, line in enumerate(lines, 1):
+        carried = stepper.step()
+        if number % LOOKS == 0:
+            stepper.look()
+        replayed.apply(line)
+        now = stepper.registers
+        told = [
+            ("place", (line.pc, line.word), (carried.pc, carried.word)),
+            ("x", replayed.x, list(now.x)),
+            ("v", replayed.v, now.v),
+            ("control", replayed.control, now.control),
+            ("memory", missing(line, carried), []),
+        ]
+        faults += [
+            f"{number}: {name} of {carried.text} at {line.pc:x}: {here} and not {there}"
+            for name, here, there in told
+            if here != there
+        ]
+    return faults
+
+
+def missing(line: LogLine, carried: Carried) -> list[int]:
+    """The addresses of bytes that changed otherwise than the line says."""
+    stored = dict(bytes_stored(line))
+    changed = {
+        change.address + place: byte
+        for change in carried.changes
+        if isinstance(change, MemoryChange)
+        for place, byte in enumerate(change.after)
+    }
+    return [address for address, byte in changed.items() if stored.get(address) != byte]
+
+
+@pytest.mark.parametrize("policy", ["keep", "ones"])
+@pytest.mark.parametrize("image", IMAGES, ids=[path.name for path in IMAGES])
+def test_lines_lead_to_the_registers_of_the_monitors_steps(
+    tmp_path: pathlib.Path, image: pathlib.Path, policy: str
+) -> None:
+    ran = record_log(tmp_path, "--policy", policy, "--to", MOST, image)
+    lines, end = read_log(ran.log)
+    assert (ran.status, ran.stderr) == (0, "") and end
+    with started(image, policy=policy) as guest:
+        assert unlike(lines, Stepper(guest)) == []
+
+
+@pytest.mark.parametrize("name, words", [("scalar_loop", SCALAR_LOOP), ("masked_vectors", MASKED_VECTORS)])
+def test_lines_that_were_worked_out_by_hand(tmp_path: pathlib.Path, name: str, words: tuple[int, ...]) -> None:
+    ran = record_log(tmp_path, "--ticks", 1000, *lay(tmp_path, words))
+    assert (ran.status, ran.stdout, ran.stderr) == (0, b"", "")
+    assert ran.log == (HERE / "data" / f"{name}.log").read_text("ascii")
+
+
+def test_a_window_has_the_lines_of_its_numbers(tmp_path: pathlib.Path) -> None:
+    words = lay(tmp_path, SCALAR_LOOP)
+    *lines, end = (HERE / "data/scalar_loop.log").read_text("ascii").splitlines()
+    for first, last in [(1, 1), (2, 5), (13, 13), (13, 2**63), (14, 20), (5, 4)]:
+        ran = record_log(tmp_path, "--from", first, "--to", last, *words)
+        assert ran.log.splitlines() == [*lines[first - 1 : last], end]
+
+
+def test_lines_beside_counts_and_changes(tmp_path: pathlib.Path) -> None:
+    """All three records of a run, each as it is alone."""
+    words, log = lay(tmp_path, MASKED_VECTORS), (HERE / "data/masked_vectors.log").read_text("ascii")
+    watch = ["--watch", "2000:4", "--changes", "changes"]
+    for more in (["--counts", "counts"], watch, ["--counts", "counts", *watch]):
+        assert record_log(tmp_path, "--to", 100, *more, *words).log == log
+    assert (tmp_path / "counts").read_text("ascii") == record(tmp_path, *words).counts
+    assert (tmp_path / "changes").read_text("ascii").splitlines() == log.splitlines()[-1:]
+
+
+def test_an_instruction_that_faults_has_no_line(tmp_path: pathlib.Path) -> None:
+    """li x5, 3, and then a load from an address without memory."""
+    ran = record_log(tmp_path, "--to", 9, *lay(tmp_path, (0x00300293, 0x0002B303)))
+    first, end = ran.log.splitlines()
+    assert first == "core   0: 0 0x0000000000001000 (0x00300293) x5  0x0000000000000003"
+    assert end.startswith("fault cause=5 pc=0000000000001004 ") and end.endswith(" 1 1")
+
+
+@pytest.mark.parametrize(
+    "words, message",
+    [
+        (["--log", "log"], "--log needs --ticks or --to, unless FILE begins with /dev/"),
+        (["--log", "log", "--from", "2"], "--log needs --ticks or --to, unless FILE begins with /dev/"),
+        (["--log", "log", "--to", "0"], "--to needs a number from 1 to 9223372036854775808"),
+        (["--log", "log", "--to", "5", "--from", "x"], "--from needs a number from 1 to 9223372036854775808"),
+        (["--from", "2"], "--from and --to need --log"),
+        (["--to", "2", "--ticks", "5"], "--from and --to need --log"),
+    ],
+)
+def test_words_that_are_refused(tmp_path: pathlib.Path, words: list[str], message: str) -> None:
+    ran = record(tmp_path, *words, counts=False)
+    assert (ran.status, ran.stdout, ran.stderr) == (2, b"", f"vecmon-record: {message}\n")
+    assert not (tmp_path / "log").exists()
+
+
+def test_a_log_to_a_device_needs_no_end(tmp_path: pathlib.Path) -> None:
+    words = lay(tmp_path, SCALAR_LOOP)
+    ran = record(tmp_path, "--log", "/dev/stdout", *words, counts=False)
+    assert ran.stdout.decode() == (HERE / "data/scalar_loop.log").read_text("ascii")
+    ran = record(tmp_path, "--log", "/dev/full", *words, counts=False)
+    assert (ran.status, ran.stderr) == (5, "vecmon-record: cannot write log\n")
