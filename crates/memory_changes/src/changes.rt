@@ -1,11 +1,5 @@
 //! The changes of a run.
-ghost use Rattle.std.specs.Prelude.{◌≡◌, ◌∷◌, [], IfOk, OnOk};
-ghost use Rattle.recording.specs.Machines.{state_of};
-ghost use Rattle.rv_model.specs.declared.step.step_end.StepEnd.{StepEnd};
-ghost use Rattle.rv_model.specs.step.Hart.{HartState, ends_after};
-ghost use Rattle.rv_model.specs.step.Step.{step};
-ghost use Rattle.memory_changes.specs.Recorded.{IsNoted, IsRecorded};
-ghost use Rattle.memory_changes.specs.declared.changes.Changes.{Changes};
+ghost use Rattle.std.specs.Prelude.{◌≡◌, IfOk};
 
 use crate::lines::{Moment, write_changes};
 use crate::place::{MAX_LENGTH, Place};
@@ -47,42 +41,6 @@ impl<K: Sink + Drop, A: Allocator> Changes<K, A> {
     }
 }
 
-/// Notes what the places hold, and where the machine stands.
-#[inline(always)]
-fn note_places<M: UserBytes, K: Sink, A: Allocator>(
-    changes: &mut Changes<K, A>,
-    alone: &Alone<M>,
-) -> Result<(), RecordFault>
-    ensures { OnOk result (IsNoted changes.old (state_of M.memory alone.now) changes.new) }
-{
-    changes.pc = alone.scalar.pc;
-    let places = changes.places.as_slice();
-    read_places(&alone.memory, places, &mut changes.before)
-}
-
-/// Writes the changes by an instruction of so many ticks that left this, of the places that were noted.
-#[inline(always)]
-fn keep_changes<M: UserBytes, K: Sink, A: Allocator>(
-    changes: &mut Changes<K, A>,
-    alone: &Alone<M>,
-    ticks: usize,
-) -> Result<(), RecordFault>
-    ensures { OnOk result ((before : Changes K A) (found : HartState) (end : StepEnd) → IsNoted before found changes.old
-        → step 256 found ≡ ends_after ticks end (state_of M.memory alone.now)
-        → IsRecorded K.took before (found ∷ []) changes.new) }
-{
-    changes.number = changes.number.wrapping_add(1);
-    changes.ticks = changes.ticks.wrapping_add(ticks as u64);
-    let moment = Moment {
-        number: changes.number,
-        ticks: changes.ticks,
-        pc: changes.pc,
-    };
-    let places = changes.places.as_slice();
-    let before = changes.before.as_slice();
-    write_changes(&mut changes.sink, &alone.memory, &moment, places, before)
-}
-
 impl<M: UserBytes, K: Sink, A: Allocator> Recorder<M> for Changes<K, A> {
     ghost use Rattle.memory_changes.specs.Recorded.{IsNoted, IsRecorded};
     ghost use Rattle.memory_changes.specs.RecordLaws.{none_changed, more_changed};
@@ -93,12 +51,23 @@ impl<M: UserBytes, K: Sink, A: Allocator> Recorder<M> for Changes<K, A> {
 
     #[inline(always)]
     fn note(&mut self, alone: &Alone<M>) -> Result<(), RecordFault> {
-        note_places(self, alone)
+        self.pc = alone.scalar.pc;
+        let places = self.places.as_slice();
+        read_places(&alone.memory, places, &mut self.before)
     }
 
     #[inline(always)]
     fn keep(&mut self, alone: &Alone<M>, _end: StepEnd, ticks: usize) -> Result<(), RecordFault> {
-        keep_changes(self, alone, ticks)
+        self.number = self.number.wrapping_add(1);
+        self.ticks = self.ticks.wrapping_add(ticks as u64);
+        let moment = Moment {
+            number: self.number,
+            ticks: self.ticks,
+            pc: self.pc,
+        };
+        let places = self.places.as_slice();
+        let before = self.before.as_slice();
+        write_changes(&mut self.sink, &alone.memory, &moment, places, before)
     }
 
     ghost recorded_none = { none_changed K.took K.took_none };

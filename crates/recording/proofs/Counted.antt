@@ -8,12 +8,11 @@ use Rattle.rv_model.specs.memory.Memory.{can_access}
 use Rattle.rv_model.specs.step.Hart.{HartState, Stepped, ends_after, faults}
 use Rattle.rv_model.specs.step.Step.{executed, step}
 use Rattle.rv_model.specs.vector.Groups.{Configuration, register_of}
-use Rattle.recording.specs.Classes.{Class, active_count, body, body_end, class_of, is_unmasked, tail_end}
-use Rattle.recording.specs.declared.class.Class.TheVariants.{Plain}
+use Rattle.recording.specs.Classes.{Class, active_count, body, body_end, class_of, is_plain, is_unmasked, tail_end}
+use Rattle.recording.specs.declared.class.Class.TheVariants.{Plain, Link, Length, MaskBytes, Elements, Registers}
 use Rattle.recording.specs.declared.found.Found.{Found}
-use Rattle.recording.specs.declared.found.Left.{Left}
 use Rattle.recording.specs.declared.key.Key.TheVariants.{Word}
-use Rattle.recording.specs.Found.{Finds, IsRowFor, both_of, counted_by, ran_by}
+use Rattle.recording.specs.Found.{Finds, IsRowFor}
 use Rattle.recording.specs.Runs.{carried_out, counted, is_counted, key_beside, once_more, share, word_of}
 use Rattle.recording.specs.Sums.{HasMore, IsRowOf, Key, Row, Sums, more_of, no_more, plain}
 use Rattle.recording.proofs.Actives.{all_are_active, no_elements}
@@ -25,29 +24,28 @@ use Rattle.recording.specs.CountLaws.{composed, none_more}
 abbrev counted_if : Bool → Key → Sums → Option Key → (Sums → ℕ) → (Key → Bool) → ℕ
 counted_if counts key sums beside number asked = if counts then more_of key sums number asked + once_more beside number asked else 0
 
-abbrev if_counted : Bool → ((Sums → ℕ) → (Key → Bool) → ℕ) → (Sums → ℕ) → (Key → Bool) → ℕ
-if_counted counts more number asked = if counts then more number asked else 0
+both_counted : (end : StepEnd) (key : Key) (made sums : Sums) (beside : Option Key) (old mid new : List Row) → is_counted end ≡ true → made ≡ sums
+    → HasMore (more_of key made) old mid → HasMore (once_more beside) mid new → HasMore (counted end key sums beside) old new
+both_counted end key made sums beside old mid new counts e one two =
+    subst (λ (b : Bool). HasMore (counted_if b key sums beside) old new) (sym counts)
+    (composed (more_of key sums) (once_more beside) (counted_if true key sums beside) old mid new (λ number asked. refl)
+    (subst (λ (a : Sums). HasMore (more_of key a) old mid) e one) two)
 
-pub not_counted : (found : Found) (left : Left) (key : Key) (rows : List Row) → is_counted left.end ≡ false → HasMore (counted_by found left key) rows rows
-not_counted found left key rows isnt = subst (λ (b : Bool). HasMore (if_counted b (ran_by found left key)) rows rows) (sym isnt) (none_more rows)
+plain_is : (k : Class) → is_plain k ≡ true → k ≡ Plain
+plain_is Plain is = refl
+plain_is Link is = absurd (cc)
+plain_is (Length unmasked) is = absurd (cc)
+plain_is MaskBytes is = absurd (cc)
+plain_is (Elements count) is = absurd (cc)
+plain_is (Registers count) is = absurd (cc)
 
-pub is_then_counted : (found : Found) (left : Left) (key : Key) (old new : List Row) → is_counted left.end ≡ true
-    → HasMore (ran_by found left key) old new → HasMore (counted_by found left key) old new
-is_then_counted found left key old new is more = subst (λ (b : Bool). HasMore (if_counted b (ran_by found left key)) old new) (sym is) more
-
-pub both_counted : (key : Key) (made sums : Sums) (told beside : Option Key) (old mid new : List Row) → made ≡ sums → told ≡ beside
-    → HasMore (more_of key made) old mid → HasMore (once_more told) mid new → HasMore (both_of key sums beside) old new
-both_counted key made sums told beside old mid new e f one two =
-    composed (more_of key sums) (once_more beside) (both_of key sums beside) old mid new (λ number asked. refl)
-    (subst (λ (a : Sums). HasMore (more_of key a) old mid) e one) (subst (λ (b : Option Key). HasMore (once_more b) mid new) f two)
-
--- a plain instruction is counted in its row alone
-pub plain_counted : (found : Found) (left : Left) (key : Key) (made : Sums) (old new : List Row) → found.class ≡ Plain → made ≡ plain left.ticks
-    → HasMore (more_of key made) old new → HasMore (ran_by found left key) old new
-plain_counted found left key made old new class e one =
-    subst (λ (k : Class). HasMore (both_of key (carried_out left.ticks (body k found.mask found.start left.conf) (tail_end k left.conf)) (key_beside k found.conf found.pc left.pc)) old new) (sym class)
-    (both_counted key made (carried_out left.ticks (body Plain found.mask found.start left.conf) (tail_end Plain left.conf)) None None old new new
-    (e ∙ sym (no_elements found.mask found.start left.ticks)) refl one (none_more new))
+-- a plain instruction is counted in its row alone, whatever it found
+plain_counted : (k : Class) (mask : List ℕ) (start ticks : ℕ) (c d : Configuration) (pc target : ℕ) (end : StepEnd) (key : Key) (made : Sums) (old new : List Row)
+    → is_plain k ≡ true → is_counted end ≡ true → made ≡ plain ticks → HasMore (more_of key made) old new
+    → HasMore (counted end key (carried_out ticks (body k mask start c) (tail_end k c)) (key_beside k d pc target)) old new
+plain_counted k mask start ticks c d pc target end key made old new is counts e one =
+    subst (λ (j : Class). HasMore (counted end key (carried_out ticks (body j mask start c) (tail_end j c)) (key_beside j d pc target)) old new) (sym (plain_is k is))
+    (both_counted end key made (carried_out ticks (body Plain mask start c) (tail_end Plain c)) None old new new counts (e ∙ sym (no_elements mask start ticks)) one (none_more new))
 
 -- a key is counted in its row, which may be a new one
 pub counted_in : (more : (Sums → ℕ) → (Key → Bool) → ℕ) (old mid new : List Row) → HasMore no_more old mid → HasMore more mid new → HasMore more old new
@@ -99,7 +97,7 @@ module _ (s : HartState) (word : ℕ) (k : Class) (mask : List ℕ) (start : ℕ
       (subst (λ (sums : Sums). HasMore (counted_if true (Word s.scalar.pc word) sums (key_beside k s.vector.conf s.scalar.pc one.state.scalar.pc)) old new)
       (same_sums k mask (register_of s.vector.file 0) start one.ticks one.state.vector.conf mask_is) more)))
 
-  pub share_is : (next : HartState) (ticks : ℕ) (end : StepEnd) (c : Configuration) (pc : ℕ) → step 256 s ≡ ends_after ticks end next → c ≡ s.vector.conf → pc ≡ s.scalar.pc
+  share_is : (next : HartState) (ticks : ℕ) (end : StepEnd) (c : Configuration) (pc : ℕ) → step 256 s ≡ ends_after ticks end next → c ≡ s.vector.conf → pc ≡ s.scalar.pc
       → (can_access Fetch s.memory s.scalar.pc 4 ≡ true → word ≡ word_of s)
       → HasMore (counted end (Word s.scalar.pc word) (carried_out ticks (body k mask start next.vector.conf) (tail_end k next.vector.conf)) (key_beside k c pc next.scalar.pc)) old new
       → HasMore (share s) old new
@@ -111,33 +109,37 @@ module _ (s : HartState) (word : ℕ) (k : Class) (mask : List ℕ) (start : ℕ
       (subst (λ (d : Configuration). HasMore (counted end (Word s.scalar.pc word) sums (key_beside k d s.scalar.pc next.scalar.pc)) old new) conf_is
       (subst (λ (p : ℕ). HasMore (counted end (Word s.scalar.pc word) sums (key_beside k c p next.scalar.pc)) old new) pc_is more)))
 
--- by what was found
-pub share_by : (found : Found) (s next : HartState) (word : ℕ) (k : Class) (left : Left) (old new : List Row) → Finds k s.scalar.pc s.vector found
-    → k ≡ class_of (scan table word) → step 256 s ≡ ends_after left.ticks left.end next → left.conf ≡ next.vector.conf → left.pc ≡ next.scalar.pc
-    → (can_access Fetch s.memory s.scalar.pc 4 ≡ true → word ≡ word_of s)
-    → HasMore (counted_by found left (Word s.scalar.pc word)) old new → HasMore (share s) old new
-share_by found s next word k left old new is class made conf pc word_is more =
-    share_is s word found.class found.mask found.start old new (is.class_is ∙ class) (λ e. is.mask_is (ap (λ (j : Class). is_unmasked j) (sym is.class_is) ∙ e)) is.start_is
-    next left.ticks left.end found.conf found.pc made is.conf_is is.pc_is word_is
-    (subst (λ (d : Configuration).
-    HasMore (counted left.end (Word s.scalar.pc word) (carried_out left.ticks (body found.class found.mask found.start d) (tail_end found.class d)) (key_beside found.class found.conf found.pc next.scalar.pc)) old new) conf
-    (subst (λ (p : ℕ).
-    HasMore (counted left.end (Word s.scalar.pc word) (carried_out left.ticks (body found.class found.mask found.start left.conf) (tail_end found.class left.conf)) (key_beside found.class found.conf found.pc p)) old new) pc more))
-
 -- ---- by what was noted
 
 pub row_for : (s : HartState) (word index : ℕ) (found : Found) (k : Class) (rows : List Row) → (can_access Fetch s.memory s.scalar.pc 4 ≡ true → word ≡ word_of s)
-    → IsRowOf (Word s.scalar.pc word) index rows → Finds k s.scalar.pc s.vector found → k ≡ class_of (scan table word) → IsRowFor s index found rows
+    → IsRowOf (Word s.scalar.pc word) index rows → (is_plain k ≡ false → Finds k s.scalar.pc s.vector found) → k ≡ class_of (scan table word) → IsRowFor s index found rows
 row_for s word index found k rows word_is row finds class =
     record {
       word = word;
       word_is = word_is;
       row = row;
-      finds = subst (λ (j : Class). Finds j s.scalar.pc s.vector found) class finds;
+      finds = subst (λ (j : Class). is_plain j ≡ false → Finds j s.scalar.pc s.vector found) class finds;
     }
 
-pub share_noted : (s next : HartState) (left : Left) (index : ℕ) (found : Found) (old new : List Row) (noted : IsRowFor s index found old) → step 256 s ≡ ends_after left.ticks left.end next
-    → left.pc ≡ next.scalar.pc → left.conf ≡ next.vector.conf
-    → HasMore (counted_by found left (Word s.scalar.pc noted.word)) old new → HasMore (share s) old new
-share_noted s next left index found old new noted made pc conf more =
-    share_by found s next noted.word (class_of (scan table noted.word)) left old new noted.finds refl made conf pc noted.word_is more
+pub share_not_counted : (s next : HartState) (ticks : ℕ) (end : StepEnd) (rows : List Row) → step 256 s ≡ ends_after ticks end next → is_counted end ≡ false → HasMore (share s) rows rows
+share_not_counted s next ticks end rows made isnt =
+    let by : Stepped → Bool → Type 0 = λ one counts. HasMore (share_of s one counts (word_of s) (class_of (scan table (word_of s))) (register_of s.vector.file 0) s.vector.vstart) rows rows in
+    subst (λ (one : Stepped). by one (is_counted one.end)) (sym made) (subst (by (ends_after ticks end next)) (sym isnt) (none_more rows))
+
+-- of an instruction of this class, whose row has the index
+module _ (s next : HartState) (k : Class) (index : ℕ) (found : Found) (ticks : ℕ) (end : StepEnd) (sums : Sums) (old new : List Row) (noted : IsRowFor s index found old)
+    (class : k ≡ class_of (scan table noted.word)) (made : step 256 s ≡ ends_after ticks end next) (counts : is_counted end ≡ true) where
+  pub share_plain : is_plain k ≡ true → sums ≡ plain ticks → HasMore (more_of (Word s.scalar.pc noted.word) sums) old new → HasMore (share s) old new
+  share_plain is e one =
+      let mask : List ℕ = register_of s.vector.file 0 in
+      share_is s noted.word k mask s.vector.vstart old new class (λ _. refl) refl next ticks end s.vector.conf s.scalar.pc made refl refl noted.word_is
+      (plain_counted k mask s.vector.vstart ticks next.vector.conf s.vector.conf s.scalar.pc next.scalar.pc end (Word s.scalar.pc noted.word) sums old new is counts e one)
+
+  pub share_found : (mid : List Row) → is_plain k ≡ false → sums ≡ carried_out ticks (body k found.mask found.start next.vector.conf) (tail_end k next.vector.conf)
+      → HasMore (more_of (Word s.scalar.pc noted.word) sums) old mid → HasMore (once_more (key_beside k found.conf found.pc next.scalar.pc)) mid new → HasMore (share s) old new
+  share_found mid isnt e one two =
+      let finds : Finds k s.scalar.pc s.vector found =
+      subst (λ (j : Class). Finds j s.scalar.pc s.vector found) (sym class) (noted.finds (ap (λ (j : Class). is_plain j) (sym class) ∙ isnt)) in
+      share_is s noted.word k found.mask found.start old new class finds.mask_is finds.start_is next ticks end found.conf found.pc made finds.conf_is finds.pc_is noted.word_is
+      (both_counted end (Word s.scalar.pc noted.word) sums (carried_out ticks (body k found.mask found.start next.vector.conf) (tail_end k next.vector.conf))
+      (key_beside k found.conf found.pc next.scalar.pc) old mid new counts e one two)

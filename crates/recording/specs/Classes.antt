@@ -62,6 +62,11 @@ class_of (Some (instr.Vector i)) = operation_class i
 class_of (Some (instr.Access i)) = access_class i
 class_of _ = class.Plain
 
+-- whether it has neither elements nor a link
+abbrev pub is_plain : Class → Bool
+is_plain class.Plain = true
+is_plain k = false
+
 -- ---- elements
 
 -- whether all elements of the body are active

@@ -1,18 +1,13 @@
 //! The counts of a run.
-ghost use Rattle.std.specs.Prelude.{◌≡◌, [], IfOk, OnOk};
-ghost use Rattle.rv_model.specs.step.Hart.{HartState, ends_after};
-ghost use Rattle.rv_model.specs.step.Step.{step};
-ghost use Rattle.recording.specs.Found.{IsRowFor};
-ghost use Rattle.recording.specs.Machines.{state_of};
-ghost use Rattle.recording.specs.Runs.{share};
-ghost use Rattle.recording.specs.Sums.{HasMore, no_more};
+ghost use Rattle.std.specs.Prelude.{◌≡◌, [], IfOk};
 
 use crate::alone::Alone;
-use crate::counting::{count_instruction, word_at};
+use crate::counting::{count_beside, is_counted, word_at};
+use crate::elements::with_elements;
 use crate::fault::RecordFault;
-use crate::found::{Found, Left};
-use crate::key::Key;
+use crate::found::{Found, is_plain};
 use crate::recorder::Recorder;
+use crate::sums::Sums;
 use crate::table::Table;
 use rv_model::StepEnd;
 use std::alloc::{AllocError, Allocator, Global};
@@ -39,51 +34,6 @@ impl<A: Allocator + Copy> Counts<A> {
     }
 }
 
-/// Notes the row of the word that an instruction finds, and what it is counted by.
-#[inline(always)]
-fn note_word<M: UserBytes, A: Allocator>(
-    counts: &mut Counts<A>,
-    alone: &Alone<M>,
-) -> Result<(), RecordFault>
-    ensures totals { OnOk result (HasMore no_more counts.old.table.rows.items counts.new.table.rows.items) }
-    ensures row { OnOk result (IsRowFor (state_of M.memory alone.now) counts.new.index counts.new.found
-        counts.new.table.rows.items) }
-{
-    let pc = alone.scalar.pc;
-    let word = word_at(&alone.memory, pc);
-    let index = counts.table.row_of(Key::Word { pc, word })?;
-    let row = counts.table.rows[index];
-    counts.index = index;
-    counts.found.note(row.class, pc, &alone.vectors.seat.state);
-    Ok(())
-}
-
-/// Counts the instruction that was noted, which ended so after so many ticks and left this.
-#[inline(always)]
-fn count_noted<M: UserBytes, A: Allocator>(
-    counts: &mut Counts<A>,
-    alone: &Alone<M>,
-    end: StepEnd,
-    ticks: usize,
-) -> Result<(), RecordFault>
-    ensures { OnOk result ((found : HartState)
-        → IsRowFor found counts.old.index counts.old.found counts.old.table.rows.items
-        → step 256 found ≡ ends_after ticks end (state_of M.memory alone.now)
-        → HasMore (share found) counts.old.table.rows.items counts.new.table.rows.items) }
-{
-    if counts.index >= counts.table.rows.len() {
-        return Err(RecordFault::TableFull);
-    }
-    let left = Left {
-        end,
-        ticks,
-        pc: alone.scalar.pc,
-        conf: alone.vectors.seat.state.conf,
-    };
-    let found = &counts.found;
-    count_instruction(&mut counts.table, counts.index, found, &left)
-}
-
 impl<M: UserBytes, A: Allocator> Recorder<M> for Counts<A> {
     ghost use Rattle.recording.specs.Found.{IsRowFor};
     ghost use Rattle.recording.specs.Runs.{shares};
@@ -97,12 +47,34 @@ impl<M: UserBytes, A: Allocator> Recorder<M> for Counts<A> {
 
     #[inline(always)]
     fn note(&mut self, alone: &Alone<M>) -> Result<(), RecordFault> {
-        note_word(self, alone)
+        let pc = alone.scalar.pc;
+        let word = word_at(&alone.memory, pc);
+        let index = self.table.word_row(pc, word)?;
+        let row = self.table.rows[index];
+        self.index = index;
+        self.found.note(row.class, pc, &alone.vectors.seat.state);
+        Ok(())
     }
 
     #[inline(always)]
     fn keep(&mut self, alone: &Alone<M>, end: StepEnd, ticks: usize) -> Result<(), RecordFault> {
-        count_noted(self, alone, end, ticks)
+        if !is_counted(end) {
+            return Ok(());
+        }
+        let index = self.index;
+        if index >= self.table.rows.len() {
+            return Err(RecordFault::TableFull);
+        }
+        let row = self.table.rows[index];
+        if is_plain(row.class) {
+            self.table.count_at(index, Sums::plain(ticks));
+            return Ok(());
+        }
+        let found = &self.found;
+        let conf = alone.vectors.seat.state.conf;
+        let sums = with_elements(row.class, found, conf, ticks);
+        self.table.count_at(index, sums);
+        count_beside(&mut self.table, row.class, found, alone.scalar.pc)
     }
 
     ghost recorded_none = { λ r. none_shared r.table.rows.items };

@@ -81,33 +81,33 @@ fn active_of_all(found: &Found, end: usize) -> usize
 }
 
 /// How many elements are active, under this length and type.
-fn active(found: &Found, conf: VConf) -> usize
-    ensures { result ≡ active_count (body found.now.class found.now.mask found.now.start conf) }
+fn active(class: Class, found: &Found, conf: VConf) -> usize
+    ensures { result ≡ active_count (body class found.now.mask found.now.start conf) }
 {
-    match found.class {
+    match class {
         Class::Length { unmasked: false } => active_under(found, usize::from(conf.vl())),
         Class::Length { unmasked: true }
         | Class::Plain
         | Class::Link
         | Class::MaskBytes
         | Class::Elements { count: _ }
-        | Class::Registers { count: _ } => active_of_all(found, body_end(found.class, conf)),
+        | Class::Registers { count: _ } => active_of_all(found, body_end(class, conf)),
     }
 }
 
 /// What is counted of an instruction of so many ticks that found this and left this length and type.
 #[inline(always)]
-pub(crate) fn with_elements(found: &Found, conf: VConf, ticks: usize) -> Sums
-    ensures { result ≡ carried_out ticks (body found.now.class found.now.mask found.now.start conf)
-        (tail_end found.now.class conf) }
+pub(crate) fn with_elements(class: Class, found: &Found, conf: VConf, ticks: usize) -> Sums
+    ensures { result ≡ carried_out ticks (body class found.now.mask found.now.start conf)
+        (tail_end class conf) }
 {
-    let end = body_end(found.class, conf);
-    let active = active(found, conf);
+    let end = body_end(class, conf);
+    let active = active(class, found, conf);
     Sums {
         times: 1,
         ticks: ticks as u64,
         active: active as u64,
         masked: end.saturating_sub(found.start).saturating_sub(active) as u64,
-        tail: tail_end(found.class, conf).saturating_sub(end) as u64,
+        tail: tail_end(class, conf).saturating_sub(end) as u64,
     }
 }

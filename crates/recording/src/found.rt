@@ -1,19 +1,17 @@
-//! What an instruction finds and leaves, by which it is counted.
+//! What an instruction finds, by which it is counted.
 ghost use Rattle.std.specs.Prelude.{◌≡◌, false, true};
 ghost use Rattle.rv_model.specs.vector.Groups.{register_of};
-ghost use Rattle.recording.specs.Classes.{is_unmasked};
+ghost use Rattle.recording.specs.Classes.{is_plain, is_unmasked};
 ghost use Rattle.recording.specs.Found.{Finds};
-ghost use Rattle.recording.specs.declared.class.Class.TheVariants.{Plain};
 
 use crate::class::Class;
 use reg_groups::mask_register;
-use rv_model::{StepEnd, VConf, VLENB, VState};
+use rv_model::{VConf, VLENB, VState};
 
-/// What an instruction finds: where it stands, its class, vl and the vector type, vstart, and v0 if it is masked.
+/// What an instruction finds that isn't plain: where it stands, vl and the vector type, vstart, and v0 if it is masked.
 #[derive(Clone, Copy)]
 pub(crate) struct Found {
     pub pc: u64,
-    pub class: Class,
     pub conf: VConf,
     pub start: usize,
     pub mask: [u8; VLENB],
@@ -22,7 +20,7 @@ pub(crate) struct Found {
 /// Whether the instructions of a class neither have elements nor link.
 #[inline(always)]
 pub(crate) fn is_plain(class: Class) -> bool
-    ensures { result ≡ true → class ≡ Plain }
+    ensures { result ≡ is_plain class }
 {
     matches!(class, Class::Plain)
 }
@@ -49,33 +47,25 @@ impl Found {
     pub(crate) fn none() -> Found {
         Found {
             pc: 0,
-            class: Class::Plain,
             conf: VConf::vill(),
             start: 0,
             mask: [0; VLENB],
         }
     }
 
-    /// Notes what an instruction of a class finds.
+    /// Notes what an instruction of a class finds, unless it is plain.
     #[inline(always)]
     pub(crate) fn note(&mut self, class: Class, pc: u64, state: &VState)
-        ensures { Finds class pc state.now self.new }
+        ensures { is_plain class ≡ false → Finds class pc state.now self.new }
     {
+        if is_plain(class) {
+            return;
+        }
         self.pc = pc;
-        self.class = class;
         self.conf = state.conf;
         self.start = usize::from(state.vstart);
         if is_masked(class) {
             keep_mask(&mut self.mask, state);
         }
     }
-}
-
-/// What an instruction left: how it ended, its ticks, where the next one stands, and vl and the vector type.
-#[derive(Clone, Copy)]
-pub(crate) struct Left {
-    pub end: StepEnd,
-    pub ticks: usize,
-    pub pc: u64,
-    pub conf: VConf,
 }
