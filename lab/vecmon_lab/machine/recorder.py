@@ -8,14 +8,17 @@ import re
 import socket
 import subprocess
 from collections.abc import Callable, Mapping, Sequence
-from concurrent.futures import ThreadPoolExecutor
+from concurrent.futures import Executor, Future, ThreadPoolExecutor
 from dataclasses import dataclass
+from typing import BinaryIO, TypeVar
 
 from .. import LabError
 from .answers import Place, read
 from .program import RECORDER, find_recorder, image_refusal
 
 TAKEN_BYTES = 1 << 16  # of the output, at once
+
+Read = TypeVar("Read")
 
 
 @dataclass(frozen=True)
@@ -32,6 +35,14 @@ class Beginning:
     memory: Sequence[tuple[int, str, bytes]] = ()
     registers: Sequence[str] = ()
     policy: str = "keep"
+
+
+@dataclass(frozen=True)
+class Record:
+    """A record beside the counts: the recorder's words for it, without its file; and the file, which is closed then."""
+
+    words: Sequence[str]
+    file: io.FileIO
 
 
 @dataclass(frozen=True)
@@ -54,30 +65,42 @@ class Recording:
     ticks: int
 
 
-def record(beginning: Beginning, ticks: int | None = None, write: Callable[[bytes], object] | None = None) -> Recording:
+def record(
+    beginning: Beginning,
+    ticks: int | None = None,
+    write: Callable[[bytes], object] | None = None,
+    more: Sequence[Record] = (),
+) -> Recording:
     """Carries out a run to its end, or until its ticks have run out. `write` is given its output, a call's bytes at once.
 
-    Raises LabError where there is no recorder, or it refuses what it is given.
+    more: what else is recorded. Raises LabError where there is no recorder, or it refuses what it is given.
     """
     given = [("--memory", f"{address:x}:{permissions}:", data) for address, permissions, data in beginning.memory]
     if beginning.registers:
         given.append(("--registers", "", "\n".join(beginning.registers).encode()))
     words = ["--policy", beginning.policy, *(["--ticks", f"{ticks}"] if ticks else [])]
     with ThreadPoolExecutor(len(given) + 1) as pool, contextlib.ExitStack() as stack:
-        files = list[io.FileIO]()
+        files = [stack.enter_context(each.file) for each in more]
         for option, place, data in given:
             end, other = os.pipe()
             files.append(stack.enter_context(io.FileIO(end)))
             pool.submit(_fill, other, data)
             words += [option, f"{place}/dev/fd/{end}"]
-        other, end = os.pipe()
-        files.append(stack.enter_context(io.FileIO(end, "w")))
-        counts = pool.submit(_read_all, other)
-        words += ["--counts", f"/dev/fd/{end}", *(["--", str(beginning.image)] if beginning.image else [])]
-        status, told = _carry_out(words, files, write)
+        pipe, counts = read_from_pipe(pool, _read_all)
+        records = [*more, Record(["--counts"], stack.enter_context(pipe))]
+        for each in records:
+            words += [*each.words, f"/dev/fd/{each.file.fileno()}"]
+        words += ["--", str(beginning.image)] if beginning.image else []
+        status, told = _carry_out(words, [*files, pipe], write)
     if status != 0:
         raise LabError(_refusal(told, beginning) or f"{RECORDER} ended with status {status}")
     return read_counts(counts.result())
+
+
+def read_from_pipe(pool: Executor, reader: Callable[[BinaryIO], Read]) -> tuple[io.FileIO, Future[Read]]:
+    """A pipe's end for what is recorded, and what will have been read from the other end, in a thread of a pool."""
+    other, end = os.pipe()
+    return io.FileIO(end, "w"), pool.submit(_read, other, reader)
 
 
 def read_counts(text: str) -> Recording:
@@ -146,7 +169,12 @@ def _fill(pipe: int, data: bytes) -> None:
             data = data[file.write(data) :]
 
 
-def _read_all(pipe: int) -> str:
-    """All that comes through a pipe."""
-    with open(pipe, encoding="ascii") as file:
-        return file.read()
+def _read(pipe: int, reader: Callable[[BinaryIO], Read]) -> Read:
+    """What is read from a pipe, whose end comes."""
+    with open(pipe, "rb") as file:
+        return reader(file)
+
+
+def _read_all(file: BinaryIO) -> str:
+    """All that comes."""
+    return file.read().decode("ascii")

@@ -16,7 +16,7 @@ from ..instructions.words import VECTOR_ACCESSES, VectorInstruction
 from ..machine.answers import ControlRegisters, Listing, ScalarRegisters, Stop, VectorRegister
 from ..machine.lines import words_of
 from ..machine.program import find_program
-from ..machine.recorder import Beginning, record
+from ..machine.recorder import Beginning, Record, record
 from ..machine.session import Session
 from ..tables.table import html_table
 
@@ -144,16 +144,19 @@ def beginning_at(guest: Guest, lines: Iterable[str], image: pathlib.Path | None 
     return Beginning(image, memory, registers, policy)
 
 
-def count(beginning: Beginning, ticks: int | None = None, write: Callable[[bytes], object] | None = None) -> Counts:
+def count(
+    beginning: Beginning,
+    ticks: int | None = None,
+    write: Callable[[bytes], object] | None = None,
+    more: Sequence[Record] = (),
+) -> Counts:
     """What a run carries out to a stop, or until so many ticks have run out. `write` is given its output.
 
-    Raises LabError where there is no recorder, or it refuses what the run begins with.
+    more: what else is recorded. Raises LabError where there is no recorder, or it refuses what the run begins with.
     """
-    done = record(beginning, ticks, write)
-    carried_out = [
-        (key, numbers) for key, numbers in sorted(done.words.items()) if numbers[0]
-    ]  # not what faults at once
-    places = [Place(*key, times, used, rest) for key, (times, used, *rest) in carried_out]
+    done = record(beginning, ticks, write, more)
+    rows = sorted(done.words.items())
+    places = [Place(*key, it[0], it[1], it[2:]) for key, it in rows if it[0]]  # not what faults at once
     lengths = Counter({(vtype_text(vtype), vl): times for (vtype, vl), times in done.lengths.items()})
     stop = done.end if isinstance(done.end, Stop) else None
     return Counts(places, lengths, done.calls, done.instructions, done.ticks, stop, done.end.pc)
