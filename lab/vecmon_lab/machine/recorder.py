@@ -8,17 +8,17 @@ import re
 import socket
 import subprocess
 from collections.abc import Callable, Mapping, Sequence
-from concurrent.futures import Executor, Future, ThreadPoolExecutor
 from dataclasses import dataclass
-from typing import BinaryIO, TypeVar
 
 from .. import LabError
 from .answers import Place, read
 from .program import RECORDER, find_recorder, image_refusal
 
 TAKEN_BYTES = 1 << 16  # of the output, at once
+LARGE_PAGES = "glibc.malloc.hugetlb=1"  # which spare a short run a third of its time
 
-Read = TypeVar("Read")
+Laid = tuple[int, str, bytes]
+"""Memory: an address, the permissions of pages that aren't there, and bytes."""
 
 
 @dataclass(frozen=True)
@@ -26,13 +26,13 @@ class Beginning:
     """What a run begins with.
 
     image: an ELF file; without one there is no memory, and all registers are 0
-    memory: what is laid over it, in this order: an address, the permissions of pages that aren't there, and bytes
+    memory: what is laid over it, in this order
     registers: lines, each the name of a register and its value in hexadecimal digits
     policy: what becomes of agnostic elements, `keep` or `ones`
     """
 
     image: pathlib.Path | None = None
-    memory: Sequence[tuple[int, str, bytes]] = ()
+    memory: Sequence[Laid] = ()
     registers: Sequence[str] = ()
     policy: str = "keep"
 
@@ -75,32 +75,22 @@ def record(
 
     more: what else is recorded. Raises LabError where there is no recorder, or it refuses what it is given.
     """
-    given = [("--memory", f"{address:x}:{permissions}:", data) for address, permissions, data in beginning.memory]
-    if beginning.registers:
-        given.append(("--registers", "", "\n".join(beginning.registers).encode()))
+    registers, counts = "\n".join(beginning.registers).encode(), _in_memory()
+    given = [(["--memory"], f"{at:x}:{permissions}:", _in_memory(data)) for at, permissions, data in beginning.memory]
+    given += [(["--registers"], "", _in_memory(registers))] if registers else []
+    given += [(["--counts"], "", counts), *((list(each.words), "", each.file) for each in more)]
     words = ["--policy", beginning.policy, *(["--ticks", f"{ticks}"] if ticks else [])]
-    with ThreadPoolExecutor(len(given) + 1) as pool, contextlib.ExitStack() as stack:
-        files = [stack.enter_context(each.file) for each in more]
-        for option, place, data in given:
-            end, other = os.pipe()
-            files.append(stack.enter_context(io.FileIO(end)))
-            pool.submit(_fill, other, data)
-            words += [option, f"{place}/dev/fd/{end}"]
-        pipe, counts = read_from_pipe(pool, _read_all)
-        records = [*more, Record(["--counts"], stack.enter_context(pipe))]
-        for each in records:
-            words += [*each.words, f"/dev/fd/{each.file.fileno()}"]
+    with contextlib.ExitStack() as stack:
+        files = [stack.enter_context(file) for *_, file in given]
+        for option, place, file in given:
+            words += [*option, f"{place}/dev/fd/{file.fileno()}"]
         words += ["--", str(beginning.image)] if beginning.image else []
-        status, told = _carry_out(words, [*files, pipe], write)
+        status, told = _carry_out(words, files, len(more), write)
+        counts.seek(0)
+        text = counts.read().decode("ascii")
     if status != 0:
         raise LabError(_refusal(told, beginning) or f"{RECORDER} ended with status {status}")
-    return read_counts(counts.result())
-
-
-def read_from_pipe(pool: Executor, reader: Callable[[BinaryIO], Read]) -> tuple[io.FileIO, Future[Read]]:
-    """A pipe's end for what is recorded, and what will have been read from the other end, in a thread of a pool."""
-    other, end = os.pipe()
-    return io.FileIO(end, "w"), pool.submit(_read, other, reader)
+    return read_counts(text)
 
 
 def read_counts(text: str) -> Recording:
@@ -128,9 +118,12 @@ def read_counts(text: str) -> Recording:
 
 
 def _carry_out(
-    words: Sequence[str], files: Sequence[io.FileIO], write: Callable[[bytes], object] | None
+    words: Sequence[str], files: Sequence[io.FileIO], number: int, write: Callable[[bytes], object] | None
 ) -> tuple[int, str]:
-    """Runs the recorder, which is given files, to its end; its status, and what it says on standard error."""
+    """Runs the recorder, which is given files, to its end; its status, and what it says on standard error.
+
+    So many of the last ones are its own then, so that who reads one from a pipe comes to its end.
+    """
     command = [str(find_recorder()), *words]
     ours, theirs = socket.socketpair(socket.AF_UNIX, socket.SOCK_SEQPACKET)  # what is written at once is read at once
     with ours, theirs, subprocess.Popen(
@@ -139,10 +132,11 @@ def _carry_out(
         stdout=theirs.fileno() if write else subprocess.DEVNULL,
         stderr=subprocess.PIPE,
         pass_fds=[file.fileno() for file in files],
+        env={"GLIBC_TUNABLES": LARGE_PAGES, **os.environ},
     ) as process:
         try:
             theirs.close()
-            for file in files:
+            for file in files[len(files) - number :]:
                 file.close()
             while write and (data := ours.recv(TAKEN_BYTES)):
                 write(data)
@@ -162,19 +156,8 @@ def _refusal(told: str, beginning: Beginning) -> str:
     return reason
 
 
-def _fill(pipe: int, data: bytes) -> None:
-    """Writes bytes into a pipe, until nobody reads there any more."""
-    with contextlib.suppress(BrokenPipeError), io.FileIO(pipe, "w") as file:
-        while data:
-            data = data[file.write(data) :]
-
-
-def _read(pipe: int, reader: Callable[[BinaryIO], Read]) -> Read:
-    """What is read from a pipe, whose end comes."""
-    with open(pipe, "rb") as file:
-        return reader(file)
-
-
-def _read_all(file: BinaryIO) -> str:
-    """All that comes."""
-    return file.read().decode("ascii")
+def _in_memory(data: bytes = b"") -> io.FileIO:
+    """A file that holds these bytes, and is in memory alone."""
+    file = io.FileIO(os.memfd_create(RECORDER), "w+")
+    file.write(data)
+    return file

@@ -1,6 +1,7 @@
 """Where a run does what is watched for, or comes to a breakpoint, as the recorder tells of it."""
 
 import itertools
+import os
 from collections import deque
 from collections.abc import Callable, Iterator, Sequence
 from concurrent.futures import ThreadPoolExecutor
@@ -8,7 +9,7 @@ from typing import BinaryIO
 
 from ..instructions.accesses import LINE_BYTES
 from ..machine.answers import Stop
-from ..machine.recorder import Beginning, Record, Recording, read_from_pipe, record
+from ..machine.recorder import Beginning, Record, Recording, record
 from .watches import Watch, logged_access
 
 FIRST_WINDOW, GROWTH = (
@@ -77,9 +78,10 @@ class Search:
     ) -> tuple[Recording, list[Halt], int]:
         """A run with a record, if there are words for it; the first and the last of what is read of it; and its bytes."""
         sizes = list[int]()
-        with ThreadPoolExecutor(1) as pool:
-            pipe, halts = read_from_pipe(pool, lambda file: _ends(read(file)))
-            with pipe:
+        end, other = os.pipe()
+        with ThreadPoolExecutor(1) as pool, open(end, "rb") as file:
+            halts = pool.submit(lambda: _ends(read(file)))
+            with open(other, "wb", 0) as pipe:
                 more = [Record(words, pipe)] if words else []
                 done = record(self._beginning, ticks, lambda data: sizes.append(len(data)), more)
             return done, halts.result(), sum(sizes)

@@ -11,12 +11,12 @@ from .. import mistakes_in
 from ..guest.changes import vtype_text
 from ..guest.guest import STACK_END, Guest, argument_block, check_image, pokes
 from ..guest.input import input_of
-from ..instructions.accesses import MASK, PAGE_BYTES, UNIT_STRIDE, WHOLE_REGISTERS, vector_instruction
+from ..instructions.accesses import MASK, PAGE_BYTES, UNIT_STRIDE, WHOLE_REGISTERS, Span, vector_instruction
 from ..instructions.words import VECTOR_ACCESSES, VectorInstruction
 from ..machine.answers import ControlRegisters, Listing, ScalarRegisters, Stop, VectorRegister
 from ..machine.lines import words_of
 from ..machine.program import find_program
-from ..machine.recorder import Beginning, Record, record
+from ..machine.recorder import Beginning, Laid, Record, record
 from ..machine.session import Session
 from ..tables.table import html_table
 
@@ -113,19 +113,16 @@ def beginning_at(guest: Guest, lines: Iterable[str], image: pathlib.Path | None 
 
     image: the one that they loaded, if any, whose other pages nothing has written to
     """
-    pages, written, policy = dict[int, str](), set[int](), "keep"
+    pages, spans, policy = dict[int, str](), dict[Span, None](), "keep"
     for line in lines:
         match words_of(line):
             case ["map", address, number, permissions]:
                 first = int(address, 16)
                 pages |= dict.fromkeys(range(first, first + int(number) * PAGE_BYTES, PAGE_BYTES), permissions)
             case ["poke" | "asm" as command, address, text, *_]:
-                first, length = int(address, 16), len(text) // 2 if command == "poke" else 4
-                for page in range(first // PAGE_BYTES * PAGE_BYTES, first + length, PAGE_BYTES):
-                    pages.setdefault(page, "rw")
-                    written.add(page)
+                spans[int(address, 16), len(text) // 2 if command == "poke" else 4] = None
             case ["step" | "go", *_]:  # what is carried out may write to any page
-                written.update(pages)
+                spans |= dict.fromkeys((page, PAGE_BYTES) for page in pages)
             case ["policy", policy]:
                 pass
     control, scalars = guest.told("vcsr", ControlRegisters), guest.told("regs", ScalarRegisters)
@@ -133,15 +130,21 @@ def beginning_at(guest: Guest, lines: Iterable[str], image: pathlib.Path | None 
     registers = [f"pc {scalars.pc:x}", *(f"{name} {value:x}" for name, value in vars(control).items())]
     registers += [f"x{number} {scalars.x[number]:x}" for number in range(1, 32)]
     registers += [f"v{it.number} {it.data.hex()}" for it in vectors if isinstance(it, VectorRegister)]
-    memory = list[tuple[int, str, bytes]]()
-    for page, permissions in pages.items():
-        data = guest.peek(page, PAGE_BYTES) if page in written else bytes(PAGE_BYTES)
-        first, before, held = memory[-1] if memory else (page, "", b"")
-        if (before, first + len(held)) == (permissions, page):  # they go to the recorder as one
-            memory.pop()
-            page, data = first, held + data
-        memory.append((page, permissions, data))
-    return Beginning(image, memory, registers, policy)
+    memory = [(page, permissions, bytes(PAGE_BYTES)) for page, permissions in pages.items()]
+    memory += [(first, "rw", guest.peek(first, length)) for first, length in spans]
+    return Beginning(image, _joined(memory), registers, policy)
+
+
+def _joined(memory: Iterable[Laid]) -> Sequence[Laid]:
+    """The same, where what follows each other with the same permissions is one."""
+    joined = list[Laid]()
+    for address, permissions, data in memory:
+        first, before, held = joined[-1] if joined else (0, "", b"")
+        if (before, first + len(held)) == (permissions, address):
+            joined[-1] = first, permissions, held + data
+        else:
+            joined.append((address, permissions, data))
+    return joined
 
 
 def count(
