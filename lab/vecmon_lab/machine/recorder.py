@@ -5,10 +5,9 @@ import io
 import os
 import pathlib
 import re
-import socket
 import subprocess
 from collections.abc import Callable, Mapping, Sequence
-from dataclasses import dataclass
+from dataclasses import dataclass, replace
 
 from .. import LabError
 from .answers import Place, read
@@ -55,6 +54,7 @@ class Recording:
     calls: by the address of a jump that links or returns, and by where it led, how often
     end: the stop, or where the program stands whose ticks ran out
     instructions, ticks: of the whole run
+    short_writes: how many calls wrote some bytes, but less than they were asked to
     """
 
     words: Mapping[tuple[int, int], Sequence[int]]
@@ -63,6 +63,7 @@ class Recording:
     end: Place
     instructions: int
     ticks: int
+    short_writes: int = 0
 
 
 def record(
@@ -71,7 +72,7 @@ def record(
     write: Callable[[bytes], object] | None = None,
     more: Sequence[Record] = (),
 ) -> Recording:
-    """Carries out a run to its end, or until its ticks have run out. `write` is given its output, a call's bytes at once.
+    """Carries out a run to its end, or until its ticks have run out. `write` is given its output as it comes.
 
     more: what else is recorded. Raises LabError where there is no recorder, or it refuses what it is given.
     """
@@ -90,7 +91,7 @@ def record(
         text = counts.read().decode("ascii")
     if status != 0:
         raise LabError(_refusal(told, beginning) or f"{RECORDER} ended with status {status}")
-    return read_counts(text)
+    return replace(read_counts(text), short_writes=int(told.rpartition(" ")[2] or 0))
 
 
 def read_counts(text: str) -> Recording:
@@ -125,20 +126,18 @@ def _carry_out(
     So many of the last ones are its own then, so that who reads one from a pipe comes to its end.
     """
     command = [str(find_recorder()), *words]
-    ours, theirs = socket.socketpair(socket.AF_UNIX, socket.SOCK_SEQPACKET)  # what is written at once is read at once
-    with ours, theirs, subprocess.Popen(
+    with subprocess.Popen(
         command,
         stdin=subprocess.DEVNULL,
-        stdout=theirs.fileno() if write else subprocess.DEVNULL,
+        stdout=subprocess.PIPE if write else subprocess.DEVNULL,
         stderr=subprocess.PIPE,
         pass_fds=[file.fileno() for file in files],
         env={"GLIBC_TUNABLES": LARGE_PAGES, **os.environ},
     ) as process:
         try:
-            theirs.close()
             for file in files[len(files) - number :]:
                 file.close()
-            while write and (data := ours.recv(TAKEN_BYTES)):
+            while write and (data := os.read(process.stdout.fileno(), TAKEN_BYTES) if process.stdout else b""):
                 write(data)
             assert process.stderr
             told = process.stderr.read().decode("utf-8", "replace")

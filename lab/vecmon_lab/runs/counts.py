@@ -54,6 +54,7 @@ class Counts:
     lengths: how many vector instructions had which vector type and vl
     calls: by the address of a jump that links or returns, and by where it led, how often
     stop: None where the ticks ran out; pc: where the program stands
+    short_writes: how many calls wrote some bytes, but less than they were asked to
     """
 
     places: Sequence[Place]
@@ -63,6 +64,7 @@ class Counts:
     ticks: int
     stop: Stop | None
     pc: int
+    short_writes: int = 0
 
     @property
     def elements(self) -> Sequence[int]:
@@ -162,7 +164,7 @@ def count(
     places = [Place(*key, it[0], it[1], it[2:]) for key, it in rows if it[0]]  # not what faults at once
     lengths = Counter({(vtype_text(vtype), vl): times for (vtype, vl), times in done.lengths.items()})
     stop = done.end if isinstance(done.end, Stop) else None
-    return Counts(places, lengths, done.calls, done.instructions, done.ticks, stop, done.end.pc)
+    return Counts(places, lengths, done.calls, done.instructions, done.ticks, stop, done.end.pc, done.short_writes)
 
 
 def elements_of(word: int, control: ControlRegisters, v0: bytes) -> Elements | None:

@@ -17,9 +17,10 @@ from ..guest.symbols import Symbols
 from ..instructions.reasons import describe_stop
 from ..machine.answers import Stop
 from ..machine.recorder import Record
+from ..output import write_out
 from .counts import Counts, beginning_of, count
 from .trace import trace
-from .writes import Written, short_write
+from .writes import short_write
 
 TICKS_RAN_OUT, BREAKPOINT, FAULT = 124, 133, 139  # as timeout says, and a shell of SIGTRAP and SIGSEGV
 
@@ -45,13 +46,12 @@ def run(arguments: argparse.Namespace) -> int:
     for output in (arguments.trace, arguments.log):
         check_output(output, image, *filter(None, [arguments.input]))
     with arguments.trace.open("w", encoding="utf-8") if arguments.trace else contextlib.nullcontext() as file:
-        written = Written()
-        counts = counted(arguments, written.write, arguments.policy, [*_logs(arguments)])
+        counts = counted(arguments, write_out, arguments.policy, [*_logs(arguments)])
         lines = [*stats(counts)] if arguments.stats else [total(counts)] if arguments.count else []
         is_exit = counts.stop is not None and counts.stop.kind == "exit"
         if not is_exit:
             lines.append(f"vecmon-lab: {image}: {told(arguments, counts, symbols, arguments.policy)}")
-        if written.is_full and (short := _short_write(arguments, counts, symbols)):
+        if counts.short_writes and (short := _short_write(arguments, counts, symbols)):
             lines.append(f"vecmon-lab: {image}: {short}")
         sys.stderr.writelines(f"{line}\n" for line in lines)
         window = _window(arguments, counts)
