@@ -3,7 +3,7 @@
 import itertools
 import os
 from collections import deque
-from collections.abc import Callable, Iterator, Sequence
+from collections.abc import Callable, Iterable, Iterator, Sequence
 from concurrent.futures import ThreadPoolExecutor
 from typing import BinaryIO
 
@@ -29,7 +29,7 @@ class Search:
     beginning: of the run, with all of its memory
     """
 
-    def __init__(self, beginning: Beginning, watches: Sequence[Watch], breaks: Sequence[int]) -> None:
+    def __init__(self, beginning: Beginning, watches: Sequence[Watch], breaks: Iterable[int]) -> None:
         self._beginning, self._breaks = beginning, {b"%016x" % address for address in breaks}
         self._changed = [watch for watch in watches if watch.kind == "watch"]
         self._accessed = [watch for watch in watches if watch.kind != "watch"]
@@ -41,6 +41,17 @@ class Search:
             last = min([done.instructions, *(number for number, _ in halts)])
             halts += self._log(ticks, 1, last)
         return done, halts, written
+
+    def length(self, ticks: int, last: int) -> int:
+        """How many instructions a run has in so many ticks, up to a stop or a breakpoint at which it doesn't begin.
+
+        last: in how many of the last ticks the breakpoint is, unless it is one at which the run comes by more often
+        """
+        before, done = (self._changes(number)[0] for number in (max(1, ticks - last), ticks))
+        first = 2 if self._needs_log(before) else before.instructions + 1
+        halts = self._log(ticks, first, done.instructions) if self._needs_log(done) else []
+        is_over = done.ticks > ticks or isinstance(done.end, Stop) and done.end.kind == "exit"
+        return min([number - 1 for number, _ in halts] or [done.instructions - is_over])
 
     def back(self, ticks: int, count: int) -> Iterator[list[Halt]]:
         """The last halts among so many instructions, among others: nothing where they are none of a window's, the last one first.

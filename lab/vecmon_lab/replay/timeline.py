@@ -4,15 +4,15 @@ An instant comes again by a replay: another session carries out the script up to
 """
 
 import operator
-from collections.abc import Callable, Iterator, Sequence
+from collections.abc import Callable, Sequence
 
 from .. import LabError
 from ..checkpoints.machine_state import PERMISSIONS, carry_out, pages_of
 from ..guest.guest import OUTPUT_BYTES, Guest
-from ..machine.answers import Addresses, Position, Stop, read
-from ..machine.recorder import Beginning, record
+from ..machine.answers import Addresses, Position, Stop
+from ..machine.recorder import Beginning
 from ..runs.counts import beginning_at
-from .legs import OUTPUT_EVERY, Leg, Legs, stepping
+from .legs import Leg, Legs, stepping
 from .recorded import Halt, Search
 from .watches import Watch, accessed
 
@@ -56,7 +56,7 @@ class Timeline:
                 continue
             end = done.instructions - (isinstance(done.end, Stop) and done.end.kind == "exit")
             count, self.hit = min([(number - 1, watch) for number, watch in halts] or [(end, None)], key=_position)
-            self._guest.advance(stepping(0, count))
+            self._guest.advance(stepping(count))
             if halts:
                 return Stop("break", self._guest.pc)
             if isinstance(done.end, Stop):
@@ -103,7 +103,7 @@ class Timeline:
         for place in reversed(range(len(self._legs.legs))):
             leg = self._legs.legs[place]
             count = self._count(leg)
-            search = Search(self._beginning(self._script(leg, 0)), self.watches, breaks)
+            search = Search(self._beginning(self._script(leg)), self.watches, breaks)
             for halts in search.back(leg.ticks or count, count) if count else ():
                 if is_interrupted():
                     return None
@@ -133,9 +133,9 @@ class Timeline:
     def _rewind(self, place: int, count: int) -> None:
         """Goes back to an instant of the leg at a place. Breakpoints stay as they are."""
         guest, breaks = self._guest, self._breaks()
-        session = guest.session.rewound(self._script(self._legs.legs[place], 0))
+        session = guest.session.rewound(self._script(self._legs.legs[place]))
         full = f"{guest.user} out {OUTPUT_BYTES} ", f"{guest.user} outfull "
-        for _, answer in session.do_script(self._lines(*stepping(0, count), "out")):
+        for _, answer in session.do_script(self._lines(*stepping(count), "out")):
             if answer[0].startswith(full):  # a call may have found less room than it needs
                 session.close()
                 raise LabError(TOO_MUCH)
@@ -158,44 +158,18 @@ class Timeline:
         """The guest's lines with these commands."""
         return "".join(f"{self._guest.user} {command}\n" for command in commands).encode("ascii")
 
-    def _script(self, leg: Leg, count: int, keeps_breaks: bool = False) -> bytes:
-        """The script that brings a machine behind so many instructions of a leg, and has no breakpoints then, or its own."""
-        unbreak = [] if keeps_breaks else [f"unbreak {address:x}" for address in leg.breaks]
-        return self._guest.session.script[: leg.start] + self._lines("stop", *unbreak, *stepping(0, count))
+    def _script(self, leg: Leg) -> bytes:
+        """The script that brings a machine to where a leg begins, and has no breakpoints then."""
+        return self._guest.session.script[: leg.start] + self._lines("stop", *(f"unbreak {it:x}" for it in leg.breaks))
 
     def _count(self, leg: Leg) -> int:
         """How many instructions a leg has. Raises LabError where they are too many."""
         if (leg.count or leg.ticks) > MOST_BACK:
             raise LabError(TOO_FAR)
         if leg.count is None:
-            leg.count = self._counted(leg) if leg.has_stopped else self._recorded(leg)
+            search = Search(self._beginning(self._script(leg)), (), leg.breaks if leg.has_stopped else ())
+            leg.count = search.length(leg.ticks, self._guest.session.quantum)
         return leg.count
-
-    def _counted(self, leg: Leg) -> int:
-        """The instructions of a leg up to the stop that ended it."""
-        first, is_at_break = self._stepped(leg, 0, leg.ticks, OUTPUT_EVERY)
-        return first if is_at_break else self._stepped(leg, first, first + OUTPUT_EVERY, 1)[0]
-
-    def _stepped(self, leg: Leg, first: int, last: int, most: int) -> tuple[int, bool]:
-        """Up to which number whole steps, of `most` instructions each, go on without a stop; whether a breakpoint is there."""
-        lines = self._lines(*stepping(first, last, most))
-        for told in (
-            read([line]) for line in self._guest.session.told_elsewhere(self._script(leg, first, True), lines)
-        ):
-            if isinstance(told, Stop):
-                if told.kind == "outfull":
-                    raise LabError(TOO_MUCH)
-                break
-            if isinstance(told, Position):
-                first += told.number
-                if told.pc in leg.breaks:
-                    return first, True
-        return first, False
-
-    def _recorded(self, leg: Leg) -> int:
-        """The instructions of a leg whose ticks ran out."""
-        done = record(self._beginning(self._script(leg, 0)), leg.ticks)
-        return done.instructions - (done.ticks > leg.ticks)  # the last one may have been cut
 
     def _beginning(self, script: bytes) -> Beginning:
         """What a run begins with behind a script."""
