@@ -46,17 +46,17 @@ def run(arguments: argparse.Namespace) -> int:
     for output in (arguments.trace, arguments.log):
         check_output(output, image, *filter(None, [arguments.input]))
     with arguments.trace.open("w", encoding="utf-8") if arguments.trace else contextlib.nullcontext() as file:
-        counts = counted(arguments, write_out, arguments.policy, [*_logs(arguments)])
+        counts = counted(arguments, write_out, [*_logs(arguments)])
         lines = [*stats(counts)] if arguments.stats else [total(counts)] if arguments.count else []
         is_exit = counts.stop is not None and counts.stop.kind == "exit"
         if not is_exit:
-            lines.append(f"vecmon-lab: {image}: {told(arguments, counts, symbols, arguments.policy)}")
+            lines.append(f"vecmon-lab: {image}: {told(arguments, counts, symbols)}")
         if counts.short_writes and (short := _short_write(arguments, counts, symbols)):
             lines.append(f"vecmon-lab: {image}: {short}")
         sys.stderr.writelines(f"{line}\n" for line in lines)
         window = _window(arguments, counts)
         if file:
-            begin = functools.partial(_begun, arguments, arguments.policy, lambda data: None)
+            begin = functools.partial(_begun, arguments)
             file.writelines(f"{line}\n" for line in trace(begin, symbols, window))
     return counts.stop.number if counts.stop and is_exit else status_of(counts.stop)
 
@@ -64,25 +64,25 @@ def run(arguments: argparse.Namespace) -> int:
 def counted(
     arguments: argparse.Namespace,
     write: Callable[[bytes], object] | None = None,
-    policy: str = "keep",
     more: Sequence[Record] = (),
 ) -> Counts:
     """What an image's run carries out, by the words of a command; more: what else is recorded.
 
     Raises LabError and OSError for bad input.
     """
-    beginning = beginning_of(arguments.image, [arguments.image.name, *arguments.words], arguments.input, policy)
+    words = [arguments.image.name, *arguments.words]
+    beginning = beginning_of(arguments.image, words, arguments.input, arguments.policy)
     return count(beginning, arguments.ticks, write, more)
 
 
-def told(arguments: argparse.Namespace, counts: Counts, symbols: Symbols, policy: str = "keep") -> str:
+def told(arguments: argparse.Namespace, counts: Counts, symbols: Symbols) -> str:
     """How a run that was counted ended, in a line; of a stop why, by the registers of a machine that comes there."""
     stop, place = counts.stop, f"{counts.pc:x} {symbols.place(counts.pc)}".rstrip()
     if stop is None:
         return f"the ticks ran out at {place}"
     if stop.kind == "exit":
         return f"status {stop.number}"
-    with _begun(arguments, policy, lambda data: None) as guest:
+    with _begun(arguments) as guest:
         if guest.go(counts.ticks + QUANTUM) == stop:
             return guest.tell(stop, symbols.place(stop.pc))
     return f"{place}: {describe_stop(stop)}"
@@ -109,18 +109,16 @@ def status_of(stop: Stop | None) -> int:
     return TICKS_RAN_OUT if stop is None else {"exit": 0, "fault": FAULT}.get(stop.kind, BREAKPOINT)
 
 
-def _begun(
-    arguments: argparse.Namespace, policy: str, write: Callable[[bytes], object]
-) -> AbstractContextManager[Guest]:
-    """The guest that the image of a command is loaded for."""
-    words = [arguments.image.name, *arguments.words]
-    return started(arguments.image, policy=policy, arguments=words, file=arguments.input, write=write)
+def _begun(arguments: argparse.Namespace) -> AbstractContextManager[Guest]:
+    """The guest that the image of a command is loaded for, whose output nobody sees."""
+    image, policy, words = arguments.image, arguments.policy, [arguments.image.name, *arguments.words]
+    return started(image, policy=policy, arguments=words, file=arguments.input, write=lambda data: None)
 
 
 def _short_write(arguments: argparse.Namespace, counts: Counts, symbols: Symbols) -> str:
     """The first call that was given more bytes than it wrote, in a line; or nothing."""
     calls = [place.address for place in counts.places if place.word == ECALL]
-    with _begun(arguments, arguments.policy, lambda data: None) as guest:
+    with _begun(arguments) as guest:
         found = short_write(guest, calls, counts.ticks)
     if found is None:
         return ""
