@@ -38,6 +38,7 @@ def add_program(parser: argparse.ArgumentParser, told: str = "an ELF file", is_n
 def add_image(parser: argparse.ArgumentParser) -> None:
     """The words of all commands that run an image to its end."""
     add_program(parser)
+    parser.set_defaults(policy="keep")
     parser.add_argument("--ticks", metavar="N", type=between(1, 1 << 63), help="how many ticks it has at most")
 
 

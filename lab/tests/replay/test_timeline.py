@@ -121,6 +121,46 @@ def test_changes_of_a_place(begin: Callable[[str], tuple[Timeline, Guest]]) -> N
     assert timeline.back_to_halt((), never) is False and state(guest) == (0x10000, 0, 0, 0)
 
 
+def test_changes_and_breakpoints(begin: Callable[[str], tuple[Timeline, Guest]]) -> None:
+    """The store of each round, and its branch two instructions on, each one by itself."""
+    timeline, guest = begin(COUNTDOWN)
+    assert timeline.go(never) == Stop("ebreak", 0x10018)
+    for number in (1, 2, 3):
+        timeline.watches = [PLACE]
+        assert timeline.back_to_halt([0x10014], never) and timeline.hit is None
+        assert state(guest) == (0x10014, number - 1, 4 - number, number)
+        assert timeline.back_to_halt([0x10014], never) and timeline.hit == PLACE
+        assert state(guest) == (0x10010, number, 4 - number, number)
+        timeline.watches = []
+        assert timeline.back()
+    timeline.watches = [PLACE]
+    assert timeline.back_to_halt([0x10014], never) is False and guest.pc == 0x10000
+
+
+def test_changes_behind_what_was_written_by_hand(begin: Callable[[str], tuple[Timeline, Guest]]) -> None:
+    """Nine rounds in place of three, the first of which stores what is there."""
+    timeline, guest = begin(COUNTDOWN)
+    timeline.step()
+    guest.ask("set x5 9", "set x6 20", "poke 11008 09000000")
+    assert timeline.go(never) == Stop("ebreak", 0x10018) and state(guest) == (0x10018, 0, 0x29, 1)
+    for number in range(1, 9):
+        timeline.watches = [PLACE]
+        assert timeline.back_to_halt((), never) and timeline.hit == PLACE
+        assert state(guest) == (0x10010, number, 0x2A - number, number)
+        timeline.watches = []
+        assert timeline.back() and state(guest)[3] == number + 1
+    timeline.watches = [PLACE]
+    assert timeline.back_to_halt((), never) is False and state(guest) == (0x10000, 0, 0, 0)
+
+
+def test_a_place_without_memory(begin: Callable[[str], tuple[Timeline, Guest]]) -> None:
+    """The page of data ends at 12000."""
+    timeline, _ = begin(COUNTDOWN)
+    timeline.watches = [Watch("watch", 0x11FFC, 8), Watch("watch", 0x12000, 8)]
+    assert timeline.go(never) == Stop("ebreak", 0x10018) and timeline.hit is None
+    assert timeline.back_to_halt((), never) is False and timeline.hit is None
+
+
 def test_back_to_breakpoints(begin: Callable[[str], tuple[Timeline, Guest]]) -> None:
     timeline, guest = begin(COUNTDOWN)
     guest.ask("break 10010")
@@ -213,7 +253,7 @@ def test_output_on_the_way(begin: Callable[[str], tuple[Timeline, Guest]]) -> No
     timeline, guest = begin(WRITES)
     timeline.watches = [Watch("watch", 0x10000, 8)]
     polls = itertools.count()
-    assert timeline.go(lambda: next(polls) > 3) is None
+    assert timeline.go(lambda: next(polls) > 24) is None
     timeline.watches = []
     before = guest.told("regs", ScalarRegisters)
     assert 1000 < before.x[8] < 4000 and timeline.back(8000)

@@ -173,6 +173,32 @@ def test_what_nobody_has_written(lab: Lab, program: pathlib.Path, tmp_path: path
     assert (status, told) == (1, [line.format_map(places) for line in UNWRITTEN[name]])
 
 
+@pytest.mark.parametrize(
+    "source, told",
+    [
+        (
+            "vsetivli zero, 1, e8, m1, ta, ma\nvmv.v.i v8, 1\nread: vaadd.vx v9, v8, zero\nvmv.x.s a0, v9",
+            ["  x10: 1 as loaded, 0 filled", "vaadd.vx v9, v8, x0", "vxrm"],  # half of 1 is rounded up, and to even
+        ),
+        ("read: csrr a0, vxsat", ["  x10: 0 as loaded, 1 filled", "csrrs x10, vxsat, x0", "vxsat"]),
+    ],
+)
+def test_control_registers_that_nobody_has_written(
+    lab: Lab, program: pathlib.Path, tmp_path: pathlib.Path, source: str, told: list[str]
+) -> None:
+    status, lines, labels = compared(lab, program, tmp_path, f"{source}\nli a7, 93\nend: ecall")
+    values, read, name = told
+    assert (status, lines[8:]) == (
+        1,
+        [
+            f"the runs part at {labels['end']:x}: ecall",
+            values,
+            f"  first read at {labels['read']:x}: {read}",
+            f"  which comes from {name}, where nothing has been written",
+        ],
+    )
+
+
 def test_there_is_a_program_of_each_fault() -> None:
     assert {path.stem for path in (EXAMPLES / "unwritten").iterdir()} == set(UNWRITTEN)
 

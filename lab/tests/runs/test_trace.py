@@ -129,8 +129,8 @@ def test_what_stops_a_run_is_its_last_line(lab: Lab, program: pathlib.Path, tmp_
 @pytest.mark.parametrize(
     "words, told",
     [
-        (["--from", "2"], "--from and --to are of a trace: --trace FILE names its file"),
-        (["--to", "2"], "--from and --to are of a trace: --trace FILE names its file"),
+        (["--from", "2"], "--from and --to are of a trace or a log: --trace FILE or --log FILE names its file"),
+        (["--to", "2"], "--from and --to are of a trace or a log: --trace FILE or --log FILE names its file"),
         (["--trace", "trace", "--from", "3", "--to", "2"], "from instruction 3 to 2 there is none"),
         (["--trace", "trace", "--from", "251"], "the run has 250 instructions, and none from 251 on"),
     ],

@@ -183,8 +183,10 @@ class Kernel:
         guest, self._is_stopped = self._guest, False
         before = [*self._begin, f"policy {policy}", *lines, f"setpc {self._symbols.addresses[symbol]:x}"]
         looks = ["regs", *(look for place in places for look in _looks(place)), "out"]
-        counts = self._counted(before, ticks) if counted else None
-        answers = guest.ask(*before, f"step {MOST_STEPS}", *looks)
+        answers, counts = guest.ask(*(before if counted else ())), None
+        if counted:
+            counts = count(beginning_at(guest, [f"1 {line}" for line in before], self._images.get("image")), ticks)
+        answers += guest.ask(*before[len(answers) :], f"step {MOST_STEPS}", *looks)
         for command, answer in zip(before, answers):
             if isinstance(answer, Refused):
                 raise LabError(f"{symbol}: {command[:60]}: {refusal_in_words(f'1 {command}', answer)[-1]}")
@@ -201,13 +203,6 @@ class Kernel:
         (registers,) = (each for each in found if isinstance(each, ScalarRegisters))
         parts = iter(each.data for each in found if isinstance(each, Memory))
         return (registers.x[FIRST_ARGUMENT], [_joined(place, parts) for place in places], output), counts
-
-    def _counted(self, commands: Sequence[str], ticks: int) -> Counts:
-        """What a call carries out that begins behind these commands."""
-        guest = self._guest
-        guest.ask(*commands)
-        lines = [f"{guest.user} {command}" for command in commands]
-        return count(beginning_at(guest, lines, self._images.get("image")), ticks)
 
     def _stopped(self, what: str, stop: Stop | None, places: Sequence[_Place]) -> CallStopped:
         """Why a call didn't return; of a fault in or beside an array also where that lies."""

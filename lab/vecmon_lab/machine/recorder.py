@@ -5,17 +5,19 @@ import io
 import os
 import pathlib
 import re
-import socket
 import subprocess
 from collections.abc import Callable, Mapping, Sequence
-from concurrent.futures import ThreadPoolExecutor
-from dataclasses import dataclass
+from dataclasses import dataclass, replace
 
 from .. import LabError
 from .answers import Place, read
 from .program import RECORDER, find_recorder, image_refusal
 
 TAKEN_BYTES = 1 << 16  # of the output, at once
+LARGE_PAGES = "glibc.malloc.hugetlb=1"  # which spare a short run a third of its time
+
+Laid = tuple[int, str, bytes]
+"""Memory: an address, the permissions of pages that aren't there, and bytes."""
 
 
 @dataclass(frozen=True)
@@ -23,15 +25,23 @@ class Beginning:
     """What a run begins with.
 
     image: an ELF file; without one there is no memory, and all registers are 0
-    memory: what is laid over it, in this order: an address, the permissions of pages that aren't there, and bytes
+    memory: what is laid over it, in this order
     registers: lines, each the name of a register and its value in hexadecimal digits
     policy: what becomes of agnostic elements, `keep` or `ones`
     """
 
     image: pathlib.Path | None = None
-    memory: Sequence[tuple[int, str, bytes]] = ()
+    memory: Sequence[Laid] = ()
     registers: Sequence[str] = ()
     policy: str = "keep"
+
+
+@dataclass(frozen=True)
+class Record:
+    """A record beside the counts: the recorder's words for it, without its file; and the file, which is closed then."""
+
+    words: Sequence[str]
+    file: io.FileIO
 
 
 @dataclass(frozen=True)
@@ -44,6 +54,7 @@ class Recording:
     calls: by the address of a jump that links or returns, and by where it led, how often
     end: the stop, or where the program stands whose ticks ran out
     instructions, ticks: of the whole run
+    short_writes: how many calls wrote some bytes, but less than they were asked to
     """
 
     words: Mapping[tuple[int, int], Sequence[int]]
@@ -52,32 +63,35 @@ class Recording:
     end: Place
     instructions: int
     ticks: int
+    short_writes: int = 0
 
 
-def record(beginning: Beginning, ticks: int | None = None, write: Callable[[bytes], object] | None = None) -> Recording:
-    """Carries out a run to its end, or until its ticks have run out. `write` is given its output, a call's bytes at once.
+def record(
+    beginning: Beginning,
+    ticks: int | None = None,
+    write: Callable[[bytes], object] | None = None,
+    more: Sequence[Record] = (),
+) -> Recording:
+    """Carries out a run to its end, or until its ticks have run out. `write` is given its output as it comes.
 
-    Raises LabError where there is no recorder, or it refuses what it is given.
+    more: what else is recorded. Raises LabError where there is no recorder, or it refuses what it is given.
     """
-    given = [("--memory", f"{address:x}:{permissions}:", data) for address, permissions, data in beginning.memory]
-    if beginning.registers:
-        given.append(("--registers", "", "\n".join(beginning.registers).encode()))
+    registers, counts = "\n".join(beginning.registers).encode(), _in_memory()
+    given = [(["--memory"], f"{at:x}:{permissions}:", _in_memory(data)) for at, permissions, data in beginning.memory]
+    given += [(["--registers"], "", _in_memory(registers))] if registers else []
+    given += [(["--counts"], "", counts), *((list(each.words), "", each.file) for each in more)]
     words = ["--policy", beginning.policy, *(["--ticks", f"{ticks}"] if ticks else [])]
-    with ThreadPoolExecutor(len(given) + 1) as pool, contextlib.ExitStack() as stack:
-        files = list[io.FileIO]()
-        for option, place, data in given:
-            end, other = os.pipe()
-            files.append(stack.enter_context(io.FileIO(end)))
-            pool.submit(_fill, other, data)
-            words += [option, f"{place}/dev/fd/{end}"]
-        other, end = os.pipe()
-        files.append(stack.enter_context(io.FileIO(end, "w")))
-        counts = pool.submit(_read_all, other)
-        words += ["--counts", f"/dev/fd/{end}", *(["--", str(beginning.image)] if beginning.image else [])]
-        status, told = _carry_out(words, files, write)
+    with contextlib.ExitStack() as stack:
+        files = [stack.enter_context(file) for *_, file in given]
+        for option, place, file in given:
+            words += [*option, f"{place}/dev/fd/{file.fileno()}"]
+        words += ["--", str(beginning.image)] if beginning.image else []
+        status, told = _carry_out(words, files, len(more), write)
+        counts.seek(0)
+        text = counts.read().decode("ascii")
     if status != 0:
         raise LabError(_refusal(told, beginning) or f"{RECORDER} ended with status {status}")
-    return read_counts(counts.result())
+    return replace(read_counts(text), short_writes=int(told.rpartition(" ")[2] or 0))
 
 
 def read_counts(text: str) -> Recording:
@@ -105,23 +119,25 @@ def read_counts(text: str) -> Recording:
 
 
 def _carry_out(
-    words: Sequence[str], files: Sequence[io.FileIO], write: Callable[[bytes], object] | None
+    words: Sequence[str], files: Sequence[io.FileIO], number: int, write: Callable[[bytes], object] | None
 ) -> tuple[int, str]:
-    """Runs the recorder, which is given files, to its end; its status, and what it says on standard error."""
+    """Runs the recorder, which is given files, to its end; its status, and what it says on standard error.
+
+    So many of the last ones are its own then, so that who reads one from a pipe comes to its end.
+    """
     command = [str(find_recorder()), *words]
-    ours, theirs = socket.socketpair(socket.AF_UNIX, socket.SOCK_SEQPACKET)  # what is written at once is read at once
-    with ours, theirs, subprocess.Popen(
+    with subprocess.Popen(
         command,
         stdin=subprocess.DEVNULL,
-        stdout=theirs.fileno() if write else subprocess.DEVNULL,
+        stdout=subprocess.PIPE if write else subprocess.DEVNULL,
         stderr=subprocess.PIPE,
         pass_fds=[file.fileno() for file in files],
+        env={"GLIBC_TUNABLES": LARGE_PAGES, **os.environ},
     ) as process:
         try:
-            theirs.close()
-            for file in files:
+            for file in files[len(files) - number :]:
                 file.close()
-            while write and (data := ours.recv(TAKEN_BYTES)):
+            while write and (data := os.read(process.stdout.fileno(), TAKEN_BYTES) if process.stdout else b""):
                 write(data)
             assert process.stderr
             told = process.stderr.read().decode("utf-8", "replace")
@@ -139,14 +155,8 @@ def _refusal(told: str, beginning: Beginning) -> str:
     return reason
 
 
-def _fill(pipe: int, data: bytes) -> None:
-    """Writes bytes into a pipe, until nobody reads there any more."""
-    with contextlib.suppress(BrokenPipeError), io.FileIO(pipe, "w") as file:
-        while data:
-            data = data[file.write(data) :]
-
-
-def _read_all(pipe: int) -> str:
-    """All that comes through a pipe."""
-    with open(pipe, encoding="ascii") as file:
-        return file.read()
+def _in_memory(data: bytes = b"") -> io.FileIO:
+    """A file that holds these bytes, and is in memory alone."""
+    file = io.FileIO(os.memfd_create(RECORDER), "w+")
+    file.write(data)
+    return file

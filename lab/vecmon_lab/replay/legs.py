@@ -3,10 +3,11 @@
 from collections.abc import Iterable, Iterator, Sequence
 from dataclasses import dataclass, replace
 
+from ..guest.guest import MOST_STEPS
 from ..machine.answers import Granted, Position, Refused, read
 from ..machine.lines import words_of
 
-OUTPUT_EVERY = 256  # instructions of a leg: then a replay takes its output
+OUTPUT_EVERY = MOST_STEPS  # instructions of a leg: then a replay takes its output
 
 
 @dataclass
@@ -100,14 +101,11 @@ class Legs:
         return self.legs[-1]
 
 
-def stepping(first: int, last: int, most: int = OUTPUT_EVERY) -> Iterator[str]:
-    """The commands that carry out the instructions from one number of a leg up to another, `most` at once.
+def stepping(count: int) -> Iterator[str]:
+    """The commands that carry out so many instructions of a leg.
 
     Output is taken behind the same ones each time, so that calls that write find the same room.
     """
-    while first < last:
-        number = min(most, OUTPUT_EVERY - first % OUTPUT_EVERY, last - first)
-        yield f"step {number}"
-        first += number
-        if first % OUTPUT_EVERY == 0:
-            yield "out"
+    yield from (f"step {OUTPUT_EVERY}", "out") * (count // OUTPUT_EVERY)
+    if count % OUTPUT_EVERY:
+        yield f"step {count % OUTPUT_EVERY}"

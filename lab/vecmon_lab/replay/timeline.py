@@ -3,35 +3,24 @@
 An instant comes again by a replay: another session carries out the script up to there, with all that was written by hand.
 """
 
-import functools
-import itertools
 import operator
-from collections.abc import Callable, Container, Iterator, Sequence
+from collections.abc import Callable, Sequence
 
 from .. import LabError
 from ..checkpoints.machine_state import PERMISSIONS, carry_out, pages_of
-from ..guest.guest import Guest
-from ..instructions.words import STORE, STORE_FP
-from ..machine.answers import Addresses, Answer, Output, Place, Position, Stop, read
-from ..machine.recorder import record
-from ..machine.session import Session
+from ..guest.guest import OUTPUT_BYTES, Guest
+from ..machine.answers import Addresses, Position, Stop
+from ..machine.recorder import Beginning
 from ..runs.counts import beginning_at
-from .legs import OUTPUT_EVERY, Leg, Legs, stepping
-from .watches import ACCESSES, Watch, accessed, changed
+from .legs import Leg, Legs, stepping
+from .recorded import Halt, Search
+from .watches import Watch, accessed
 
-FEW = 16  # instructions that are carried out on the machine itself before a window is looked at
-FIRST_WINDOW, MOST_WINDOW = 256, 1 << 17  # that are looked at in one go
-MOST_ACCESSES = 1 << 12  # of them where accesses are watched for
+FEW = 16  # instructions that are carried out on the machine itself before the recorder is asked
+FIRST_TICKS, MOST_TICKS, LEAST_TICKS = 256, 1 << 20, 4  # that the recorder is given; of the least, all output has room
 MOST_BACK = 200_000_000  # ticks of a leg: a script takes no more steps
 TOO_FAR = f"there is no way back into a run of more than {MOST_BACK:,} ticks"
-TRACED = 16  # addresses that `trace` shows
-STORES = (STORE, STORE_FP)  # opcodes of what may change memory
 TOO_MUCH = "there is no way back: the program writes more than its buffer takes, within 256 instructions"
-
-
-Window = tuple[Sequence[int], Stop | None]
-"""Instructions one after another that were carried out elsewhere: the program counter before each of them, and behind the last one, and what
-stopped the program there, if anything did."""
 
 
 class Timeline:
@@ -57,20 +46,22 @@ class Timeline:
         return self._go_far(breaks, is_interrupted) if self.watches else self._guest.go(None, is_interrupted)
 
     def _go_far(self, breaks: Sequence[int], is_interrupted: Callable[[], bool]) -> Stop | None:
-        """As `go`, where places are watched: windows tell how far the program may run."""
-        size = FIRST_WINDOW
+        """As `go`, where places are watched: the recorder tells how far the program may run."""
+        ticks = FIRST_TICKS
         while not is_interrupted():
-            script = self._guest.session.script
-            pcs, stop = self._window(script, 0, size)
-            ends: list[tuple[int, Watch | None]] = [*self._hits(script, 0, pcs)]
-            ends += [(number, None) for number in _numbers(pcs, breaks) if number]
-            count, self.hit = min(ends, key=operator.itemgetter(0), default=(len(pcs) - 1, None))
-            self._guest.advance(stepping(0, count))
-            if ends:
+            search = Search(self._beginning(self._guest.session.script), self.watches, breaks)
+            done, halts, written = search.first(ticks)
+            if written > OUTPUT_BYTES:  # a call may find less room here than there
+                ticks = max(LEAST_TICKS, ticks // 4)
+                continue
+            end = done.instructions - (isinstance(done.end, Stop) and done.end.kind == "exit")
+            count, self.hit = min([(number - 1, watch) for number, watch in halts] or [(end, None)], key=_position)
+            self._guest.advance(stepping(count))
+            if halts:
                 return Stop("break", self._guest.pc)
-            if stop and stop.kind != "outfull":
-                return self._guest.step()
-            size = self._next_size(size)
+            if isinstance(done.end, Stop):
+                return self.step()
+            ticks = min(4 * ticks, MOST_TICKS)
         return None
 
     def step(self) -> Stop | None:
@@ -84,7 +75,7 @@ class Timeline:
     def back(self, number: int = 1) -> bool:
         """Goes back by so many instructions; whether there were as many, else to the first instant. Raises LabError."""
         self._catch_up()
-        before, legs, self.hit = self._shown(), self._legs.legs, None
+        before, legs, self.hit = self._held(), self._legs.legs, None
         for place in reversed(range(len(legs))):
             count = self._count(legs[place])
             if number <= count:
@@ -95,9 +86,9 @@ class Timeline:
             self._begin()
             return False
         if self.watches:
-            word = self._guest.word_at(self._guest.pc)[0]
-            hit = changed(self.watches, before, self._shown()) or accessed(self._accessed, self._guest, word)
-            if hit:
+            word, now = self._guest.word_at(self._guest.pc)[0], self._held()
+            changed = next((watch for watch in before if before[watch] != now[watch]), None)
+            if hit := changed or accessed([each for each in self.watches if each not in now], self._guest, word):
                 self._guest.step()
                 self.hit = hit
         return True
@@ -109,38 +100,21 @@ class Timeline:
         """
         self.hit = None
         self._catch_up()
-        for place, first, last in self._stretches():
-            if is_interrupted():
-                return None
-            script = self._script(self._legs.legs[place], first)
-            pcs, _ = self._window(script, first, last)
-            if len(pcs) <= last - first:
-                raise LabError(TOO_MUCH)
-            halts: list[tuple[int, Watch | None]] = [(number + 1, it) for number, it in self._hits(script, first, pcs)]
-            halts += [(number, None) for number in _numbers(pcs[:-1], breaks)]
-            if halts:
-                number, self.hit = max(halts, key=operator.itemgetter(0))
-                self._rewind(place, first + number)
-                return True
+        for place in reversed(range(len(self._legs.legs))):
+            leg = self._legs.legs[place]
+            count = self._count(leg)
+            search = Search(self._beginning(self._script(leg)), self.watches, breaks)
+            for halts in search.back(leg.ticks or count, count) if count else ():
+                if is_interrupted():
+                    return None
+                if halts:
+                    ends = [(number - (watch is None), watch) for number, watch in halts]
+                    number, hit = max(ends, key=_position)
+                    self._rewind(place, number)
+                    self.hit = hit
+                    return True
         self._begin()
         return False
-
-    def _stretches(self) -> Iterator[tuple[int, int, int]]:
-        """Parts of the legs, the last one first: a leg's place, and the numbers of the first instruction, and behind the last."""
-        place, last, size = len(self._legs.legs), 0, FIRST_WINDOW
-        while place or last:
-            if last == 0:
-                place -= 1
-                last = self._count(self._legs.legs[place])
-            first = max(0, last - size)
-            if first < last:
-                yield place, first, last
-                size = self._next_size(size)
-            last = first
-
-    def _next_size(self, size: int) -> int:
-        """How many instructions the next window has behind one of this size."""
-        return min(4 * size, MOST_ACCESSES if self._accessed else MOST_WINDOW)
 
     def _catch_up(self) -> None:
         """Takes up what the script has had since the last time."""
@@ -159,7 +133,12 @@ class Timeline:
     def _rewind(self, place: int, count: int) -> None:
         """Goes back to an instant of the leg at a place. Breakpoints stay as they are."""
         guest, breaks = self._guest, self._breaks()
-        session = guest.session.rewound(self._script(self._legs.legs[place], count))
+        session = guest.session.rewound(self._script(self._legs.legs[place]))
+        full = f"{guest.user} out {OUTPUT_BYTES} ", f"{guest.user} outfull "
+        for _, answer in session.do_script(self._lines(*stepping(count), "out")):
+            if answer[0].startswith(full):  # a call may have found less room than it needs
+                session.close()
+                raise LabError(TOO_MUCH)
         guest.session.close()
         guest.session = session
         guest.ask(*(f"break {address:x}" for address in breaks))
@@ -170,133 +149,39 @@ class Timeline:
         """Where breakpoints stand."""
         return self._guest.told("breaks", Addresses).addresses
 
-    @property
-    def _accessed(self) -> list[Watch]:
-        """The places whose accesses are watched for, and not their changes alone."""
-        return [watch for watch in self.watches if watch.kind != "watch"]
-
-    def _shown(self) -> list[Answer]:
-        """What looks at the places that are watched show."""
-        return self._guest.ask(*_looks(self.watches))
+    def _held(self) -> dict[Watch, bytes]:
+        """What stands where changes are watched for."""
+        changes = [watch for watch in self.watches if watch.kind == "watch"]
+        return {watch: self._guest.peek(watch.address, watch.length) for watch in changes}
 
     def _lines(self, *commands: str) -> bytes:
         """The guest's lines with these commands."""
         return "".join(f"{self._guest.user} {command}\n" for command in commands).encode("ascii")
 
-    def _script(self, leg: Leg, count: int, keeps_breaks: bool = False) -> bytes:
-        """The script that brings a machine behind so many instructions of a leg, and has no breakpoints then, or its own."""
-        unbreak = [] if keeps_breaks else [f"unbreak {address:x}" for address in leg.breaks]
-        return self._guest.session.script[: leg.start] + self._lines("stop", *unbreak, *stepping(0, count))
-
-    def _window(self, script: bytes, first: int, last: int, most: int = TRACED) -> Window:
-        """The instructions of a leg between two of their numbers, behind a script; fewer before a stop."""
-        commands = ([step] if step == "out" else [step, "trace"] for step in stepping(first, last, most))
-        lines = self._lines("state", *itertools.chain(*commands))
-        state, *answers = map(_read, self._guest.session.told_elsewhere(script, lines))
-        told = [answer for answer in answers if not isinstance(answer, Output)]
-        assert isinstance(state, Position)
-        pcs, pc = list[int](), state.pc
-        for step, trace in zip(told[::2], told[1::2]):
-            assert isinstance(trace, Addresses)
-            if isinstance(step, Stop):
-                if pcs or most == 1:
-                    return [*pcs, pc], step if most == 1 else None
-                return self._window(script, first, min(last, first + most), 1)
-            assert isinstance(step, Position)
-            pcs += trace.addresses[-step.number :]
-            pc = step.pc
-        return [*pcs, pc], None
-
-    def _hits(self, script: bytes, first: int, pcs: Sequence[int]) -> list[tuple[int, Watch]]:
-        """The instructions of a window that do what is watched for, by their numbers there, each with the place.
-
-        What an instruction may do is told by the word that stands there now.
-        """
-        pcs = pcs[:-1]
-        words = {pc: self._guest.word_at(pc)[0] for pc in set(pcs)}
-        stores = {pc for pc, word in words.items() if word & 0x7F in STORES}
-        hits = list(self._changes(script, first, _numbers(pcs, stores))) if _looks(self.watches) else []
-        opcodes = {opcode for watch in self._accessed for opcode in ACCESSES[watch.kind]}
-        wanted = {pc for pc, word in words.items() if word & 0x7F in opcodes}
-        if wanted:
-            hits += self._accesses(script, first, [(number, words[pcs[number]]) for number in _numbers(pcs, wanted)])
-        return sorted(hits, key=operator.itemgetter(0))
-
-    def _accesses(self, script: bytes, first: int, words: Sequence[tuple[int, int]]) -> Iterator[tuple[int, Watch]]:
-        """Those of some instructions that access what is watched, by their numbers behind a script, each with the place."""
-        with self._guest.session.rewound(script) as session:
-            guest, at = Guest(session, self._guest.user), first
-            for number, word in words:
-                guest.ask(*stepping(at, first + number))
-                at = first + number
-                if watch := accessed(self._accessed, guest, word):
-                    yield number, watch
-
-    def _changes(self, script: bytes, first: int, stores: Sequence[int]) -> Iterator[tuple[int, Watch]]:
-        """Those of some stores that change what is watched, by their numbers behind a script, each with the place.
-
-        This alone knows how changes are found.
-        """
-        looks, ends = _looks(self.watches), [first, *(first + number + 1 for number in stores)]
-        commands = ([*stepping(at, end), *looks] for at, end in zip([first, *ends], ends))
-        answers = self._guest.session.told_elsewhere(script, self._lines(*itertools.chain(*commands)))
-        shown = [told for told in map(_read, answers) if not isinstance(told, Output | Place)]
-        rows = [shown[at : at + len(looks)] for at in range(0, len(shown), len(looks))]
-        for number, before, after in zip(stores, rows, rows[1:]):
-            if watch := changed(self.watches, before, after):
-                yield number, watch
+    def _script(self, leg: Leg) -> bytes:
+        """The script that brings a machine to where a leg begins, and has no breakpoints then."""
+        return self._guest.session.script[: leg.start] + self._lines("stop", *(f"unbreak {it:x}" for it in leg.breaks))
 
     def _count(self, leg: Leg) -> int:
         """How many instructions a leg has. Raises LabError where they are too many."""
         if (leg.count or leg.ticks) > MOST_BACK:
             raise LabError(TOO_FAR)
         if leg.count is None:
-            leg.count = self._counted(leg) if leg.has_stopped else self._recorded(leg)
+            search = Search(self._beginning(self._script(leg)), (), leg.breaks if leg.has_stopped else ())
+            leg.count = search.length(leg.ticks, self._guest.session.quantum)
         return leg.count
 
-    def _counted(self, leg: Leg) -> int:
-        """The instructions of a leg up to the stop that ended it."""
-        first, is_at_break = self._stepped(leg, 0, leg.ticks, OUTPUT_EVERY)
-        return first if is_at_break else self._stepped(leg, first, first + OUTPUT_EVERY, 1)[0]
-
-    def _stepped(self, leg: Leg, first: int, last: int, most: int) -> tuple[int, bool]:
-        """Up to which number whole steps, of `most` instructions each, go on without a stop; whether a breakpoint is there."""
-        lines = self._lines(*stepping(first, last, most))
-        for told in map(_read, self._guest.session.told_elsewhere(self._script(leg, first, True), lines)):
-            if isinstance(told, Stop):
-                if told.kind == "outfull":
-                    raise LabError(TOO_MUCH)
-                break
-            if isinstance(told, Position):
-                first += told.number
-                if told.pc in leg.breaks:
-                    return first, True
-        return first, False
-
-    def _recorded(self, leg: Leg) -> int:
-        """The instructions of a leg whose ticks ran out, by the recorder, from the state before them on."""
+    def _beginning(self, script: bytes) -> Beginning:
+        """What a run begins with behind a script."""
         with self._guest.session.rewound(b"") as session:
-            user = carry_out(session, self._script(leg, 0))[str(self._guest.user)]
+            user = carry_out(session, script)[str(self._guest.user)]
             lines = [f"1 policy {user.policy}"]
             for page, allowed in pages_of(user, session.images):
                 lines.append(f"1 map {page:x} 1 {''.join(it for it, bit in PERMISSIONS.items() if allowed & bit)}")
             lines.append("1 go")  # the program may have written to each of them
-            beginning = beginning_at(Guest(session, self._guest.user), lines)
-        done = record(beginning, leg.ticks)
-        return done.instructions - (done.ticks > leg.ticks)  # the last one may have been cut
+            return beginning_at(Guest(session, self._guest.user), lines)
 
 
-def _numbers(pcs: Sequence[int], addresses: Container[int]) -> list[int]:
-    """The numbers of the instructions that stand at these addresses."""
-    return [number for number, pc in enumerate(pcs) if pc in addresses]
-
-
-def _looks(watches: Sequence[Watch]) -> list[str]:
-    """The looks at the places that are watched."""
-    return [look for watch in watches for look in watch.looks]
-
-
-@functools.lru_cache(maxsize=1 << 14)
-def _read(answer: str) -> Answer:
-    """What an answer of one line says."""
-    return read([answer])
+def _position(halt: Halt) -> int:
+    """How many instructions stand before a halt."""
+    return halt[0]

@@ -1,15 +1,21 @@
 """Places of memory that are watched: what instructions change or access there."""
 
-from collections.abc import Iterator, Sequence
+import re
+from collections.abc import Callable, Iterable, Iterator, Sequence
 from dataclasses import dataclass
 
 from ..guest.guest import Guest
-from ..instructions.accesses import LINE_BYTES, REGISTER_BYTES, scalar_span, vector_instruction, vector_spans
+from ..instructions.accesses import REGISTER_BYTES, Span, scalar_span, vector_instruction, vector_spans
 from ..instructions.words import LOAD, LOAD_FP, STORE, STORE_FP, VECTOR_ACCESSES
-from ..machine.answers import ControlRegisters, Memory, ScalarRegisters, VectorRegister
+from ..machine.answers import ControlRegisters, ScalarRegisters, VectorRegister
 
 ACCESSES = {"watch": (STORE, STORE_FP), "rwatch": (LOAD, LOAD_FP), "awatch": (LOAD, LOAD_FP, STORE, STORE_FP)}
 """The opcodes of what may do what is watched for, as gdb calls it: change the bytes, load them, or load or store them."""
+
+WORD = slice(34, 42)  # in a line of a log
+MOVED = re.compile(rb" mem 0x(\w{16})(?: 0x(\w+))?")  # there: an element's address, and of stores its bytes
+SEW = re.compile(rb" e(\d+) m")
+WIDTHS = {0: 1, 5: 2, 6: 4, 7: 8}  # bytes of an element, by the width in a vector load's word
 
 
 @dataclass(frozen=True)
@@ -20,38 +26,42 @@ class Watch:
     address: int
     length: int
 
-    @property
-    def looks(self) -> list[str]:
-        """The looks that show the bytes; none where accesses are watched for."""
-        end = self.address + self.length if self.kind == "watch" else 0
-        return [f"peek {at:x} {min(LINE_BYTES, end - at)}" for at in range(self.address, end, LINE_BYTES)]
-
-
-def changed(watches: Sequence[Watch], before: Sequence[object], after: Sequence[object]) -> Watch | None:
-    """The first place whose bytes aren't what they were, by what the looks of all places show."""
-    at = 0
-    for watch in watches:
-        end = at + len(watch.looks)
-        if before[at:end] != after[at:end]:
-            return watch
-        at = end
-    return None
-
 
 def accessed(watches: Sequence[Watch], guest: Guest, word: int) -> Watch | None:
     """The first place that the next instruction of a guest, which is this word, loads from or stores to as watched for.
 
     Elements count that are active; those that a fault or a fault-only-first load leaves out, too.
     """
+    return _met(watches, word, lambda: _spans(guest, word))
+
+
+def logged_access(watches: Sequence[Watch], line: bytes) -> Watch | None:
+    """The first place that an instruction has loaded from or stored to as watched for, by its line in a log."""
+    return _met(watches, int(line[WORD], 16), lambda: _logged_spans(line)) if b" mem " in line else None
+
+
+def _met(watches: Sequence[Watch], word: int, spans: Callable[[], Iterable[Span]]) -> Watch | None:
+    """The first place that an instruction, which is this word, accesses as watched for, by what it accesses."""
     wanted = [watch for watch in watches if word & 0x7F in ACCESSES[watch.kind]]
-    spans = list(_spans(guest, word)) if wanted else []
+    found = list(spans()) if wanted else []
     for watch in wanted:
-        if any(at < watch.address + watch.length and watch.address < at + length for at, length in spans):
+        if any(at < watch.address + watch.length and watch.address < at + length for at, length in found):
             return watch
     return None
 
 
-def _spans(guest: Guest, word: int) -> Iterator[tuple[int, int]]:
+def _logged_spans(line: bytes) -> Iterator[Span]:
+    """What a load or store has accessed, by its line in a log, which has the bytes of stores alone."""
+    word = int(line[WORD], 16)
+    loaded = 1 << (word >> 12 & 3)
+    if word & 0x7F == LOAD_FP:
+        is_indexed = word >> 26 & 1
+        loaded = int(SEW.findall(line)[0]) // 8 if is_indexed else WIDTHS[word >> 12 & 7]
+    for address, data in MOVED.findall(line):
+        yield int(address, 16), len(data) // 2 or loaded
+
+
+def _spans(guest: Guest, word: int) -> Iterator[Span]:
     """What a load or store accesses, by the registers before it: addresses, each with how many bytes."""
     x = guest.told("regs", ScalarRegisters).x
     if word & 0x7F not in VECTOR_ACCESSES:

@@ -67,7 +67,7 @@ def run(arguments: argparse.Namespace) -> int:
 
 
 def filled(beginning: Beginning, turned: int) -> Beginning:
-    """The same, with numbers in all registers but x2, and in the stack below it.
+    """The same, with numbers in all registers but x2, in vxrm and vxsat, and in the stack below x2.
 
     turned: the bits of each byte that are turned round, by which there are two ways
     """
@@ -75,6 +75,7 @@ def filled(beginning: Beginning, turned: int) -> Beginning:
     junk = [bytes(byte ^ turned for byte in random.randbytes(size)) for size in [8] * 31 + [REGISTER_BYTES] * 32]
     registers = [f"x{number} {data.hex()}" for number, data in enumerate(junk[:31], 1)]
     registers += [f"v{number} {data.hex()}" for number, data in enumerate(junk[31:])]
+    registers += [f"vxrm {1 ^ turned & 3}", f"vxsat {1 ^ turned & 1}"]
     stack = bytes(byte ^ turned for byte in random.randbytes(pointer + STACK_BYTES - STACK_END))
     own = _segments_in_stack(beginning.image) if beginning.image else ()
     memory = [(STACK_END - STACK_BYTES, "rw", stack), *own, *beginning.memory]

@@ -11,12 +11,12 @@ from .. import mistakes_in
 from ..guest.changes import vtype_text
 from ..guest.guest import STACK_END, Guest, argument_block, check_image, pokes
 from ..guest.input import input_of
-from ..instructions.accesses import MASK, PAGE_BYTES, UNIT_STRIDE, WHOLE_REGISTERS, vector_instruction
+from ..instructions.accesses import MASK, PAGE_BYTES, UNIT_STRIDE, WHOLE_REGISTERS, Span, vector_instruction
 from ..instructions.words import VECTOR_ACCESSES, VectorInstruction
 from ..machine.answers import ControlRegisters, Listing, ScalarRegisters, Stop, VectorRegister
 from ..machine.lines import words_of
 from ..machine.program import find_program
-from ..machine.recorder import Beginning, record
+from ..machine.recorder import Beginning, Laid, Record, record
 from ..machine.session import Session
 from ..tables.table import html_table
 
@@ -54,6 +54,7 @@ class Counts:
     lengths: how many vector instructions had which vector type and vl
     calls: by the address of a jump that links or returns, and by where it led, how often
     stop: None where the ticks ran out; pc: where the program stands
+    short_writes: how many calls wrote some bytes, but less than they were asked to
     """
 
     places: Sequence[Place]
@@ -63,6 +64,7 @@ class Counts:
     ticks: int
     stop: Stop | None
     pc: int
+    short_writes: int = 0
 
     @property
     def elements(self) -> Sequence[int]:
@@ -113,19 +115,16 @@ def beginning_at(guest: Guest, lines: Iterable[str], image: pathlib.Path | None 
 
     image: the one that they loaded, if any, whose other pages nothing has written to
     """
-    pages, written, policy = dict[int, str](), set[int](), "keep"
+    pages, spans, policy = dict[int, str](), dict[Span, None](), "keep"
     for line in lines:
         match words_of(line):
             case ["map", address, number, permissions]:
                 first = int(address, 16)
                 pages |= dict.fromkeys(range(first, first + int(number) * PAGE_BYTES, PAGE_BYTES), permissions)
             case ["poke" | "asm" as command, address, text, *_]:
-                first, length = int(address, 16), len(text) // 2 if command == "poke" else 4
-                for page in range(first // PAGE_BYTES * PAGE_BYTES, first + length, PAGE_BYTES):
-                    pages.setdefault(page, "rw")
-                    written.add(page)
+                spans[int(address, 16), len(text) // 2 if command == "poke" else 4] = None
             case ["step" | "go", *_]:  # what is carried out may write to any page
-                written.update(pages)
+                spans |= dict.fromkeys((page, PAGE_BYTES) for page in pages)
             case ["policy", policy]:
                 pass
     control, scalars = guest.told("vcsr", ControlRegisters), guest.told("regs", ScalarRegisters)
@@ -133,30 +132,39 @@ def beginning_at(guest: Guest, lines: Iterable[str], image: pathlib.Path | None 
     registers = [f"pc {scalars.pc:x}", *(f"{name} {value:x}" for name, value in vars(control).items())]
     registers += [f"x{number} {scalars.x[number]:x}" for number in range(1, 32)]
     registers += [f"v{it.number} {it.data.hex()}" for it in vectors if isinstance(it, VectorRegister)]
-    memory = list[tuple[int, str, bytes]]()
-    for page, permissions in pages.items():
-        data = guest.peek(page, PAGE_BYTES) if page in written else bytes(PAGE_BYTES)
-        first, before, held = memory[-1] if memory else (page, "", b"")
-        if (before, first + len(held)) == (permissions, page):  # they go to the recorder as one
-            memory.pop()
-            page, data = first, held + data
-        memory.append((page, permissions, data))
-    return Beginning(image, memory, registers, policy)
+    memory = [(page, permissions, bytes(PAGE_BYTES)) for page, permissions in pages.items()]
+    memory += [(first, "rw", guest.peek(first, length)) for first, length in spans]
+    return Beginning(image, _joined(memory), registers, policy)
 
 
-def count(beginning: Beginning, ticks: int | None = None, write: Callable[[bytes], object] | None = None) -> Counts:
+def _joined(memory: Iterable[Laid]) -> Sequence[Laid]:
+    """The same, where what follows each other with the same permissions is one."""
+    joined = list[Laid]()
+    for address, permissions, data in memory:
+        first, before, held = joined[-1] if joined else (0, "", b"")
+        if (before, first + len(held)) == (permissions, address):
+            joined[-1] = first, permissions, held + data
+        else:
+            joined.append((address, permissions, data))
+    return joined
+
+
+def count(
+    beginning: Beginning,
+    ticks: int | None = None,
+    write: Callable[[bytes], object] | None = None,
+    more: Sequence[Record] = (),
+) -> Counts:
     """What a run carries out to a stop, or until so many ticks have run out. `write` is given its output.
 
-    Raises LabError where there is no recorder, or it refuses what the run begins with.
+    more: what else is recorded. Raises LabError where there is no recorder, or it refuses what the run begins with.
     """
-    done = record(beginning, ticks, write)
-    carried_out = [
-        (key, numbers) for key, numbers in sorted(done.words.items()) if numbers[0]
-    ]  # not what faults at once
-    places = [Place(*key, times, used, rest) for key, (times, used, *rest) in carried_out]
+    done = record(beginning, ticks, write, more)
+    rows = sorted(done.words.items())
+    places = [Place(*key, it[0], it[1], it[2:]) for key, it in rows if it[0]]  # not what faults at once
     lengths = Counter({(vtype_text(vtype), vl): times for (vtype, vl), times in done.lengths.items()})
     stop = done.end if isinstance(done.end, Stop) else None
-    return Counts(places, lengths, done.calls, done.instructions, done.ticks, stop, done.end.pc)
+    return Counts(places, lengths, done.calls, done.instructions, done.ticks, stop, done.end.pc, done.short_writes)
 
 
 def elements_of(word: int, control: ControlRegisters, v0: bytes) -> Elements | None:

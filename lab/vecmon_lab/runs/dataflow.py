@@ -30,6 +30,7 @@ Part = tuple[set[Place], set[Place], str]
 
 _VSTART = {("vstart", 0)}
 _ACROSS = re.compile("vw?red|vrgather|vslide|vcompress|viota|vms[bio]f")  # which read elements of other numbers
+_ROUNDS = re.compile("va(add|sub)u?|vsmul|vssr[la]|vnclip")  # as vxrm says
 _ARITHMETIC, _OF_NOTHING = (0x13, 0x1B, 0x33, 0x3B), (0x37, 0x17, 0x6F, 0x67)  # opcodes; lui, auipc, jal and jalr
 _TWO_SOURCES = (0x33, 0x3B, 0x63)  # opcodes of what reads rs2 too
 _CALLS = {93: (17, 10), 64: (17, 10, 11, 12)}  # registers that an exit and a write read, by what is in x17
@@ -143,7 +144,8 @@ def _made(step: Executed, instruction: VectorInstruction, active: set[int]) -> I
     if text.startswith(("vred", "vwred")):  # which reads element 0 of vs1 alone
         sources[1] = (*sources[1][:2], sources[1][1])
     sources += [(0, 1, control.vl)] if instruction.is_masked else []
-    whole = _VSTART.union(*(bits_of_registers(first, length) for first, _, length in sources))
+    always = _VSTART | ({("vxrm", 0)} if _ROUNDS.match(text) else set())
+    whole = always.union(*(bits_of_registers(first, length) for first, _, length in sources))
     if target.noun == "source":
         first, width, _ = sources[0]
         made_of = bits_of_registers(first, width) | _VSTART if text.startswith("vmv.x.s") else whole
@@ -156,7 +158,7 @@ def _made(step: Executed, instruction: VectorInstruction, active: set[int]) -> I
         is_masked_off = not is_tail and element not in active and instruction.leaves_out
         kind = "masked off" if is_masked_off else "tail" if is_tail and element not in active else "active"
         same = (bits_of_registers(first + element * width, width) for first, width, _ in sources)
-        made_of = whole if _ACROSS.match(text) else _VSTART.union(*same)
+        made_of = whole if _ACROSS.match(text) else always.union(*same)
         for number in target.registers[:: target.group] if agnostic[kind] else ():
             bits = bits_of_registers(REGISTER_BITS * number + element * target.eew, target.eew)
             yield bits, made_of if kind == "active" else set(), kind

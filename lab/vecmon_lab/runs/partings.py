@@ -1,6 +1,7 @@
 """Where two runs of an image part, and where the value came from that told them apart."""
 
 import bisect
+import itertools
 from collections.abc import Callable, Iterator, Sequence
 from concurrent.futures import ThreadPoolExecutor
 from contextlib import ExitStack, contextmanager
@@ -229,11 +230,21 @@ def _carried_on(beginning: Beginning, number: int, stack: ExitStack) -> Guest:
     assert beginning.image
     for at_once in STEPS_AT_ONCE:
         guest = stack.enter_context(started(beginning.image, policy=beginning.policy))
-        values = (f"{'vset' if line[0] == 'v' else 'set'} {line}" for line in beginning.registers)
-        guest.ask(*(poke for at, _, data in beginning.memory for poke in pokes(at, data)), *values)
+        guest.ask(*(poke for at, _, data in beginning.memory for poke in pokes(at, data)))
+        guest.ask(*itertools.chain(*(_writes(line, guest) for line in beginning.registers)))
         if guest.pass_over(number, at_once):
             break
     return guest
+
+
+def _writes(line: str, guest: Guest) -> Iterator[str]:
+    """The commands that give a register its first value. A control register has it by an instruction in the first one's place."""
+    (name, value), pc = line.split(), guest.pc
+    if name in CONTROL:
+        word = guest.word_at(pc)[0].to_bytes(4, "little").hex()
+        yield from (f"asm {pc:x} csrrwi x0, {name}, {value}", "step 1", f"poke {pc:x} {word}", f"setpc {pc:x}")
+    else:
+        yield f"{'vset' if name[0] == 'v' else 'set'} {line}"
 
 
 def _stepped(guests: Sequence[Guest], first: int, last: int) -> list[Step]:

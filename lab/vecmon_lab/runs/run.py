@@ -6,9 +6,8 @@ import functools
 import pathlib
 import sys
 from collections import Counter
-from collections.abc import Callable, Iterator
+from collections.abc import Callable, Iterator, Sequence
 from contextlib import AbstractContextManager
-from typing import TextIO
 
 from .. import LabError
 from ..arguments import add_image, between, check_output
@@ -17,9 +16,11 @@ from ..guest.guest import QUANTUM, WRITE_BYTES, Guest, started
 from ..guest.symbols import Symbols
 from ..instructions.reasons import describe_stop
 from ..machine.answers import Stop
+from ..machine.recorder import Record
+from ..output import write_out
 from .counts import Counts, beginning_of, count
 from .trace import trace
-from .writes import Written, short_write
+from .writes import short_write
 
 TICKS_RAN_OUT, BREAKPOINT, FAULT = 124, 133, 139  # as timeout says, and a shell of SIGTRAP and SIGSEGV
 
@@ -30,12 +31,10 @@ def add_arguments(parser: argparse.ArgumentParser) -> None:
     number = between(1, 1 << 63)
     parser.add_argument("--policy", choices=("keep", "ones"), default="keep", help="what becomes of agnostic elements")
     parser.add_argument("--trace", metavar="FILE", type=pathlib.Path, help="a line for each instruction goes there")
-    parser.add_argument(
-        "--from", dest="first", metavar="N", type=number, help="the number of its first instruction; else 1"
-    )
-    parser.add_argument(
-        "--to", dest="last", metavar="N", type=number, help="the number of its last one; else the run's last"
-    )
+    parser.add_argument("--log", metavar="FILE", type=pathlib.Path, help="the same in Spike's form, of the recorder")
+    first, last = "the number of their first instruction; else 1", "the number of their last one; else the run's last"
+    parser.add_argument("--from", dest="first", metavar="N", type=number, help=first)
+    parser.add_argument("--to", dest="last", metavar="N", type=number, help=last)
     parser.add_argument("--count", action="store_true", help="how many instructions and ticks goes to standard error")
     parser.add_argument("--stats", action="store_true", help="the same, by name, and by vector type and length")
 
@@ -44,38 +43,46 @@ def run(arguments: argparse.Namespace) -> int:
     """Runs the image; its status, or one that says how it stopped. Raises LabError and OSError for bad input."""
     image, symbols = arguments.image, Symbols.read(arguments.image)
     _check_window(arguments)
-    check_output(arguments.trace, image, *filter(None, [arguments.input]))
+    for output in (arguments.trace, arguments.log):
+        check_output(output, image, *filter(None, [arguments.input]))
     with arguments.trace.open("w", encoding="utf-8") if arguments.trace else contextlib.nullcontext() as file:
-        written = Written()
-        counts = counted(arguments, written.write, arguments.policy)
+        counts = counted(arguments, write_out, [*_logs(arguments)])
         lines = [*stats(counts)] if arguments.stats else [total(counts)] if arguments.count else []
         is_exit = counts.stop is not None and counts.stop.kind == "exit"
         if not is_exit:
-            lines.append(f"vecmon-lab: {image}: {told(arguments, counts, symbols, arguments.policy)}")
-        if written.is_full and (short := _short_write(arguments, counts, symbols)):
+            lines.append(f"vecmon-lab: {image}: {told(arguments, counts, symbols)}")
+        if counts.short_writes and (short := _short_write(arguments, counts, symbols)):
             lines.append(f"vecmon-lab: {image}: {short}")
         sys.stderr.writelines(f"{line}\n" for line in lines)
+        window = _window(arguments, counts)
         if file:
-            _trace(arguments, symbols, counts, file)
+            begin = functools.partial(_begun, arguments)
+            file.writelines(f"{line}\n" for line in trace(begin, symbols, window))
     return counts.stop.number if counts.stop and is_exit else status_of(counts.stop)
 
 
 def counted(
-    arguments: argparse.Namespace, write: Callable[[bytes], object] | None = None, policy: str = "keep"
+    arguments: argparse.Namespace,
+    write: Callable[[bytes], object] | None = None,
+    more: Sequence[Record] = (),
 ) -> Counts:
-    """What an image's run carries out, by the words of a command. Raises LabError and OSError for bad input."""
-    image = arguments.image
-    return count(beginning_of(image, [image.name, *arguments.words], arguments.input, policy), arguments.ticks, write)
+    """What an image's run carries out, by the words of a command; more: what else is recorded.
+
+    Raises LabError and OSError for bad input.
+    """
+    words = [arguments.image.name, *arguments.words]
+    beginning = beginning_of(arguments.image, words, arguments.input, arguments.policy)
+    return count(beginning, arguments.ticks, write, more)
 
 
-def told(arguments: argparse.Namespace, counts: Counts, symbols: Symbols, policy: str = "keep") -> str:
+def told(arguments: argparse.Namespace, counts: Counts, symbols: Symbols) -> str:
     """How a run that was counted ended, in a line; of a stop why, by the registers of a machine that comes there."""
     stop, place = counts.stop, f"{counts.pc:x} {symbols.place(counts.pc)}".rstrip()
     if stop is None:
         return f"the ticks ran out at {place}"
     if stop.kind == "exit":
         return f"status {stop.number}"
-    with _begun(arguments, policy, lambda data: None) as guest:
+    with _begun(arguments) as guest:
         if guest.go(counts.ticks + QUANTUM) == stop:
             return guest.tell(stop, symbols.place(stop.pc))
     return f"{place}: {describe_stop(stop)}"
@@ -102,18 +109,16 @@ def status_of(stop: Stop | None) -> int:
     return TICKS_RAN_OUT if stop is None else {"exit": 0, "fault": FAULT}.get(stop.kind, BREAKPOINT)
 
 
-def _begun(
-    arguments: argparse.Namespace, policy: str, write: Callable[[bytes], object]
-) -> AbstractContextManager[Guest]:
-    """The guest that the image of a command is loaded for."""
-    words = [arguments.image.name, *arguments.words]
-    return started(arguments.image, policy=policy, arguments=words, file=arguments.input, write=write)
+def _begun(arguments: argparse.Namespace) -> AbstractContextManager[Guest]:
+    """The guest that the image of a command is loaded for, whose output nobody sees."""
+    image, policy, words = arguments.image, arguments.policy, [arguments.image.name, *arguments.words]
+    return started(image, policy=policy, arguments=words, file=arguments.input, write=lambda data: None)
 
 
 def _short_write(arguments: argparse.Namespace, counts: Counts, symbols: Symbols) -> str:
     """The first call that was given more bytes than it wrote, in a line; or nothing."""
     calls = [place.address for place in counts.places if place.word == ECALL]
-    with _begun(arguments, arguments.policy, lambda data: None) as guest:
+    with _begun(arguments) as guest:
         found = short_write(guest, calls, counts.ticks)
     if found is None:
         return ""
@@ -122,20 +127,31 @@ def _short_write(arguments: argparse.Namespace, counts: Counts, symbols: Symbols
 
 
 def _check_window(arguments: argparse.Namespace) -> None:
-    """Raises LabError where the window of a trace has no trace, or no instruction."""
+    """Raises LabError where a window has neither a trace nor a log, or no instruction, or both go to one file."""
+    trace, log = arguments.trace, arguments.log
+    if trace and log and trace.resolve() == log.resolve():
+        raise LabError(f"--trace and --log both name {trace}")
+    if log and not (arguments.ticks or arguments.last or f"{log}".startswith("/dev/")):
+        raise LabError("a log needs --ticks or --to, so that it has an end, unless FILE begins with /dev/")
     if arguments.first or arguments.last:
-        if not arguments.trace:
-            raise LabError("--from and --to are of a trace: --trace FILE names its file")
+        if not trace and not log:
+            raise LabError("--from and --to are of a trace or a log: --trace FILE or --log FILE names its file")
         if arguments.last and arguments.last < (arguments.first or 1):
             raise LabError(f"from instruction {arguments.first:,} to {arguments.last:,} there is none")
 
 
-def _trace(arguments: argparse.Namespace, symbols: Symbols, counts: Counts, file: TextIO) -> None:
-    """Writes the trace of a run that carried out so much, or its window. Raises LabError where the run is shorter."""
+def _logs(arguments: argparse.Namespace) -> Iterator[Record]:
+    """The log that the recorder writes, if one is asked for, and its window."""
+    if arguments.log:
+        window = {"--from": arguments.first, "--to": arguments.last}
+        words = [word for option, number in window.items() if number for word in (option, f"{number}")]
+        yield Record([*words, "--log"], arguments.log.open("wb", buffering=0))
+
+
+def _window(arguments: argparse.Namespace, counts: Counts) -> range:
+    """The numbers of the instructions that a trace of such a run has. Raises LabError where the run is shorter."""
     stops = counts.stop is not None and counts.stop.kind != "exit"  # at one more, which has a line, too
     first, last = arguments.first or 1, counts.instructions + stops
     if first > last:
         raise LabError(f"the run has {last:,} instructions, and none from {first:,} on")
-    begin = functools.partial(_begun, arguments, arguments.policy, lambda data: None)
-    window = range(first, min(last, arguments.last or last) + 1)
-    file.writelines(f"{line}\n" for line in trace(begin, symbols, window))
+    return range(first, min(last, arguments.last or last) + 1)

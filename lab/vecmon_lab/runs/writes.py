@@ -1,28 +1,12 @@
-"""What a run writes, and calls that were given more bytes than they write."""
+"""Calls that are given more bytes than they write."""
 
 from collections.abc import Sequence
 
 from ..guest.guest import WRITE_BYTES, Guest
 from ..machine.answers import ScalarRegisters
-from ..output import write_out
 
 MOST_CALLS, MOST_BREAKPOINTS = 1000, 16  # that are looked at; that a user may have
 A0, A1, A2, A7, WRITE, STANDARD_OUTPUT = 10, 11, 12, 17, 64, 1
-
-
-class Written:
-    """Writes out what a run's calls write, each by itself.
-
-    is_full: whether one has written as many bytes as a call writes at most, and so may have been given more
-    """
-
-    def __init__(self) -> None:
-        self.is_full = False
-
-    def write(self, data: bytes) -> None:
-        """Writes out the bytes of one call."""
-        self.is_full |= len(data) == WRITE_BYTES
-        write_out(data)
 
 
 def short_write(guest: Guest, calls: Sequence[int], ticks: int) -> tuple[int, int] | None:

@@ -1,0 +1,126 @@
+"""Where a run does what is watched for, or comes to a breakpoint, as the recorder tells of it."""
+
+import itertools
+import os
+from collections import deque
+from collections.abc import Callable, Iterable, Iterator, Sequence
+from concurrent.futures import ThreadPoolExecutor
+from typing import BinaryIO
+
+from ..instructions.accesses import LINE_BYTES
+from ..machine.answers import Stop
+from ..machine.recorder import Beginning, Record, Recording, record
+from .watches import Watch, logged_access
+
+FIRST_WINDOW, GROWTH = (
+    4096,
+    16,
+)  # instructions of a log, back from the last one; and how many times more each next one has
+PC = slice(14, 30)  # in a line of a log
+
+Halt = tuple[int, Watch | None]
+"""An instruction by its number, which is 1 for the first one, with the place that it changes or accesses; without one a
+breakpoint stands there."""
+
+
+class Search:
+    """What a run does to places that are watched, and where it comes to breakpoints.
+
+    beginning: of the run, with all of its memory
+    """
+
+    def __init__(self, beginning: Beginning, watches: Sequence[Watch], breaks: Iterable[int]) -> None:
+        self._beginning, self._breaks = beginning, {b"%016x" % address for address in breaks}
+        self._changed = [watch for watch in watches if watch.kind == "watch"]
+        self._accessed = [watch for watch in watches if watch.kind != "watch"]
+
+    def first(self, ticks: int) -> tuple[Recording, list[Halt], int]:
+        """A run of so many ticks; its first halt, among others; and how many bytes it writes."""
+        done, halts, written = self._changes(ticks)
+        if self._needs_log(done):
+            last = min([done.instructions, *(number for number, _ in halts)])
+            halts += self._log(ticks, 1, last)
+        return done, halts, written
+
+    def length(self, ticks: int, last: int) -> int:
+        """How many instructions a run has in so many ticks, up to a stop or a breakpoint at which it doesn't begin.
+
+        last: in how many of the last ticks the breakpoint is, unless it is one at which the run comes by more often
+        """
+        before, done = (self._changes(number)[0] for number in (max(1, ticks - last), ticks))
+        first = 2 if self._needs_log(before) else before.instructions + 1
+        halts = self._log(ticks, first, done.instructions) if self._needs_log(done) else []
+        is_over = done.ticks > ticks or isinstance(done.end, Stop) and done.end.kind == "exit"
+        return min([number - 1 for number, _ in halts] or [done.instructions - is_over])
+
+    def back(self, ticks: int, count: int) -> Iterator[list[Halt]]:
+        """The last halts among so many instructions, among others: nothing where they are none of a window's, the last one first.
+
+        ticks: as many as they take, or fewer
+        """
+        done, changes, _ = self._changes(ticks, count)
+        while done.instructions < count and not isinstance(done.end, Stop):
+            ticks *= 2
+            done, changes, _ = self._changes(ticks, count)
+        least = changes[-1][0] if changes else 1
+        size, last = FIRST_WINDOW, count if self._needs_log(done) else 0
+        while last >= least:
+            first = max(least, last - size + 1)
+            yield [*(halt for halt in changes if halt[0] >= first), *self._log(ticks, first, last)]
+            size, last = GROWTH * size, first - 1
+        yield changes
+
+    def _needs_log(self, done: Recording) -> bool:
+        """Whether a log tells more of a run: of accesses, or of instructions at breakpoints that were carried out."""
+        return bool(self._accessed) or any(b"%016x" % pc in self._breaks for pc, _ in done.words)
+
+    def _changes(self, ticks: int, last: int = 1 << 63) -> tuple[Recording, list[Halt], int]:
+        """A run of so many ticks; where it changes places, up to an instruction; and how many bytes it writes."""
+        words = [word for watch in self._changed for place in self._places(watch) for word in ("--watch", place)]
+        return self._run(ticks, [*words, "--changes"] if words else [], lambda file: self._halts_of_changes(file, last))
+
+    def _log(self, ticks: int, first: int, last: int) -> list[Halt]:
+        """The halts at breakpoints, or by accesses, from one instruction to another."""
+        words = ["--from", f"{first}", "--to", f"{last}", "--log"]
+        return self._run(ticks, words, lambda file: self._halts_of_log(file, first))[1]
+
+    def _run(
+        self, ticks: int, words: Sequence[str], read: Callable[[BinaryIO], Iterator[Halt]]
+    ) -> tuple[Recording, list[Halt], int]:
+        """A run with a record, if there are words for it; the first and the last of what is read of it; and its bytes."""
+        sizes = list[int]()
+        end, other = os.pipe()
+        with ThreadPoolExecutor(1) as pool, open(end, "rb") as file:
+            halts = pool.submit(lambda: _ends(read(file)))
+            with open(other, "wb", 0) as pipe:
+                more = [Record(words, pipe)] if words else []
+                done = record(self._beginning, ticks, lambda data: sizes.append(len(data)), more)
+            return done, halts.result(), sum(sizes)
+
+    def _places(self, watch: Watch) -> Iterator[str]:
+        """The words for a place, as far as there is memory."""
+        for address, _, data in self._beginning.memory:
+            first, end = max(address, watch.address), min(address + len(data), watch.address + watch.length)
+            for at in range(first, end, LINE_BYTES):
+                yield f"{at:x}:{min(LINE_BYTES, end - at)}"
+
+    def _halts_of_changes(self, file: BinaryIO, last: int) -> Iterator[Halt]:
+        """The changes that a file of them tells up to an instruction, of each instruction the first one."""
+        lines = itertools.takewhile(lambda line: line[:1].isdigit(), file)
+        for number, (line, *_) in itertools.groupby(lines, lambda line: int(line.partition(b" ")[0])):
+            if number <= last:
+                address = int(line.split()[3], 16)
+                yield number, next(it for it in self._changed if 0 <= address - it.address < it.length)
+
+    def _halts_of_log(self, file: BinaryIO, first: int) -> Iterator[Halt]:
+        """What a log tells that begins with the instruction of a number."""
+        for number, line in enumerate(file, first):
+            if self._accessed and (watch := logged_access(self._accessed, line)):
+                yield number, watch
+            elif line[PC] in self._breaks:
+                yield number, None
+
+
+def _ends(halts: Iterator[Halt]) -> list[Halt]:
+    """The first halt and the last two: behind the one of them may stand the other one."""
+    return [*itertools.islice(halts, 1), *deque(halts, 2)]
