@@ -12,7 +12,9 @@ use Rattle.rv_model.proofs.legality_lemmas.Bounds.{
   groups_hold_body,
   iota_inside,
   length_below,
+  length_fits,
   move_inside,
+  multiplier_fits,
   part_groups_have_room,
   wide_groups_have_room,
   wide_groups_hold_body,
@@ -33,7 +35,7 @@ use Rattle.rv_model.proofs.legality_lemmas.Moves.{compress_inside, whole_move_in
 
 -- groups of the vector type have room for all their elements
 pub all_have_room : (t : VType) → HasRoom (sew_width t.sew) (lmul_eighths t.lmul) (vlmax t)
-all_have_room t = groups_have_room t (vlmax t) (omega arith)
+all_have_room t = record { most = multiplier_fits t.lmul; room = length_fits t (vlmax t) (omega arith) }
 
 -- of an operation with a line of its own in the manual's table, but for those of one width on two operands; most never saturate
 pub ruleset operation_groups =
