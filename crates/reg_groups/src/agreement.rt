@@ -1,7 +1,7 @@
 //! Which register operands may stand together in one instruction ("V" Vector Extension 1.0, sections
 //! 3.4.2, 5.2 and 5.3).
 ghost use Rattle.std.specs.Prelude.{◌≡◌, true};
-ghost use Rattle.rv_model.specs.legality.RegisterOperands.{allows, eew, end, is_group, is_mask, is_width, may_overlap};
+ghost use Rattle.rv_model.specs.legality.RegisterOperands.{allows, eew, end, is_group, is_width, may_overlap};
 ghost use Rattle.rv_model.specs.legality.RegisterOperands.{overlaps};
 
 use crate::groups::registers;
@@ -27,14 +27,6 @@ fn is_width(content: Content) -> bool
         Content::Mask => true,
         Content::Elements(bits) => 8 <= bits && bits <= 64,
     }
-}
-
-/// Whether it is a mask.
-#[inline(always)]
-fn is_mask(content: Content) -> bool
-    ensures { result ≡ is_mask content }
-{
-    matches!(content, Content::Mask)
 }
 
 /// The number of the register after the last.
@@ -95,7 +87,7 @@ pub(crate) fn allows(destination: &Operand, other: &Operand) -> bool
             !overlaps(destination, other) || may_overlap(destination, other)
         }
         (Role::Write, Role::Control) => {
-            !overlaps(destination, other) || is_mask(destination.content)
+            !overlaps(destination, other) || matches!(destination.content, Content::Mask)
         }
         (Role::Apart, Role::Read) | (Role::Apart, Role::Control) => !overlaps(destination, other),
         _ => true,

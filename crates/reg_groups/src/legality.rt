@@ -13,7 +13,7 @@ ghost use Rattle.reg_groups.specs.Roles.{is_apart_from_mask, is_mask_outside};
 use crate::agreement::is_group;
 use crate::arithmetic::{is_legal_move, is_legal_single, legal_arith};
 use crate::groups::registers;
-use crate::operands::{access_groups, element_bits, extension_source, field_groups, group};
+use crate::operands::{access_groups, element_bits, extension_source, field_groups, group_operand};
 use crate::positions::{
     allows_v0, is_aligned, is_free_of_mask, is_mask_register, is_other_group, is_register,
     stands_beside,
@@ -176,7 +176,7 @@ fn is_legal_extension(op: ExtendOp, vd: VReg, vs2: VReg, unmasked: bool, vtype: 
     ensures { result ≡ are_legal (extension_operands op vd vs2 unmasked vtype) }
 {
     let source = extension_source(op, vs2, vtype);
-    are_legal_with_mask(&group(Role::Write, vd, vtype), &source, unmasked)
+    are_legal_with_mask(&group_operand(Role::Write, vd, vtype), &source, unmasked)
 }
 
 /// Whether the operands of an access to fields of any width are legal.

@@ -75,7 +75,7 @@ pub(crate) fn field_groups(role: Role, fields: u8, first: VReg, vtype: VType) ->
 
 /// A group of the vector type.
 #[inline(always)]
-pub(crate) fn group(role: Role, first: VReg, vtype: VType) -> Operand
+pub(crate) fn group_operand(role: Role, first: VReg, vtype: VType) -> Operand
     ensures { result ≡ group role first (group_type vtype) }
 {
     field_groups(role, 1, first, vtype)

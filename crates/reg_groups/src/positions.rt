@@ -8,7 +8,7 @@ ghost use Rattle.reg_groups.specs.Roles.{groups_of, is_beside_mask, is_other_gro
 
 use crate::agreement::{allows, is_group};
 use crate::groups::registers;
-use crate::operands::{group, index_group, mask};
+use crate::operands::{group_operand, index_group, mask};
 use rv_model::{Lmul, Operand, Role, Shape, VReg, VType};
 
 /// Whether a group of the vector type's multiplier may begin with a register. One that is aligned ends inside
@@ -141,5 +141,5 @@ pub(crate) fn are_indices_apart(vd: VReg, first: VReg, vtype: VType) -> bool
         ≡ stands_beside (destination Shape.GatherIndices16 vd vtype) (vector_source Shape.GatherIndices16 first vtype) }
 {
     let indices = index_group(Role::Read, first, vtype);
-    stands_beside(&group(Role::Apart, vd, vtype), &indices)
+    stands_beside(&group_operand(Role::Apart, vd, vtype), &indices)
 }
