@@ -1,6 +1,6 @@
 -- What holds of an outcome that is known, and of a list of one number.
 use Rattle.std.proofs.Common.{◌≡◌, ℕ, zero, suc, ◌≤◌, ◌∷◌, take, refl, ap, arith}
-use Rattle.std.specs.Prelude.{Result, Ok, Err, IsOk, OnErr, OnOk, replicate}
+use Rattle.std.specs.Prelude.{Result, Ok, Err, IsOk, OnErr, OnOk, false, is_ok, replicate}
 
 -- of one that is well
 pub when_ok : {T E : Type 0} {P : Type 0} (r : Result T E) → IsOk r → OnOk r P → P
@@ -22,3 +22,8 @@ on_err (Err y) f p = f p
 pub on_ok : {T E : Type 0} {P Q : Type 0} (r : Result T E) → (P → Q) → OnOk r P → OnOk r Q
 on_ok (Ok x) f p = f p
 on_ok (Err y) f p = p
+
+-- of one that isn't
+pub when_err : {T E : Type 0} {P : Type 0} (r : Result T E) → is_ok r ≡ false → OnErr r P → P
+when_err (Ok x) none p = absurd (cc)
+when_err (Err y) none p = p

@@ -28,10 +28,7 @@ impl Block {
         ensures unchanged { result ≡ false → file.new ≡ file.old }
     {
         let bytes = file.part_mut(self.place, self.place + self.length);
-        let Ok(()) = memory.read(self.address, Access::Load, bytes) else {
-            return false;
-        };
-        true
+        memory.read(self.address, Access::Load, bytes).is_ok()
     }
 
     /// Stores the block, if each of its bytes may be stored. Answers whether it did.
@@ -47,9 +44,6 @@ impl Block {
         ensures unchanged { result ≡ false → memory.new ≡ memory.old }
     {
         let bytes = file.part(self.place, self.place + self.length);
-        let Ok(()) = memory.write(self.address, Access::Store, bytes) else {
-            return false;
-        };
-        true
+        memory.write(self.address, Access::Store, bytes).is_ok()
     }
 }

@@ -22,38 +22,25 @@ pub(crate) fn end_without_fault(stop: usize, end: usize) -> MemEnd
     }
 }
 
-/// The index at which it stopped becomes `vstart`, or 0 if it is done.
+/// The index at which it stopped becomes `vstart`, or 0 if it is done. A fault of a fault-only-first load (`first_only`)
+/// at another index than 0 shortens the length to it, and the load is done.
 #[inline(always)]
-pub(crate) fn leave(end: MemEnd, state: &mut VState)
-    requires { StopsBefore GROUP_BYTES end }
-    ensures { (count : ℕ) (memory : Memory)
-        → RunLeaves (access_ends false count state.old memory end) end state.new memory }
-{
-    state.vstart = match end {
-        MemEnd::Done => 0,
-        MemEnd::Fault { index, .. } | MemEnd::Cut { index } => index as u8,
-    };
-}
-
-/// The same for a fault-only-first load: a fault at another index than 0 shortens the length to it, and the
-/// load is done.
-#[inline(always)]
-pub(crate) fn leave_first_only(end: MemEnd, state: &mut VState) -> MemEnd
-    requires length { StopsBefore state.old.conf.vl end }
+pub(crate) fn leave(end: MemEnd, first_only: bool, state: &mut VState) -> MemEnd
+    requires length { first_only ≡ true → StopsBefore state.old.conf.vl end }
     requires most { StopsBefore GROUP_BYTES end }
     ensures { (count : ℕ) (memory : Memory)
-        → RunLeaves (access_ends true count state.old memory end) result state.new memory }
+        → RunLeaves (access_ends first_only count state.old memory end) result state.new memory }
 {
     match end {
-        MemEnd::Done => leave(end, state),
-        MemEnd::Cut { .. } => leave(end, state),
+        MemEnd::Done => state.vstart = 0,
+        MemEnd::Cut { index } => state.vstart = index as u8,
         MemEnd::Fault { index, .. } => {
-            if 0 < index {
+            if first_only && 0 < index {
                 state.conf = state.conf.shortened(index as u16);
                 state.vstart = 0;
                 return MemEnd::Done;
             }
-            leave(end, state);
+            state.vstart = index as u8;
         }
     }
     end

@@ -52,27 +52,6 @@ pub(crate) fn load_bytes<M: UserBytes>(
 
 /// Stores so many bytes from a place in the register file, if each may be stored.
 #[inline(always)]
-fn store_part<M: UserBytes>(
-    file: &VFile,
-    place: usize,
-    size: usize,
-    address: u64,
-    memory: &mut M,
-) -> Result<(), Fault>
-    requires { place + size ≤ FILE_BYTES }
-    ensures ok { IsOk result ↔ (can_access Store (M.memory memory.old) address size ≡ true) }
-    ensures fault { IfErr result (λ fault. fault.addr ≡ address) }
-    ensures value { OnOk result
-        (M.memory memory.new ≡ put_bytes (M.memory memory.old) address (chunk place size file.now)) }
-    ensures others { OnOk result (memory.new ≡ M.with_memory memory.old (M.memory memory.new)) }
-    ensures unchanged { OnErr result (memory.new ≡ memory.old) }
-{
-    let bytes = file.part(place, place + size);
-    memory.write(address, Access::Store, bytes)
-}
-
-/// The same, for fields of elements.
-#[inline(always)]
 pub(crate) fn store_bytes<M: UserBytes>(
     file: &VFile,
     place: usize,
@@ -89,10 +68,10 @@ pub(crate) fn store_bytes<M: UserBytes>(
     ensures unchanged { OnErr result (memory.new ≡ memory.old) }
 {
     match size {
-        1 => store_part(file, place, 1, address, memory),
-        2 => store_part(file, place, 2, address, memory),
-        4 => store_part(file, place, 4, address, memory),
-        8 => store_part(file, place, 8, address, memory),
-        _ => store_part(file, place, size, address, memory),
+        1 => memory.write(address, Access::Store, file.part(place, place + 1)),
+        2 => memory.write(address, Access::Store, file.part(place, place + 2)),
+        4 => memory.write(address, Access::Store, file.part(place, place + 4)),
+        8 => memory.write(address, Access::Store, file.part(place, place + 8)),
+        _ => memory.write(address, Access::Store, file.part(place, place + size)),
     }
 }

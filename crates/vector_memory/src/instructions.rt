@@ -54,34 +54,28 @@ fn grouped_segments(nf: Field<3>, size: usize, emul: u32, register: VReg) -> Seg
     }
 }
 
-/// Segments as an instruction names them: the width of a field, one less than how many a segment has, and the register
-/// where the first begins.
-#[derive(Clone, Copy)]
-struct NamedSegments {
-    width: Eew,
-    nf: Field<3>,
-    vd: VReg,
-}
-
-/// A transfer of these segments, as many as the vector length says, if there is a vector type.
+/// A transfer of segments of `nf` + 1 fields of a width from a register on, as many as the vector length says, if there
+/// is a vector type.
 #[inline(always)]
 fn grouped_transfer(
     op: UnitOp,
-    named: NamedSegments,
+    width: Eew,
+    nf: Field<3>,
+    vd: VReg,
     addresses: Strided,
     unmasked: bool,
     state: &VState,
 ) -> Option<Transfer>
     ensures value { result
-        ≡ grouped op named.width named.nf named.vd addresses unmasked state.now state.now.conf.vtype }
+        ≡ grouped op width nf vd addresses unmasked state.now state.now.conf.vtype }
     ensures fields { IfSome result (λ t. t.segments.fields ≤ 8) }
 {
     let vtype = state.conf.vtype()?;
-    let emul = emul_of(named.width, vtype);
+    let emul = emul_of(width, vtype);
     Some(Transfer {
         op,
         unmasked,
-        segments: grouped_segments(named.nf, element_bytes(named.width), emul, named.vd),
+        segments: grouped_segments(nf, element_bytes(width), emul, vd),
         addresses,
         count: usize::from(state.conf.vl()),
     })
@@ -168,8 +162,7 @@ fn transfer_of(access: &AccessInstr, state: &VState, scalar: &Scalar) -> Option<
                 base: scalar.read(rs1),
                 stride: (nf.value() as u64 + 1) * element_bytes(width) as u64,
             };
-            let named = NamedSegments { width, nf, vd };
-            grouped_transfer(op, named, addresses, vm, state)
+            grouped_transfer(op, width, nf, vd, addresses, vm, state)
         }
         AccessInstr::Strided {
             direction,
@@ -185,8 +178,7 @@ fn transfer_of(access: &AccessInstr, state: &VState, scalar: &Scalar) -> Option<
                 stride: scalar.read(rs2),
             };
             let op = operation(direction);
-            let named = NamedSegments { width, nf, vd };
-            grouped_transfer(op, named, addresses, vm, state)
+            grouped_transfer(op, width, nf, vd, addresses, vm, state)
         }
         AccessInstr::Indexed { .. } => None,
         _ => register_transfer(access, state, scalar),

@@ -6,6 +6,7 @@ ghost use Rattle.vector_memory.specs.SegmentRoom.{StopsBefore, segments_access, 
 
 use crate::addresses::Addresses;
 use crate::ends::end_without_fault;
+use crate::field_bytes::load_bytes;
 use crate::moves::Moves;
 use crate::runs::Extent;
 use crate::user_bytes::UserBytes;
@@ -29,7 +30,11 @@ impl<A: Addresses> Moves<'_, A> {
     {
         if self.body.is_enabled(index) {
             let address = self.addresses.address(index);
-            return self.segments.load_allowed(memory, address, index, file);
+            if self.segments.fields == 1 {
+                let place = self.segments.place(index, 0);
+                return load_bytes(memory, address, place, self.segments.size, file);
+            }
+            return self.segments.load(memory, address, index, file);
         } else if fill {
             self.segments.fill(index, file);
         }

@@ -4,7 +4,7 @@ ghost use Rattle.std.specs.Prelude.{◌≡◌};
 ghost use Rattle.vector_memory.specs.Runs.{RunLeaves, segments_run};
 
 use crate::addresses::Addresses;
-use crate::ends::{leave, leave_first_only};
+use crate::ends::leave;
 use crate::moves::Moves;
 use crate::user_bytes::UserBytes;
 use rv_model::instructions::operations::UnitOp;
@@ -34,20 +34,13 @@ impl<A: Addresses> Moves<'_, A> {
         ensures others { memory.new ≡ M.with_memory memory.old (M.memory memory.new) }
     {
         match op {
-            UnitOp::Load => {
-                let end = self.load(memory, extent, &mut state.file);
-                leave(end, state);
-                end
-            }
-            UnitOp::FaultOnlyFirst => {
-                let end = self.load(memory, extent, &mut state.file);
-                leave_first_only(end, state)
-            }
-            UnitOp::Store => {
-                let end = self.store(&state.file, extent.limit, memory);
-                leave(end, state);
-                end
-            }
+            UnitOp::Load => leave(self.load(memory, extent, &mut state.file), false, state),
+            UnitOp::FaultOnlyFirst => leave(
+                self.load(memory, extent, &mut state.file),
+                true,
+                state,
+            ),
+            UnitOp::Store => leave(self.store(&state.file, extent.limit, memory), false, state),
         }
     }
 }

@@ -1,13 +1,11 @@
 //! One segment: the fields of one index ("V" Vector Extension 1.0, section 7.8).
 ghost use Rattle.std.specs.Prelude.{◌≡◌, ◌↔◌, ◌+◌, ◌*◌, ◌%◌, ◌^◌, ◌≤◌, ◌<◌, ℕ, true, IsOk, IfErr, OnOk, OnErr};
-ghost use Rattle.rv_model.specs.declared.memory.Access.TheVariants.{Load, Store};
-ghost use Rattle.rv_model.specs.accesses.Transfers.{are_allowed, bad_address, memory_stored, registers_loaded};
+ghost use Rattle.rv_model.specs.accesses.Transfers.{are_allowed, bad_address, registers_loaded};
 ghost use Rattle.rv_model.specs.accesses.VectorAccess.{filled_segment};
 ghost use Rattle.rv_model.specs.memory.Memory.{Memory};
 ghost use Rattle.vector_memory.specs.Moves.{AllLoaded, AllStored};
 ghost use Rattle.vector_memory.specs.SegmentRoom.{HasRoom, place_in, segment_transfers};
 
-use crate::field_bytes::{load_bytes, store_bytes};
 use crate::user_bytes::UserBytes;
 use rv_model::{Access, FILE_BYTES, Fault, VFile, VLENB, VReg};
 
@@ -64,29 +62,9 @@ impl Segments {
         Ok(())
     }
 
-    /// Loads the fields of a segment, which may be loaded.
-    pub(crate) fn load<M: UserBytes>(
-        &self,
-        memory: &M,
-        address: u64,
-        index: usize,
-        file: &mut VFile,
-    )
-        requires room { HasRoom self.now (index + 1) }
-        requires allowed { are_allowed Load (M.memory memory.now) (segment_transfers self.now index address) ≡ true }
-        ensures { file.new ≡ registers_loaded (M.memory memory.now) (place_in self.now) file.old
-            (segment_transfers self.now index address) }
-    {
-        for field in 0..self.fields {
-            let at = self.place(index, field);
-            let bytes = file.part_mut(at, at + self.size);
-            let _ = memory.read(self.field_address(address, field), Access::Load, bytes);
-        }
-    }
-
     /// Loads the fields of a segment, if each may be loaded; if not, the address of the first that may not.
-    #[inline(always)]
-    pub(crate) fn load_allowed<M: UserBytes>(
+    #[inline(never)]
+    pub(crate) fn load<M: UserBytes>(
         &self,
         memory: &M,
         address: u64,
@@ -97,11 +75,12 @@ impl Segments {
         ensures { AllLoaded (M.memory memory.now) (place_in self.now) (segment_transfers self.now index address)
             file.old result file.new }
     {
-        if self.fields == 1 {
-            return load_bytes(memory, address, self.place(index, 0), self.size, file);
-        }
         self.check(memory, Access::Load, address)?;
-        self.load(memory, address, index, file);
+        for field in 0..self.fields {
+            let at = self.place(index, field);
+            let bytes = file.part_mut(at, at + self.size);
+            let _ = memory.read(self.field_address(address, field), Access::Load, bytes);
+        }
         Ok(())
     }
 
@@ -118,30 +97,9 @@ impl Segments {
         }
     }
 
-    /// Stores the fields of a segment, which may be stored.
-    pub(crate) fn store<M: UserBytes>(
-        &self,
-        file: &VFile,
-        address: u64,
-        index: usize,
-        memory: &mut M,
-    )
-        requires room { HasRoom self.now (index + 1) }
-        requires allowed { are_allowed Store (M.memory memory.old) (segment_transfers self.now index address) ≡ true }
-        ensures value { M.memory memory.new ≡ memory_stored (M.memory memory.old) (place_in self.now) file.now
-            (segment_transfers self.now index address) }
-        ensures others { memory.new ≡ M.with_memory memory.old (M.memory memory.new) }
-    {
-        for field in 0..self.fields {
-            let at = self.place(index, field);
-            let bytes = file.part(at, at + self.size);
-            let _ = memory.write(self.field_address(address, field), Access::Store, bytes);
-        }
-    }
-
     /// Stores the fields of a segment, if each may be stored; if not, the address of the first that may not.
-    #[inline(always)]
-    pub(crate) fn store_allowed<M: UserBytes>(
+    #[inline(never)]
+    pub(crate) fn store<M: UserBytes>(
         &self,
         file: &VFile,
         address: u64,
@@ -154,11 +112,12 @@ impl Segments {
         ensures others { OnOk result (memory.new ≡ M.with_memory memory.old (M.memory memory.new)) }
         ensures unchanged { OnErr result (memory.new ≡ memory.old) }
     {
-        if self.fields == 1 {
-            return store_bytes(file, self.place(index, 0), self.size, address, memory);
-        }
         self.check(memory, Access::Store, address)?;
-        self.store(file, address, index, memory);
+        for field in 0..self.fields {
+            let at = self.place(index, field);
+            let bytes = file.part(at, at + self.size);
+            let _ = memory.write(self.field_address(address, field), Access::Store, bytes);
+        }
         Ok(())
     }
 }

@@ -4,7 +4,7 @@ ghost use Rattle.std.specs.Prelude.{◌≡◌, ◌-◌, ◌<◌, ◌≤◌, leng
 ghost use Rattle.rv_model.specs.memory.Memory.{Memory, bytes_at, put_bytes};
 ghost use Rattle.rv_model.specs.vector.Groups.{width_bytes};
 ghost use Rattle.vector_memory.specs.FieldOrder.{for_each, load_field, store_field};
-ghost use Rattle.vector_memory.specs.SpanAccess.{IsRead, IsWritten, span_access};
+ghost use Rattle.vector_memory.specs.SpanAccess.{span_access};
 
 use crate::spans::Span;
 use lane_arith::Lane;
@@ -42,7 +42,13 @@ impl Span<'_> {
 
     /// Copies one field of the active indices from its bytes to the registers.
     #[inline(always)]
-    fn read_field<L: Lane>(&self, bytes: &[u8], field: usize, fill: bool, file: &mut VFile)
+    pub(crate) fn read_field<L: Lane>(
+        &self,
+        bytes: &[u8],
+        field: usize,
+        fill: bool,
+        file: &mut VFile,
+    )
         requires length { length bytes.now ≡ self.now.length }
         requires size { self.now.segments.size ≡ width_bytes L.width }
         requires field { field < self.now.segments.fields }
@@ -68,7 +74,7 @@ impl Span<'_> {
 
     /// Copies one field of the active indices from the registers to its bytes.
     #[inline(always)]
-    fn write_field<L: Lane>(&self, file: &VFile, field: usize, bytes: &mut [u8])
+    pub(crate) fn write_field<L: Lane>(&self, file: &VFile, field: usize, bytes: &mut [u8])
         requires length { length bytes.old ≡ self.now.length }
         requires size { self.now.segments.size ≡ width_bytes L.width }
         requires field { field < self.now.segments.fields }
@@ -87,30 +93,6 @@ impl Span<'_> {
                 let (at, place) = (segment * distance, segment * size);
                 copy_lane::<L>(&group[place..place + size], &mut destination[at..at + size]);
             }
-        }
-    }
-
-    /// Copies all fields of the active indices from its bytes to the registers.
-    #[inline(always)]
-    pub(crate) fn read_fields<L: Lane>(&self, bytes: &[u8], fill: bool, file: &mut VFile)
-        requires length { length bytes.now ≡ self.now.length }
-        requires size { self.now.segments.size ≡ width_bytes L.width }
-        ensures { IsRead self.now fill bytes.now file.old file.new }
-    {
-        for field in 0..self.segments.fields {
-            self.read_field::<L>(bytes, field, fill, file);
-        }
-    }
-
-    /// Copies all fields of the active indices from the registers to its bytes.
-    #[inline(always)]
-    pub(crate) fn write_fields<L: Lane>(&self, file: &VFile, bytes: &mut [u8])
-        requires length { length bytes.old ≡ self.now.length }
-        requires size { self.now.segments.size ≡ width_bytes L.width }
-        ensures { IsWritten self.now file.now bytes.old bytes.new }
-    {
-        for field in 0..self.segments.fields {
-            self.write_field::<L>(file, field, bytes);
         }
     }
 }

@@ -62,7 +62,9 @@ impl<'a> Span<'a> {
         if self.is_blend() {
             self.read_blend::<L>(bytes, fill, file);
         } else {
-            self.read_fields::<L>(bytes, fill, file);
+            for field in 0..self.segments.fields {
+                self.read_field::<L>(bytes, field, fill, file);
+            }
         }
     }
 
@@ -93,7 +95,9 @@ impl<'a> Span<'a> {
         if self.is_blend() {
             self.write_blend::<L>(file, bytes);
         } else {
-            self.write_fields::<L>(file, bytes);
+            for field in 0..self.segments.fields {
+                self.write_field::<L>(file, field, bytes);
+            }
         }
     }
 
@@ -148,10 +152,7 @@ impl<'a> Span<'a> {
         }
         let mut buffer = [0; GROUP_BYTES];
         let bytes = &mut buffer[..self.length];
-        let Ok(()) = memory.read(self.address, Access::Load, bytes) else {
-            return false;
-        };
-        self.read(bytes, fill, file)
+        memory.read(self.address, Access::Load, bytes).is_ok() && self.read(bytes, fill, file)
     }
 
     /// Stores its elements, if each byte of the span may be stored. Answers whether it did.

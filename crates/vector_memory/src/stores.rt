@@ -6,6 +6,7 @@ ghost use Rattle.vector_memory.specs.SegmentRoom.{StopsBefore, segments_access, 
 
 use crate::addresses::Addresses;
 use crate::ends::end_without_fault;
+use crate::field_bytes::store_bytes;
 use crate::moves::Moves;
 use crate::user_bytes::UserBytes;
 use rv_model::{Fault, MemEnd, VFile};
@@ -28,7 +29,11 @@ impl<A: Addresses> Moves<'_, A> {
     {
         if self.body.is_enabled(index) {
             let address = self.addresses.address(index);
-            return self.segments.store_allowed(file, address, index, memory);
+            if self.segments.fields == 1 {
+                let place = self.segments.place(index, 0);
+                return store_bytes(file, place, self.segments.size, address, memory);
+            }
+            return self.segments.store(file, address, index, memory);
         }
         Ok(())
     }

@@ -1,6 +1,7 @@
-use Rattle.std.proofs.Common.{◌≡◌, ◌+◌, ◌-◌, ◌*◌, ◌%◌, ◌^◌, length, take, drop, true, sym, ap, ◌∙◌, arith}
+use Rattle.std.proofs.Common.{◌≡◌, ◌+◌, ◌-◌, ◌*◌, ◌%◌, ◌^◌, length, take, drop, true, refl, sym, ap, ◌∙◌, arith}
 use Rattle.std.specs.Simd.Lanes.{chunk}
 use Rattle.rv_model.specs.declared.memory.Access.TheVariants.{Store}
+use Rattle.rv_model.specs.accesses.Transfers.{memory_stored}
 use Rattle.rv_model.specs.accesses.VectorAccess.{moved_segment}
 use Rattle.rv_model.specs.memory.Memory.{can_access}
 use Rattle.rv_model.proofs.access_lemmas.Moves.{can_access-stored}
@@ -33,7 +34,7 @@ loop-field-preserved g c =
     let allowed : can_access Store now address s.size ≡ true =
     ap (λ x. can_access Store x address s.size) c.loop-field.invariant.value
     ∙ can_access-stored Store m (place_in s) file (moved_segment i c.args.address s.size f) address s.size
-    ∙ allowed_field Store m i c.args.address s.size f s.fields c.loop-field-test.true c.requires.allowed in
+    ∙ allowed_field Store m i c.args.address s.size f s.fields c.loop-field-test.true ((c.in_ok-check.ensures.ok i).0 refl) in
     let well = c.write.ensures.ok.1 (rw (c.field_address.ensures, size) allowed) in
     record {
       value =
@@ -43,4 +44,15 @@ loop-field-preserved g c =
           when_ok c.write.result well c.write.ensures.others
           ∙ ap (λ u. g.M.UserBytes.with_memory u (g.M.UserBytes.memory c.write.new.self)) c.loop-field.invariant.others
           ∙ g.met.M.UserBytes.with_memory_twice c.args.memory.now now (g.M.UserBytes.memory c.write.new.self);
+    }
+
+pub returns-clause-stored : goal.returns-clause-stored
+returns-clause-stored g c =
+    let m = g.M.UserBytes.memory c.args.memory.now in
+    let s = c.args.self.now in
+    let last : c.loop-field.field ≡ s.fields = omega arith in
+    record {
+      ok = (λ t. (c.in_ok-check.ensures.ok c.args.index).0 refl, λ t. refl);
+      fault = tt;
+      value = c.loop-field.invariant.value ∙ ap (λ f. memory_stored m (place_in s) c.args.file.now (moved_segment c.args.index c.args.address s.size f)) last;
     }

@@ -2,7 +2,7 @@ use Rattle.std.proofs.Common.{◌≡◌, ◌-◌, sym, ap, ◌∙◌, arith}
 use Rattle.vector_memory.specs.FieldOrder.{each_field, for_each, load_field}
 use Rattle.vector_memory.specs.SpanAccess.{span_access}
 use Rattle.vector_memory.proofs.FieldSteps.{field_more, fields_loaded, loads_apart, no_field}
-use Rattle.vector_memory.proofs.spans.Span.read_fields.Goals as goal
+use Rattle.vector_memory.proofs.spans.Span.read_lanes.Goals as goal
 
 pub loop-field-init : goal.loop-field-init
 loop-field-init g c = λ m read.
@@ -22,8 +22,8 @@ loop-field-preserved g c = λ m read.
     ∙ field_more one b.segments.fields 0 b.stop (loads_apart m a c.args.fill b.stop b.span.room.room b.segments.fields) f c.loop-field-test.true n start c.args.file.now
     (omega arith) (omega (arith, b.span.some))
 
-pub returns : goal.returns
-returns g c = λ m read.
+pub returns-after-loop-field : goal.returns-after-loop-field
+returns-after-loop-field g c = λ m read.
     let b = c.args.self.now in
     let start = b.body.start in
     let a = span_access b in

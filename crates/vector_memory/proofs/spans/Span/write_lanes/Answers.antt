@@ -4,7 +4,7 @@ use Rattle.vector_memory.specs.FieldOrder.{each_field, for_each, store_field}
 use Rattle.vector_memory.specs.SpanAccess.{span_access}
 use Rattle.vector_memory.proofs.FieldSteps.{field_more, fields_stored, no_field, stores_apart}
 use Rattle.vector_memory.proofs.SpanMoves.{fields_apart}
-use Rattle.vector_memory.proofs.spans.Span.write_fields.Goals as goal
+use Rattle.vector_memory.proofs.spans.Span.write_lanes.Goals as goal
 
 pub loop-field-init : goal.loop-field-init
 loop-field-init g c = λ m.
@@ -24,8 +24,8 @@ loop-field-preserved g c = λ m.
     ∙ field_more one b.segments.fields start b.stop (stores_apart c.args.file.now a start b.stop (fields_apart b)) f c.loop-field-test.true n start
     (put_bytes m b.address c.args.bytes.now) (omega arith) (omega (arith, b.span.some))
 
-pub returns : goal.returns
-returns g c = λ m.
+pub returns-after-loop-field : goal.returns-after-loop-field
+returns-after-loop-field g c = λ m.
     let b = c.args.self.now in
     let start = b.body.start in
     let a = span_access b in
