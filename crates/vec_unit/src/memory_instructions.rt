@@ -140,11 +140,15 @@ fn filled_by(access: &AccessInstr, state: &VState, policy: Policy) -> Filled
     }
 }
 
-/// Whether an access fills nothing, whatever state it finds: whole registers and masks have no tail.
+/// Whether it is known that an access fills nothing, whatever state it finds. Whole registers and masks have no tail, for
+/// which it isn't looked where `UNIT_STRIDE`.
 #[inline(always)]
-fn fills_nothing(access: &AccessInstr, policy: Policy) -> bool
+fn fills_nothing<const UNIT_STRIDE: bool>(access: &AccessInstr, policy: Policy) -> bool
     ensures { (state : VState) → result ≡ true → filled_by access.now policy state ≡ nothing }
 {
+    if UNIT_STRIDE {
+        return matches!(policy, Policy::Keep);
+    }
     match *access {
         AccessInstr::WholeLoad { .. }
         | AccessInstr::WholeStore { .. }
@@ -190,9 +194,8 @@ fn perform_access<M: UserBytes>(
     access_end(access, end)
 }
 
-/// Carries out a vector load or store of a user, of at most `limit` indices, and answers how it ended. It does the same
-/// whatever `UNIT_STRIDE` is, which makes a copy of its own for each of two callers: one with a single caller is taken in
-/// line.
+/// Carries out a vector load or store of a user, of at most `limit` indices, and answers how it ended: in fewer steps
+/// where `UNIT_STRIDE` is as it is. So there is a copy for each of two callers, and each is taken in line.
 #[tactic(auto, unfolding(rv_model::specs::step::Step::vector_executed))]
 #[inline(always)]
 pub fn exec_access<M: UserBytes, const UNIT_STRIDE: bool>(
@@ -217,7 +220,7 @@ pub fn exec_access<M: UserBytes, const UNIT_STRIDE: bool>(
     if !legal_access(access, &state.conf) {
         return VEnd::Illegal;
     }
-    if fills_nothing(access, policy) {
+    if fills_nothing::<UNIT_STRIDE>(access, policy) {
         return perform_unfilled(access, state, scalar, memory, limit);
     }
     // A copy of its own for the other function, so that the operands need no place in memory before.
