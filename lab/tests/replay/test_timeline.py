@@ -153,6 +153,16 @@ def test_changes_behind_what_was_written_by_hand(begin: Callable[[str], tuple[Ti
     assert timeline.back_to_halt((), never) is False and state(guest) == (0x10000, 0, 0, 0)
 
 
+def test_a_breakpoint_at_what_stops(begin: Callable[[str], tuple[Timeline, Guest]]) -> None:
+    """The last of seventeen instructions, the EBREAK, has one."""
+    timeline, guest = begin(COUNTDOWN)
+    guest.ask("break 10018")
+    timeline.watches = [Watch("watch", 0x11100, 4)]
+    assert timeline.go(never) == Stop("break", 0x10018) and timeline.hit is None
+    timeline.watches = []
+    assert timeline.step() == Stop("ebreak", 0x10018) and timeline.back(5) and state(guest) == (0x10004, 1, 2, 2)
+
+
 def test_a_place_without_memory(begin: Callable[[str], tuple[Timeline, Guest]]) -> None:
     """The page of data ends at 12000."""
     timeline, _ = begin(COUNTDOWN)

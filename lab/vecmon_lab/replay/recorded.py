@@ -12,10 +12,7 @@ from ..machine.answers import Stop
 from ..machine.recorder import Beginning, Record, Recording, record
 from .watches import Watch, logged_access
 
-FIRST_WINDOW, GROWTH = (
-    4096,
-    16,
-)  # instructions of a log, back from the last one; and how many times more each next one has
+FIRST_WINDOW, GROWTH = 4096, 16  # instructions of a log, the last ones; and how many times more each one before has
 PC = slice(14, 30)  # in a line of a log
 
 Halt = tuple[int, Watch | None]

@@ -57,7 +57,7 @@ class Timeline:
             end = done.instructions - (isinstance(done.end, Stop) and done.end.kind == "exit")
             count, self.hit = min([(number - 1, watch) for number, watch in halts] or [(end, None)], key=_position)
             self._guest.advance(stepping(count))
-            if halts:
+            if halts or self._guest.pc in breaks:
                 return Stop("break", self._guest.pc)
             if isinstance(done.end, Stop):
                 return self.step()
