@@ -163,6 +163,17 @@ def test_a_breakpoint_at_what_stops(begin: Callable[[str], tuple[Timeline, Guest
     assert timeline.step() == Stop("ebreak", 0x10018) and timeline.back(5) and state(guest) == (0x10004, 1, 2, 2)
 
 
+def test_steps_that_stop_among_long_instructions(begin: Callable[[str], tuple[Timeline, Guest]]) -> None:
+    """Each of two stores takes 256 ticks, and one line steps over all to the EBREAK."""
+    timeline, guest = begin(
+        "vsetvli x6, x0, e8, m8, ta, ma\nauipc x7, 1\nvse8.v v8, (x7)\nvse8.v v8, (x7)\naddi x5, x0, 7\nebreak\n"
+        ".data\n.zero 512"
+    )
+    assert guest.ask("step 256") == [Stop("ebreak", 0x10014)]
+    assert timeline.back() and state(guest)[:2] == (0x10010, 0)
+    assert timeline.back(3) and state(guest)[:2] == (0x10004, 0)
+
+
 def test_a_place_without_memory(begin: Callable[[str], tuple[Timeline, Guest]]) -> None:
     """The page of data ends at 12000."""
     timeline, _ = begin(COUNTDOWN)
