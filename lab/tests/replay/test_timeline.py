@@ -174,6 +174,13 @@ def test_steps_that_stop_among_long_instructions(begin: Callable[[str], tuple[Ti
     assert timeline.back(3) and state(guest)[:2] == (0x10004, 0)
 
 
+def test_back_at_the_begin_of_a_program_without_an_end(begin: Callable[[str], tuple[Timeline, Guest]]) -> None:
+    timeline, guest = begin(ROUNDS)
+    assert timeline.step() is None and timeline.back() and guest.pc == 0x10000
+    timeline.watches = [Watch("watch", 0x11000, 1)]
+    assert timeline.back_to_halt([0x10008], never) is False and guest.pc == 0x10000
+
+
 def test_a_place_without_memory(begin: Callable[[str], tuple[Timeline, Guest]]) -> None:
     """The page of data ends at 12000."""
     timeline, _ = begin(COUNTDOWN)
