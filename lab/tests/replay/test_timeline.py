@@ -153,6 +153,34 @@ def test_changes_behind_what_was_written_by_hand(begin: Callable[[str], tuple[Ti
     assert timeline.back_to_halt((), never) is False and state(guest) == (0x10000, 0, 0, 0)
 
 
+def test_a_breakpoint_at_what_stops(begin: Callable[[str], tuple[Timeline, Guest]]) -> None:
+    """The last of seventeen instructions, the EBREAK, has one."""
+    timeline, guest = begin(COUNTDOWN)
+    guest.ask("break 10018")
+    timeline.watches = [Watch("watch", 0x11100, 4)]
+    assert timeline.go(never) == Stop("break", 0x10018) and timeline.hit is None
+    timeline.watches = []
+    assert timeline.step() == Stop("ebreak", 0x10018) and timeline.back(5) and state(guest) == (0x10004, 1, 2, 2)
+
+
+def test_steps_that_stop_among_long_instructions(begin: Callable[[str], tuple[Timeline, Guest]]) -> None:
+    """Each of two stores takes 256 ticks, and one line steps over all to the EBREAK."""
+    timeline, guest = begin(
+        "vsetvli x6, x0, e8, m8, ta, ma\nauipc x7, 1\nvse8.v v8, (x7)\nvse8.v v8, (x7)\naddi x5, x0, 7\nebreak\n"
+        ".data\n.zero 512"
+    )
+    assert guest.ask("step 256") == [Stop("ebreak", 0x10014)]
+    assert timeline.back() and state(guest)[:2] == (0x10010, 0)
+    assert timeline.back(3) and state(guest)[:2] == (0x10004, 0)
+
+
+def test_back_at_the_begin_of_a_program_without_an_end(begin: Callable[[str], tuple[Timeline, Guest]]) -> None:
+    timeline, guest = begin(ROUNDS)
+    assert timeline.step() is None and timeline.back() and guest.pc == 0x10000
+    timeline.watches = [Watch("watch", 0x11000, 1)]
+    assert timeline.back_to_halt([0x10008], never) is False and guest.pc == 0x10000
+
+
 def test_a_place_without_memory(begin: Callable[[str], tuple[Timeline, Guest]]) -> None:
     """The page of data ends at 12000."""
     timeline, _ = begin(COUNTDOWN)

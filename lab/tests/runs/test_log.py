@@ -50,6 +50,14 @@ def test_a_log_that_goes_through_a_pipe_needs_no_end(lab: Lab, tmp_path: pathlib
         assert file.read() == (BY_HAND / "scalar_loop.log").read_text()
 
 
+def test_a_log_is_emptied_once_there_is_something_to_record(lab: Lab, tmp_path: pathlib.Path) -> None:
+    log, image = tmp_path / "log", image_of(tmp_path / "image", SCALAR_LOOP, 0x2000)
+    log.write_text("before\n" * 1000)
+    assert lab("run", "--log", log, "--to", 100, STOCK / "short")[0] == 2 and log.stat().st_size == 7000
+    assert lab("run", "--log", log, "--to", 100, image)[0] == 133
+    assert log.read_text() == (BY_HAND / "scalar_loop.log").read_text()
+
+
 @pytest.mark.parametrize(
     "words, told",
     [

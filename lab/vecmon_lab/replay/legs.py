@@ -7,6 +7,7 @@ from ..guest.guest import MOST_STEPS
 from ..machine.answers import Granted, Position, Refused, read
 from ..machine.lines import words_of
 
+MOST_TICKS = 257  # of an instruction: a fault-only-first load of 256 elements tries one more
 OUTPUT_EVERY = MOST_STEPS  # instructions of a leg: then a replay takes its output
 
 
@@ -16,7 +17,7 @@ class Leg:
 
     start: how many bytes of the script bring a machine to the first one
     count: how many they are; None where slices carried them out, until they are counted
-    ticks: how many slices had, 1 at least for each instruction
+    ticks: how many slices had, as many at least as the instructions take
     breaks: the breakpoints before them, and meanwhile where slices carried them out
     has_stopped: whether the program has stopped by itself behind the last one
     """
@@ -64,7 +65,7 @@ class Legs:
             case "step" if done or words == ["1"]:
                 self._steps(done)
             case "step":
-                self._slices(int(words[0]), True)
+                self._slices(int(words[0]) * MOST_TICKS, True)
             case "go" | "stop":
                 self._is_running = command == "go"
             case "break":

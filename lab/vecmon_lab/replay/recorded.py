@@ -12,10 +12,7 @@ from ..machine.answers import Stop
 from ..machine.recorder import Beginning, Record, Recording, record
 from .watches import Watch, logged_access
 
-FIRST_WINDOW, GROWTH = (
-    4096,
-    16,
-)  # instructions of a log, back from the last one; and how many times more each next one has
+FIRST_WINDOW, GROWTH = 4096, 16  # instructions of a log, the last ones; and how many times more each one before has
 PC = slice(14, 30)  # in a line of a log
 
 Halt = tuple[int, Watch | None]
@@ -58,10 +55,7 @@ class Search:
 
         ticks: as many as they take, or fewer
         """
-        done, changes, _ = self._changes(ticks, count)
-        while done.instructions < count and not isinstance(done.end, Stop):
-            ticks *= 2
-            done, changes, _ = self._changes(ticks, count)
+        ticks, done, changes = self._covering(ticks, count)
         least = changes[-1][0] if changes else 1
         size, last = FIRST_WINDOW, count if self._needs_log(done) else 0
         while last >= least:
@@ -69,6 +63,12 @@ class Search:
             yield [*(halt for halt in changes if halt[0] >= first), *self._log(ticks, first, last)]
             size, last = GROWTH * size, first - 1
         yield changes
+
+    def _covering(self, ticks: int, count: int) -> tuple[int, Recording, list[Halt]]:
+        """How many ticks cover so many instructions, from a number on; a run of these; and where it changes places."""
+        done, changes, _ = self._changes(ticks, count)
+        covers = done.instructions >= count or isinstance(done.end, Stop)
+        return (ticks, done, changes) if covers else self._covering(2 * ticks, count)
 
     def _needs_log(self, done: Recording) -> bool:
         """Whether a log tells more of a run: of accesses, or of instructions at breakpoints that were carried out."""

@@ -4,7 +4,7 @@ An instant comes again by a replay: another session carries out the script up to
 """
 
 import operator
-from collections.abc import Callable, Sequence
+from collections.abc import Callable, Iterator, Sequence
 
 from .. import LabError
 from ..checkpoints.machine_state import PERMISSIONS, carry_out, pages_of
@@ -57,7 +57,7 @@ class Timeline:
             end = done.instructions - (isinstance(done.end, Stop) and done.end.kind == "exit")
             count, self.hit = min([(number - 1, watch) for number, watch in halts] or [(end, None)], key=_position)
             self._guest.advance(stepping(count))
-            if halts:
+            if halts or self._guest.pc in breaks:
                 return Stop("break", self._guest.pc)
             if isinstance(done.end, Stop):
                 return self.step()
@@ -100,21 +100,24 @@ class Timeline:
         """
         self.hit = None
         self._catch_up()
-        for place in reversed(range(len(self._legs.legs))):
-            leg = self._legs.legs[place]
-            count = self._count(leg)
-            search = Search(self._beginning(self._script(leg)), self.watches, breaks)
-            for halts in search.back(leg.ticks or count, count) if count else ():
-                if is_interrupted():
-                    return None
-                if halts:
-                    ends = [(number - (watch is None), watch) for number, watch in halts]
-                    number, hit = max(ends, key=_position)
-                    self._rewind(place, number)
-                    self.hit = hit
-                    return True
+        for place, halts in self._halts(breaks):
+            if is_interrupted():
+                return None
+            if halts:
+                ends = [(number - (watch is None), watch) for number, watch in halts]
+                number, hit = max(ends, key=_position)
+                self._rewind(place, number)
+                self.hit = hit
+                return True
         self._begin()
         return False
+
+    def _halts(self, breaks: Sequence[int]) -> Iterator[tuple[int, list[Halt]]]:
+        """The halts of each window of the legs, the last one first, with the leg's place."""
+        for place, leg in [*enumerate(self._legs.legs)][::-1]:
+            count = self._count(leg)
+            search = Search(self._beginning(self._script(leg)), self.watches, breaks)
+            yield from ((place, halts) for halts in search.back(max(1, leg.ticks, count), count))
 
     def _catch_up(self) -> None:
         """Takes up what the script has had since the last time."""

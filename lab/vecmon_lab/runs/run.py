@@ -145,7 +145,7 @@ def _logs(arguments: argparse.Namespace) -> Iterator[Record]:
     if arguments.log:
         window = {"--from": arguments.first, "--to": arguments.last}
         words = [word for option, number in window.items() if number for word in (option, f"{number}")]
-        yield Record([*words, "--log"], arguments.log.open("wb", buffering=0))
+        yield Record([*words, "--log"], arguments.log.open("ab", buffering=0))  # emptied by the recorder
 
 
 def _window(arguments: argparse.Namespace, counts: Counts) -> range:
