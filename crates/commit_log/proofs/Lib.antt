@@ -1,4 +1,10 @@
-pub mod Digits
+mod ControlsTold
 pub mod Destinations
+pub mod Digits
 mod Kept
+mod MemoryTold
+mod MovedElements
+mod PaddedBytes
+mod ScalarsTold
 pub mod Steps
+mod VectorsTold
