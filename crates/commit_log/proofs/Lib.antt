@@ -2,9 +2,11 @@ mod ControlsTold
 pub mod Destinations
 pub mod Digits
 mod Kept
+mod LoadsTold
 mod MemoryTold
 mod MovedElements
 mod PaddedBytes
 mod ScalarsTold
 pub mod Steps
+mod VectorRegions
 mod VectorsTold

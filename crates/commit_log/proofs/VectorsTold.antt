@@ -1,13 +1,9 @@
--- That a line tells the vector registers of each instruction that neither loads nor stores: it changes none but those of its destination.
-use Rattle.std.proofs.Common.{◌≡◌, ◌∙◌, ◌⊎◌, inl, inr, ap, refl, sym, subst, ℕ, zero, suc, ◌+◌, ◌-◌, ◌*◌, ◌/◌, ◌%◌, ◌<◌, ◌≤◌, Bool, false, List, [], ◌∷◌, max, min, length, get_or, take, drop, append-nil, Option, Some, None, arith}
+-- That a line tells the vector registers: an instruction changes none but those of its destination.
+use Rattle.std.proofs.Common.{◌≡◌, ◌∙◌, inl, inr, ap, refl, sym, subst, ℕ, ◌*◌, ◌≤◌, Bool, true, List, length, append-nil, Option, Some, None, arith}
 use Rattle.std.specs.Int.{Width}
 use Rattle.std.specs.List.{range_with_len}
-use Rattle.std.specs.Simd.Lanes.{chunk, put_chunk}
-use Rattle.std.proofs.lemmas.Bool.{cases_lt}
-use Rattle.std.proofs.lemmas.Grind.{same_number_lists}
-use Rattle.std.proofs.lemmas.List.{get_or_past, length-map, length-take}
+use Rattle.std.proofs.lemmas.List.{length-map}
 use Rattle.std.proofs.lemmas.List.FromFn.{length-range_with_len}
-use Rattle.std.proofs.lemmas.Simd.{get_or-chunk, get_or-put_chunk_above, get_or-put_chunk_at, get_or-put_chunk_below, length-chunk, length-put_chunk}
 use Rattle.rv_model.specs.declared.instructions.instruction.Instr.{Instr}
 use Rattle.rv_model.specs.declared.instructions.instruction.Instr.TheVariants as instr
 use Rattle.rv_model.specs.declared.instructions.operations.MaskUnaryOp.{MaskUnaryOp}
@@ -25,114 +21,32 @@ use Rattle.rv_model.specs.declared.vector.control_register.ControlRegister.TheVa
 use Rattle.rv_model.specs.declared.vector.state.VState.{VState}
 use Rattle.rv_model.specs.declared.vector.types.VType.{VType}
 use Rattle.rv_model.specs.elements.Arithmetic.{with_first_result, with_mask_results, with_results}
-use Rattle.rv_model.specs.elements.Elements.{Body, byte_or, byte_with_bits, is_active, written, written_bits}
+use Rattle.rv_model.specs.elements.Elements.{Body, byte_with_bits, is_active, written, written_bits}
 use Rattle.rv_model.specs.elements.PermutationResults.{with_packed}
 use Rattle.rv_model.specs.legality.Legality.{is_legal, operands}
 use Rattle.rv_model.specs.legality.OperandShapes.{destination, shape_of}
 use Rattle.rv_model.specs.step.Hart.{HartState, Stepped}
 use Rattle.rv_model.specs.step.Step.{VectorStepped, after_vector, arith_step, operation_step, performed, step, typed, typed_step, vector_executed, vector_step, vector_ticks}
 use Rattle.rv_model.specs.vector.Control.{with_control}
-use Rattle.rv_model.specs.vector.Groups.{GroupType, group_of, group_type, lmul_eighths, register_of, registers, whole_type, wide_type, with_group, with_register_bytes}
-use Rattle.rv_model.proofs.Choices.{of_either}
+use Rattle.rv_model.specs.vector.Groups.{GroupType, IsConfiguration, group_of, group_type, lmul_eighths, registers, whole_type, wide_type, with_group}
+use Rattle.rv_model.proofs.Choices.{of_test}
 use Rattle.rv_model.proofs.step_lemmas.StepCases.{told}
 use Rattle.recording.specs.Runs.{word_of}
 use Rattle.commit_log.specs.Lines.{told_vectors}
 use Rattle.commit_log.specs.Targets.{registers_from, vector_targets}
-use Rattle.commit_log.specs.Told.{VectorsAreTold, is_access, with_vectors}
+use Rattle.commit_log.specs.Told.{VectorsAreTold, with_vectors}
+use Rattle.commit_log.proofs.LoadsTold.{access_told}
+use Rattle.commit_log.proofs.VectorRegions.{group_short, group_told, same, written_short}
 use Rattle.commit_log.proofs.Destinations.{alone_written, arith_targets, carry_targets, mask_written, permute_emul}
-
--- ---- registers that are told over others
-
--- bytes are put where they stand
-put_same : (i n : ℕ) (xs : List ℕ) → put_chunk i xs (take n (drop i xs)) ≡ xs
-put_same i n [] = refl
-put_same zero zero (x ∷ xs) = refl
-put_same zero (suc n) (x ∷ xs) = ap (λ (ys : List ℕ). x ∷ ys) (put_same zero n xs)
-put_same (suc i) n (x ∷ xs) = ap (λ (ys : List ℕ). x ∷ ys) (put_same i n xs)
-
--- registers that nothing has written
-same : (file rs : List ℕ) → with_vectors (told_vectors file rs) file ≡ file
-unfolding with_register_bytes register_of
-same file [] = refl
-same file (r ∷ rs) = ap (with_vectors (told_vectors file rs)) (put_same (32 * r) 32 file) ∙ same file rs
-
--- bytes that differ between two places alone
-record Differs (low high : ℕ) (old new : List ℕ) : Type 0 where
-  size : length new ≡ length old
-  others : (k : ℕ) → (k < low) ⊎ (high ≤ k) → get_or new k 0 ≡ get_or old k 0
-
--- after the first register
-first_told : (r n : ℕ) (old new : List ℕ) → length new ≡ 1024 → r < 32 → Differs (32 * r) (32 * (r + suc n)) old new
-    → Differs (32 * (r + 1)) (32 * (r + 1 + n)) (put_chunk (32 * r) old (chunk (32 * r) 32 new)) new
-first_told r n old new long inside d =
-    let bytes : List ℕ = chunk (32 * r) 32 new in
-    let size : length bytes ≡ 32 = length-chunk (32 * r) 32 new (omega (arith, long, inside)) in
-    let old_long : length old ≡ 1024 = sym d.size ∙ long in
-    record {
-      size = d.size ∙ sym (length-put_chunk (32 * r) old bytes);
-      others = λ k out. elim (cases_lt k (32 * r)) [
-        | inl below ↦ d.others k (inl below) ∙ sym (get_or-put_chunk_below (32 * r) old bytes k 0 below)
-        | inr from ↦ elim (cases_lt k (32 * r + 32)) [
-          | inl before ↦
-              let j : ℕ = k - 32 * r in
-              let at : k ≡ 32 * r + j = omega (arith, from) in
-              let small : j < 32 = omega (arith, from, before) in
-              let put : get_or (put_chunk (32 * r) old bytes) (32 * r + j) 0 ≡ get_or bytes j 0 =
-              get_or-put_chunk_at (32 * r) old bytes j 0 (omega (arith, small, size)) (omega (arith, size, old_long, inside)) in
-              ap (λ (m : ℕ). get_or new m 0) at ∙ sym (get_or-chunk (32 * r) 32 new j 0 small) ∙ sym put
-              ∙ sym (ap (λ (m : ℕ). get_or (put_chunk (32 * r) old bytes) m 0) at)
-          | inr past ↦ elim out [
-            | inl early ↦ absurd (omega (arith, early, past))
-            | inr late ↦ d.others k (inr (omega (arith, late))) ∙ sym (get_or-put_chunk_above (32 * r) old bytes k 0 (omega (arith, size, past)))
-          ]
-        ]
-      ];
-    }
-
-told_over : (n r : ℕ) (old new : List ℕ) → length new ≡ 1024 → r + n ≤ max r 32 → Differs (32 * r) (32 * (r + n)) old new
-    → with_vectors (told_vectors new (range_with_len r n)) old ≡ new
-unfolding with_register_bytes register_of
-told_over zero r old new long inside d =
-    same_number_lists old new (sym d.size) (λ k h. elim (cases_lt k (32 * r)) [
-      | inl below ↦ sym (d.others k (inl below))
-      | inr from ↦ sym (d.others k (inr (omega (arith, from))))
-    ])
-told_over (suc n) r old new long inside d =
-    told_over n (r + 1) (put_chunk (32 * r) old (chunk (32 * r) 32 new)) new long (omega (arith, inside))
-    (first_told r n old new long (omega (arith, inside)) d)
-
--- a group that is written
-group_told : (file bytes : List ℕ) (vd count : ℕ) → length file ≡ 1024 → length bytes ≤ 32 * count
-    → with_vectors (told_vectors (with_group file vd bytes) (registers_from vd count)) file ≡ with_group file vd bytes
-group_told file bytes vd count long short =
-    let n : ℕ = min count (32 - vd) in
-    let new : List ℕ = put_chunk (32 * vd) file bytes in
-    let size : length new ≡ length file = length-put_chunk (32 * vd) file bytes in
-    told_over n vd file new (size ∙ long) (omega arith) (record {
-      size = size;
-      others = λ k out. elim out [
-        | inl below ↦ get_or-put_chunk_below (32 * vd) file bytes k 0 below
-        | inr from ↦ elim (cases_lt k 1024) [
-          | inl inside ↦ get_or-put_chunk_above (32 * vd) file bytes k 0 (omega (arith, from, inside, short))
-          | inr past ↦ get_or_past new k 0 (omega (arith, past, size, long)) ∙ sym (get_or_past file k 0 (omega (arith, past, long)))
-        ]
-      ];
-    })
 
 -- ---- what instructions leave in registers
 
 module _ (file : List ℕ) (long : length file ≡ 1024) where
-  group_short : (vd emul : ℕ) → length (group_of file vd emul) ≤ 32 * registers emul
-  group_short vd emul = omega (arith, length-take (32 * registers emul) (drop (32 * vd) file))
-
   written_told : (g : GroupType) (vd count k : ℕ) (changed : ℕ → Bool) (number : ℕ → ℕ) → registers g.emul ≤ count
       → with_vectors (told_vectors (with_group file vd (written k changed number (group_of file vd g.emul))) (registers_from vd count)) file
       ≡ with_group file vd (written k changed number (group_of file vd g.emul))
-  unfolding written
   written_told g vd count k changed number fits =
-      let old : List ℕ = group_of file vd g.emul in
-      group_told file (written k changed number old) vd count long
-      (omega (arith, length-map (range_with_len 0 (length old)) (λ at. byte_or changed number old k (at / k) (at % k)), length-range_with_len 0 (length old), group_short vd g.emul, fits))
+      group_told file (written k changed number (group_of file vd g.emul)) vd count long (omega (arith, written_short file g vd k changed number, fits))
 
   results_told : (g : GroupType) (vd count : ℕ) (body : Body) (masked tail : Bool) (result : ℕ → ℕ) → registers g.emul ≤ count
       → with_vectors (told_vectors (with_results g vd body masked tail result file) (registers_from vd count)) file ≡ with_results g vd body masked tail result file
@@ -155,7 +69,7 @@ module _ (file : List ℕ) (long : length file ≡ 1024) where
   mask_told vd count body bit fits =
       let old : List ℕ = group_of file vd 8 in
       group_told file (written_bits (is_active body) bit old) vd count long
-      (omega (arith, length-map (range_with_len 0 (length old)) (byte_with_bits (is_active body) bit old), length-range_with_len 0 (length old), group_short vd 8, fits))
+      (omega (arith, length-map (range_with_len 0 (length old)) (byte_with_bits (is_active body) bit old), length-range_with_len 0 (length old), group_short file vd 8, fits))
 
 -- ---- the registers of each destination
 
@@ -171,7 +85,7 @@ move_targets (I imm) vd t = append-nil _
 abbrev Tells : VectorInstr → Option VType → HartState → VectorStepped → Type 0
 Tells i o s d = with_vectors (told_vectors d.state.vector.file (vector_targets (instr.Vector i) o)) s.vector.file ≡ d.state.vector.file
 
-module _ (s : HartState) (long : length s.vector.file ≡ 1024) where
+module _ (s : HartState) (configured : IsConfiguration s.vector.conf) (long : length s.vector.file ≡ 1024) where
   -- by the registers of its destination
   by_targets : (i : VectorInstr) (t : VType) (d : VectorStepped) (vd count : ℕ) → vector_targets (instr.Vector i) (Some t) ≡ registers_from vd count
       → with_vectors (told_vectors d.state.vector.file (registers_from vd count)) s.vector.file ≡ d.state.vector.file → Tells i (Some t) s d
@@ -254,20 +168,20 @@ module _ (s : HartState) (long : length s.vector.file ≡ 1024) where
 
   -- ---- a step
 
-  performed_told : (limit : ℕ) (i : Instr) → is_access i ≡ false
+  performed_told : (limit : ℕ) (i : Instr) → is_legal i s.vector.conf.vtype s.vector.vstart ≡ true
       → with_vectors (told_vectors (performed limit i s).state.vector.file (vector_targets i s.vector.conf.vtype)) s.vector.file ≡ (performed limit i s).state.vector.file
   unfolding performed
   performed_told limit (instr.Vector i) e = operation_told i
-  performed_told limit (instr.Access i) e = absurd (cc)
+  performed_told limit (instr.Access i) e = access_told s configured limit i long e
   performed_told limit (instr.Scalar i) e = same s.vector.file (vector_targets (instr.Scalar i) s.vector.conf.vtype)
   performed_told limit (instr.Csr i) e = same s.vector.file (vector_targets (instr.Csr i) s.vector.conf.vtype)
 
-  executed_told : (limit : ℕ) (i : Instr) → is_access i ≡ false
+  executed_told : (limit : ℕ) (i : Instr)
       → with_vectors (told_vectors (vector_executed limit i s).state.vector.file (vector_targets i s.vector.conf.vtype)) s.vector.file ≡ (vector_executed limit i s).state.vector.file
   unfolding vector_executed
-  executed_told limit i e =
-      of_either (λ (d : VectorStepped). with_vectors (told_vectors d.state.vector.file (vector_targets i s.vector.conf.vtype)) s.vector.file ≡ d.state.vector.file)
-      (is_legal i s.vector.conf.vtype s.vector.vstart) _ _ (performed_told limit i e) (same s.vector.file (vector_targets i s.vector.conf.vtype))
+  executed_told limit i =
+      of_test (λ (d : VectorStepped). with_vectors (told_vectors d.state.vector.file (vector_targets i s.vector.conf.vtype)) s.vector.file ≡ d.state.vector.file)
+      (is_legal i s.vector.conf.vtype s.vector.vstart) _ _ (λ e. performed_told limit i e) (λ e. same s.vector.file (vector_targets i s.vector.conf.vtype))
 
   after_told : (i : Instr) (ticks : ℕ) (end : VEnd) (word : ℕ) (w : HartState)
       → with_vectors (told_vectors w.vector.file (vector_targets i s.vector.conf.vtype)) s.vector.file ≡ w.vector.file
@@ -278,11 +192,11 @@ module _ (s : HartState) (long : length s.vector.file ≡ 1024) where
   after_told i ticks (vector_end.Fault store addr) word w is = is
   after_told i ticks (vector_end.Cut index) word w is = is
 
-  vector_step_told : (limit : ℕ) (i : Instr) (word : ℕ) → is_access i ≡ false
+  vector_step_told : (limit : ℕ) (i : Instr) (word : ℕ)
       → with_vectors (told_vectors (vector_step limit i word s).state.vector.file (vector_targets i s.vector.conf.vtype)) s.vector.file ≡ (vector_step limit i word s).state.vector.file
-  vector_step_told limit i word e =
+  vector_step_told limit i word =
       let done : VectorStepped = vector_executed limit i s in
-      after_told i (vector_ticks limit i s) done.end word done.state (executed_told limit i e)
+      after_told i (vector_ticks limit i s) done.end word done.state (executed_told limit i)
 
 -- no control register is a vector register
 control_file : (r : ControlRegister) (n : ℕ) (v : VState) → (with_control r n v).file ≡ v.file
@@ -297,7 +211,7 @@ kept : (file new rs : List ℕ) → new ≡ file → with_vectors (told_vectors 
 kept file new rs is = ap (λ (f : List ℕ). with_vectors (told_vectors f rs) file) is ∙ (same file rs ∙ sym is)
 
 pub vectors_are_told : VectorsAreTold
-vectors_are_told s i is counted other long = elim (told s (λ r. r.state.vector.file ≡ s.vector.file) (record {
+vectors_are_told s i is configured long = elim (told s (λ r. r.state.vector.file ≡ s.vector.file) (record {
   fault = λ cause value. refl;
   runs = λ scalar first. refl;
   stores = λ addr bytes. refl;
@@ -314,5 +228,5 @@ vectors_are_told s i is counted other long = elim (told s (λ r. r.state.vector.
       let same_one : v.vector.instr ≡ i = cc (v.vector.is, is) in
       subst (λ (r : Stepped). with_vectors (told_vectors r.state.vector.file (vector_targets i s.vector.conf.vtype)) s.vector.file ≡ r.state.vector.file)
       (sym (v.same 256 ∙ ap (λ (j : Instr). vector_step 256 j (word_of s) s) same_one))
-      (vector_step_told s long 256 i (word_of s) other)
+      (vector_step_told s configured long 256 i (word_of s))
 ]

@@ -1,8 +1,7 @@
 -- What the line of an instruction tells: written over what the instruction found, it is what the instruction left.
-use Rattle.std.specs.Prelude.{ℕ, ◌≡◌, ◌==◌, Bool, true, false, List, [], ◌∷◌, length, Some}
+use Rattle.std.specs.Prelude.{ℕ, ◌≡◌, ◌==◌, true, List, [], ◌∷◌, length, Some}
 use Rattle.std.specs.Option.{option_map_or}
 use Rattle.rv_model.specs.declared.instructions.instruction.Instr.{Instr}
-use Rattle.rv_model.specs.declared.instructions.instruction.Instr.TheVariants as instr
 use Rattle.rv_model.specs.declared.scalar.Scalar.{Scalar}
 use Rattle.rv_model.specs.declared.vector.control_register.ControlRegister.{ControlRegister}
 use Rattle.rv_model.specs.declared.vector.control_register.ControlRegister.TheVariants.{Vstart, Vxsat, Vxrm, Vl, Vtype}
@@ -67,13 +66,7 @@ abbrev pub MemoryIsTold : Type 0
 MemoryIsTold = (s : HartState) (i : Instr) → scan table (word_of s) ≡ Some i → is_counted (step 256 s).end ≡ true
     → with_stored (line_of i s).moved s.memory ≡ (step 256 s).state.memory
 
--- whether it loads or stores vector registers
-abbrev pub is_access : Instr → Bool
-is_access (instr.Access i) = true
-is_access _ = false
-
--- Each instruction that ran, or exited, leaves the vector registers as its line tells, unless it loads or stores some.
+-- Each instruction leaves the vector registers as its line tells, where it finds a length that is one of the vector type.
 abbrev pub VectorsAreTold : Type 0
-VectorsAreTold = (s : HartState) (i : Instr) → scan table (word_of s) ≡ Some i → is_counted (step 256 s).end ≡ true
-    → is_access i ≡ false → length s.vector.file ≡ FILE_BYTES
+VectorsAreTold = (s : HartState) (i : Instr) → scan table (word_of s) ≡ Some i → IsConfiguration s.vector.conf → length s.vector.file ≡ FILE_BYTES
     → with_vectors (line_of i s).vectors s.vector.file ≡ (step 256 s).state.vector.file

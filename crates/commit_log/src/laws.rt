@@ -1,8 +1,8 @@
 //! What a line tells of the state that its instruction left.
 ghost use Rattle.commit_log.specs.Told.{ControlsAreTold, MemoryIsTold, ScalarsAreTold, VectorsAreTold};
 
-/// The laws of lines: what the line of an instruction says of scalar registers, of control registers and of memory, written over
-/// the state that was found, is what the definition's step leaves; so are vector registers, but for those of loads and stores.
+/// The laws of lines: what the line of an instruction says of scalar registers, of vector registers, of control registers and of
+/// memory, written over the state that was found, is what the definition's step leaves.
 pub fn line_laws()
     ensures scalars { ScalarsAreTold }
     ensures controls { ControlsAreTold }
