@@ -1,4 +1,12 @@
-pub mod Digits
+mod ControlsTold
 pub mod Destinations
+pub mod Digits
 mod Kept
+mod LoadsTold
+mod MemoryTold
+mod MovedElements
+mod PaddedBytes
+mod ScalarsTold
 pub mod Steps
+mod VectorRegions
+mod VectorsTold

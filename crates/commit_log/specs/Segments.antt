@@ -1,11 +1,10 @@
 -- The segments of a vector load or store as the code has them, and the elements that they move ("V" Vector Extension 1.0, chapter 7).
-use Rattle.std.specs.Prelude.{ℕ, zero, suc, ◌+◌, ◌*◌, ◌/◌, ◌%◌, ◌^◌, ◌<◌, ◌≤◌, ◌-◌, nat_le, length, Bool, true, false, List, [], ◌++◌, map, Option, Some, None, if◌then◌else◌}
+use Rattle.std.specs.Prelude.{ℕ, zero, suc, ◌+◌, ◌*◌, ◌/◌, ◌%◌, ◌^◌, ◌<◌, ◌≤◌, Bool, true, false, List, [], ◌++◌, map, Option, Some, None, if◌then◌else◌}
 use Rattle.std.specs.List.{range_with_len}
-use Rattle.std.specs.Option.{option_map, option_map_or}
+use Rattle.std.specs.Option.{option_map}
 use Rattle.std.specs.Simd.Lanes.{chunk}
 use Rattle.rv_model.specs.accesses.VectorAccess.{element_bytes, is_first_only, mask_length, unit_direction, whole_length}
 use Rattle.rv_model.specs.declared.scalar.Scalar.{Scalar}
-use Rattle.rv_model.specs.declared.vector.state.VState.{VState}
 use Rattle.rv_model.specs.declared.instructions.access.AccessInstr.{AccessInstr}
 use Rattle.rv_model.specs.declared.instructions.access.AccessInstr.TheVariants.{UnitStride, Strided, Indexed, WholeLoad, WholeStore, MaskAccess}
 use Rattle.rv_model.specs.declared.instructions.operations.Direction.{Direction}
@@ -15,13 +14,13 @@ use Rattle.rv_model.specs.declared.instructions.operations.UnitOp.{UnitOp}
 use Rattle.rv_model.specs.elements.Elements.{Body, element, is_enabled}
 use Rattle.rv_model.specs.lending.GroupBounds.{emul}
 use Rattle.rv_model.specs.scalar.Registers.{read_register}
-use Rattle.rv_model.specs.vector.Groups.{element_width, lmul_eighths, register_count, register_of, registers, sew_bits}
-use Rattle.rv_model.specs.declared.vector.sizes.TheConstants.{FILE_BYTES, VLENB}
+use Rattle.rv_model.specs.vector.Groups.{element_width, group_of, lmul_eighths, register_count, registers, sew_bits}
+use Rattle.rv_model.specs.declared.vector.sizes.TheConstants.{VLENB}
 use Rattle.rv_model.specs.declared.vector.types.VType.{VType}
 use Rattle.commit_log.specs.declared.segments.Addresses.{Addresses}
 use Rattle.commit_log.specs.declared.segments.Offsets.{Offsets}
 use Rattle.commit_log.specs.declared.segments.Segments.{Segments}
-use Rattle.commit_log.specs.Moved.{Moved}
+use Rattle.commit_log.specs.Lines.{Moved}
 
 -- ---- of an instruction
 
@@ -127,17 +126,9 @@ last_moved i found left = if is_fault_only_first i then left else end_of i found
 
 -- ---- what they move
 
--- so many bytes from one place of the register file on, if they lie in it; those of a legal instruction do
-abbrev pub file_bytes : List ℕ → ℕ → ℕ → List ℕ
-file_bytes file at size = if nat_le (at + size) FILE_BYTES then chunk at size file else []
-
--- the element with an index, if it lies among these bytes
-abbrev pub element_in : ℕ → List ℕ → ℕ → ℕ
-element_in size group i = if nat_le (size * i + size) (length group) then element size group i else 0
-
 -- the offset with an index
 abbrev pub offset_at : Offsets → List ℕ → ℕ → ℕ
-offset_at o file i = element_in (element_bytes o.width) (file_bytes file (VLENB * o.first) (VLENB * registers o.emul)) i
+offset_at o file i = element (element_bytes o.width) (group_of file o.first o.emul) i
 
 -- how far from the base the segment of an index is, by the register file
 abbrev pub distance : Option Offsets → ℕ → List ℕ → ℕ → ℕ
@@ -154,7 +145,7 @@ element_place g i f = VLENB * (g.register + f * g.field_registers) + i * g.size
 
 -- the bytes of an element, where they are stored
 abbrev pub stored_bytes : Segments → List ℕ → ℕ → Option (List ℕ)
-stored_bytes g file place = if g.is_store then Some (file_bytes file place g.size) else None
+stored_bytes g file place = if g.is_store then Some (chunk place g.size file) else None
 
 -- one field of the segment that begins at an address
 abbrev pub moved_field : Segments → List ℕ → ℕ → ℕ → ℕ → Moved
@@ -173,11 +164,3 @@ moved_segment g b file i = if is_enabled b i then moved_fields g file (address_o
 unfoldable pub moved_segments : Segments → Body → List ℕ → ℕ → ℕ → List Moved
 moved_segments g b file i zero = []
 moved_segments g b file i (suc n) = moved_segment g b file i ++ moved_segments g b file (i + 1) n
-
--- what a load or store moved, by the registers that it found and the length that it left
-abbrev pub moved_by : AccessInstr → Scalar → VState → ℕ → List Moved
-moved_by i x v vl =
-    option_map_or
-    (λ g. moved_segments g (record { unmasked = g.unmasked; mask = register_of v.file 0; start = v.vstart; end = last_moved i v.conf.vl vl }) v.file v.vstart
-    (last_moved i v.conf.vl vl - v.vstart))
-    (access_segments i x v.conf.vtype) []

@@ -3,6 +3,7 @@
 
 mod changes;
 mod found;
+mod laws;
 mod lines;
 mod log;
 mod memory_words;
@@ -13,6 +14,7 @@ mod targets;
 mod text;
 
 pub use found::Found;
+pub use laws::line_laws;
 pub use lines::push_line;
 pub use log::{Log, Window};
 pub use text::{LINE_SIZE, TEXT_SIZE, Text};

@@ -1,63 +1,65 @@
 //! What a vector load or store moved ("V" Vector Extension 1.0, chapter 7).
-ghost use Rattle.std.specs.Prelude.{◌≡◌, ◌+◌, ◌-◌, ◌*◌, ◌≤◌, ◌++◌, flat_map, length};
+ghost use Rattle.std.specs.Prelude.{◌≡◌, ◌+◌, ◌-◌, ◌*◌, ◌≤◌, ◌++◌, [], flat_map, length};
+ghost use Rattle.std.specs.Option.{option_map_or};
+ghost use Rattle.std.specs.Simd.Lanes.{chunk};
+ghost use lib.Lanes.{number_l};
+ghost use Rattle.rv_model.specs.accesses.VectorAccess.{access_of};
+ghost use Rattle.commit_log.specs.Lines.{told_access};
 ghost use Rattle.commit_log.specs.LineTexts.{moved_text};
-ghost use Rattle.commit_log.specs.Segments.{IsNarrow, address_of, file_bytes, moved_by, moved_field, moved_segment};
-ghost use Rattle.commit_log.specs.Segments.{moved_segments, offset_at};
+ghost use Rattle.commit_log.specs.Segments.{IsNarrow, address_of, moved_field, moved_segment, moved_segments};
+ghost use Rattle.commit_log.specs.Segments.{offset_at};
 
 use crate::numbers::{push_hex16, push_reversed};
 use crate::segments::{Addresses, Offsets, Segments, access_segments, element_bytes, last_moved};
 use crate::text::{TEXT_SIZE, Text};
-use lane_arith::{Body, Lane};
+use lane_arith::Body;
 use reg_groups::{mask_register, registers};
-use rv_model::instructions::operations::Eew;
-use rv_model::{AccessInstr, FILE_BYTES, GROUP_BYTES, Scalar, VFile, VLENB, VState};
+use rv_model::{AccessInstr, FILE_BYTES, GROUP_BYTES, Scalar, VLENB, VState};
 
-/// So many bytes from one place of the register file on, if they lie in it.
+/// So many bytes from one place on, as far as there are any.
 #[inline(always)]
-fn bytes_at(file: &VFile, at: usize, size: usize) -> &[u8]
-    requires { at + size ≤ usize.MAX }
-    ensures value { result.now ≡ file_bytes file.now at size }
+fn chunk_at(bytes: &[u8], at: usize, size: usize) -> &[u8]
+    ensures value { result.now ≡ chunk at size bytes.now }
     ensures bound { length result.now ≤ size }
 {
-    if at + size <= FILE_BYTES {
-        file.part(at, at + size)
-    } else {
-        file.part(0, 0)
-    }
+    let rest = &bytes[at.min(bytes.len())..];
+    &rest[..size.min(rest.len())]
 }
 
-/// The offset with an index, if it lies in its group.
+/// The number of at most 8 bytes, the lowest first.
 #[inline(always)]
-fn offset_at(offsets: &Offsets, file: &VFile, index: usize) -> u64
-    requires { index ≤ GROUP_BYTES }
-    ensures { result ≡ offset_at offsets.now file.now index }
+fn number_of(bytes: &[u8]) -> u64
+    requires { length bytes.now ≤ 8 }
+    ensures { result ≡ number_l 256 bytes.now }
 {
-    let group = bytes_at(
-        file,
-        VLENB * offsets.first.number() as usize,
-        VLENB * registers(offsets.emul) as usize,
-    );
-    let size = element_bytes(offsets.width);
-    if size * index + size > group.len() {
-        return 0;
-    }
-    match offsets.width {
-        Eew::E8 => u8::load(group, index).number(),
-        Eew::E16 => u16::load(group, index).number(),
-        Eew::E32 => u32::load(group, index).number(),
-        Eew::E64 => u64::load(group, index).number(),
+    let mut all = [0; 8];
+    all[..bytes.len()].copy_from_slice(bytes);
+    u64::from_le_bytes(all)
+}
+
+impl Offsets {
+    /// The offset with an index.
+    #[inline(always)]
+    fn offset(&self, file: &[u8], index: usize) -> u64
+        requires { index ≤ GROUP_BYTES }
+        ensures { result ≡ offset_at self.now file.now index }
+    {
+        let first = VLENB * self.first.number() as usize;
+        let group = chunk_at(file, first, VLENB * registers(self.emul) as usize);
+        let size = element_bytes(self.width);
+        number_of(chunk_at(group, size * index, size))
     }
 }
 
 impl Addresses {
     /// Where the segment of an index begins.
     #[inline(always)]
-    fn address(&self, file: &VFile, index: usize) -> u64
+    fn address(&self, file: &[u8], index: usize) -> u64
         requires { index ≤ GROUP_BYTES }
         ensures { result ≡ address_of self.now file.now index }
     {
         let distance = match &self.offsets {
-            Some(offsets) => offset_at(offsets, file, index),
+            Some(offsets) => offsets.offset(file, index),
             None => self.stride.wrapping_mul(index as u64),
         };
         self.base.wrapping_add(distance)
@@ -69,7 +71,7 @@ impl Addresses {
 fn push_field(
     text: &mut Text,
     segments: &Segments,
-    file: &VFile,
+    file: &[u8],
     address: u64,
     index: usize,
     field: usize,
@@ -86,20 +88,14 @@ fn push_field(
     if segments.is_store {
         let register = segments.register + field * segments.field_registers;
         text.push(b" 0x");
-        push_reversed(
-            text,
-            bytes_at(
-                file,
-                VLENB * register + index * segments.size,
-                segments.size,
-            ),
-        );
+        let at = VLENB * register + index * segments.size;
+        push_reversed(text, chunk_at(file, at, segments.size));
     }
 }
 
 /// Adds the fields of a segment, if it isn't masked off.
 #[inline(always)]
-fn push_segment(text: &mut Text, segments: &Segments, body: &Body<'_>, file: &VFile, index: usize)
+fn push_segment(text: &mut Text, segments: &Segments, body: &Body<'_>, file: &[u8], index: usize)
     requires narrow { IsNarrow segments.now }
     requires index { index + 1 ≤ GROUP_BYTES }
     requires room { length text.old + 336 ≤ TEXT_SIZE }
@@ -117,7 +113,7 @@ fn push_segment(text: &mut Text, segments: &Segments, body: &Body<'_>, file: &VF
 
 /// Adds the segments of the indices of a body.
 #[inline(never)]
-fn push_segments(text: &mut Text, segments: &Segments, body: &Body<'_>, file: &VFile)
+fn push_segments(text: &mut Text, segments: &Segments, body: &Body<'_>, file: &[u8])
     requires narrow { IsNarrow segments.now }
     requires room { length text.old + 86016 ≤ TEXT_SIZE }
     ensures text { text.new ≡ text.old
@@ -140,8 +136,8 @@ pub(crate) fn push_moves(
 )
     requires vl { vl ≤ GROUP_BYTES }
     requires room { length text.old + 86016 ≤ TEXT_SIZE }
-    ensures text { text.new ≡ text.old
-        ++ flat_map moved_text (moved_by instr.now scalar.now state.now vl) }
+    ensures text { length state.now.file ≡ FILE_BYTES → text.new ≡ text.old
+        ++ flat_map moved_text (option_map_or (told_access state.now vl) (access_of instr.now state.now scalar.now) []) }
     ensures bound { length text.new ≤ length text.old + 86016 }
 {
     let Some(segments) = access_segments(instr, scalar, state.conf.vtype()) else {
@@ -150,5 +146,6 @@ pub(crate) fn push_moves(
     let end = last_moved(instr, state.conf.vl(), vl);
     let mask = mask_register(&state.file);
     let body = Body::new(segments.unmasked, &mask, usize::from(state.vstart), end);
-    push_segments(text, &segments, &body, &state.file);
+    let bytes = state.file.part(0, FILE_BYTES);
+    push_segments(text, &segments, &body, bytes);
 }

@@ -14,38 +14,9 @@ use Rattle.vec_recorder.specs.declared.command_line.UsageFault.TheVariants.{Help
 abbrev pub option_rule : Text → Rule
 option_rule name = record (new_rule name) { long = Some name; value_names = 1 }
 
--- `--policy POLICY`, `--ticks N`, `--memory ADDR:PERMS:FILE`, `--registers FILE`, `--counts FILE`
-abbrev pub policy_rule : Rule
-policy_rule = option_rule (codes "policy")
-
-abbrev pub ticks_rule : Rule
-ticks_rule = option_rule (codes "ticks")
-
-abbrev pub memory_rule : Rule
-memory_rule = record (option_rule (codes "memory")) { action = Some Append }
-
-abbrev pub registers_rule : Rule
-registers_rule = option_rule (codes "registers")
-
-abbrev pub counts_rule : Rule
-counts_rule = option_rule (codes "counts")
-
--- `--watch ADDR:LEN`, `--changes FILE`
-abbrev pub watch_rule : Rule
-watch_rule = record (option_rule (codes "watch")) { action = Some Append }
-
-abbrev pub changes_rule : Rule
-changes_rule = option_rule (codes "changes")
-
--- `--log FILE`, `--from N`, `--to N`
-abbrev pub log_rule : Rule
-log_rule = option_rule (codes "log")
-
-abbrev pub from_rule : Rule
-from_rule = option_rule (codes "from")
-
-abbrev pub to_rule : Rule
-to_rule = option_rule (codes "to")
+-- one that may stand more than once
+abbrev pub repeated_rule : Text → Rule
+repeated_rule name = record (option_rule name) { action = Some Append }
 
 -- `[IMAGE]`
 abbrev pub image_rule : Rule
@@ -55,8 +26,11 @@ image_rule = record (new_rule (codes "image")) { value_names = 1 }
 -- [--watch ADDR:LEN]... [--changes FILE] [--log FILE [--from N] [--to N]] [IMAGE]`
 abbrev pub command_line : App
 command_line =
-    with_rule (with_rule (with_rule (with_rule (with_rule (with_rule (with_rule (with_rule (with_rule (with_rule (with_rule (new_app (codes "vecmon-record")) policy_rule) ticks_rule) memory_rule) registers_rule) counts_rule) watch_rule)
-    changes_rule) log_rule) from_rule) to_rule) image_rule
+    let app = new_app (codes "vecmon-record") in
+    let beginning = with_rule (with_rule (with_rule (with_rule app (option_rule (codes "policy"))) (option_rule (codes "ticks"))) (repeated_rule (codes "memory"))) (option_rule (codes "registers")) in
+    let records = with_rule (with_rule (with_rule beginning (option_rule (codes "counts"))) (repeated_rule (codes "watch"))) (option_rule (codes "changes")) in
+    let log = with_rule (with_rule (with_rule records (option_rule (codes "log"))) (option_rule (codes "from"))) (option_rule (codes "to")) in
+    with_rule log image_rule
 
 -- the word that clap gives to the option of a name, or to IMAGE, the program's name first
 abbrev pub word_of : Text → List Text → Option Text

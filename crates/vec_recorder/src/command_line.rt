@@ -1,21 +1,7 @@
 //! The words that the program takes, and what they ask for.
 ghost use Rattle.std.specs.Prelude.{◌≡◌, IfOk, false};
 ghost use Rattle.clap.specs.Words.{app_of, kind_of, rule_of};
-ghost use Rattle.vec_recorder.specs.CommandLine.{
-  command_line,
-  changes_rule,
-  counts_rule,
-  from_rule,
-  image_rule,
-  log_rule,
-  memory_rule,
-  policy_rule,
-  registers_rule,
-  ticks_rule,
-  to_rule,
-  watch_rule,
-  IsFaultOf,
-};
+ghost use Rattle.vec_recorder.specs.CommandLine.{command_line, image_rule, option_rule, repeated_rule, IsFaultOf};
 ghost use Rattle.vec_recorder.specs.declared.command_line.UsageFault.TheVariants.{NoMemory};
 
 use clap::error::ErrorKind;
@@ -31,6 +17,27 @@ docs/RECORDER.md of the repository, which is share/doc/vecmon/docs/RECORDER.md o
 
 Example, where a program spends its ticks:
   vecmon-record --counts counts image.elf && sort -n -r -k 5 counts | head";
+
+// What help says of each option.
+const POLICY_HELP: &str = "What becomes of agnostic elements [default: keep]";
+
+const TICKS_HELP: &str = "The most ticks, 1 to 2^63 [default: 2^63]";
+
+const MEMORY_HELP: &str = "Maps pages where none are, and writes the bytes of a file there";
+
+const REGISTERS_HELP: &str = "Registers to begin with, a line each";
+
+const COUNTS_HELP: &str = "Where to write how often each instruction was carried out";
+
+const WATCH_HELP: &str = "A place in memory, of 1 to 256 bytes, whose changes are written";
+
+const CHANGES_HELP: &str = "Where to write which instruction changed a place that is watched";
+
+const LOG_HELP: &str = "Where to write a line for each instruction";
+
+const FROM_HELP: &str = "The first instruction of the log, 1 to 2^63 [default: 1]";
+
+const TO_HELP: &str = "The last instruction of the log, 1 to 2^63 [default: 2^63]";
 
 /// What the words of the command line ask for, as they stand there.
 #[derive(Debug, Drop)]
@@ -89,115 +96,23 @@ impl From<clap::Error> for UsageFault {
     }
 }
 
-/// The option `--policy POLICY`.
-fn policy<'a>(alloc: Global) -> Arg<'a>
-    ensures rule { rule_of result ≡ policy_rule }
+/// An option with a value.
+fn option<'a>(alloc: Global, name: &'a str, value: &'a str, help: &'a str) -> Arg<'a>
+    ensures rule { rule_of result ≡ option_rule name.now }
     ensures local { result.global ≡ false }
 {
-    Arg::new(alloc, "policy")
-        .long("policy")
-        .value_name("keep|ones")
-        .help("What becomes of agnostic elements [default: keep]")
+    Arg::new(alloc, name)
+        .long(name)
+        .value_name(value)
+        .help(help)
 }
 
-/// The option `--ticks N`.
-fn ticks<'a>(alloc: Global) -> Arg<'a>
-    ensures rule { rule_of result ≡ ticks_rule }
+/// An option with a value that may stand more than once.
+fn repeated<'a>(alloc: Global, name: &'a str, value: &'a str, help: &'a str) -> Arg<'a>
+    ensures rule { rule_of result ≡ repeated_rule name.now }
     ensures local { result.global ≡ false }
 {
-    Arg::new(alloc, "ticks")
-        .long("ticks")
-        .value_name("N")
-        .help("The most ticks, 1 to 2^63 [default: 2^63]")
-}
-
-/// The option `--memory ADDR:PERMS:FILE`.
-fn memory<'a>(alloc: Global) -> Arg<'a>
-    ensures rule { rule_of result ≡ memory_rule }
-    ensures local { result.global ≡ false }
-{
-    Arg::new(alloc, "memory")
-        .long("memory")
-        .value_name("ADDR:PERMS:FILE")
-        .action(ArgAction::Append)
-        .help("Maps pages where none are, and writes the bytes of a file there")
-}
-
-/// The option `--registers FILE`.
-fn registers<'a>(alloc: Global) -> Arg<'a>
-    ensures rule { rule_of result ≡ registers_rule }
-    ensures local { result.global ≡ false }
-{
-    Arg::new(alloc, "registers")
-        .long("registers")
-        .value_name("FILE")
-        .help("Registers to begin with, a line each")
-}
-
-/// The option `--counts FILE`.
-fn counts<'a>(alloc: Global) -> Arg<'a>
-    ensures rule { rule_of result ≡ counts_rule }
-    ensures local { result.global ≡ false }
-{
-    Arg::new(alloc, "counts")
-        .long("counts")
-        .value_name("FILE")
-        .help("Where to write how often each instruction was carried out")
-}
-
-/// The option `--watch ADDR:LEN`.
-fn watch<'a>(alloc: Global) -> Arg<'a>
-    ensures rule { rule_of result ≡ watch_rule }
-    ensures local { result.global ≡ false }
-{
-    Arg::new(alloc, "watch")
-        .long("watch")
-        .value_name("ADDR:LEN")
-        .action(ArgAction::Append)
-        .help("A place in memory, of 1 to 256 bytes, whose changes are written")
-}
-
-/// The option `--changes FILE`.
-fn changes<'a>(alloc: Global) -> Arg<'a>
-    ensures rule { rule_of result ≡ changes_rule }
-    ensures local { result.global ≡ false }
-{
-    Arg::new(alloc, "changes")
-        .long("changes")
-        .value_name("FILE")
-        .help("Where to write which instruction changed a place that is watched")
-}
-
-/// The option `--log FILE`.
-fn log<'a>(alloc: Global) -> Arg<'a>
-    ensures rule { rule_of result ≡ log_rule }
-    ensures local { result.global ≡ false }
-{
-    Arg::new(alloc, "log")
-        .long("log")
-        .value_name("FILE")
-        .help("Where to write a line for each instruction")
-}
-
-/// The option `--from N`.
-fn from<'a>(alloc: Global) -> Arg<'a>
-    ensures rule { rule_of result ≡ from_rule }
-    ensures local { result.global ≡ false }
-{
-    Arg::new(alloc, "from")
-        .long("from")
-        .value_name("N")
-        .help("The first instruction of the log, 1 to 2^63 [default: 1]")
-}
-
-/// The option `--to N`.
-fn to<'a>(alloc: Global) -> Arg<'a>
-    ensures rule { rule_of result ≡ to_rule }
-    ensures local { result.global ≡ false }
-{
-    Arg::new(alloc, "to").long("to").value_name("N").help(
-        "The last instruction of the log, 1 to 2^63 [default: 2^63]",
-    )
+    option(alloc, name, value, help).action(ArgAction::Append)
 }
 
 /// The word `[IMAGE]`.
@@ -217,15 +132,15 @@ pub fn command<'a>(alloc: Global) -> Result<Command<'a>, AllocError>
     Command::new(alloc, "vecmon-record")
         .about("Runs a program alone on the machine of vecmon, and records what it does")
         .after_help(AFTER_HELP)
-        .arg(policy(alloc))?
-        .arg(ticks(alloc))?
-        .arg(memory(alloc))?
-        .arg(registers(alloc))?
-        .arg(counts(alloc))?
-        .arg(watch(alloc))?
-        .arg(changes(alloc))?
-        .arg(log(alloc))?
-        .arg(from(alloc))?
-        .arg(to(alloc))?
+        .arg(option(alloc, "policy", "keep|ones", POLICY_HELP))?
+        .arg(option(alloc, "ticks", "N", TICKS_HELP))?
+        .arg(repeated(alloc, "memory", "ADDR:PERMS:FILE", MEMORY_HELP))?
+        .arg(option(alloc, "registers", "FILE", REGISTERS_HELP))?
+        .arg(option(alloc, "counts", "FILE", COUNTS_HELP))?
+        .arg(repeated(alloc, "watch", "ADDR:LEN", WATCH_HELP))?
+        .arg(option(alloc, "changes", "FILE", CHANGES_HELP))?
+        .arg(option(alloc, "log", "FILE", LOG_HELP))?
+        .arg(option(alloc, "from", "N", FROM_HELP))?
+        .arg(option(alloc, "to", "N", TO_HELP))?
         .arg(image(alloc))
 }

@@ -1,0 +1,303 @@
+-- That a line tells the memory: what was stored, one element after another.
+use Rattle.std.proofs.Common.{◌≡◌, ◌∙◌, ap, refl, sym, subst, ℕ, zero, suc, ◌+◌, ◌-◌, ◌*◌, ◌%◌, ◌^◌, ◌≤◌, ◌==◌, ◌&&◌, ◌||◌, Bool, true, false, cond, List, [], ◌∷◌, ◌++◌, map, min, Option, Some, None, arith}
+use Rattle.std.specs.Prelude.{not, nat_le, IfSome}
+use Rattle.std.specs.Int.{byte_len, w64}
+use Rattle.std.specs.List.{range_with_len}
+use Rattle.std.specs.Option.{option_map, option_map_or}
+use Rattle.std.specs.Simd.Lanes.{chunk}
+use Rattle.std.proofs.lemmas.Bool.{leb-true}
+use Rattle.std.proofs.lemmas.List.{map-append}
+use Rattle.rv_model.specs.declared.instructions.access.AccessInstr.{AccessInstr}
+use Rattle.rv_model.specs.declared.instructions.access.AccessInstr.TheVariants.{UnitStride, WholeLoad, WholeStore, MaskAccess}
+use Rattle.rv_model.specs.declared.instructions.csr.CsrInstr.{CsrInstr}
+use Rattle.rv_model.specs.declared.instructions.csr.CsrInstr.TheVariants.{Register, Immediate}
+use Rattle.rv_model.specs.declared.instructions.instruction.Instr.{Instr}
+use Rattle.rv_model.specs.declared.instructions.instruction.Instr.TheVariants as instr
+use Rattle.rv_model.specs.declared.instructions.operations.CsrOp.{CsrOp}
+use Rattle.rv_model.specs.declared.instructions.operations.Direction.{Direction}
+use Rattle.rv_model.specs.declared.instructions.operations.Direction.TheVariants as direction
+use Rattle.rv_model.specs.declared.instructions.operations.SystemOp.TheVariants as system
+use Rattle.rv_model.specs.declared.instructions.operations.UnitOp.{UnitOp}
+use Rattle.rv_model.specs.declared.instructions.operations.UnitOp.TheVariants as unit
+use Rattle.rv_model.specs.declared.instructions.scalar.ScalarInstr.{ScalarInstr}
+use Rattle.rv_model.specs.declared.instructions.scalar.ScalarInstr.TheVariants.{Upper, Jump, JumpRegister, Branch, Load, Store, RegisterImmediate, ShiftImmediate, ShiftImmediateWord, RegisterRegister, Fence, System}
+use Rattle.rv_model.specs.declared.instructions.vector.VectorInstr.{VectorInstr}
+use Rattle.rv_model.specs.declared.memory.Access.TheVariants as access
+use Rattle.rv_model.specs.declared.scalar.Scalar.{Scalar}
+use Rattle.rv_model.specs.declared.step.memory_end.MemEnd.{MemEnd}
+use Rattle.rv_model.specs.declared.step.memory_end.MemEnd.TheVariants as memory_end
+use Rattle.rv_model.specs.declared.step.step_end.Cause.{Cause}
+use Rattle.rv_model.specs.declared.step.step_end.Cause.TheVariants.{FetchAccess, StoreAccess}
+use Rattle.rv_model.specs.declared.step.vector_end.VEnd.{VEnd}
+use Rattle.rv_model.specs.declared.step.vector_end.VEnd.TheVariants as vector_end
+use Rattle.rv_model.specs.declared.vector.control_register.ControlRegister.{ControlRegister}
+use Rattle.rv_model.specs.declared.vector.state.VState.{VState}
+use Rattle.rv_model.specs.declared.vector.types.VType.{VType}
+use Rattle.rv_model.specs.accesses.AccessRuns.{access_ends, directed_run, store_run}
+use Rattle.rv_model.specs.accesses.Transfers.{Moved, Plan, Transfer, end_at, memory_stored, stop_index, transfers}
+use Rattle.rv_model.specs.accesses.VectorAccess.{VectorAccess, access_of, element_start, is_first_only, moved_segment, plan, unit_direction}
+use Rattle.rv_model.specs.elements.Elements.{is_enabled}
+use Rattle.rv_model.specs.instructions.Immediates.{i_immediate, s_immediate}
+use Rattle.rv_model.specs.instructions.Table.{scan, table}
+use Rattle.rv_model.specs.legality.Legality.{is_legal}
+use Rattle.rv_model.specs.memory.Memory.{Memory, can_access, put_bytes}
+use Rattle.rv_model.specs.scalar.Arithmetic.{sum}
+use Rattle.rv_model.specs.scalar.ControlTransfer.{is_taken}
+use Rattle.rv_model.specs.scalar.LoadsAndStores.{load_width, store_width}
+use Rattle.rv_model.specs.scalar.Registers.{read_register, with_register}
+use Rattle.rv_model.specs.step.Hart.{HartState, Stepped, faults}
+use Rattle.rv_model.specs.step.MemoryStep.{access_end, load_fills_masked_off}
+use Rattle.rv_model.specs.step.ScalarStep.{csr_executed, csr_step, environment_call, jumps, scalar_step}
+use Rattle.rv_model.specs.step.Step.{VectorStepped, access_step, after_vector, executed, operation_step, performed, step, vector_executed, vector_step, vector_ticks}
+use Rattle.rv_model.specs.step.WriteCall.{output_room, write_call, write_count}
+use Rattle.rv_model.specs.vector.Control.{csr_form, is_write}
+use Rattle.rv_model.specs.vector.ControlRegisters.{control_register, is_read_only}
+use Rattle.rv_model.proofs.Choices.{of_bool, of_either, of_option, of_test}
+use Rattle.rv_model.proofs.access_lemmas.Moves.{stored-append}
+use Rattle.rv_model.proofs.access_lemmas.Resumes.{stop_most}
+use Rattle.rv_model.proofs.access_lemmas.Runs.{run_facts}
+use Rattle.rv_model.proofs.step_lemmas.StepCases.{operation_is}
+use Rattle.recording.specs.Runs.{is_counted, word_of}
+use Rattle.commit_log.specs.Lines.{Moved as Element, moved_end, told_access, told_moved, told_transfer}
+use Rattle.commit_log.specs.Told.{MemoryIsTold, with_stored}
+
+-- ---- elements, one after another
+
+stored_then : (xs ys : List Element) (m : Memory) → with_stored (xs ++ ys) m ≡ with_stored ys (with_stored xs m)
+stored_then [] ys m = refl
+stored_then (x ∷ xs) ys m = stored_then xs ys (option_map_or (put_bytes m x.address) x.stored m)
+
+-- those that were loaded
+loads_nothing : (d : Direction) (place : Transfer → ℕ) (file : List ℕ) (ts : List Transfer) (m : Memory) → d ≡ direction.Load
+    → with_stored (map (told_transfer d place file) ts) m ≡ m
+loads_nothing direction.Load place file [] m is = refl
+loads_nothing direction.Load place file (t ∷ ts) m is = loads_nothing direction.Load place file ts m refl
+loads_nothing direction.Store place file ts m is = absurd (cc)
+
+-- those of a segment
+segment_stored : (i address size : ℕ) (place : Transfer → ℕ) (file fields : List ℕ) (m : Memory)
+    → with_stored (map (told_transfer direction.Store place file) (map (λ f. record { index = i; field = f; size = size; kind = Moved ((address + f * size) % 2 ^ 64) }) fields)) m
+    ≡ memory_stored m place file (map (λ f. record { index = i; field = f; size = size; kind = Moved ((address + f * size) % 2 ^ 64) }) fields)
+unfolding memory_stored
+segment_stored i address size place file [] m = refl
+segment_stored i address size place file (f ∷ fields) m =
+    segment_stored i address size place file fields
+    (put_bytes m ((address + f * size) % 2 ^ 64) (chunk (place (record { index = i; field = f; size = size; kind = Moved ((address + f * size) % 2 ^ 64) })) size file))
+
+plan_stored : (a : VectorAccess) (place : Transfer → ℕ) (file : List ℕ) (i : ℕ) (m : Memory)
+    → with_stored (map (told_transfer direction.Store place file) (plan a false i)) m ≡ memory_stored m place file (plan a false i)
+unfolding plan memory_stored
+plan_stored a place file i m =
+    let moved : List Transfer = moved_segment i (a.address i) a.size a.fields in
+    of_bool (is_enabled a.body i)
+    (λ b. with_stored (map (told_transfer direction.Store place file) (cond b moved [])) m ≡ memory_stored m place file (cond b moved []))
+    (λ e. segment_stored i (a.address i) a.size place file (range_with_len 0 a.fields) m) (λ e. refl)
+
+transfers_stored : (a : VectorAccess) (place : Transfer → ℕ) (file : List ℕ) (i n : ℕ) (m : Memory)
+    → with_stored (map (told_transfer direction.Store place file) (transfers (plan a false) i n)) m ≡ memory_stored m place file (transfers (plan a false) i n)
+unfolding transfers memory_stored
+transfers_stored a place file i zero m = refl
+transfers_stored a place file i (suc n) m =
+    let told : Transfer → Element = told_transfer direction.Store place file in
+    let here : List Transfer = plan a false i in
+    let rest : List Transfer = transfers (plan a false) (i + 1) n in
+    ap (λ (es : List Element). with_stored es m) (map-append told here rest)
+    ∙ stored_then (map told here) (map told rest) m
+    ∙ ap (with_stored (map told rest)) (plan_stored a place file i m)
+    ∙ transfers_stored a place file (i + 1) n (memory_stored m place file here)
+    ∙ sym (stored-append m place file here rest)
+
+stores_all : (d : Direction) (a : VectorAccess) (place : Transfer → ℕ) (file : List ℕ) (i n : ℕ) (m : Memory) → d ≡ direction.Store
+    → with_stored (map (told_transfer d place file) (transfers (plan a false) i n)) m ≡ memory_stored m place file (transfers (plan a false) i n)
+stores_all direction.Load a place file i n m is = absurd (cc)
+stores_all direction.Store a place file i n m is = transfers_stored a place file i n m
+
+-- ---- what a store leaves
+
+-- of all indices, once it is done
+store_is : (limit : ℕ) (a : VectorAccess) (v : VState) (m : Memory) → (store_run limit a v m).end ≡ memory_end.Done
+    → (store_run limit a v m).memory ≡ memory_stored m (element_start a) v.file (transfers (plan a false) a.body.start (a.body.end - a.body.start))
+unfolding store_run end_at
+store_is limit a v m =
+    let each : Plan = plan a false in
+    let start : ℕ = a.body.start in
+    let count : ℕ = a.body.end in
+    let stop : ℕ = stop_index access.Store m each start (start + limit) count in
+    let left : ℕ → Memory = λ k. memory_stored m (element_start a) v.file (transfers each start (k - start)) in
+    let P : MemEnd → Type 0 = λ end. (access_ends false count v (left stop) end).end ≡ memory_end.Done → (access_ends false count v (left stop) end).memory ≡ left count in
+    of_test P (nat_le count stop) _ _
+    (λ e. λ h.
+    let all : count ≤ stop = leb-true count stop e in
+    let most : stop ≤ min count (start + limit) = stop_most access.Store m each start (start + limit) count in
+    let same : stop ≡ count = omega (arith, all, most) in
+    ap left same)
+    (λ e. of_either P (nat_le (start + limit) stop) _ _ (λ h. absurd (cc)) (λ h. absurd (cc)))
+
+directed_stored : (d : Direction) (limit : ℕ) (fill : Bool) (a : VectorAccess) (v : VState) (m : Memory) → d ≡ direction.Store
+    → (directed_run d limit fill a v m).end ≡ memory_end.Done
+    → (directed_run d limit fill a v m).memory ≡ memory_stored m (element_start a) v.file (transfers (plan a false) a.body.start (a.body.end - a.body.start))
+directed_stored direction.Load limit fill a v m is h = absurd (cc)
+directed_stored direction.Store limit fill a v m is h = store_is limit a v m h
+
+-- no store shortens the length
+unit_whole : (op : UnitOp) → unit_direction op ≡ direction.Store → is_first_only op ≡ false
+unit_whole unit.Store e = refl
+unit_whole _ e = absurd (cc)
+
+typed_whole : (o : Option VType) (make : VType → VectorAccess) (P : VectorAccess → Type 0) → ((t : VType) → P (make t)) → IfSome (option_map make o) P
+typed_whole None make P each = tt
+typed_whole (Some t) make P each = each t
+
+abbrev IsWhole : VectorAccess → Type 0
+IsWhole a = a.direction ≡ direction.Store → a.first_only ≡ false
+
+each_whole : (i : AccessInstr) (v : VState) (x : Scalar) → IfSome (access_of i v x) IsWhole
+each_whole (UnitStride op width nf vd rs1 vm) v x = typed_whole v.conf.vtype _ IsWhole (λ t. unit_whole op)
+each_whole (WholeLoad count w vd rs1) v x = λ e. refl
+each_whole (WholeStore count vd rs1) v x = λ e. refl
+each_whole (MaskAccess d vd rs1) v x = typed_whole v.conf.vtype _ IsWhole (λ t. λ e. refl)
+each_whole _ v x = typed_whole v.conf.vtype _ IsWhole (λ t. λ e. refl)
+
+whole_of : (i : AccessInstr) (v : VState) (x : Scalar) (a : VectorAccess) → access_of i v x ≡ Some a → IsWhole a
+whole_of i v x a e = subst (λ (o : Option VectorAccess). IfSome o IsWhole) e (each_whole i v x)
+
+done_is : (d : Direction) (end : MemEnd) → access_end d end ≡ vector_end.Done → end ≡ memory_end.Done
+done_is d memory_end.Done h = refl
+done_is d (memory_end.Fault index addr) h = absurd (cc)
+done_is d (memory_end.Cut index) h = absurd (cc)
+
+-- ---- each instruction
+
+abbrev Tells : Instr → HartState → Stepped → Type 0
+Tells i s r = is_counted r.end ≡ true → with_stored (told_moved i s r.state.vector.conf.vl) s.memory ≡ r.state.memory
+
+abbrev VectorTells : Instr → HartState → VectorStepped → Type 0
+VectorTells i s d = d.end ≡ vector_end.Done → with_stored (told_moved i s d.state.vector.conf.vl) s.memory ≡ d.state.memory
+
+-- nothing is stored
+abbrev Stays : HartState → Stepped → Type 0
+Stays s r = is_counted r.end ≡ true → s.memory ≡ r.state.memory
+
+module _ (s : HartState) where
+  refused : (i : Instr) (cause : Cause) (value : ℕ) → Tells i s (faults cause value s)
+  refused i cause value h = absurd (cc)
+
+  jumps_stay : (target : ℕ) (x : Scalar) → Stays s (jumps target x s)
+  jumps_stay target x = of_either (Stays s) (target % 4 == 0) _ _ (λ h. refl) (λ h. refl)
+
+  csr_stays : (register : Option ControlRegister) (op : CsrOp) (rd source operand word : ℕ) → Stays s (csr_step register op rd source operand word s)
+  csr_stays None op rd source operand word = λ h. refl
+  csr_stays (Some register) op rd source operand word =
+      of_either (Stays s) (is_write op source && is_read_only register) _ _ (λ h. refl) (of_either (Stays s) (is_write op source) _ _ (λ h. refl) (λ h. refl))
+
+  write_stays : Stays s (write_call s)
+  unfolding write_call
+  write_stays =
+      let asked : ℕ = read_register s.scalar 12 in
+      let addr : ℕ = read_register s.scalar 11 in
+      of_either (Stays s) (not (read_register s.scalar 10 == 1)) _ _ (λ h. refl)
+      (of_either (Stays s) (asked == 0) _ _ (λ h. refl)
+      (of_either (Stays s) (output_room s.output == 0) _ _ (λ h. refl)
+      (of_either (Stays s) (can_access access.Load s.memory addr (write_count asked s.output)) _ _ (λ h. refl) (λ h. refl))))
+
+  call_stays : Stays s (environment_call s)
+  unfolding environment_call
+  call_stays =
+      of_either (Stays s) (read_register s.scalar 17 == 93 || read_register s.scalar 17 == 94) _ _ (λ h. refl)
+      (of_either (Stays s) (read_register s.scalar 17 == 64) _ _ write_stays (λ h. refl))
+
+  scalar_tells : (i : ScalarInstr) → Tells (instr.Scalar i) s (scalar_step i s)
+  scalar_tells (Upper op rd imm) = λ h. refl
+  scalar_tells (Jump rd imm) = jumps_stay _ (with_register rd (sum w64 s.scalar.pc 4) s.scalar)
+  scalar_tells (JumpRegister rd rs1 imm) = jumps_stay _ (with_register rd (sum w64 s.scalar.pc 4) s.scalar)
+  scalar_tells (Branch op rs1 rs2 imm) =
+      of_either (Stays s) (is_taken op (read_register s.scalar rs1) (read_register s.scalar rs2)) _ _ (jumps_stay _ s.scalar) (λ h. refl)
+  scalar_tells (Load op rd rs1 imm) =
+      let addr : ℕ = sum w64 (read_register s.scalar rs1) (i_immediate imm) in
+      of_either (Stays s) (can_access access.Load s.memory addr (byte_len (load_width op))) _ _ (λ h. refl) (λ h. refl)
+  scalar_tells (Store op rs1 rs2 imm) =
+      let addr : ℕ = sum w64 (read_register s.scalar rs1) (s_immediate imm) in
+      of_either (Tells (instr.Scalar (Store op rs1 rs2 imm)) s) (can_access access.Store s.memory addr (byte_len (store_width op))) _ _
+      (λ h. refl) (refused (instr.Scalar (Store op rs1 rs2 imm)) StoreAccess addr)
+  scalar_tells (Fence rd rs1 ordering) = λ h. refl
+  scalar_tells (System system.Ecall) = call_stays
+  scalar_tells (System system.Ebreak) = λ h. refl
+  scalar_tells (RegisterImmediate op rd rs1 imm) = λ h. refl
+  scalar_tells (ShiftImmediate op rd rs1 shamt) = λ h. refl
+  scalar_tells (ShiftImmediateWord op rd rs1 shamt) = λ h. refl
+  scalar_tells (RegisterRegister op rd rs1 rs2) = λ h. refl
+
+  controls_tell : (i : CsrInstr) (word : ℕ) → Tells (instr.Csr i) s (csr_executed i word s)
+  controls_tell (Register op rd rs1 csr) word = csr_stays (control_register csr) op rd rs1 (read_register s.scalar rs1) word
+  controls_tell (Immediate op rd imm csr) word = csr_stays (control_register csr) (csr_form op) rd imm imm word
+
+  operation_tells : (i : VectorInstr) → VectorTells (instr.Vector i) s (operation_step i s)
+  operation_tells i h =
+      operation_is s (λ d. s.memory ≡ d.state.memory) (record { sets = λ rd vtype length. refl; leaves = λ x first file saturated. refl; illegal = refl }) i
+
+  loaded_tells : (limit : ℕ) (i : AccessInstr) (a : VectorAccess) → access_of i s.vector s.scalar ≡ Some a → a.direction ≡ direction.Load
+      → (vl : ℕ) → with_stored (told_access s.vector vl a) s.memory ≡ (access_step limit i (Some a) s).state.memory
+  loaded_tells limit i a e is vl =
+      loads_nothing a.direction (element_start a) s.vector.file (transfers (plan a false) a.body.start (moved_end a vl - a.body.start)) s.memory is
+      ∙ sym ((run_facts limit (load_fills_masked_off a s) i s.vector s.scalar s.memory a e).memory is)
+
+  stored_tells : (limit : ℕ) (i : AccessInstr) (a : VectorAccess) → access_of i s.vector s.scalar ≡ Some a → a.direction ≡ direction.Store
+      → (access_step limit i (Some a) s).end ≡ vector_end.Done → (vl : ℕ) → with_stored (told_access s.vector vl a) s.memory ≡ (access_step limit i (Some a) s).state.memory
+  stored_tells limit i a e is h vl =
+      ap (λ (b : Bool). with_stored (map (told_transfer a.direction (element_start a) s.vector.file) (transfers (plan a false) a.body.start (cond b vl a.body.end - a.body.start))) s.memory)
+      (whole_of i s.vector s.scalar a e is)
+      ∙ stores_all a.direction a (element_start a) s.vector.file a.body.start (a.body.end - a.body.start) s.memory is
+      ∙ sym (directed_stored a.direction limit (load_fills_masked_off a s) a s.vector s.memory is (done_is a.direction _ h))
+
+  moved_tells : (limit : ℕ) (i : AccessInstr) (a : VectorAccess) → access_of i s.vector s.scalar ≡ Some a → (d : Direction) → a.direction ≡ d
+      → (access_step limit i (Some a) s).end ≡ vector_end.Done
+      → with_stored (told_access s.vector (access_step limit i (Some a) s).state.vector.conf.vl a) s.memory ≡ (access_step limit i (Some a) s).state.memory
+  moved_tells limit i a e direction.Load is h = loaded_tells limit i a e is _
+  moved_tells limit i a e direction.Store is h = stored_tells limit i a e is h _
+
+  access_tells : (limit : ℕ) (i : AccessInstr) → VectorTells (instr.Access i) s (access_step limit i (access_of i s.vector s.scalar) s)
+  access_tells limit i =
+      of_option (access_of i s.vector s.scalar) (λ o. (access_step limit i o s).end ≡ vector_end.Done
+      → with_stored (option_map_or (told_access s.vector (access_step limit i o s).state.vector.conf.vl) o []) s.memory ≡ (access_step limit i o s).state.memory)
+      (λ e. λ h. refl) (λ a e. moved_tells limit i a e a.direction refl)
+
+  performed_tells : (limit : ℕ) (i : Instr) → VectorTells i s (performed limit i s)
+  unfolding performed
+  performed_tells limit (instr.Vector i) = operation_tells i
+  performed_tells limit (instr.Access i) = access_tells limit i
+  performed_tells limit (instr.Scalar i) = λ h. absurd (cc)
+  performed_tells limit (instr.Csr i) = λ h. absurd (cc)
+
+  vector_tells : (limit : ℕ) (i : Instr) → VectorTells i s (vector_executed limit i s)
+  unfolding vector_executed
+  vector_tells limit i =
+      of_either (VectorTells i s) (is_legal i s.vector.conf.vtype s.vector.vstart) _ _ (performed_tells limit i) (λ h. absurd (cc))
+
+  after_tells : (i : Instr) (ticks : ℕ) (end : VEnd) (word : ℕ) (w : HartState)
+      → (end ≡ vector_end.Done → with_stored (told_moved i s w.vector.conf.vl) s.memory ≡ w.memory) → Tells i s (after_vector ticks end word w)
+  after_tells i ticks vector_end.Done word w is h = is refl
+  after_tells i ticks vector_end.Illegal word w is h = absurd (cc)
+  after_tells i ticks (vector_end.Fault store addr) word w is h = absurd (cc)
+  after_tells i ticks (vector_end.Cut index) word w is h = absurd (cc)
+
+  vector_step_tells : (limit : ℕ) (i : Instr) (word : ℕ) → Tells i s (vector_step limit i word s)
+  vector_step_tells limit i word =
+      let done : VectorStepped = vector_executed limit i s in
+      after_tells i (vector_ticks limit i s) done.end word done.state (vector_tells limit i)
+
+  executed_tells : (limit : ℕ) (i : Instr) (word : ℕ) → Tells i s (executed limit (Some i) word s)
+  unfolding executed
+  executed_tells limit (instr.Scalar i) word = scalar_tells i
+  executed_tells limit (instr.Csr i) word = controls_tell i word
+  executed_tells limit (instr.Vector i) word = vector_step_tells limit (instr.Vector i) word
+  executed_tells limit (instr.Access i) word = vector_step_tells limit (instr.Access i) word
+
+  step_tells : (i : Instr) → scan table (word_of s) ≡ Some i → Tells i s (step 256 s)
+  unfolding step
+  step_tells i is =
+      let word : ℕ = word_of s in
+      of_either (Tells i s) (can_access access.Fetch s.memory s.scalar.pc 4) _ _
+      (subst (λ (o : Option Instr). Tells i s (executed 256 o word s)) (sym is) (executed_tells 256 i word)) (refused i FetchAccess s.scalar.pc)
+
+pub memory_is_told : MemoryIsTold
+memory_is_told s i is counted = step_tells s i is counted

@@ -1,0 +1,110 @@
+-- Registers that are told over others: where the bytes differ in some registers alone, telling those is telling all.
+use Rattle.std.proofs.Common.{◌≡◌, ◌∙◌, ◌⊎◌, inl, inr, ap, refl, sym, ℕ, zero, suc, ◌+◌, ◌-◌, ◌*◌, ◌/◌, ◌%◌, ◌<◌, ◌≤◌, Bool, List, [], ◌∷◌, max, min, length, get_or, take, drop, arith}
+use Rattle.std.specs.List.{range_with_len}
+use Rattle.std.specs.Simd.Lanes.{chunk, put_chunk}
+use Rattle.std.proofs.lemmas.Bool.{cases_lt}
+use Rattle.std.proofs.lemmas.Grind.{same_number_lists}
+use Rattle.std.proofs.lemmas.List.{get_or_past, length-map, length-take}
+use Rattle.std.proofs.lemmas.List.FromFn.{length-range_with_len}
+use Rattle.std.proofs.lemmas.Simd.{get_or-chunk, get_or-put_chunk_above, get_or-put_chunk_at, get_or-put_chunk_below, length-chunk, length-put_chunk}
+use Rattle.rv_model.specs.elements.Elements.{byte_or, written}
+use Rattle.rv_model.specs.vector.Groups.{GroupType, group_of, register_of, registers, with_group, with_register_bytes}
+use Rattle.commit_log.specs.Lines.{told_vectors}
+use Rattle.commit_log.specs.Targets.{registers_from}
+use Rattle.commit_log.specs.Told.{with_vectors}
+
+-- ---- registers that are told over others
+
+-- bytes are put where they stand
+put_same : (i n : ℕ) (xs : List ℕ) → put_chunk i xs (take n (drop i xs)) ≡ xs
+put_same i n [] = refl
+put_same zero zero (x ∷ xs) = refl
+put_same zero (suc n) (x ∷ xs) = ap (λ (ys : List ℕ). x ∷ ys) (put_same zero n xs)
+put_same (suc i) n (x ∷ xs) = ap (λ (ys : List ℕ). x ∷ ys) (put_same i n xs)
+
+-- registers that nothing has written
+pub same : (file rs : List ℕ) → with_vectors (told_vectors file rs) file ≡ file
+unfolding with_register_bytes register_of
+same file [] = refl
+same file (r ∷ rs) = ap (with_vectors (told_vectors file rs)) (put_same (32 * r) 32 file) ∙ same file rs
+
+-- bytes that differ between two places alone
+record Differs (low high : ℕ) (old new : List ℕ) : Type 0 where
+  size : length new ≡ length old
+  others : (k : ℕ) → (k < low) ⊎ (high ≤ k) → get_or new k 0 ≡ get_or old k 0
+
+-- after the first register
+first_told : (r n : ℕ) (old new : List ℕ) → length new ≡ 1024 → r < 32 → Differs (32 * r) (32 * (r + suc n)) old new
+    → Differs (32 * (r + 1)) (32 * (r + 1 + n)) (put_chunk (32 * r) old (chunk (32 * r) 32 new)) new
+first_told r n old new long inside d =
+    let bytes : List ℕ = chunk (32 * r) 32 new in
+    let size : length bytes ≡ 32 = length-chunk (32 * r) 32 new (omega (arith, long, inside)) in
+    let old_long : length old ≡ 1024 = sym d.size ∙ long in
+    record {
+      size = d.size ∙ sym (length-put_chunk (32 * r) old bytes);
+      others = λ k out. elim (cases_lt k (32 * r)) [
+        | inl below ↦ d.others k (inl below) ∙ sym (get_or-put_chunk_below (32 * r) old bytes k 0 below)
+        | inr from ↦ elim (cases_lt k (32 * r + 32)) [
+          | inl before ↦
+              let j : ℕ = k - 32 * r in
+              let at : k ≡ 32 * r + j = omega (arith, from) in
+              let small : j < 32 = omega (arith, from, before) in
+              let put : get_or (put_chunk (32 * r) old bytes) (32 * r + j) 0 ≡ get_or bytes j 0 =
+              get_or-put_chunk_at (32 * r) old bytes j 0 (omega (arith, small, size)) (omega (arith, size, old_long, inside)) in
+              ap (λ (m : ℕ). get_or new m 0) at ∙ sym (get_or-chunk (32 * r) 32 new j 0 small) ∙ sym put
+              ∙ sym (ap (λ (m : ℕ). get_or (put_chunk (32 * r) old bytes) m 0) at)
+          | inr past ↦ elim out [
+            | inl early ↦ absurd (omega (arith, early, past))
+            | inr late ↦ d.others k (inr (omega (arith, late))) ∙ sym (get_or-put_chunk_above (32 * r) old bytes k 0 (omega (arith, size, past)))
+          ]
+        ]
+      ];
+    }
+
+told_over : (n r : ℕ) (old new : List ℕ) → length new ≡ 1024 → r + n ≤ max r 32 → Differs (32 * r) (32 * (r + n)) old new
+    → with_vectors (told_vectors new (range_with_len r n)) old ≡ new
+unfolding with_register_bytes register_of
+told_over zero r old new long inside d =
+    same_number_lists old new (sym d.size) (λ k h. elim (cases_lt k (32 * r)) [
+      | inl below ↦ sym (d.others k (inl below))
+      | inr from ↦ sym (d.others k (inr (omega (arith, from))))
+    ])
+told_over (suc n) r old new long inside d =
+    told_over n (r + 1) (put_chunk (32 * r) old (chunk (32 * r) 32 new)) new long (omega (arith, inside))
+    (first_told r n old new long (omega (arith, inside)) d)
+
+-- bytes that differ in so many registers alone
+pub region_told : (file new : List ℕ) (vd count : ℕ) → length file ≡ 1024 → length new ≡ length file
+    → ((k : ℕ) → (k < 32 * vd) ⊎ (32 * (vd + count) ≤ k) → get_or new k 0 ≡ get_or file k 0)
+    → with_vectors (told_vectors new (registers_from vd count)) file ≡ new
+region_told file new vd count long size kept =
+    let n : ℕ = min count (32 - vd) in
+    told_over n vd file new (size ∙ long) (omega arith) (record {
+      size = size;
+      others = λ k out. elim out [
+        | inl below ↦ kept k (inl below)
+        | inr from ↦ elim (cases_lt k 1024) [
+          | inl inside ↦ kept k (inr (omega (arith, from, inside)))
+          | inr past ↦ get_or_past new k 0 (omega (arith, past, size, long)) ∙ sym (get_or_past file k 0 (omega (arith, past, long)))
+        ]
+      ];
+    })
+
+-- a group that is written
+pub group_told : (file bytes : List ℕ) (vd count : ℕ) → length file ≡ 1024 → length bytes ≤ 32 * count
+    → with_vectors (told_vectors (with_group file vd bytes) (registers_from vd count)) file ≡ with_group file vd bytes
+group_told file bytes vd count long short =
+    region_told file (put_chunk (32 * vd) file bytes) vd count long (length-put_chunk (32 * vd) file bytes) (λ k out. elim out [
+      | inl below ↦ get_or-put_chunk_below (32 * vd) file bytes k 0 below
+      | inr from ↦ get_or-put_chunk_above (32 * vd) file bytes k 0 (omega (arith, from, short))
+    ])
+
+pub group_short : (file : List ℕ) (vd emul : ℕ) → length (group_of file vd emul) ≤ 32 * registers emul
+group_short file vd emul = omega (arith, length-take (32 * registers emul) (drop (32 * vd) file))
+
+pub written_short : (file : List ℕ) (g : GroupType) (vd k : ℕ) (changed : ℕ → Bool) (number : ℕ → ℕ)
+    → length (written k changed number (group_of file vd g.emul)) ≤ 32 * registers g.emul
+unfolding written
+written_short file g vd k changed number =
+    let old : List ℕ = group_of file vd g.emul in
+    omega (arith, length-map (range_with_len 0 (length old)) (λ at. byte_or changed number old k (at / k) (at % k)), length-range_with_len 0 (length old), group_short file vd g.emul)
