@@ -41,7 +41,7 @@ install:
 	$(link) "$(DESTDIR)$(lab)/lab/vecmon_lab/exercises/given" "$(DESTDIR)$(docdir)/examples/exercises"
 	$(link) "$(DESTDIR)$(lab)/lab/vecmon_lab/lessons/tours" "$(DESTDIR)$(docdir)/examples/tour"
 	$(call page,vecmon,1,'trainer machine for the RISC-V vector extension',PROGRAM.md)
-	$(call page,vecmon-record,1,'counts what a program does on the machine of vecmon',RECORDER.md)
+	$(call page,vecmon-record,1,'records what a program does on the machine of vecmon',RECORDER.md)
 	$(call page,vecmon-lab,1,'front end of vecmon with lessons and classes',LAB.md)
 	$(call page,vecmon-commands,5,'scripts and commands of vecmon',COMMANDS.md)
 	$(copy) packaging/completion "$(DESTDIR)$(completions)/vecmon"

@@ -24,7 +24,7 @@ FRAME = "requestAnimationFrame(() => setTimeout(arguments[0])), setTimeout(argum
 
 def lab_command(takes_c: bool) -> list[str]:
     """The command that runs the lab; root may compile others' C, if that is asked for."""
-    begin = "from vecmon_lab.compilers import wall; wall.check_wall = lambda: None; import vecmon_lab.__main__ as lab; "
+    begin = "from vecmon_lab.compilers import sandbox; sandbox.check_sandbox = lambda: None; import vecmon_lab.__main__ as lab; "
     return [sys.executable, *(["-c", f"{begin}lab.main()"] if takes_c else ["-m", "vecmon_lab"])]
 
 

@@ -10,7 +10,7 @@ NO_BINUTILS = "there is no riscv64-linux-gnu-ld"
 NO_GDB = "there is no gdb-multiarch"
 NO_QEMU = "there is no qemu-riscv64 of version 7.2"
 NO_CLANG = "there is no clang with intrinsics of vectors"
-NO_WALL = "there is no bwrap"
+NO_SANDBOX = "there is no bwrap"
 
 
 def leave_out(reason: str) -> NoReturn:

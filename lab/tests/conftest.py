@@ -13,7 +13,7 @@ from _pytest.terminal import TerminalReporter
 
 from support.browser import WINDOWS, start_browser
 from support.commands import Lab
-from support.left_out import NO_BINUTILS, NO_BROWSER, NO_CLANG, NO_GDB, NO_QEMU, NO_WALL, leave_out
+from support.left_out import NO_BINUTILS, NO_BROWSER, NO_CLANG, NO_GDB, NO_QEMU, NO_SANDBOX, leave_out
 from vecmon_lab.compilers.compiler import Compiler, find_compilers
 from vecmon_lab.machine.program import find_program
 from vecmon_lab.machine.session import Session
@@ -26,7 +26,7 @@ LEFT_OUT = {
     "with gdb": NO_GDB,
     "on QEMU": NO_QEMU,
     "of sources in C": NO_CLANG,
-    "behind a wall": NO_WALL,
+    "in a sandbox": NO_SANDBOX,
     "with an assembler": NO_BINUTILS,
 }
 
@@ -86,10 +86,10 @@ def clang() -> Compiler:
 
 
 @pytest.fixture(scope="session")
-def walled_clang(clang: Compiler) -> Compiler:
-    """The same with what makes the wall, where both are."""
+def sandboxed_clang(clang: Compiler) -> Compiler:
+    """The same with what makes the sandbox, where both are."""
     if shutil.which("bwrap") is None:
-        leave_out(NO_WALL)
+        leave_out(NO_SANDBOX)
     return clang
 
 

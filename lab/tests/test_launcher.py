@@ -67,6 +67,8 @@ def test_completion(tmp_path: pathlib.Path) -> None:
     assert completed(tmp_path, "solo", "monday", "B") == [f"B{digit}" for digit in range(1, 9)]
     assert completed(tmp_path, "solo", "monday", "A1") == ["A1"] and completed(tmp_path, "solo", "mon") == ["A_FILE"]
     assert completed(tmp_path, "class", "monday", "sum=x") == ["A_FILE"]
+    assert set(completed(tmp_path, "class", "--im")) == {"--image-size"}
+    assert "--no-clock" in completed(tmp_path, "class", "--n")
 
 
 def test_another_python_that_has_no_library(installed: pathlib.Path, program: pathlib.Path) -> None:

@@ -22,7 +22,7 @@ from vecmon_lab.machine.program import find_program
 if TYPE_CHECKING:
     from selenium.webdriver import Chrome
 
-WIDTH, HEIGHT, WALL_HEIGHT = 1280, 800, 720
+WIDTH, HEIGHT, WALL_HEIGHT, EXERCISE_HEIGHT = 1280, 800, 720, 880
 EXAMPLE = EXAMPLES / "strip_mined.s"
 MASKED = 22  # of the example's instructions, the masked one in the loop's second round
 GREY = EXAMPLES / "kernels" / "grey.c"
@@ -98,7 +98,7 @@ def picture_class(browser: "Chrome", served: Served, folder: pathlib.Path) -> No
 def picture_exercise(browser: "Chrome", served: Served, folder: pathlib.Path) -> None:
     """The page of a student whose answer was checked and fails."""
     tab = Tab(browser, served, "A1")
-    give_room(browser, HEIGHT)
+    give_room(browser, EXERCISE_HEIGHT)  # so that what was found is in sight
     tab.click("#show-source")
     tab.run("(id('source').value = arguments[0], id('assemble').click())", WRONG.read_text("utf-8"))
     tab.wait("id('listing').textContent.includes('vminu') && !id('listing').hidden")
@@ -106,7 +106,7 @@ def picture_exercise(browser: "Chrome", served: Served, folder: pathlib.Path) ->
     tab.click("#exercise .main")
     tab.wait("one('#exercise .wrong')")
     tab.run("(one('.reading').scrollTop = one('.verdict').offsetTop)")
-    save(browser, folder / "exercise.png", HEIGHT)
+    save(browser, folder / "exercise.png", EXERCISE_HEIGHT)
 
 
 def picture_kernels(browser: "Chrome", served: Served, own: Served, folder: pathlib.Path) -> None:
@@ -141,8 +141,10 @@ def main(folder: pathlib.Path) -> None:
         save(browser, folder / "lesson.png", HEIGHT)
         open_page(browser, pathlib.Path(room), EXAMPLES / "kernels" / "plain_sum.c", "--against", "O2-scalar")
         save(browser, folder / "listings.png", HEIGHT)
-        served = Served(pathlib.Path(room) / "class", find_program())
-        course = Served(pathlib.Path(room) / "course", find_program(), "--exercise", EXERCISE)
+        served = Served(pathlib.Path(room) / "class", find_program(), "--cc", "clang-19", takes_c=True)
+        course = Served(
+            pathlib.Path(room) / "course", find_program(), "--cc", "clang-19", "--exercise", EXERCISE, takes_c=True
+        )
         own = Explored(pathlib.Path(room) / "own", find_program(), GREY, "--cc", "clang-19")
         kernels = Served(pathlib.Path(room) / "kernels", find_program(), "--cc", "clang-19", clock=True, takes_c=True)
         try:

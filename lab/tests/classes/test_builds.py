@@ -1,4 +1,4 @@
-"""Sources in C in a class: written, compiled behind a wall, kept, given; and what hostile ones come to."""
+"""Sources in C in a class: written, compiled in a sandbox, kept, given; and what hostile ones come to."""
 
 import asyncio
 import io
@@ -10,13 +10,13 @@ import zipfile
 import pytest
 
 from support.class_tabs import Served, Tab, served
-from support.left_out import NO_WALL, leave_out
+from support.left_out import NO_SANDBOX, leave_out
 from support.places import EXAMPLES
 from vecmon_lab import LabError
-from vecmon_lab.classes.builds import Builds, walled_compiler
+from vecmon_lab.classes.builds import Builds, sandboxed_compiler
 from vecmon_lab.classes.languages import LANGUAGES
 from vecmon_lab.classes.room import SEAT_BYTES
-from vecmon_lab.compilers import wall
+from vecmon_lab.compilers import sandbox
 from vecmon_lab.compilers.compiled import read_answer
 from vecmon_lab.compilers.compiler import Compiler
 
@@ -30,9 +30,9 @@ ENDLESS = "#if __INCLUDE_LEVEL__ < 100\n#include __FILE__\n#include __FILE__\n#e
 
 @pytest.fixture
 def builds(clang: Compiler) -> Builds:
-    """What compiles behind the wall, as a class's that isn't root's."""
+    """What compiles in the sandbox, as a class's that isn't root's."""
     if shutil.which("bwrap") is None:
-        leave_out(NO_WALL)
+        leave_out(NO_SANDBOX)
     return Builds(clang)
 
 
@@ -184,7 +184,7 @@ async def test_an_endless_compile_costs_others_nothing(
     tmp_path: pathlib.Path, builds: Builds, monkeypatch: pytest.MonkeyPatch
 ) -> None:
     """Another seat's steps are answered meanwhile, and the seat's own; it has one at a time, which ends."""
-    monkeypatch.setattr(wall, "SECONDS", 4)
+    monkeypatch.setattr(sandbox, "SECONDS", 4)
     async with served(tmp_path / "class", builds=builds) as room:
         hostile, second, other = await room.sit("A1"), await room.sit("A1"), await room.sit("A2")
         await other.ask("source", text="loop: addi t0, t0, 1\n j loop\n")
@@ -231,7 +231,7 @@ async def test_what_is_too_large(tmp_path: pathlib.Path, clang: Compiler, builds
         b'{"messages": [], "image": {"entry": 0, "segments": [], "symbols": {}, "rows": [["0", 5, 5]]}}',
     ],
 )
-async def test_what_comes_from_behind_the_wall_may_be_crafted(told: bytes) -> None:
+async def test_what_comes_from_the_sandbox_may_be_crafted(told: bytes) -> None:
     with pytest.raises(LabError):
         read_answer(told)
 
@@ -240,4 +240,4 @@ async def test_no_c_as_root(clang: Compiler, monkeypatch: pytest.MonkeyPatch) ->
     monkeypatch.setattr(shutil, "which", lambda name, path=None: f"/usr/bin/{name}")
     monkeypatch.setattr("os.geteuid", lambda: 0)
     with pytest.raises(LabError, match="as root"):
-        walled_compiler(clang.name)
+        sandboxed_compiler(clang.name)

@@ -297,9 +297,9 @@ async def test_bad_exercises_are_told(tmp_path: pathlib.Path, square: pathlib.Pa
     assert begin(square).endswith("100,000 ticks, of which an instruction takes one or more; it is at line 1")
 
 
-async def test_a_seat_answers_in_c(tmp_path: pathlib.Path, walled_clang: Compiler, square: pathlib.Path) -> None:
+async def test_a_seat_answers_in_c(tmp_path: pathlib.Path, sandboxed_clang: Compiler, square: pathlib.Path) -> None:
     """What a function is given and returns is as in assembler; nothing of it is in the script, and a class goes on with it."""
-    async with served(tmp_path / "class", exercises=[square], builds=Builds(walled_clang)) as room:
+    async with served(tmp_path / "class", exercises=[square], builds=Builds(sandboxed_clang)) as room:
         tab, teacher = await room.sit("A1"), await room.sit("teacher")
         told = await check(tab, "square", RIGHT_IN_C.replace("b * b", "a"), C)
         assert told["cases"] == [False, False] and told["reason"] == "a0: expected 36, and it was left as it was"
@@ -347,10 +347,10 @@ async def test_a_start_in_c(tmp_path: pathlib.Path, square: pathlib.Path) -> Non
     ids=["a name", "no function", "no declaration", "no definition", "too much", "a file", "its bytes", "the server's"],
 )
 async def test_mistakes_in_c_are_no_try(
-    tmp_path: pathlib.Path, walled_clang: Compiler, square: pathlib.Path, text: str, line: int, message: str
+    tmp_path: pathlib.Path, sandboxed_clang: Compiler, square: pathlib.Path, text: str, line: int, message: str
 ) -> None:
     """They have their lines, and no path of the server's; files of the system aren't there."""
-    async with served(tmp_path / "class", exercises=[square], builds=Builds(walled_clang)) as room:
+    async with served(tmp_path / "class", exercises=[square], builds=Builds(sandboxed_clang)) as room:
         tab = await room.sit("A1")
         told = await check(tab, "square", text, C)
         assert [*told] == ["mistakes"] and told["mistakes"][0]["line"] == line
@@ -361,10 +361,10 @@ async def test_mistakes_in_c_are_no_try(
         assert (own["tries"], own["hints"], own["passed"]) == (0, [], False) and not [*room.folder.glob("answers/*")]
 
 
-async def test_the_limits_of_an_exercise_hold_in_c(tmp_path: pathlib.Path, walled_clang: Compiler) -> None:
+async def test_the_limits_of_an_exercise_hold_in_c(tmp_path: pathlib.Path, sandboxed_clang: Compiler) -> None:
     """Loops get vectors where the source asks for them alone, so a plain one takes too long; so does one without end."""
     folder = OURS / "saturating_sum"
-    async with served(tmp_path / "class", exercises=[folder], builds=Builds(walled_clang)) as room:
+    async with served(tmp_path / "class", exercises=[folder], builds=Builds(sandboxed_clang)) as room:
         tab = await room.sit("A1")
         told = await check(tab, "saturating_sum", (folder / "reference.c").read_text(), C)
         assert told["cases"] == [True, True, False, False, True]
@@ -377,10 +377,10 @@ async def test_the_limits_of_an_exercise_hold_in_c(tmp_path: pathlib.Path, walle
 
 
 async def test_a_case_in_c_can_be_had_at_the_desk(
-    tmp_path: pathlib.Path, walled_clang: Compiler, square: pathlib.Path
+    tmp_path: pathlib.Path, sandboxed_clang: Compiler, square: pathlib.Path
 ) -> None:
     """A new machine begins at the function, with what the case gives."""
-    async with served(tmp_path / "class", exercises=[square], builds=Builds(walled_clang)) as room:
+    async with served(tmp_path / "class", exercises=[square], builds=Builds(sandboxed_clang)) as room:
         tab = await room.sit("A1")
         wrong = RIGHT_IN_C.replace("b * b", "b + b")
         assert (await check(tab, "square", wrong, C))["reason"] == "a0: expected 36, found 12"

@@ -15,7 +15,7 @@ import pytest
 from support.class_pages import lab_command
 from support.class_tabs import SECONDS, Tab
 from support.commands import Lab
-from support.left_out import NO_WALL, leave_out
+from support.left_out import NO_SANDBOX, leave_out
 from support.places import EXAMPLES, TOP
 from vecmon_lab.classes.languages import LANGUAGES
 from vecmon_lab.compilers.compiler import Compiler
@@ -28,7 +28,7 @@ GREY = EXAMPLES / "kernels" / "grey.c"
 async def test_the_command(clang: Compiler, tmp_path: pathlib.Path) -> None:
     """The file is the source of its one seat; another site gets nothing; and nothing is left of it."""
     if shutil.which("bwrap") is None:
-        leave_out(NO_WALL)
+        leave_out(NO_SANDBOX)
     words = [*lab_command(True), "explore", str(GREY), "--options", "O1", "--cc", clang.name]
     environment = {"PATH": "/usr/bin:/bin", "TMPDIR": str(tmp_path)}
     child = await asyncio.create_subprocess_exec(

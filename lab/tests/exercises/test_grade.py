@@ -310,14 +310,14 @@ long answer(long a0, int32_t *places)
         (("vecmon.h", "exercise.toml"), "answer.c:1:10: 'exercise.toml' file not found"),
     ],
 )
-def test_an_answer_in_c(echo: Echo, walled_clang: Compiler, change: tuple[str, str], reason: str) -> None:
-    """It is compiled behind the wall, where not even the files beside it are."""
+def test_an_answer_in_c(echo: Echo, sandboxed_clang: Compiler, change: tuple[str, str], reason: str) -> None:
+    """It is compiled in the sandbox, where not even the files beside it are."""
     told = echo(IN_C.replace(*change), "answer.c")
     assert told.startswith(reason) if reason else not told
 
 
-def test_no_c_is_graded_without_a_compiler_and_a_wall(
-    lab: Lab, tmp_path: pathlib.Path, monkeypatch: pytest.MonkeyPatch, walled_clang: Compiler
+def test_no_c_is_graded_without_a_compiler_and_a_sandbox(
+    lab: Lab, tmp_path: pathlib.Path, monkeypatch: pytest.MonkeyPatch, sandboxed_clang: Compiler
 ) -> None:
     """That is told in a line, and no answer fails for it."""
     (tmp_path / "answer.c").write_text(IN_C)

@@ -9,7 +9,7 @@ import pytest
 
 from support.browser import CONTRAST
 from support.class_pages import Explored, Served, Tab
-from support.left_out import NO_WALL, leave_out
+from support.left_out import NO_SANDBOX, leave_out
 from support.places import EXAMPLES
 from vecmon_lab.compilers.compiler import Compiler
 
@@ -24,7 +24,7 @@ TEXT = "id('source').value"
 def with_c(clang: Compiler, program: pathlib.Path, tmp_path: pathlib.Path) -> Iterator[Served]:
     """A class that takes C."""
     if shutil.which("bwrap") is None:
-        leave_out(NO_WALL)
+        leave_out(NO_SANDBOX)
     served = Served(tmp_path / "class", program, "--cc", clang.name, takes_c=True)
     yield served
     served.end()
@@ -190,7 +190,7 @@ def test_a_stock_assembler(tabs: "Chrome", with_c: Served, tmp_path: pathlib.Pat
 def test_listings_side_by_side(tabs: "Chrome", clang: Compiler, program: pathlib.Path, tmp_path: pathlib.Path) -> None:
     """They open in a tab of their own, of what stands in the editor, with both profiles."""
     if shutil.which("bwrap") is None:
-        leave_out(NO_WALL)
+        leave_out(NO_SANDBOX)
     page = Explored(tmp_path / "page", program, EXAMPLES / "kernels" / "plain_sum.c", "--cc", clang.name)
     tab = Tab(tabs, page, "A1")
     tab.click("#show-source")

@@ -85,7 +85,7 @@ def test_an_exercise_is_solved(tabs: "Chrome", course: Served) -> None:
     lesson.switch_to.window(tab.handle)
 
 
-def test_an_exercise_is_solved_in_c(tabs: "Chrome", course: Served, walled_clang: Compiler) -> None:
+def test_an_exercise_is_solved_in_c(tabs: "Chrome", course: Served, sandboxed_clang: Compiler) -> None:
     """Who chooses C has another source to begin with; a mistake, a wrong answer at the desk, and a right one."""
     tab = Tab(tabs, course, "A6")
     tab.wait("one('#exercise h2')")

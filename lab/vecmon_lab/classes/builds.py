@@ -1,4 +1,4 @@
-"""Sources in C of a class's seats: compiled behind a wall, beside the machines, one at a time for a seat."""
+"""Sources in C of a class's seats: compiled in a sandbox, beside the machines, one at a time for a seat."""
 
 import asyncio
 import os
@@ -6,16 +6,16 @@ from collections.abc import Sequence
 
 from ..compilers.compiled import IMAGE_BYTES, CompiledProgram, read_answer, words_for
 from ..compilers.compiler import Compiler, find_compiler
-from ..compilers.wall import answer_beside, check_wall
+from ..compilers.sandbox import answer_beside, check_sandbox
 from .requests import BadRequest
 
 NO_COMPILER = "no compiler was named"
 
 
-def walled_compiler(name: str | None) -> Compiler:
+def sandboxed_compiler(name: str | None) -> Compiler:
     """The compiler of this name, or the first one, for sources of others. Raises LabError where there can be none."""
     compiler = find_compiler(name)
-    check_wall()
+    check_sandbox()
     return compiler
 
 

@@ -12,7 +12,7 @@ from urllib.parse import urlsplit
 from .. import LabError
 from ..arguments import between
 from ..machine.program import find_program, images_of
-from .builds import Builds, walled_compiler
+from .builds import Builds, sandboxed_compiler
 from .codes import LETTERS
 from .names import NAMES
 from .server import HOST, listening, serve
@@ -82,7 +82,7 @@ def run(arguments: argparse.Namespace) -> int:
 def _builds(name: str | None, most: int) -> Builds:
     """What compiles sources in C; without a name nothing may. Raises LabError where a compiler of a name can't."""
     try:
-        return Builds(walled_compiler(name), most=most)
+        return Builds(sandboxed_compiler(name), most=most)
     except LabError as error:
         if name:
             raise

@@ -1,4 +1,4 @@
-"""Two listings of a source in C side by side: it is compiled behind the wall, and runs in a process beside the class."""
+"""Two listings of a source in C side by side: it is compiled in the sandbox, and runs in a process beside the class."""
 
 import json
 import pathlib

@@ -10,7 +10,7 @@ from .. import LabError
 from ..arguments import between
 from ..compilers.compiler import CHOICES, choice_for, find_compilers
 from ..machine.program import find_program
-from .builds import Builds, walled_compiler
+from .builds import Builds, sandboxed_compiler
 from .command import listening_at
 from .languages import LANGUAGES, SourceText
 from .server import serve
@@ -37,7 +37,7 @@ def run(arguments: argparse.Namespace) -> int:
     """Serves until it is told to end. Raises LabError and OSError for a bad source, or where nothing can be compiled."""
     os.umask(0o077)
     source = read(arguments.source, arguments.options)
-    builds = Builds(walled_compiler(arguments.cc))
+    builds = Builds(sandboxed_compiler(arguments.cc))
     builds.others = find_compilers()
     with tempfile.TemporaryDirectory(prefix="vecmon-") as folder:
         store = Store(pathlib.Path(folder) / "own", find_program(), quantum=arguments.quantum)

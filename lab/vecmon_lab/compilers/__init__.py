@@ -1,1 +1,1 @@
-"""C sources: compiled behind a wall by a stock compiler, and brought in as lines of the monitor."""
+"""C sources: compiled in a sandbox by a stock compiler, and brought in as lines of the monitor."""

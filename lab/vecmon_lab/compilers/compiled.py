@@ -18,7 +18,7 @@ from .compiler import FUNCTION, OWN_SOURCES, Compiler
 from .debug import MOST_BYTES, MOST_ROWS, MOST_SEGMENTS, MOST_SYMBOLS
 from .inside import MESSAGE_LETTERS, MOST_MESSAGES
 from .variables import Variable, read_variables
-from .wall import answer_of_own, answer_walled
+from .sandbox import answer_of_own, answer_sandboxed
 
 IMAGE_BYTES, IMAGE_PAGES = 1 << 16, 200  # of what isn't zeros; and of all pages
 SOURCE_BYTES = 1 << 16
@@ -80,11 +80,11 @@ def compile_c(
 ) -> CompiledProgram:
     """Compiles a source, by the options of this number. Mistakes are in the program. Raises LabError.
 
-    headers: the folder of a source of one's own; without it that happens behind a wall, as for a text of others
+    headers: the folder of a source of one's own; without it that happens in a sandbox, as for a text of others
     is_answer: whether it is to answer an exercise
     """
     words = words_for(text, compiler, choice, is_answer)
-    return read_answer(answer_of_own(words, text, headers) if headers else answer_walled(words, text))
+    return read_answer(answer_of_own(words, text, headers) if headers else answer_sandboxed(words, text))
 
 
 def words_for(text: str, compiler: Compiler, choice: int, is_answer: bool = False) -> list[str]:
@@ -95,7 +95,7 @@ def words_for(text: str, compiler: Compiler, choice: int, is_answer: bool = Fals
 
 
 def read_answer(told: bytes, most: int = IMAGE_BYTES) -> CompiledProgram:
-    """The program of what was answered from behind the wall. Raises LabError where that is in bad form, or too much."""
+    """The program of what was answered from the sandbox. Raises LabError where that is in bad form, or too much."""
     try:
         return _read_answer(told, most)
     except (ValueError, TypeError, LookupError, AttributeError, RecursionError) as error:
@@ -117,7 +117,7 @@ def _read_answer(told: bytes, most: int) -> CompiledProgram:
 def program_of(
     image: Mapping[str, Any], warnings: Sequence[SourceError] = (), most_bytes: int = IMAGE_BYTES
 ) -> CompiledProgram:
-    """The program of an image, as it is answered from behind the wall. Raises LabError where it is too large.
+    """The program of an image, as it is answered from the sandbox. Raises LabError where it is too large.
 
     most_bytes: of those that aren't zeros
     """

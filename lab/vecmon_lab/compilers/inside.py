@@ -1,4 +1,4 @@
-"""What runs behind the wall: compiles the source on its input, and answers what became of it, as JSON.
+"""What runs in the sandbox: compiles the source on its input, and answers what became of it, as JSON.
 
 `inside COMPILER CHOICE [answer]`, in a folder of its own, with that word for an answer to an exercise. What is answered has
 `messages`, and `image` where there is one (`debug.py`).

@@ -57,7 +57,7 @@ def read_answer(path: pathlib.Path, most: int = IMAGE_BYTES, is_own: bool = Fals
     """The answer in a file of so many bytes at most: an ELF image, a source (.s, .S, .c), or a script.
 
     Raises LabError with the reason. A link isn't followed, and what is no file, as a pipe or a device, isn't read.
-    is_own: whether it is one's own file, of which C is compiled without a wall, with the headers that lie beside it
+    is_own: whether it is one's own file, of which C is compiled without a sandbox, with the headers that lie beside it
     """
     try:
         with open(path, "rb", opener=_open) as file:

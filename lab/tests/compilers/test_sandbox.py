@@ -1,4 +1,4 @@
-"""Hostile sources behind the wall: what they try to read, to fill and to keep busy; and images that are crafted."""
+"""Hostile sources in the sandbox: what they try to read, to fill and to keep busy; and images that are crafted."""
 
 import json
 import os
@@ -11,12 +11,12 @@ from typing import Any
 
 import pytest
 
-from support.left_out import NO_WALL, leave_out
+from support.left_out import NO_SANDBOX, leave_out
 from vecmon_lab import LabError
-from vecmon_lab.compilers import wall
+from vecmon_lab.compilers import sandbox
 from vecmon_lab.compilers.compiler import Compiler, choice_of
 from vecmon_lab.compilers.debug import image_of
-from vecmon_lab.compilers.wall import SECONDS, answer_walled, check_wall
+from vecmon_lab.compilers.sandbox import SECONDS, answer_sandboxed, check_sandbox
 
 MAIN = "int main(void) { return 0; }\n"
 SECRET = "root:"  # as a file of the system begins that isn't a program's
@@ -45,12 +45,12 @@ inside.main()
 
 @pytest.fixture
 def answer(clang: Compiler) -> Ask:
-    """What asks for what is behind the wall of a text, by options of this name."""
+    """What asks for what is in the sandbox of a text, by options of this name."""
     if shutil.which("bwrap") is None:
-        leave_out(NO_WALL)
+        leave_out(NO_SANDBOX)
 
     def ask(text: str, options: str = "O2") -> dict[str, Any]:
-        told: dict[str, Any] = json.loads(answer_walled([clang.name, f"{choice_of(options)}"], text))
+        told: dict[str, Any] = json.loads(answer_sandboxed([clang.name, f"{choice_of(options)}"], text))
         return told
 
     return ask
@@ -101,9 +101,9 @@ def test_what_takes_a_stock_assembler_too_much_ends(answer: Ask, text: str) -> N
 
 def test_processes_without_end(answer: Ask, monkeypatch: pytest.MonkeyPatch) -> None:
     """Of 500 that are begun few are: root's count too, which otherwise nothing bounds."""
-    monkeypatch.setattr(wall, "MODULE", ("-c", FORKS))
+    monkeypatch.setattr(sandbox, "MODULE", ("-c", FORKS))
     [(made, *_)] = answer(MAIN)["messages"]
-    assert 4 < made < wall.PROCESSES == 32
+    assert 4 < made < sandbox.PROCESSES == 32
     monkeypatch.undo()
     assert answer(MAIN)["image"], "and they end with what began them"
 
@@ -247,11 +247,11 @@ def test_segments_that_are_too_large(tmp_path: pathlib.Path) -> None:
             image_of(path)
 
 
-def test_root_has_no_wall(monkeypatch: pytest.MonkeyPatch) -> None:
+def test_root_has_no_sandbox(monkeypatch: pytest.MonkeyPatch) -> None:
     monkeypatch.setattr(shutil, "which", lambda name: f"/usr/bin/{name}")
     monkeypatch.setattr(os, "geteuid", lambda: 0)
     with pytest.raises(LabError, match="as root"):
-        check_wall()
+        check_sandbox()
     monkeypatch.setattr(shutil, "which", lambda name: None)
     with pytest.raises(LabError, match="apt-get install bubblewrap"):
-        check_wall()
+        check_sandbox()

@@ -1,4 +1,4 @@
-"""A wall around a compiler: no network, no file but the system's programs, little memory, and no time without end.
+"""A sandbox around a compiler: no network, no file but the system's programs, little memory, and no time without end.
 
 A source can have a compiler read files (`#include`, `.incbin`), take all memory, and put out what its readers fall over.
 """
@@ -35,21 +35,21 @@ _NOBODY = ("/usr/bin/setpriv", "--reuid=65534", "--regid=65534", "--clear-groups
 _INSIDE = ("--unshare-user-try", "--", *_PYTHON) if os.geteuid() else ("--", *_NOBODY, *_PYTHON)  # root's don't count
 
 
-def check_wall() -> None:
-    """Raises LabError where there can be no wall."""
+def check_sandbox() -> None:
+    """Raises LabError where there can be no sandbox."""
     if shutil.which("bwrap") is None:
         raise LabError("others' C is compiled behind bwrap alone, which isn't here: apt-get install bubblewrap")
     if os.geteuid() == 0:
         raise LabError("others' C isn't compiled as root: begin this as another user")
 
 
-def answer_walled(words: Sequence[str], text: str) -> bytes:
+def answer_sandboxed(words: Sequence[str], text: str) -> bytes:
     """What words of `inside` answer to a text of others. Raises LabError."""
     return asyncio.run(answer_beside(words, text))
 
 
 async def answer_beside(words: Sequence[str], text: str) -> bytes:
-    """As `answer_walled`, beside all else that an event loop does."""
+    """As `answer_sandboxed`, beside all else that an event loop does."""
     own = ("--perms", "755", "--dir", PLACE, "--ro-bind", f"{LAB / 'vecmon_lab'}", f"{PLACE}/vecmon_lab")
     command = ["bwrap", *_EMPTY, *_SYSTEM, *own, *_FOLDER, *_VARIABLES, *_INSIDE, *MODULE, *words]
     return await _answer(command, text, pathlib.Path("/"), {"PATH": os.environ.get("PATH", os.defpath)})
