@@ -5,13 +5,13 @@ from collections import Counter
 from collections.abc import Sequence
 from dataclasses import dataclass, replace
 
+from support.elements import elements_of
 from tests.recordings.recorder import Counts
 from vecmon_lab.guest.changes import Carried, Stepper
 from vecmon_lab.guest.guest import started
 from vecmon_lab.instructions.accesses import REGISTER_BYTES
 from vecmon_lab.instructions.words import VECTOR_ACCESSES
 from vecmon_lab.machine.answers import ControlRegisters
-from vecmon_lab.runs.counts import elements_of
 
 JAL, JALR = 0x6F, 0x67
 LINKS = (1, 5)  # the registers that hold where a call returns to

@@ -26,7 +26,7 @@ def kernel(browser: "Chrome", program: pathlib.Path, tmp_path: pathlib.Path) -> 
     """The lesson of the tour's kernel."""
     script = tours()[KERNEL]
     frames = make_frames(script, program)
-    page = lesson_page("x", frames, script.labels, script.said, script.starts, script.variables)
+    page = lesson_page("x", frames, script)
     return opened(browser, tmp_path, page)
 
 

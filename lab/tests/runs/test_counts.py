@@ -5,6 +5,7 @@ import re
 
 import pytest
 
+from support.elements import elements_of
 from support.images import make_image
 from support.places import SUM
 from support.sources import CHANGES
@@ -13,7 +14,7 @@ from vecmon_lab.guest.guest import Guest, started
 from vecmon_lab.machine.answers import ControlRegisters
 from vecmon_lab.machine.recorder import Beginning
 from vecmon_lab.machine.session import Session
-from vecmon_lab.runs.counts import beginning_at, beginning_of, count, elements_of
+from vecmon_lab.runs.counts import beginning_at, beginning_of, count
 
 TYPES = {"e8 m1": 0, "e8 mf2": 7, "e16 m1": 8, "e32 m1": 16, "e32 m2": 17, "e64 m8": 27}
 

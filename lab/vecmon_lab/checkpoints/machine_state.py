@@ -17,7 +17,6 @@ from ..machine.answers import (
     Position,
     ScalarRegisters,
     Switches,
-    VectorRegister,
     is_refusal,
     read,
 )
@@ -174,12 +173,11 @@ def _look(guest: Guest, user: User) -> Shown:
     is_running = guest.told("state", Position).run == "running"
     if is_running:
         guest.told("stop", Position)
-    vectors = guest.ask(*(f"vreg v{number} 64" for number in range(32)))
     return Shown(
         is_running,
         guest.told("regs", ScalarRegisters),
         guest.told("vcsr", ControlRegisters),
-        [vector.data for vector in vectors if isinstance(vector, VectorRegister)],
+        guest.vectors(),
         list(guest.told("breaks", Addresses).addresses),
         list(guest.told("trace", Addresses).addresses),
         {page: guest.peek(page, PAGE_BYTES) for page in user.pages},

@@ -18,8 +18,8 @@ from typing import NotRequired, TypedDict
 
 from .. import LabError
 from ..assembler.source import SourceError
-from ..compilers.compiled import CompiledProgram
-from ..exercises.answer import C_SUFFIX, STACK, inputs, settled
+from ..compilers.compiled import STACK, CompiledProgram
+from ..exercises.answer import C_SUFFIX, inputs, settled
 from ..exercises.check import Told
 from ..exercises.exercise import Exercise, read_exercise
 from ..exercises.taken import Taken

@@ -31,26 +31,17 @@ def add_arguments(parser: argparse.ArgumentParser) -> None:
     parser.add_argument("--name", action="append", default=[], help="a host name that the page is opened under as well")
     machines = between(1, len(LETTERS))
     parser.add_argument("--machines", metavar="N", type=machines, help="eight seats each, 1 to 12; else 1")
-    parser.add_argument(
-        "--exercise",
-        metavar="NAME|DIR",
-        type=pathlib.Path,
-        action="append",
-        default=[],
-        help="an exercise of the lab's, or the folder of one's own, for all seats; several are several options",
-    )
+    told = "an exercise of the lab's, or the folder of one's own, for all seats; several are several options"
+    folder = pathlib.Path
+    parser.add_argument("--exercise", metavar="NAME|DIR", type=folder, action="append", default=[], help=told)
     parser.add_argument("--cc", metavar="NAME", help="the compiler of sources in C, as clang-19")
     most = between(1, 512)
     parser.add_argument("--image-size", metavar="KB", type=most, default=64, help="the most of a source in C; else 64")
     parser.add_argument("--quantum", metavar="N", type=int, help="the ticks of a slice, 1 to 1000; else 100")
-    parser.add_argument(
-        "--no-clock", action="store_true", help="a new machine's clock is off until the teacher turns it on"
-    )
-    parser.add_argument(
-        "--spare",
-        action="store_true",
-        help="a second process follows each machine, and takes its place where it is gone",
-    )
+    told = "a new machine's clock is off until the teacher turns it on"
+    parser.add_argument("--no-clock", action="store_true", help=told)
+    told = "a second process follows each machine, and takes its place where it is gone"
+    parser.add_argument("--spare", action="store_true", help=told)
     parser.add_argument("--forget", action="store_true", help="delete the names that DIR keeps, and serve nothing")
     patience = between(1, 3600)
     parser.add_argument("--patience", metavar="S", type=patience, default=10, help="seconds of silence; else 10")

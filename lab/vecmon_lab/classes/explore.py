@@ -8,7 +8,8 @@ import tempfile
 
 from .. import LabError
 from ..arguments import between
-from ..compilers.compiler import CHOICES, choice_for, find_compilers
+from ..compilers.compiler import choice_for, find_compilers
+from ..lessons.lesson import add_compiler
 from ..machine.program import find_program
 from .builds import Builds, sandboxed_compiler
 from .command import listening_at
@@ -23,13 +24,10 @@ PATIENCE = 10.0  # seconds of silence
 
 def add_arguments(parser: argparse.ArgumentParser) -> None:
     """The words of `vecmon-lab explore`."""
-    parser.add_argument(
-        "source", metavar="FILE", type=pathlib.Path, help="a source in C (.c) or assembler (.s) to begin with"
-    )
+    told = "a source in C (.c) or assembler (.s) to begin with"
+    parser.add_argument("source", metavar="FILE", type=pathlib.Path, help=told)
     parser.add_argument("--port", metavar="P", type=between(0, 65535), default=0, help="else one that is free")
-    parser.add_argument("--cc", metavar="NAME", help="the compiler, as clang-19")
-    names = [choice.name for choice in CHOICES]
-    parser.add_argument("--options", choices=names, default=names[0], help="those of the compiler; else %(default)s")
+    add_compiler(parser)
     parser.add_argument("--quantum", metavar="N", type=int, help="the ticks of a slice, 1 to 1000; else 100")
 
 

@@ -19,9 +19,8 @@ MOST_SLICES = 1000  # that a line grants
 
 def add_arguments(parser: argparse.ArgumentParser) -> None:
     """The words of `vecmon-lab solo`."""
-    parser.add_argument(
-        "folder", metavar="DIR", type=pathlib.Path, help="the folder of a class, which may be served now"
-    )
+    told = "the folder of a class, which may be served now"
+    parser.add_argument("folder", metavar="DIR", type=pathlib.Path, help=told)
     parser.add_argument("seat", metavar="SEAT", help="A1 to L8")
 
 

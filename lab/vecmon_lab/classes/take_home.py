@@ -50,22 +50,20 @@ def _frames(step: Step) -> int:
 def archive(store: Store, seat: str) -> bytes:
     """The archive of a seat. Raises LabError where it has done nothing."""
     lines, own = solo(store, seat), kept_source(store, seat)
-    name, said = store.read(NAMES, dict[str, str]).get(seat), dict[str, str]()
+    name = store.read(NAMES, dict[str, str]).get(seat)
     script = Script(f"Seat {seat}, {name}" if name else f"Seat {seat}", steps_of(lines))
     with contextlib.suppress(LabError):  # a source that isn't finished
         written, program = kept_program(store, seat)
         if isinstance(program, CompiledProgram):
             named = read_compiled(written.text, seat, program, written.suffix.endswith(".c"))
-            said = program.source_lines(written.text)
         else:
             text = written.text or own.text
-            named, said = read_source(text, seat), assemble(text).source_lines(text)
-        starts, variables = named.starts, named.variables
-        script = replace(script, labels=named.labels, notes=named.notes, starts=starts, variables=variables)
+            named = replace(read_source(text, seat), said=assemble(text).source_lines(text))
+        script = replace(named, title=script.title, steps=script.steps, source="", statements={}, program=None)
     frames = make_frames(script, store.program, store.images, store.quantum)
     frames = [replace(frame, log=frame.log[-MOST_ENTRIES:]) for frame in frames]
     files: dict[str, str | bytes] = {f"{seat}.script": "".join(f"{line}\n" for line in lines)}
-    files |= {f"{seat}.html": lesson_page(script.title, frames, script.labels, said, script.starts, script.variables)}
+    files |= {f"{seat}.html": lesson_page(script.title, frames, script)}
     files |= {f"{seat}.{own.suffix}": own.text} if own.text else {}
     loaded = {words_of(line)[1] for line in lines if words_of(line)[:1] == ["load"] and words_of(line)[1:]}
     files |= {f"{name}.elf": path.read_bytes() for name, path in store.images.items() if name in loaded}

@@ -12,7 +12,7 @@ from typing import TypedDict
 
 from .. import LabError
 from ..assembler.commands import refusal_on_pages
-from ..assembler.source import SourceError
+from ..exercises.check import Mistake, mistakes_told
 from ..machine.session import SCRIPT_BYTES
 from ..page.pages import merge_patch
 from ..page.state import State
@@ -57,7 +57,6 @@ from .store import Notes, ScriptFile, Store
 Logs = dict[str, list[str]]
 Answers = list[list[str]]
 Clock = Mapping[str, int]
-Mistake = TypedDict("Mistake", {"line": int, "column": int, "message": str})
 Share = TypedDict("Share", {"used": int, "of": int})
 SourceView = TypedDict(
     "SourceView",
@@ -315,10 +314,8 @@ class Class:
             answer.update({"error": str(error), "done": done})
         digit = "*" if tab.who == TEACHER else tab.who[-1]
         if done:  # which are the first of these lines
-            asked = [
-                (f"{digit} {text}", [f"{digit} {part}" for part in parts]) for text, parts in zip(message["do"], done)
-            ]
-            answer["words"] = [refusal_on_pages(*each) for each in asked]
+            answers = [[f"{digit} {part}" for part in parts] for parts in done]
+            answer["words"] = [refusal_on_pages(f"{digit} {it}", said) for it, said in zip(message["do"], answers)]
         answer.update(self.news(tab))
         return answer
 
@@ -521,7 +518,7 @@ class Class:
         if mistakes:
             seat.stand(f"{len(mistakes)} mistake{'s' * (len(mistakes) > 1)} in the source", True)
             self._tell([seat.name])
-        return {"mistakes": _as_told(mistakes), "warnings": _as_told(warnings)}
+        return {"mistakes": mistakes_told(mistakes), "warnings": mistakes_told(warnings)}
 
     async def _shown_codes(self, name: str, with_pictures: bool) -> Message:
         """The codes of a seat, or of all for "". Raises BadRequest."""
@@ -577,11 +574,6 @@ class Class:
         if machine not in self.rooms:
             raise BadRequest("there is no such machine")
         return self.rooms[machine]
-
-
-def _as_told(mistakes: Iterable[SourceError]) -> list[Mistake]:
-    """Mistakes of a source, or warnings, as a tab is told."""
-    return [{"line": it.line, "column": it.column, "message": it.message} for it in mistakes]
 
 
 def _shown(seat: Seat) -> State:

@@ -24,7 +24,7 @@ IMAGE_BYTES, IMAGE_PAGES = 1 << 16, 200  # of what isn't zeros; and of all pages
 SOURCE_BYTES = 1 << 16
 
 _DATA = re.compile(rb"[^\0]+(?:\0{1,15}[^\0]+)*")  # bytes with few zeros between them
-_STACK = (f"map {STACK_END - 0x4000:x} 4 rw", f"set x2 {STACK_POINTER:x}")
+STACK = (f"map {STACK_END - 0x4000:x} 4 rw", f"set x2 {STACK_POINTER:x}")
 
 
 @dataclass(frozen=True)
@@ -130,7 +130,7 @@ def program_of(
     if len(pages) > IMAGE_PAGES or size > most_bytes:
         most = f"{IMAGE_PAGES} pages and {most_bytes:,} bytes that aren't zeros"
         raise LabError(f"the program has {len(pages)} pages and {size:,} bytes; {most} are the most")
-    lines = [*_maps(pages), *(line for address, data in pieces for line in pokes(address, data)), *_STACK]
+    lines = [*_maps(pages), *(line for address, data in pieces for line in pokes(address, data)), *STACK]
     rows = [(int(address), _own_line(line), str(inlined)) for address, line, inlined in image["rows"][:MOST_ROWS]]
     labels = dict(islice(dict(image["symbols"]).items(), MOST_SYMBOLS))
     variables = read_variables(image["variables"])

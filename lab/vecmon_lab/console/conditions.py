@@ -1,9 +1,9 @@
 """Conditions of breakpoints: two numbers of 64 bits without a sign, which are compared; registers have theirs."""
 
-import operator
 import re
 from collections.abc import Callable, Mapping
 from dataclasses import dataclass
+from operator import eq, ge, gt, le, lt, ne
 
 from .. import LabError
 from ..guest.changes import NAMES
@@ -12,14 +12,7 @@ from .show import ABI_NAMES
 REGISTERS = {name: number for number, name in ABI_NAMES.items()} | {"fp": "x8"} | {name: name for name in NAMES}
 """What scalar and control registers are called, and their names in NAMES."""
 
-_SIGNS = {
-    "==": operator.eq,
-    "!=": operator.ne,
-    "<=": operator.le,
-    ">=": operator.ge,
-    "<": operator.lt,
-    ">": operator.gt,
-}
+_SIGNS = {"==": eq, "!=": ne, "<=": le, ">=": ge, "<": lt, ">": gt}
 _FORM = re.compile(rf"(\S+?)\s*({'|'.join(_SIGNS)})\s*(\S+)")
 
 

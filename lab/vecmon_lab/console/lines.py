@@ -6,7 +6,7 @@ import pathlib
 import re
 import signal
 import threading
-from collections.abc import Iterable, Sequence
+from collections.abc import Iterable, Iterator, Sequence
 
 from .. import LabError
 from ..assembler.commands import COMMANDS, help_on, refusal_in_words
@@ -270,19 +270,11 @@ class Console:
             return
         self._guest.ask("stop")
         self._look()
-        before, breaks = self._value(name), self._guest.told("breaks", Addresses).addresses
-        while True:
-            carried = self._stepper.step()
-            is_changed, halt = self._value(name) != before, self._halt(breaks)
-            if carried.stop or is_changed or halt:
+        before = self._value(name)
+        for carried in self._stepped(itertools.count()):
+            if self._value(name) != before:
+                self._tell_step(carried)
                 break
-        self._has_mask = carried.text.endswith("v0.t")
-        if carried.stop:
-            self._screen.say(self._guest.explain(carried.stop))
-        elif is_changed:
-            self._tell_step(carried)
-        elif halt:
-            self._screen.say(describe_stop(halt))
         self.tell_place()
 
     def _back_to_write(self, digits: str) -> None:
@@ -314,13 +306,6 @@ class Console:
         if name in VECTORS:
             return bytes(registers.v[VECTORS[name] * REGISTER_BYTES :][:REGISTER_BYTES])
         return registers.values()[NAMES.index(REGISTERS[name])]
-
-    def _halt(self, breaks: Sequence[int]) -> Place | None:
-        """What ends steps where the program stands, if anything does: Ctrl-C, or one of the breakpoints."""
-        pc = self._guest.pc
-        if self._interrupt.is_set():
-            return Position("stopped", pc)
-        return Stop("break", pc) if pc in breaks and self._holds(pc) else None
 
     def _break_if(self, place: str, text: str) -> None:
         """Sets a breakpoint with a condition."""
@@ -368,19 +353,25 @@ class Console:
         raise LabError(f"the source {name} lies neither beside {path.name} nor here")
 
     def _step(self, number: int) -> None:
-        """Carries out instructions, up to a stop, a breakpoint or Ctrl-C; each is shown with what it changed."""
+        """Carries out so many instructions, and shows each with what it changed."""
+        for carried in self._stepped(range(number)):
+            self._tell_step(carried)
+        self.tell_place()
+
+    def _stepped(self, numbers: Iterable[int]) -> Iterator[Carried]:
+        """Carries out instructions of these numbers, 0 first, up to a stop, a breakpoint or Ctrl-C, which is told."""
         breaks = self._guest.told("breaks", Addresses).addresses
-        for count in range(number):
-            if halt := self._halt(breaks if count else ()):
-                self._screen.say(describe_stop(halt))
-                break
+        for number in numbers:
+            pc = self._guest.pc
+            if self._interrupt.is_set() or number and pc in breaks and self._holds(pc):
+                self._screen.say(describe_stop(Place("stopped" if self._interrupt.is_set() else "break", pc)))
+                return
             carried = self._stepper.step()
             self._has_mask = carried.text.endswith("v0.t")
             if carried.stop:
                 self._screen.say(self._guest.explain(carried.stop))
-                break
-            self._tell_step(carried)
-        self.tell_place()
+                return
+            yield carried
 
     def _tell_step(self, carried: Carried) -> None:
         """Shows an instruction that was carried out, with what it changed."""

@@ -10,9 +10,9 @@ from dataclasses import dataclass, replace
 from random import Random
 
 from .. import LabError, mistakes_in
-from ..compilers.compiled import CompiledProgram, compile_c
+from ..compilers.compiled import STACK, CompiledProgram, compile_c
 from ..compilers.compiler import find_compiler
-from ..guest.guest import IMAGE_BYTES, MOST_STEPS, QUANTUM, STACK_END, STACK_POINTER, Guest, pokes
+from ..guest.guest import IMAGE_BYTES, MOST_STEPS, QUANTUM, STACK_END, Guest, pokes
 from ..lessons.script import Script, read_compiled, read_source, send
 from ..machine.answers import Position, ScalarRegisters, Stop
 from ..machine.lines import check_line, words_of
@@ -29,7 +29,6 @@ TURNED = 0xA5
 C_SUFFIX = ".c"
 
 _RETURN_PAGE = (f"map {RETURN:x} 1 rx", f"poke {RETURN:x} 73001000", f"set x1 {RETURN:x}")
-STACK = (f"map {STACK_END - 0x4000:x} 4 rw", f"set x2 {STACK_POINTER:x}")
 
 
 @dataclass(frozen=True)

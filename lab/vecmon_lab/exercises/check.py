@@ -74,10 +74,10 @@ def check(
     except LabError as error:
         of_form = compiled.mistakes if compiled else all_mistakes(read_source(text), program)
         mistakes = of_form or [SourceError(1, 1, f"{error}")]
-        return {"mistakes": _mistakes(mistakes)}
+        return {"mistakes": mistakes_told(mistakes)}
     told: Told = {"cases": [not reason for reason, _ in outcomes]}
     if compiled and compiled.warnings:
-        told["warnings"] = _mistakes(compiled.warnings)
+        told["warnings"] = mistakes_told(compiled.warnings)
     for number, (case, (reason, done)) in enumerate(zip(exercise.cases, outcomes)):
         if reason and not case.is_hidden:
             expected, found = _compared(case.expected, done.found if done else case.expected)
@@ -94,7 +94,7 @@ def check(
     return told
 
 
-def _mistakes(errors: Iterable[SourceError]) -> list[Mistake]:
+def mistakes_told(errors: Iterable[SourceError]) -> list[Mistake]:
     """Mistakes of a source, or warnings, as they are told."""
     return [{"line": it.line, "column": it.column, "message": it.message} for it in errors]
 
@@ -122,8 +122,7 @@ def _page(title: str, script: Script, program: pathlib.Path) -> str:
     from ..lessons.frames import make_frames  # which a check does without
     from ..lessons.page import lesson_page
 
-    frames = make_frames(script, program)
-    return lesson_page(title, frames, script.labels, script.said, script.starts, script.variables)
+    return lesson_page(title, make_frames(script, program), script)
 
 
 def _notes(exercise: Exercise, case: Case) -> list[str]:

@@ -22,6 +22,8 @@ from ..machine.answers import (
     Position,
     Refused,
     Stop,
+    VectorRegister,
+    Word,
     read,
 )
 from ..machine.program import check_flags, find_program, image_refusal
@@ -32,7 +34,9 @@ IMAGE_BYTES, ARGUMENT_BYTES = 4_194_304, 8192  # of a file; of the stack's 16 Ki
 QUANTUM, MOST_SLICES = 1000, 1000  # the longest slices, as the program is alone; and how many one line grants
 MOST_STEPS, MOST_ROUNDS = 256, 1000  # of one line; and how many such lines are sent before their answers are looked at
 OUTPUT_BYTES, WRITE_BYTES = 1024, 256  # that the buffer holds; and that a call writes at most
-STEPS_AT_ONCE = (MOST_STEPS, OUTPUT_BYTES // WRITE_BYTES)  # which are tried: behind the last number all calls find room
+PACES = ((MOST_STEPS, OUTPUT_BYTES - WRITE_BYTES), (OUTPUT_BYTES // WRITE_BYTES, OUTPUT_BYTES))
+"""Steps at once, and with how many bytes of output all calls have found room behind them; the last ones always find it."""
+
 STACK_POINTER, STACK_END = 0x7FFF_EFC0, 0x7FFF_F000  # as `load` leaves them
 
 Told = TypeVar("Told", bound=Answer)
@@ -71,9 +75,17 @@ class Guest:
 
     def peek(self, address: int, length: int) -> bytes:
         """The bytes from an address on, which are all in pages that are mapped."""
-        end = address + length
-        looks = (f"peek {at:x} {min(LINE_BYTES, end - at)}" for at in range(address, end, LINE_BYTES))
-        return b"".join(told.data for told in self.ask(*looks) if isinstance(told, Memory))
+        return b"".join(told.data for told in self.ask(*peeks(address, length)) if isinstance(told, Memory))
+
+    def vectors(self) -> list[bytes]:
+        """The bytes of each vector register."""
+        answers = self.ask(*(f"vreg v{number} 64" for number in range(32)))
+        return [told.data for told in answers if isinstance(told, VectorRegister)]
+
+    def words(self, addresses: Iterable[int]) -> list[Word]:
+        """The words at addresses where pages are mapped, with their texts."""
+        answers = self.ask(*(f"dis {run[0]:x} {len(run)}" for run in runs_of(addresses)))
+        return [word for told in answers if isinstance(told, Listing) for word in told.words]
 
     def start(
         self, image: str, policy: str = "keep", arguments: Sequence[str] = (), data: Mapping[int, bytes] | None = None
@@ -128,36 +140,24 @@ class Guest:
         self.pc = told.pc
         return told if isinstance(told, Stop) else None, answers
 
-    def pass_over(self, instructions: int, at_once: int) -> bool:
+    def pass_over(self, instructions: int, at_once: int = MOST_STEPS, most: int = OUTPUT_BYTES) -> bool:
         """Carries out so many instructions, which don't stop the program, so many at once, and empties the buffer then.
 
-        False where a call could have found the buffer without room for all that it may write: no more is done then.
+        False where it had more than so many bytes: no more is done then.
         """
         while instructions:
-            sizes = [min(at_once, instructions - done) for done in range(0, instructions, at_once)[:MOST_ROUNDS]]
-            answers = self.ask(*(command for size in sizes for command in (f"step {size}", "out")))
-            outputs = [answer.data for answer in answers if isinstance(answer, Output)]
-            self._write(b"".join(outputs))
-            if at_once > OUTPUT_BYTES // WRITE_BYTES and max(map(len, outputs)) > OUTPUT_BYTES - WRITE_BYTES:
+            part = min(instructions, MOST_ROUNDS * at_once)
+            outputs = [answer.data for answer in self.ask(*stepping(part, at_once)) if isinstance(answer, Output)]
+            self._hand_on(b"".join(outputs))
+            if max(map(len, outputs)) > most:
                 return False
-            instructions -= sum(sizes)
+            instructions -= part
         self.pc = self.told("state", Position).pc
         return True
 
-    def advance(self, commands: Iterable[str]) -> None:
-        """Carries out steps, none of which stops, with `out` among them: what the program writes is handed on, or kept."""
-        for answer in self.ask(*commands):
-            if isinstance(answer, Position):
-                self.pc = answer.pc
-            elif isinstance(answer, Output) and answer.data:
-                self._write(answer.data)
-        self.empty_buffer()
-
     def empty_buffer(self) -> None:
         """Takes what the program has written out of the machine's buffer."""
-        data = self.told("out", Output).data
-        if data:
-            self._write(data)
+        self._hand_on(self.told("out", Output).data)
 
     def output(self) -> bytes:
         """What the program has written since this was asked last; nothing where `write` is given it, now at least."""
@@ -185,6 +185,11 @@ class Guest:
             return f"the ticks ran out at {self.pc:x} {place}".rstrip()
         text = self.word_at(stop.pc)[1]
         return ": ".join(filter(None, [f"{stop.pc:x} {place}".rstrip(), text, self.explain(stop)]))
+
+    def _hand_on(self, data: bytes) -> None:
+        """Hands on what the program has written, if anything, or keeps it."""
+        if data:
+            self._write(data)
 
     def _run_on(self, left: int | None, is_interrupted: Callable[[], bool]) -> tuple[Stop | None, int | None]:
         """Grants slices to a stop, to the last one, or until output is to be handed on; the stop, how many are left."""
@@ -248,10 +253,35 @@ def check_image(path: pathlib.Path) -> None:
         check_flags(path)
 
 
+def runs_of(addresses: Iterable[int]) -> list[list[int]]:
+    """The addresses of words in runs of at most 16 that stand one behind another."""
+    runs: list[list[int]] = []
+    for address in sorted(addresses):
+        if not runs or len(runs[-1]) == 16 or address != runs[-1][-1] + 4:
+            runs.append([])
+        runs[-1].append(address)
+    return runs
+
+
+def stepping(instructions: int, at_once: int = MOST_STEPS) -> Iterator[str]:
+    """The commands that carry out so many instructions, so many at once, and take the output behind each of these.
+
+    It is taken behind the same ones each time, so that calls that write find the same room in a replay.
+    """
+    for done in range(0, instructions, at_once):
+        yield from (f"step {min(at_once, instructions - done)}", "out")
+
+
 def pokes(address: int, data: bytes) -> Iterator[str]:
     """The commands that write bytes from an address on."""
     for at in range(0, len(data), LINE_BYTES):
         yield f"poke {address + at:x} {data[at : at + LINE_BYTES].hex()}"
+
+
+def peeks(address: int, length: int) -> Iterator[str]:
+    """The looks at bytes from an address on."""
+    for at in range(address, address + length, LINE_BYTES):
+        yield f"peek {at:x} {min(LINE_BYTES, address + length - at)}"
 
 
 def argument_block(arguments: Sequence[str]) -> bytes:

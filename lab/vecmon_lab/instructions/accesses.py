@@ -2,10 +2,11 @@
 
 import functools
 import itertools
+import re
 from collections.abc import Iterable, Iterator, Sequence
 
 from ..machine.answers import ControlRegisters
-from .words import STORE, STORE_FP, NoInstruction, Operand, VectorInstruction, decode
+from .words import STORE, STORE_FP, VECTOR_ACCESSES, NoInstruction, Operand, VectorInstruction, decode
 
 UNIT_STRIDE, STRIDED = 0, 2  # mop; 1 and 3 are indexed
 WHOLE_REGISTERS, MASK = 0b01000, 0b01011  # sumop
@@ -38,7 +39,7 @@ def stored_spans(word: int, x: Sequence[int], control: ControlRegisters, v: byte
     if word & 0x7F == STORE:
         return _joined([scalar_span(word, x)])
     instruction = vector_instruction(word, control.vtype) if word & 0x7F == STORE_FP else None
-    return _joined(vector_spans(word, x, control, v, instruction.operands) if instruction else ())
+    return _joined(vector_spans(word, x, control, v, instruction) if instruction else ())
 
 
 def scalar_span(word: int, x: Sequence[int]) -> Span:
@@ -47,31 +48,43 @@ def scalar_span(word: int, x: Sequence[int]) -> Span:
     return (x[word >> 15 & 31] + offset - 0x800) % (1 << 64), 1 << (word >> 12 & 3)
 
 
+def body_of(word: int, instruction: VectorInstruction, control: ControlRegisters) -> range:
+    """The elements of an instruction's body, from vstart on. Of a mask that is loaded or stored they are its bytes."""
+    is_unit_stride = word & 0x7F in VECTOR_ACCESSES and word >> 26 & 3 == UNIT_STRIDE
+    mode, count = word >> 20 & 31 if is_unit_stride else None, control.vl
+    if mode == WHOLE_REGISTERS or re.fullmatch("vmv[1248]r.v", instruction.name):
+        count = len(instruction.operands[0].registers) * REGISTER_BITS // instruction.operands[0].eew
+    elif mode == MASK:
+        count = -(-control.vl // 8)
+    elif instruction.name in ("vmv.x.s", "vmv.s.x"):
+        count = 1
+    return range(control.vstart, count)
+
+
+def active_of(instruction: VectorInstruction, body: range, v: bytes) -> list[int]:
+    """The elements of a body that the mask doesn't leave out, by the bytes of v0, which stand first."""
+    return [element for element in body if not instruction.leaves_out or v[element // 8] >> element % 8 & 1]
+
+
 def vector_spans(
-    word: int, x: Sequence[int], control: ControlRegisters, v: bytes, operands: Sequence[Operand]
+    word: int, x: Sequence[int], control: ControlRegisters, v: bytes, instruction: VectorInstruction
 ) -> Iterator[Span]:
     """The spans of the elements of a vector load or store, or of its segments, in their order from vstart on."""
-    base, stride = x[word >> 15 & 31], x[word >> 20 & 31]
-    data, kind, mode = operands[0], word >> 26 & 3, word >> 20 & 31
-    length, count = data.eew // 8 * ((word >> 29) + 1), control.vl
-    if kind == UNIT_STRIDE and mode == WHOLE_REGISTERS:
-        length, count = data.eew // 8, len(data.registers) * REGISTER_BYTES * 8 // data.eew
-    elif kind == UNIT_STRIDE and mode == MASK:
-        length, count = 1, -(-control.vl // 8)
-    for element in range(control.vstart, count):
-        if kind == UNIT_STRIDE:
-            yield base + element * length, length
-        elif kind == STRIDED:
-            yield base + element * stride, length
-        else:
-            index = operands[1].registers.start * REGISTER_BYTES + element * operands[1].eew // 8
-            yield base + int.from_bytes(v[index : index + operands[1].eew // 8], "little"), length
+    base, stride, kind = x[word >> 15 & 31], x[word >> 20 & 31], word >> 26 & 3
+    data, *indices = instruction.operands
+    length = max(1, data.eew // 8) * (1 if data.is_whole else (word >> 29) + 1)
+    for element in body_of(word, instruction, control):
+        offset = element * (length if kind == UNIT_STRIDE else stride)
+        if kind not in (UNIT_STRIDE, STRIDED):
+            index = indices[0].registers.start * REGISTER_BYTES + element * indices[0].eew // 8
+            offset = int.from_bytes(v[index : index + indices[0].eew // 8], "little")
+        yield (base + offset) % (1 << 64), length
 
 
 def _joined(spans: Iterable[Span]) -> list[Span]:
     """Spans that hold these, one in each block of 256 bytes, which lies in one page."""
-    ends = ((address % (1 << 64), address % (1 << 64) + length - 1) for address, length in spans)
-    rows = {row for first, last in ends for row in range(first // ROW_BYTES, last // ROW_BYTES + 1)}
+    ends = ((address // ROW_BYTES, (address + length - 1) // ROW_BYTES) for address, length in spans)
+    rows = {row for first, last in ends for row in range(first, last + 1)}
     held = [list(each) for _, each in itertools.groupby(sorted(rows), lambda row: row * ROW_BYTES // LINE_BYTES)]
     return [(each[0] * ROW_BYTES, (each[-1] + 1 - each[0]) * ROW_BYTES) for each in held]
 

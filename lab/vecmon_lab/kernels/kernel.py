@@ -1,6 +1,7 @@
 """A program's functions called from Python, as tests of vector kernels do: arrays go into memory, and are read back."""
 
 import array
+import contextlib
 import html
 import numbers
 import os
@@ -17,10 +18,10 @@ from ..compilers.compiled import compile_c
 from ..compilers.compiler import choice_of, find_compiler
 from ..exercises.answer import Answer, read_answer
 from ..guest.changes import Stepper
-from ..guest.guest import MOST_STEPS, QUANTUM, STACK_END, Guest, pokes
+from ..guest.guest import MOST_STEPS, QUANTUM, STACK_END, Guest, peeks, pokes
 from ..guest.notebook import registers_html
 from ..guest.symbols import Symbols
-from ..instructions.accesses import LINE_BYTES, PAGE_BYTES, REGISTER_BYTES
+from ..instructions.accesses import PAGE_BYTES
 from ..lessons.script import check_compiled
 from ..machine.answers import Memory, Output, Refused, ScalarRegisters, Stop
 from ..machine.program import find_program
@@ -99,7 +100,7 @@ _Left = tuple[int, list[bytes], bytes]
 """What a call leaves: a0, the bytes of the arrays, and the output."""
 
 
-class Kernel:
+class Kernel(contextlib.AbstractContextManager["Kernel"]):
     """The functions of a program: an image, or a source in assembler (.s, .S) or C (.c).
 
     Each call has a machine on which the program was brought in anew: its variables are as it has them. `close`, or the
@@ -119,9 +120,6 @@ class Kernel:
         self._guest = self._opened()
         self._is_stopped = True  # and not left by an interrupt where it may run
 
-    def __enter__(self) -> "Kernel":
-        return self
-
     def __exit__(self, *error: object) -> None:
         self.close()
 
@@ -131,8 +129,7 @@ class Kernel:
         registers = ""
         if self._is_stopped:
             left = Stepper(self._guest).registers
-            vectors = [bytes(left.v[at : at + REGISTER_BYTES]) for at in range(0, len(left.v), REGISTER_BYTES)]
-            registers = registers_html(self._guest.pc, left.x, left.control, vectors)
+            registers = registers_html(self._guest.pc, left.x, left.control, self._guest.vectors())
         return f"<b>{html.escape(self._path.name)}</b>{html_table([('symbol', 'address'), *rows], 2)}{registers}"
 
     def close(self) -> None:
@@ -182,7 +179,7 @@ class Kernel:
             self._guest = self._opened()
         guest, self._is_stopped = self._guest, False
         before = [*self._begin, f"policy {policy}", *lines, f"setpc {self._symbols.addresses[symbol]:x}"]
-        looks = ["regs", *(look for place in places for look in _looks(place)), "out"]
+        looks = ["regs", *(look for place in places for look in peeks(place.address, len(place.data))), "out"]
         answers, counts = guest.ask(*(before if counted else ())), None
         if counted:
             counts = count(beginning_at(guest, [f"1 {line}" for line in before], self._images.get("image")), ticks)
@@ -265,15 +262,9 @@ def _place(placed: Placed, page: int) -> tuple[_Place, int]:
     return _Place(address, data, [f"map {page:x} {pages} {placed.permissions}", *pokes(address, data)]), pages
 
 
-def _looks(place: _Place) -> Iterator[str]:
-    """The looks at an array's bytes."""
-    for at in range(0, len(place.data), LINE_BYTES):
-        yield f"peek {place.address + at:x} {min(LINE_BYTES, len(place.data) - at)}"
-
-
 def _joined(place: _Place, parts: Iterator[bytes]) -> bytes:
     """The bytes of an array, of what its looks show."""
-    return b"".join(next(parts) for _ in _looks(place))
+    return b"".join(next(parts) for _ in peeks(place.address, len(place.data)))
 
 
 def _like(given: Array, data: bytes) -> Array:

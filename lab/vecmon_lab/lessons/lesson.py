@@ -18,17 +18,21 @@ from .script import check_compiled, read_compiled, read_script, read_source
 SOURCE_SUFFIXES, C_SUFFIX = (".s", ".S"), ".c"
 
 
-def add_arguments(parser: argparse.ArgumentParser) -> None:
-    """The words of `vecmon-lab lesson`."""
-    parser.add_argument(
-        "script", metavar="SCRIPT", type=pathlib.Path, help="a script, or a source in assembler (.s, .S) or C (.c)"
-    )
-    parser.add_argument("images", metavar="NAME=PATH", nargs="*", default=[], help="images that it loads by name")
-    parser.add_argument("-o", dest="output", metavar="FILE", type=pathlib.Path, help="the page; else standard output")
-    parser.add_argument("--title", help="the title; else the line of the file that begins with ##, else its name")
+def add_compiler(parser: argparse.ArgumentParser) -> None:
+    """The compiler of a source, and its options."""
     parser.add_argument("--cc", metavar="NAME", help="the compiler, as clang-19")
     names = [choice.name for choice in CHOICES]
     parser.add_argument("--options", choices=names, default=names[0], help="those of the compiler; else %(default)s")
+
+
+def add_arguments(parser: argparse.ArgumentParser) -> None:
+    """The words of `vecmon-lab lesson`."""
+    told = "a script, or a source in assembler (.s, .S) or C (.c)"
+    parser.add_argument("script", metavar="SCRIPT", type=pathlib.Path, help=told)
+    parser.add_argument("images", metavar="NAME=PATH", nargs="*", default=[], help="images that it loads by name")
+    parser.add_argument("-o", dest="output", metavar="FILE", type=pathlib.Path, help="the page; else standard output")
+    parser.add_argument("--title", help="the title; else the line of the file that begins with ##, else its name")
+    add_compiler(parser)
     against = "listings side by side in place of a lesson: by --options, and by these, of another compiler"
     parser.add_argument("--against", metavar="[NAME:]OPTIONS", help=against)
     parser.add_argument("--quantum", metavar="N", type=int, help="the ticks of a slice, 1 to 1000; else 100")
@@ -58,7 +62,7 @@ def _lesson(arguments: argparse.Namespace, images: Mapping[str, pathlib.Path]) -
         script = read_source(text, path.name) if path.suffix in SOURCE_SUFFIXES else read_script(text)
     frames = make_frames(script, find_program(), images, arguments.quantum)
     title = arguments.title or script.title or path.name
-    return lesson_page(title, frames, script.labels, script.said, script.starts, script.variables)
+    return lesson_page(title, frames, script)
 
 
 def _listings(arguments: argparse.Namespace) -> str:

@@ -11,10 +11,8 @@ from itertools import islice, pairwise
 
 from ..compilers.compiled import CompiledProgram, read_answer
 from ..guest.guest import Guest
-from ..machine.answers import Listing as Words
 from ..machine.session import Session
 from ..page.pages import lone_page
-from ..page.state import runs_of
 from ..runs.counts import Place, beginning_at, count
 from ..runs.profile import summary_of
 from .script import send
@@ -47,11 +45,10 @@ def listing_of(program: CompiledProgram, name: str, machine: pathlib.Path) -> Li
     with Session(machine) as session:
         guest = Guest(session)
         send(guest, ["enter", *program.lines, f"setpc {program.entry:x}"])
-        answers = guest.ask(*(f"dis {run[0]:x} {len(run)}" for run in runs_of(lines)))
+        words = guest.words(lines)
         lines_done = session.script.decode("ascii").splitlines()
         counts, stop = count(beginning_at(guest, lines_done), MOST_TICKS), guest.go(MOST_TICKS)
         end = f"status {stop.number}" if stop and stop.kind == "exit" else guest.tell(stop)
-    words = [word for answer in answers if isinstance(answer, Words) for word in answer.words]
     by_address = {place.address: place for place in counts.places}
     places = [(word, by_address.get(word.address, Place(word.address, word.word))) for word in words]
     rows: list[Sequence[int | str]] = [

@@ -30,9 +30,7 @@ def run(arguments: argparse.Namespace) -> int:
     print(f"{folder / 'index.html'}: A tour")
     for name, script in scripts.items():
         path = folder / f"{name}.html"
-        frames = make_frames(script, program)
-        page = lesson_page(script.title, frames, script.labels, script.said, script.starts, script.variables)
-        path.write_text(page, "utf-8")
+        path.write_text(lesson_page(script.title, make_frames(script, program), script), "utf-8")
         print(f"{path}: {script.title}")
     return 0
 

@@ -369,18 +369,6 @@ class Session(contextlib.AbstractContextManager["Session"]):
             raise
         return heir
 
-    def told_elsewhere(self, script: bytes, lines: bytes) -> list[str]:
-        """What a machine with the same images answers to lines, behind a script; each is answered by one line.
-
-        It is a process of its own, which ends then, and nothing is recorded. Raises ProgramGone.
-        """
-        process = _Process(self.command, self._patience)
-        try:
-            deque(process.pour(script), 0)
-            return b"".join(process.pour(lines)).decode("latin-1").split("\n")[:-1]
-        finally:
-            process.close()
-
     def look(self, line: str) -> list[str]:
         """The answer to a line that only looks. Raises BadLine for any other one, and else as `do`."""
         return self.look_all([line])[0]
@@ -531,9 +519,8 @@ class Session(contextlib.AbstractContextManager["Session"]):
     def _record(self, lines: Sequence[str], answers: Sequence[str]) -> None:
         """Adds lines to the script, and takes up their answers."""
         self._take_up(lines, answers)
-        self._script += "\n".join([*lines, ""]).encode(
-            "ascii"
-        )  # each line there has its mark, also for a spare's thread
+        # by now each line there has its mark, also for a spare's thread
+        self._script += "\n".join([*lines, ""]).encode("ascii")
 
     def _take_up(self, lines: Sequence[str], answers: Sequence[str]) -> None:
         """Adds answers to the digest; follows the policies of their lines' users."""

@@ -125,16 +125,6 @@ class Watch:
             self._add_pages((int(registers[base[2]], 16) + int(base[1] or "0")) % (1 << 48), 1)
 
 
-def runs_of(addresses: Iterable[int]) -> list[list[int]]:
-    """The addresses of words in runs of at most 16 that stand one behind another."""
-    runs: list[list[int]] = []
-    for address in sorted(addresses):
-        if not runs or len(runs[-1]) == 16 or address != runs[-1][-1] + 4:
-            runs.append([])
-        runs[-1].append(address)
-    return runs
-
-
 def look_at(
     guest: Guest, watch: Watch, before: State, answers: Sequence[Answer], carried_out: str = "", is_done: bool = True
 ) -> State:
@@ -161,7 +151,7 @@ def look_at(
     control = _take_registers(guest, state)
     state["policy"] = guest.session.policy[guest.user]
     if not carried_out or carried_out.startswith("v"):
-        state["v"] = _vectors(guest)
+        state["v"] = {f"{number}": data.hex() for number, data in enumerate(guest.vectors())}
     trace = guest.told("trace", Addresses).addresses
     stepped = any(isinstance(answer, Position) and answer.kind == "stepped" for answer in answers)
     may_store = not carried_out or _STORE.match(carried_out) is not None
@@ -207,9 +197,7 @@ class RowChoice:
     def rows(self, watch: Watch, least: int = 1) -> set[str]:
         """The addresses of the rows that tell most; 2 is the least for those that have changed alone."""
         listing = {f"{address // ROW_BYTES * ROW_BYTES:x}" for address in watch.code}
-        weights = Counter(
-            {row: weight for row, weight in self._weights.items() if weight >= least and row not in listing}
-        )
+        weights = Counter({row: it for row, it in self._weights.items() if it >= least and row not in listing})
         weights.update({f"{row:x}": 3 for row in watch.named if f"{row:x}" in self._weights})
         return {row for row, _ in weights.most_common(MOST_ROWS)}
 
@@ -236,12 +224,6 @@ def _take_registers(guest: Guest, state: State) -> ControlRegisters:
     return control
 
 
-def _vectors(guest: Guest) -> dict[str, str]:
-    """The vector registers."""
-    answers = guest.ask(*(f"vreg v{number} 64" for number in range(32)))
-    return {str(answer.number): answer.data.hex() for answer in answers if isinstance(answer, VectorRegister)}
-
-
 def _code(guest: Guest, watch: Watch, pc: int, trace: Sequence[int], known: dict[str, str]) -> dict[str, str]:
     """The listing: words that lines wrote, words that were carried out, and some from the program counter on.
 
@@ -251,9 +233,7 @@ def _code(guest: Guest, watch: Watch, pc: int, trace: Sequence[int], known: dict
         watch.code.update(trace)
         watch.code.update(_ahead(guest, pc))
     new = {address for address in watch.code if f"{address:x}" not in known}
-    answers = guest.ask(*(f"dis {run[0]:x} {len(run)}" for run in runs_of(new)))
-    words = [word for answer in answers if isinstance(answer, Listing) for word in answer.words]
-    return known | {f"{word.address:x}": f"{word.word:08x} {word.text}" for word in words}
+    return known | {f"{it.address:x}": f"{it.word:08x} {it.text}" for it in guest.words(new)}
 
 
 def _ahead(guest: Guest, pc: int) -> Iterator[int]:
@@ -267,10 +247,8 @@ def _ahead(guest: Guest, pc: int) -> Iterator[int]:
 
 def _memory(guest: Guest, watch: Watch) -> dict[str, str]:
     """The rows of all pages that are watched and mapped."""
-    rows = {}
+    rows = dict[str, str]()
     for page in sorted(watch.pages):
-        for answer in guest.ask(*(f"peek {at:x} {LINE_BYTES}" for at in range(page, page + PAGE_BYTES, LINE_BYTES))):
-            if isinstance(answer, Memory):
-                for place in range(0, LINE_BYTES, ROW_BYTES):
-                    rows[f"{answer.address + place:x}"] = answer.data[place : place + ROW_BYTES].hex()
+        data = guest.peek(page, PAGE_BYTES)
+        rows |= {f"{page + at:x}": data[at : at + ROW_BYTES].hex() for at in range(0, len(data), ROW_BYTES)}
     return rows

@@ -1,14 +1,12 @@
 """The instructions of a user's program, as the lines of a script have carried them out while no other one ran."""
 
-from collections.abc import Iterable, Iterator, Sequence
+from collections.abc import Iterable, Sequence
 from dataclasses import dataclass, replace
 
-from ..guest.guest import MOST_STEPS
 from ..machine.answers import Granted, Position, Refused, read
 from ..machine.lines import words_of
 
 MOST_TICKS = 257  # of an instruction: a fault-only-first load of 256 elements tries one more
-OUTPUT_EVERY = MOST_STEPS  # instructions of a leg: then a replay takes its output
 
 
 @dataclass
@@ -100,13 +98,3 @@ class Legs:
         self.legs.append(Leg(self.size, count, 0, self._breaks))
         self._is_written = False
         return self.legs[-1]
-
-
-def stepping(count: int) -> Iterator[str]:
-    """The commands that carry out so many instructions of a leg.
-
-    Output is taken behind the same ones each time, so that calls that write find the same room.
-    """
-    yield from (f"step {OUTPUT_EVERY}", "out") * (count // OUTPUT_EVERY)
-    if count % OUTPUT_EVERY:
-        yield f"step {count % OUTPUT_EVERY}"

@@ -3,16 +3,16 @@
 An instant comes again by a replay: another session carries out the script up to there, with all that was written by hand.
 """
 
-import operator
 from collections.abc import Callable, Iterator, Sequence
+from operator import itemgetter
 
 from .. import LabError
 from ..checkpoints.machine_state import PERMISSIONS, carry_out, pages_of
-from ..guest.guest import OUTPUT_BYTES, Guest
+from ..guest.guest import OUTPUT_BYTES, Guest, stepping
 from ..machine.answers import Addresses, Position, Stop
 from ..machine.recorder import Beginning
 from ..runs.counts import beginning_at
-from .legs import Leg, Legs, stepping
+from .legs import Leg, Legs
 from .recorded import Halt, Search
 from .watches import Watch, accessed
 
@@ -55,8 +55,8 @@ class Timeline:
                 ticks = max(LEAST_TICKS, ticks // 4)
                 continue
             end = done.instructions - (isinstance(done.end, Stop) and done.end.kind == "exit")
-            count, self.hit = min([(number - 1, watch) for number, watch in halts] or [(end, None)], key=_position)
-            self._guest.advance(stepping(count))
+            count, self.hit = min([(number - 1, watch) for number, watch in halts] or [(end, None)], key=itemgetter(0))
+            self._guest.pass_over(count)
             if halts or self._guest.pc in breaks:
                 return Stop("break", self._guest.pc)
             if isinstance(done.end, Stop):
@@ -105,7 +105,7 @@ class Timeline:
                 return None
             if halts:
                 ends = [(number - (watch is None), watch) for number, watch in halts]
-                number, hit = max(ends, key=_position)
+                number, hit = max(ends, key=itemgetter(0))
                 self._rewind(place, number)
                 self.hit = hit
                 return True
@@ -183,8 +183,3 @@ class Timeline:
                 lines.append(f"1 map {page:x} 1 {''.join(it for it, bit in PERMISSIONS.items() if allowed & bit)}")
             lines.append("1 go")  # the program may have written to each of them
             return beginning_at(Guest(session, self._guest.user), lines)
-
-
-def _position(halt: Halt) -> int:
-    """How many instructions stand before a halt."""
-    return halt[0]

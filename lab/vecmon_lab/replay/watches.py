@@ -4,10 +4,10 @@ import re
 from collections.abc import Callable, Iterable, Iterator, Sequence
 from dataclasses import dataclass
 
+from ..guest.changes import Stepper
 from ..guest.guest import Guest
-from ..instructions.accesses import REGISTER_BYTES, Span, scalar_span, vector_instruction, vector_spans
+from ..instructions.accesses import Span, active_of, body_of, scalar_span, vector_instruction, vector_spans
 from ..instructions.words import LOAD, LOAD_FP, STORE, STORE_FP, VECTOR_ACCESSES
-from ..machine.answers import ControlRegisters, ScalarRegisters, VectorRegister
 
 ACCESSES = {"watch": (STORE, STORE_FP), "rwatch": (LOAD, LOAD_FP), "awatch": (LOAD, LOAD_FP, STORE, STORE_FP)}
 """The opcodes of what may do what is watched for, as gdb calls it: change the bytes, load them, or load or store them."""
@@ -63,22 +63,12 @@ def _logged_spans(line: bytes) -> Iterator[Span]:
 
 def _spans(guest: Guest, word: int) -> Iterator[Span]:
     """What a load or store accesses, by the registers before it: addresses, each with how many bytes."""
-    x = guest.told("regs", ScalarRegisters).x
+    before = Stepper(guest).registers
+    instruction = vector_instruction(word, before.control.vtype)
     if word & 0x7F not in VECTOR_ACCESSES:
-        yield scalar_span(word, x)
-        return
-    control = guest.told("vcsr", ControlRegisters)
-    instruction = vector_instruction(word, control.vtype)
-    if instruction is None:
-        return
-    numbers = [0, *(number for operand in instruction.operands[1:] for number in operand.registers if number < 32)]
-    v = bytearray(32 * REGISTER_BYTES)
-    for told in guest.ask(*(f"vreg v{number} 64" for number in numbers)):
-        if isinstance(told, VectorRegister):
-            v[told.number * REGISTER_BYTES : (told.number + 1) * REGISTER_BYTES] = told.data
-    mask = int.from_bytes(v[:REGISTER_BYTES], "little") if instruction.leaves_out else -1
-    for element, (at, length) in enumerate(
-        vector_spans(word, x, control, bytes(v), instruction.operands), control.vstart
-    ):
-        if mask >> element & 1:
-            yield at % (1 << 64), length
+        yield scalar_span(word, before.x)
+    elif instruction:
+        body = body_of(word, instruction, before.control)
+        active = active_of(instruction, body, before.v)
+        spans = zip(body, vector_spans(word, before.x, before.control, before.v, instruction))
+        yield from (span for element, span in spans if element in active)

@@ -7,7 +7,6 @@ import pathlib
 import struct
 from collections.abc import Iterator, Sequence
 from concurrent.futures import ThreadPoolExecutor
-from contextlib import AbstractContextManager
 from dataclasses import replace
 from random import Random
 
@@ -23,16 +22,10 @@ from .partings import Pair, alike_until, explain, recorded
 from .run import status_of
 
 POLICIES, QUANTUMS = ("keep", "ones"), (1000, 7, 1)
-LOADED, ONES, FILLED = (
-    "as loaded",
-    "under ones",
-    {"filled": 0, "filled anew": 0xFF},
-)  # runs; which bits are turned round
+LOADED, ONES = "as loaded", "under ones"  # names of runs
+FILLED = {"filled": 0, "filled anew": 0xFF}  # others, and which bits are turned round there
 SHOWN_BYTES, PT_LOAD = 40, 1
 STACK_BYTES = 0x4000  # that `load` lays below STACK_END
-Begun = AbstractContextManager[Guest]
-"""A guest that an image is loaded for."""
-
 Outcome = tuple[Stop | None, str, bytes]
 """How a run ended, if it did; that in words, and what it wrote."""
 
@@ -49,13 +42,12 @@ def run(arguments: argparse.Namespace) -> int:
     Raises LabError and OSError for bad input.
     """
     image, file, symbols = arguments.image, arguments.input, Symbols.read(arguments.image)
-    words, ticks = [image.name, *arguments.words], -(
-        -arguments.ticks // 7000
-    ) * 7000  # slices of each length come to these
+    words = [image.name, *arguments.words]
+    ticks = -(-arguments.ticks // 7000) * 7000  # slices of each length come to these
     outcomes: dict[tuple[str, int], Outcome] = {}
     for policy, quantum in itertools.product(POLICIES, QUANTUMS):
-        begun = started(image, policy=policy, quantum=quantum, arguments=words, file=file)
-        outcome = outcomes[policy, quantum] = _outcome(begun, ticks)
+        with started(image, policy=policy, quantum=quantum, arguments=words, file=file) as guest:
+            outcome = outcomes[policy, quantum] = _outcome(guest, ticks)
         is_same = len(outcomes) > 1 and outcome == outcomes["keep", QUANTUMS[0]]
         print(f"{policy}, slices of {quantum:>5,}:  {'the same' if is_same else _told(*outcome[1:])}")
     keep, ones = (beginning_of(image, words, file, policy) for policy in POLICIES)
@@ -96,11 +88,10 @@ def _relies(runs: dict[str, Beginning], symbols: Symbols, ticks: int) -> bool:
     """Prints which runs do otherwise than the first one, and why: of those that are filled, of one. Whether one does."""
     with ThreadPoolExecutor(len(runs)) as pool:
         found = dict(zip(runs, pool.map(lambda beginning: recorded(beginning, ticks), runs.values())))
-    ends = {
-        name: "the same" if each == found[LOADED] else _told(f"{each[0].end}", each[1]) for name, each in found.items()
-    }
-    print(*(f"{f'keep, {name}:':<22}  {ends[name]}" for name in FILLED), sep="\n")
     unlike, told = [name for name, each in found.items() if each != found[LOADED]], set[str]()
+    for name in FILLED:
+        done, output = found[name]
+        print(f"{f'keep, {name}:':<22}  {_told(f'{done.end}', output) if name in unlike else 'the same'}")
     for name in dict.fromkeys([*unlike[:1], *unlike[-1:]]) if ONES in unlike else unlike[:1]:
         names = (LOADED if name in FILLED else "under keep", name)
         lines = _reason((runs[LOADED], runs[name]), names, symbols, ticks)
@@ -119,11 +110,10 @@ def _reason(pair: Pair, names: Sequence[str], symbols: Symbols, ticks: int) -> l
         return [f"the runs part behind {number:,} instructions, which are too many to look where it comes from"]
 
 
-def _outcome(begun: Begun, ticks: int) -> Outcome:
+def _outcome(guest: Guest, ticks: int) -> Outcome:
     """A run of an image."""
-    with begun as guest:
-        stop = guest.go(ticks)
-        return stop, str(stop) if stop else f"no end in {ticks:,} ticks, pc={guest.pc:016x}", guest.output()
+    stop = guest.go(ticks)
+    return stop, str(stop) if stop else f"no end in {ticks:,} ticks, pc={guest.pc:016x}", guest.output()
 
 
 def _told(end: str, output: bytes) -> str:

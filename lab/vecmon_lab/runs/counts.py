@@ -2,7 +2,6 @@
 
 import functools
 import pathlib
-import re
 from collections import Counter
 from collections.abc import Callable, Iterable, Mapping, Sequence
 from dataclasses import dataclass
@@ -11,25 +10,13 @@ from .. import mistakes_in
 from ..guest.changes import vtype_text
 from ..guest.guest import STACK_END, Guest, argument_block, check_image, pokes
 from ..guest.input import input_of
-from ..instructions.accesses import MASK, PAGE_BYTES, UNIT_STRIDE, WHOLE_REGISTERS, Span, vector_instruction
-from ..instructions.words import VECTOR_ACCESSES, VectorInstruction
-from ..machine.answers import ControlRegisters, Listing, ScalarRegisters, Stop, VectorRegister
+from ..instructions.accesses import PAGE_BYTES, Span
+from ..machine.answers import ControlRegisters, ScalarRegisters, Stop
 from ..machine.lines import words_of
 from ..machine.program import find_program
 from ..machine.recorder import Beginning, Laid, Record, record
 from ..machine.session import Session
 from ..tables.table import html_table
-
-SHOWN_WORDS = 16  # by one `dis`
-
-
-@dataclass(frozen=True)
-class Elements:
-    """The elements of an instruction's group: which are active, how many are masked off, and how many the tail has."""
-
-    active: Sequence[int]
-    masked: int
-    tail: int
 
 
 @dataclass(frozen=True)
@@ -88,10 +75,8 @@ class Counts:
             texts = dict[int, str]()
             for at in range(0, len(words), PAGE_BYTES // 4):
                 page = words[at : at + PAGE_BYTES // 4]
-                data = b"".join(word.to_bytes(4, "little") for word in page)
-                looks = (f"dis {address:x} {SHOWN_WORDS}" for address in range(0, len(data), 4 * SHOWN_WORDS))
-                answers = guest.ask(*pokes(0, data), *looks)
-                texts |= {it.word: it.text for each in answers if isinstance(each, Listing) for it in each.words}
+                guest.ask(*pokes(0, b"".join(word.to_bytes(4, "little") for word in page)))
+                texts |= {it.word: it.text for it in guest.words(range(0, 4 * len(page), 4))}
         return texts
 
 
@@ -128,10 +113,9 @@ def beginning_at(guest: Guest, lines: Iterable[str], image: pathlib.Path | None 
             case ["policy", policy]:
                 pass
     control, scalars = guest.told("vcsr", ControlRegisters), guest.told("regs", ScalarRegisters)
-    vectors = guest.ask(*(f"vreg v{number} 64" for number in range(32)))
     registers = [f"pc {scalars.pc:x}", *(f"{name} {value:x}" for name, value in vars(control).items())]
     registers += [f"x{number} {scalars.x[number]:x}" for number in range(1, 32)]
-    registers += [f"v{it.number} {it.data.hex()}" for it in vectors if isinstance(it, VectorRegister)]
+    registers += [f"v{number} {data.hex()}" for number, data in enumerate(guest.vectors())]
     memory = [(page, permissions, bytes(PAGE_BYTES)) for page, permissions in pages.items()]
     memory += [(first, "rw", guest.peek(first, length)) for first, length in spans]
     return Beginning(image, _joined(memory), registers, policy)
@@ -165,36 +149,3 @@ def count(
     lengths = Counter({(vtype_text(vtype), vl): times for (vtype, vl), times in done.lengths.items()})
     stop = done.end if isinstance(done.end, Stop) else None
     return Counts(places, lengths, done.calls, done.instructions, done.ticks, stop, done.end.pc, done.short_writes)
-
-
-def elements_of(word: int, control: ControlRegisters, v0: bytes) -> Elements | None:
-    """The elements of a vector instruction, by the control registers and v0 before it; None for any other one."""
-    instruction = vector_instruction(word, control.vtype)
-    if instruction is None:
-        return None
-    length, all_there = _lengths(word, instruction, control)
-    body: Sequence[int] = range(control.vstart, length)
-    active = body
-    if instruction.leaves_out:
-        active = [element for element in body if v0[element // 8] >> element % 8 & 1]
-    return Elements(active, len(body) - len(active), all_there - length)
-
-
-def is_whole(word: int, instruction: VectorInstruction) -> bool:
-    """Whether an instruction loads, stores or moves whole registers, whatever the vector type is."""
-    return _unit_stride(word) == WHOLE_REGISTERS or re.fullmatch("vmv[1248]r.v", instruction.name) is not None
-
-
-def _unit_stride(word: int) -> int | None:
-    """What a unit-stride load or store is: its field lumop or sumop; None for any other instruction."""
-    return word >> 20 & 31 if word & 0x7F in VECTOR_ACCESSES and word >> 26 & 3 == UNIT_STRIDE else None
-
-
-def _lengths(word: int, instruction: VectorInstruction, control: ControlRegisters) -> tuple[int, int]:
-    """How many elements an instruction has up to its length, and how many its group has."""
-    vl, most = control.vl, control.vlmax
-    if is_whole(word, instruction):
-        return (len(instruction.operands[0].registers) * 256 // instruction.operands[0].eew,) * 2
-    if _unit_stride(word) == MASK:
-        return -(-vl // 8), -(-most // 8)
-    return (1, 1) if instruction.name in ("vmv.x.s", "vmv.s.x") else (vl, most)

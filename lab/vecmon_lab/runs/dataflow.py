@@ -9,9 +9,9 @@ from ..instructions.accesses import (
     ACCUMULATES,
     FIRST_ELEMENT,
     REGISTER_BITS,
-    REGISTER_BYTES,
     STRIDED,
-    UNIT_STRIDE,
+    active_of,
+    body_of,
     needed,
     scalar_span,
     vector_instruction,
@@ -19,7 +19,6 @@ from ..instructions.accesses import (
 )
 from ..instructions.words import LOAD, OP_V, STORE, SYSTEM, VECTOR_ACCESSES, VectorInstruction
 from ..machine.answers import CONTROL
-from .counts import elements_of
 
 Place = tuple[str, int]
 """A bit of the vector registers (`v`, 0 to 8,191) or of the scalar ones (`x`, 0 to 2,047), a byte of memory (`memory`),
@@ -78,9 +77,8 @@ def conditions(step: Executed) -> set[Place]:
     """What an instruction depends on beside the elements and bytes that it works on: scalar registers, its vector type
     and length, its mask, and of an access the indices."""
     control = step.before.control
-    places = set[Place]().union(
-        *(bits_of_scalar(number) for number in scalars_read(step.carried.word, step.before.x[17]))
-    )
+    scalars = scalars_read(step.carried.word, step.before.x[17])
+    places = set[Place]().union(*map(bits_of_scalar, scalars))
     instruction = vector_instruction(step.carried.word, control.vtype)
     if instruction:
         places |= {("vl", 0), ("vtype", 0)} | (bits_of_registers(0, control.vl) if instruction.is_masked else set())
@@ -97,9 +95,8 @@ def parts(step: Executed) -> Iterator[Part]:
     if opcode in (LOAD, STORE):
         address, length = scalar_span(word, before.x)
         for at in range(length):
-            byte, told = {("memory", address + at)}, bits_of_scalar(
-                rd if opcode == LOAD else word >> 20 & 31, 8 * at, 8
-            )
+            byte, register = {("memory", address + at)}, rd if opcode == LOAD else word >> 20 & 31
+            told = bits_of_scalar(register, 8 * at, 8)
             yield (told, byte, "") if opcode == LOAD else (byte, told, "")
         if opcode == LOAD and length < 8:  # the bits above are zeros, or the sign
             yield bits_of_scalar(rd, 8 * length, 64 - 8 * length), {("memory", address + length - 1)}, ""
@@ -116,9 +113,9 @@ def parts(step: Executed) -> Iterator[Part]:
     instruction = vector_instruction(word, before.control.vtype)
     if text.startswith("v"):
         yield _VSTART, _VSTART if instruction else set(), ""
-    found = elements_of(word, before.control, bytes(before.v[:REGISTER_BYTES]))
-    if instruction and found and (found.active or found.masked):
-        active = {0} if text.startswith(FIRST_ELEMENT) else set(found.active)
+    body = body_of(word, instruction, before.control) if instruction else range(0)
+    if instruction and body:
+        active = {0} if text.startswith(FIRST_ELEMENT) else {*active_of(instruction, body, before.v)}
         yield from _moved(step, instruction, active) if word & 0x7F in VECTOR_ACCESSES else ()
         yield from _made(step, instruction, active)
 
@@ -126,11 +123,11 @@ def parts(step: Executed) -> Iterator[Part]:
 def _moved(step: Executed, instruction: VectorInstruction, active: set[int]) -> Iterator[Part]:
     """The bytes that a vector load or store moves."""
     before, data = step.before, instruction.operands[0]
-    spans = vector_spans(step.carried.word, before.x, before.control, before.v, instruction.operands)
+    spans = vector_spans(step.carried.word, before.x, before.control, before.v, instruction)
     for element, (address, length) in enumerate(spans, before.control.vstart):
         width = length * data.group // len(data.registers)
         for at in range(length if element in active else 0):
-            memory = {("memory", (address + at) % (1 << 64))}
+            memory = {("memory", address + at)}
             register = data.registers.start + at // width * data.group
             bits = bits_of_registers(REGISTER_BITS * register + 8 * (element * width + at % width), 8)
             yield (memory, bits | _VSTART, "active") if data.noun == "data" else (bits, memory | _VSTART, "active")

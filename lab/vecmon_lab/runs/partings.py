@@ -9,7 +9,7 @@ from dataclasses import dataclass
 from typing import TypeVar
 
 from ..guest.changes import ECALL, NAMES, Registers, Stepper
-from ..guest.guest import STEPS_AT_ONCE, Guest, pokes, started
+from ..guest.guest import PACES, Guest, pokes, started
 from ..guest.symbols import Symbols
 from ..instructions.accesses import REGISTER_BITS
 from ..instructions.words import listed
@@ -39,8 +39,7 @@ class Step:
 
     def differs(self, place: Place) -> bool:
         """Whether a place isn't the same in both runs before it. Memory is taken to differ."""
-        one, other = (_value_at(place, run.before) for run in self.runs)
-        return place[0] == "memory" or one != other
+        return place[0] == "memory" or len({_value_at(place, run.before) for run in self.runs}) > 1
 
     def told(self, symbols: Symbols) -> str:
         """Its address, the place by a symbol, the source line, and its text."""
@@ -173,12 +172,12 @@ def _contents(pair: Pair, number: int, places: set[Place]) -> Sequence[dict[str,
         return _side_by_side(lambda guest: _values(places, guest, Stepper(guest).registers), guests)
 
 
-def _value_at(place: Place, registers: Registers) -> int | None:
-    """A bit of a register, or a control register; None of memory."""
+def _value_at(place: Place, registers: Registers) -> int:
+    """A bit of a register, or a control register."""
     kind, at = place
     if kind in "xv":
         return (registers.x[at // 64] >> at % 64 if kind == "x" else registers.v[at // 8] >> at % 8) & 1
-    return None if kind == "memory" else registers.values()[NAMES.index(kind)]
+    return registers.values()[NAMES.index(kind)]
 
 
 def _name(place: Place) -> str:
@@ -228,11 +227,11 @@ def _guests_at(pair: Pair, number: int) -> Iterator[Sequence[Guest]]:
 def _carried_on(beginning: Beginning, number: int, stack: ExitStack) -> Guest:
     """A guest of a run behind so many instructions, until the stack ends."""
     assert beginning.image
-    for at_once in STEPS_AT_ONCE:
+    for pace in PACES:
         guest = stack.enter_context(started(beginning.image, policy=beginning.policy))
         guest.ask(*(poke for at, _, data in beginning.memory for poke in pokes(at, data)))
         guest.ask(*itertools.chain(*(_writes(line, guest) for line in beginning.registers)))
-        if guest.pass_over(number, at_once):
+        if guest.pass_over(number, *pace):
             break
     return guest
 

@@ -11,8 +11,7 @@ from contextlib import AbstractContextManager
 
 from .. import LabError
 from ..arguments import add_image, between, check_output
-from ..guest.changes import ECALL
-from ..guest.guest import QUANTUM, WRITE_BYTES, Guest, started
+from ..guest.guest import QUANTUM, Guest, started
 from ..guest.symbols import Symbols
 from ..instructions.reasons import describe_stop
 from ..machine.answers import Stop
@@ -51,8 +50,10 @@ def run(arguments: argparse.Namespace) -> int:
         is_exit = counts.stop is not None and counts.stop.kind == "exit"
         if not is_exit:
             lines.append(f"vecmon-lab: {image}: {told(arguments, counts, symbols)}")
-        if counts.short_writes and (short := _short_write(arguments, counts, symbols)):
-            lines.append(f"vecmon-lab: {image}: {short}")
+        if counts.short_writes:
+            with _begun(arguments) as guest:
+                short = short_write(guest, counts, symbols)
+            lines += [f"vecmon-lab: {image}: {short}"] if short else []
         sys.stderr.writelines(f"{line}\n" for line in lines)
         window = _window(arguments, counts)
         if file:
@@ -113,17 +114,6 @@ def _begun(arguments: argparse.Namespace) -> AbstractContextManager[Guest]:
     """The guest that the image of a command is loaded for, whose output nobody sees."""
     image, policy, words = arguments.image, arguments.policy, [arguments.image.name, *arguments.words]
     return started(image, policy=policy, arguments=words, file=arguments.input, write=lambda data: None)
-
-
-def _short_write(arguments: argparse.Namespace, counts: Counts, symbols: Symbols) -> str:
-    """The first call that was given more bytes than it wrote, in a line; or nothing."""
-    calls = [place.address for place in counts.places if place.word == ECALL]
-    with _begun(arguments) as guest:
-        found = short_write(guest, calls, counts.ticks)
-    if found is None:
-        return ""
-    place = f"{found[0]:x} {symbols.place(found[0])}".rstrip()
-    return f"{place}: the call was given {found[1]:,} bytes and wrote {WRITE_BYTES}, the most that one writes: a0 has how many"
 
 
 def _check_window(arguments: argparse.Namespace) -> None:

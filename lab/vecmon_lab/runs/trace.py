@@ -4,7 +4,7 @@ from collections.abc import Callable, Iterator
 from contextlib import AbstractContextManager
 
 from ..guest.changes import Carried, Stepper
-from ..guest.guest import STEPS_AT_ONCE, Guest
+from ..guest.guest import PACES, Guest
 from ..guest.symbols import Symbols
 
 
@@ -14,9 +14,9 @@ def trace(begin: Callable[[], AbstractContextManager[Guest]], symbols: Symbols, 
     begin: a guest where the run begins. Those before the window are carried out many at once, and once more from the
     beginning, few at once, where a call could have found the output buffer without room.
     """
-    for at_once in STEPS_AT_ONCE:
+    for pace in PACES:
         with begin() as guest:
-            if guest.pass_over(window.start - 1, at_once):
+            if guest.pass_over(window.start - 1, *pace):
                 stepper = Stepper(guest)
                 yield from (_line(stepper.step(), symbols) for _ in window)
                 return

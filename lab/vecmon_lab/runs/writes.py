@@ -1,30 +1,34 @@
 """Calls that are given more bytes than they write."""
 
-from collections.abc import Sequence
-
+from ..guest.changes import ECALL
 from ..guest.guest import WRITE_BYTES, Guest
+from ..guest.symbols import Symbols
 from ..machine.answers import ScalarRegisters
+from .counts import Counts
 
 MOST_CALLS, MOST_BREAKPOINTS = 1000, 16  # that are looked at; that a user may have
+WHY = "the most that one writes: a0 has how many"
 A0, A1, A2, A7, WRITE, STANDARD_OUTPUT = 10, 11, 12, 17, 64, 1
 
 
-def short_write(guest: Guest, calls: Sequence[int], ticks: int) -> tuple[int, int] | None:
-    """The first call that is given more bytes than it writes, by its address, and how many; None if the next one that
-    writes goes on behind those that were written, or where there is none among the first calls.
+def short_write(guest: Guest, counts: Counts, symbols: Symbols) -> str:
+    """The first call of a run that is given more bytes than it writes, in a line; nothing if the next one that writes
+    goes on behind those that were written, or where there is none among the first calls.
 
-    calls: the addresses of calls, of which as many are looked at as a user may have breakpoints
+    It is looked for at as many addresses of calls as a user may have breakpoints.
     """
+    calls = [place.address for place in counts.places if place.word == ECALL]
     guest.ask(*(f"break {address:x}" for address in calls[:MOST_BREAKPOINTS]))
-    found, rest = None, 0
+    found, rest = "", 0
     for _ in range(MOST_CALLS):
-        stop = guest.go(ticks)
+        stop = guest.go(counts.ticks)
         if stop is None or stop.kind != "break":
             break
         x = guest.told("regs", ScalarRegisters).x
         if (x[A7], x[A0]) == (WRITE, STANDARD_OUTPUT):
             if found:
-                return None if x[A1] == rest else found
+                return "" if x[A1] == rest else found
             if x[A2] > WRITE_BYTES:
-                found, rest = (stop.pc, x[A2]), x[A1] + WRITE_BYTES
+                place, rest = f"{stop.pc:x} {symbols.place(stop.pc)}".rstrip(), x[A1] + WRITE_BYTES
+                found = f"{place}: the call was given {x[A2]:,} bytes and wrote {WRITE_BYTES}, {WHY}"
     return found
