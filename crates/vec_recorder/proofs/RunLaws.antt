@@ -85,15 +85,6 @@ end_is ticks s left rows end counts left_is stops =
     ∙ (ap (λ n. last_line (ran ticks s).state.scalar.pc (ran ticks s).end n (total (λ sums. sums.ticks) is_word rows % 2 ^ 64)) words.times
     ∙ ap (λ n. last_line (ran ticks s).state.scalar.pc (ran ticks s).end (shares (ran ticks s).found (λ sums. sums.times) is_word % 2 ^ 64) n) words.ticks))
 
--- the last line, by what the rows have together
-pub end_by_sums : (ticks times spent : ℕ) (s left : HartState) (rows : List Row) (end : Option StepEnd) → times ≡ total (λ sums. sums.times) is_word rows % 2 ^ 64
-    → spent ≡ total (λ sums. sums.ticks) is_word rows % 2 ^ 64 → AreCountsOf (ran ticks s).found rows → left ≡ (ran ticks s).state → end ≡ (ran ticks s).end
-    → last_line left.scalar.pc end times spent ≡ end_of ticks s
-end_by_sums ticks times spent s left rows end times_are ticks_are counts left_is stops =
-    ap (λ (n : ℕ). last_line left.scalar.pc end n spent) times_are
-    ∙ (ap (λ (n : ℕ). last_line left.scalar.pc end (total (λ sums. sums.times) is_word rows % 2 ^ 64) n) ticks_are
-    ∙ end_is ticks s left rows end counts left_is stops)
-
 -- ---- all instructions together
 
 -- what is counted beside a word is of no word

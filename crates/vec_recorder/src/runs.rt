@@ -15,9 +15,7 @@ use commit_log::{Log, Window};
 use devices::{DeviceFault, Sink};
 use first_state::OwnBytes;
 use memory_changes::{Changes, Place};
-use recording::{
-    Alone, Both, Carried, Counts, Nothing, Recorder, Row, ShortWrites, Sums, run, totals,
-};
+use recording::{Alone, Both, Carried, Counts, Recorder, Row, ShortWrites, run, totals};
 use rv_model::StepEnd;
 use std::alloc::Global;
 
@@ -31,17 +29,14 @@ fn made_file<'a, R: Outputs>(rt: &R, path: &'a str) -> Result<R::Made, ProgramFa
     }
 }
 
-/// Sorts the rows, and writes them as the counts of a run that ended so and stands there. Answers what all words have
-/// together.
+/// Sorts the rows, and writes them as the counts of a run that ended so and stands there.
 fn write_counts<C: Sink>(
     file: &mut C,
     rows: &mut [Row],
     pc: u64,
     end: Option<StepEnd>,
-) -> Result<Sums, DeviceFault>
+) -> Result<(), DeviceFault>
     ensures same { IsPermutation rows.old rows.new }
-    ensures times { IfOk result (λ sums. sums.times ≡ total (λ sums. sums.times) is_word rows.new % 2 ^ 64) }
-    ensures ticks { IfOk result (λ sums. sums.ticks ≡ total (λ sums. sums.ticks) is_word rows.new % 2 ^ 64) }
     ensures text { OnOk result (C.took file.old (flat_map row_line rows.new ++ last_line pc end
         (total (λ sums. sums.times) is_word rows.new % 2 ^ 64)
         (total (λ sums. sums.ticks) is_word rows.new % 2 ^ 64)) file.new) }
@@ -49,8 +44,7 @@ fn write_counts<C: Sink>(
     sort_rows(&mut *rows);
     write_rows(file, &*rows)?;
     let sums = totals(rows);
-    write_last(file, pc, end, sums.times, sums.ticks)?;
-    Ok(sums)
+    write_last(file, pc, end, sums.times, sums.ticks)
 }
 
 /// Carries out a run that is recorded, with its log in the file at a path. Answers how the program ended, and the record.
@@ -123,141 +117,51 @@ fn run_recorded<'a, R: Outputs, K: Sink, O: Recorder<OwnBytes> + Drop>(
     }
 }
 
-/// Carries out a run of which nothing is kept but its log. Answers how many calls wrote less than they were asked to.
-fn run_uncounted<'a, R: Outputs, K: Sink>(
+/// The same with the changes of places in the file at a path, if one is asked for.
+fn run_watched<'a, R: Outputs, K: Sink, O: Recorder<OwnBytes> + Drop>(
     rt: &R,
     alloc: Global,
     alone: &mut Alone<OwnBytes>,
     output: &mut K,
     ticks: u64,
     log: LogWords<'a>,
-) -> Result<u64, ProgramFault<'a>>
-    ensures output { OnOk result (K.took output.old
-        (flat_map put_out (ran ticks (state_of own_memory alone.old)).found) output.new) }
-    ensures log { OnOk result (AreKept (R.is_made rt.now) R.Made.took
-        (option_map (λ path. path.now) log.entry.path)
-        (λ told. AreLogged told log.entry.window ticks (state_of own_memory alone.old))) }
-{
-    let recorder = Both {
-        first: ShortWrites::none(),
-        second: Nothing,
-    };
-    let (_, recorder) = run_recorded(rt, alloc, alone, output, ticks, log, recorder)?;
-    Ok(recorder.first.count)
-}
-
-/// The same with its counts in the file at a path.
-fn run_counted<'a, R: Outputs, K: Sink>(
-    rt: &R,
-    alloc: Global,
-    alone: &mut Alone<OwnBytes>,
-    output: &mut K,
-    ticks: u64,
-    log: LogWords<'a>,
-    path: &'a str,
-) -> Result<u64, ProgramFault<'a>>
-    ensures output { OnOk result (K.took output.old
-        (flat_map put_out (ran ticks (state_of own_memory alone.old)).found) output.new) }
-    ensures counts { OnOk result (IsWritten (R.is_made rt.now) R.Made.took path.entry.now
-        (λ told. AreCounted told ticks (state_of own_memory alone.old))) }
-    ensures log { OnOk result (AreKept (R.is_made rt.now) R.Made.took
-        (option_map (λ path. path.now) log.entry.path)
-        (λ told. AreLogged told log.entry.window ticks (state_of own_memory alone.old))) }
-{
-    let counts = Counts::new(alloc)?;
-    let mut file = made_file(rt, path)?;
-    let recorder = Both {
-        first: ShortWrites::none(),
-        second: counts,
-    };
-    let (end, mut recorder) = run_recorded(rt, alloc, alone, output, ticks, log, recorder)?;
-    let rows = recorder.second.table.rows.as_mut_slice();
-    let Ok(_) = write_counts(&mut file, rows, alone.scalar.pc, end) else {
-        return Err(ProgramFault::Record(path));
-    };
-    Ok(recorder.first.count)
-}
-
-/// The same with the changes of places in the file at a path.
-fn run_watched<'a, R: Outputs, K: Sink>(
-    rt: &R,
-    alloc: Global,
-    alone: &mut Alone<OwnBytes>,
-    output: &mut K,
-    ticks: u64,
-    log: LogWords<'a>,
-    path: &'a str,
+    path: Option<&'a str>,
     places: Vec<Place>,
-) -> Result<u64, ProgramFault<'a>>
+    recorder: O,
+) -> Result<(Option<StepEnd>, O), ProgramFault<'a>>
+    ensures recorded { IfOk result
+        (λ ended. O.recorded recorder (ran ticks (state_of own_memory alone.old)).found ended.1) }
+    ensures end { IfOk result (λ ended. ended.0 ≡ (ran ticks (state_of own_memory alone.old)).end) }
+    ensures machine { OnOk result (state_of own_memory alone.new ≡ (ran ticks (state_of own_memory alone.old)).state) }
     ensures output { OnOk result (K.took output.old
         (flat_map put_out (ran ticks (state_of own_memory alone.old)).found) output.new) }
-    ensures changes { OnOk result (IsWritten (R.is_made rt.now) R.Made.took path.entry.now
+    ensures changes { OnOk result (AreKept (R.is_made rt.now) R.Made.took
+        (option_map (λ path. path.now) path.entry)
         (λ told. AreChanged told places.items ticks (state_of own_memory alone.old))) }
     ensures log { OnOk result (AreKept (R.is_made rt.now) R.Made.took
         (option_map (λ path. path.now) log.entry.path)
         (λ told. AreLogged told log.entry.window ticks (state_of own_memory alone.old))) }
 {
+    let Some(path) = path else {
+        return run_recorded(rt, alloc, alone, output, ticks, log, recorder);
+    };
     let file = made_file(rt, path)?;
     let changes = Changes::new(alloc, file, places)?;
-    let recorder = Both {
-        first: ShortWrites::none(),
+    let both = Both {
+        first: recorder,
         second: Both {
             first: Carried::none(),
             second: changes,
         },
     };
-    let (end, mut recorder) = run_recorded(rt, alloc, alone, output, ticks, log, recorder)?;
-    let times = recorder.second.first.times;
-    let spent = recorder.second.first.ticks;
-    let lines = &mut recorder.second.second.sink;
+    let (end, mut both) = run_recorded(rt, alloc, alone, output, ticks, log, both)?;
+    let times = both.second.first.times;
+    let spent = both.second.first.ticks;
+    let lines = &mut both.second.second.sink;
     let Ok(()) = write_last(lines, alone.scalar.pc, end, times, spent) else {
         return Err(ProgramFault::Record(path));
     };
-    Ok(recorder.first.count)
-}
-
-/// The same with both, each in the file at its path.
-fn run_counted_and_watched<'a, R: Outputs, K: Sink>(
-    rt: &R,
-    alloc: Global,
-    alone: &mut Alone<OwnBytes>,
-    output: &mut K,
-    ticks: u64,
-    log: LogWords<'a>,
-    paths: (&'a str, &'a str),
-    places: Vec<Place>,
-) -> Result<u64, ProgramFault<'a>>
-    ensures output { OnOk result (K.took output.old
-        (flat_map put_out (ran ticks (state_of own_memory alone.old)).found) output.new) }
-    ensures counts { OnOk result (IsWritten (R.is_made rt.now) R.Made.took paths.entry.0.now
-        (λ told. AreCounted told ticks (state_of own_memory alone.old))) }
-    ensures changes { OnOk result (IsWritten (R.is_made rt.now) R.Made.took paths.entry.1.now
-        (λ told. AreChanged told places.items ticks (state_of own_memory alone.old))) }
-    ensures log { OnOk result (AreKept (R.is_made rt.now) R.Made.took
-        (option_map (λ path. path.now) log.entry.path)
-        (λ told. AreLogged told log.entry.window ticks (state_of own_memory alone.old))) }
-{
-    let counts = Counts::new(alloc)?;
-    let mut file = made_file(rt, paths.0)?;
-    let lines = made_file(rt, paths.1)?;
-    let changes = Changes::new(alloc, lines, places)?;
-    let recorder = Both {
-        first: ShortWrites::none(),
-        second: Both {
-            first: counts,
-            second: changes,
-        },
-    };
-    let (end, mut recorder) = run_recorded(rt, alloc, alone, output, ticks, log, recorder)?;
-    let rows = recorder.second.first.table.rows.as_mut_slice();
-    let Ok(sums) = write_counts(&mut file, rows, alone.scalar.pc, end) else {
-        return Err(ProgramFault::Record(paths.0));
-    };
-    let lines = &mut recorder.second.second.sink;
-    let Ok(()) = write_last(lines, alone.scalar.pc, end, sums.times, sums.ticks) else {
-        return Err(ProgramFault::Record(paths.1));
-    };
-    Ok(recorder.first.count)
+    Ok((end, both.first))
 }
 
 /// Carries out a run, and keeps its counts, the changes of places and its log in the files at their paths, where there are some.
@@ -284,13 +188,22 @@ pub(crate) fn run_machine<'a, R: Outputs, K: Sink>(
         (option_map (λ path. path.now) log.entry.path)
         (λ told. AreLogged told log.entry.window ticks (state_of own_memory alone.old))) }
 {
-    match paths {
-        (None, None) => run_uncounted(rt, alloc, alone, output, ticks, log),
-        (Some(counts), None) => run_counted(rt, alloc, alone, output, ticks, log, counts),
-        (None, Some(changes)) => run_watched(rt, alloc, alone, output, ticks, log, changes, places),
-        (Some(counts), Some(changes)) => {
-            let paths = (counts, changes);
-            run_counted_and_watched(rt, alloc, alone, output, ticks, log, paths, places)
-        }
-    }
+    let (counted, watched) = paths;
+    let short = ShortWrites::none();
+    let Some(path) = counted else {
+        let (_, short) = run_watched(rt, alloc, alone, output, ticks, log, watched, places, short)?;
+        return Ok(short.count);
+    };
+    let counts = Counts::new(alloc)?;
+    let mut file = made_file(rt, path)?;
+    let both = Both {
+        first: short,
+        second: counts,
+    };
+    let (end, mut both) = run_watched(rt, alloc, alone, output, ticks, log, watched, places, both)?;
+    let rows = both.second.table.rows.as_mut_slice();
+    let Ok(()) = write_counts(&mut file, rows, alone.scalar.pc, end) else {
+        return Err(ProgramFault::Record(path));
+    };
+    Ok(both.first.count)
 }
