@@ -49,12 +49,7 @@ abbrev pub asked_policy : Option Text → Option Policy
 asked_policy None = Some Keep
 asked_policy (Some word) = policy_of word
 
--- the most ticks that a word asks for, if it is a number from 1 to 2^63; without a word 2^63, which no run comes to
-abbrev pub asked_ticks : Option Text → Option ℕ
-asked_ticks None = Some (2 ^ 63)
-asked_ticks (Some word) = number_between 1 (2 ^ 63) word
-
--- the number of an instruction that a word asks for, if it is one from 1 to 2^63; without a word another one
+-- the number, of ticks or of an instruction, that a word asks for, if it is one from 1 to 2^63; without a word another one
 abbrev pub asked_number : ℕ → Option Text → Option ℕ
 asked_number other None = Some other
 asked_number other (Some word) = number_between 1 (2 ^ 63) word

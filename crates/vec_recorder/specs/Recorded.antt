@@ -13,7 +13,7 @@ use Rattle.recording.specs.declared.row.Row.{Row}
 use Rattle.rv_model.specs.declared.vector.policy.Policy.{Policy}
 use Rattle.rv_model.specs.step.Hart.{HartState}
 use Rattle.vec_recorder.specs.Beginning.{Begins}
-use Rattle.vec_recorder.specs.CommandLine.{asked_number, asked_policy, asked_ticks, memory_words, watch_words, word_of, words_fault}
+use Rattle.vec_recorder.specs.CommandLine.{asked_number, asked_policy, memory_words, watch_words, word_of, words_fault}
 use Rattle.vec_recorder.specs.MemoryWords.{IsMemoryOf}
 use Rattle.vec_recorder.specs.RecordLines.{last_line, row_line}
 use Rattle.vec_recorder.specs.WatchWords.{IsPlaceOf}
@@ -60,7 +60,7 @@ pub record RecordedBy {F : Type 0} (file_bytes : Text → Option (List ℕ)) (is
   pub policy : Policy
   pub policy_is : asked_policy policy_word ≡ Some policy
   pub ticks : ℕ
-  pub ticks_are : asked_ticks ticks_word ≡ Some ticks
+  pub ticks_are : asked_number (2 ^ 63) ticks_word ≡ Some ticks
   pub memories : List MemoryPath
   pub memories_are : AllZip IsMemoryOf memory memories
   pub places : List Place

@@ -1,13 +1,7 @@
 -- The statuses that the program ends with (docs/RECORDER.md).
-use Rattle.std.specs.Prelude.{◌≡◌, ◌≢◌, ◌⊎◌, ℕ, List, [], None, codes}
-use Rattle.std.specs.List.{Any}
-use Rattle.clap.specs.Words.{IsAmong, Text}
-use Rattle.clap.specs.declared.error.kind.ErrorKind.{ErrorKind}
-use Rattle.clap.specs.declared.error.kind.ErrorKind.TheVariants.{DisplayHelp}
+use Rattle.std.specs.Prelude.{◌≡◌, ◌⊎◌, ℕ}
 use Rattle.recording.specs.declared.fault.RecordFault.{RecordFault}
 use Rattle.recording.specs.declared.fault.RecordFault.TheVariants as stopped
-use Rattle.vec_recorder.specs.CommandLine.{asked_policy, asked_ticks, memory_words, word_of, words_fault}
-use Rattle.vec_recorder.specs.MemoryWords.{NamesNone}
 use Rattle.vec_recorder.specs.declared.program_fault.ProgramFault.{ProgramFault}
 use Rattle.vec_recorder.specs.declared.program_fault.ProgramFault.TheVariants.{NoText, Usage, Policy, Ticks, MemoryWord, WatchWord, WatchAlone, From, To, LogAlone, LogEnd, NoPlace, Record, TableFull, Changes, Log, Output, NoMemory}
 
@@ -39,21 +33,6 @@ record_fault stopped.NoPlace = NoPlace
 record_fault stopped.Changes = Changes
 record_fault stopped.Log = Log
 record_fault stopped.Output = Output
-
--- the words ask for no policy, no number of ticks, or for memory that there can't be
-abbrev pub AskForNone : List Text → Type 0
-AskForNone words = (asked_policy (word_of (codes "policy") words) ≡ None)
-    ⊎ ((asked_ticks (word_of (codes "ticks") words) ≡ None) ⊎ Any NamesNone (memory_words words))
-
--- clap has a fault in the words that is no call for help, or takes them and they ask for what isn't there
-abbrev pub MayBeRefused : List Text → Type 0
-MayBeRefused words = ((kind : ErrorKind) × IsAmong kind (words_fault words) × (kind ≢ DisplayHelp))
-    ⊎ ((words_fault words ≡ []) × AskForNone words)
-
--- clap has nothing but such faults in the words, or takes them and they ask for what isn't there
-abbrev pub AreRefused : List Text → Type 0
-AreRefused words = ((words_fault words ≢ []) × (IsAmong DisplayHelp (words_fault words) → ⊥))
-    ⊎ ((words_fault words ≡ []) × AskForNone words)
 
 -- a fault of what a run begins with, or of memory
 abbrev pub IsOfBeginning : ProgramFault → Type 0

@@ -2,7 +2,7 @@
 ghost use Rattle.std.specs.Prelude.{◌≡◌, ◌<◌, ◌≤◌, ◌^◌, IfOk, IfSome, MatchResult, None, Some, option_map};
 ghost use Rattle.rv_model.specs.commands.Arguments.{decimal_number, number_between};
 ghost use Rattle.rv_model.specs.lending.Text.{capped};
-ghost use Rattle.vec_recorder.specs.CommandLine.{asked_number, asked_policy, asked_ticks};
+ghost use Rattle.vec_recorder.specs.CommandLine.{asked_number, asked_policy};
 ghost use Rattle.vec_recorder.specs.declared.program_fault.ProgramFault.TheVariants as program_fault;
 
 use crate::program_fault::ProgramFault;
@@ -11,7 +11,7 @@ use memory_changes::MAX_LENGTH;
 use rv_model::Policy;
 use rv_model::text::digits;
 
-/// The most ticks of a run; no run comes to so many.
+/// The most ticks or instructions; no run comes to so many.
 const MOST_TICKS: u64 = 1 << 63;
 
 /// Larger numbers are read as this one.
@@ -100,14 +100,11 @@ pub(crate) fn window<'a>(from: Option<&str>, to: Option<&str>) -> Result<Window,
 /// The most ticks that a word asks for.
 pub(crate) fn ticks<'a>(word: Option<&str>) -> Result<u64, ProgramFault<'a>>
     ensures { MatchResult result
-        (λ ticks. asked_ticks (option_map (λ word. word.now) word.entry) ≡ Some ticks)
+        (λ ticks. asked_number (2 ^ 63) (option_map (λ word. word.now) word.entry) ≡ Some ticks)
         (λ fault. (fault ≡ program_fault.Ticks)
-        × (asked_ticks (option_map (λ word. word.now) word.entry) ≡ None)) }
+        × (asked_number (2 ^ 63) (option_map (λ word. word.now) word.entry) ≡ None)) }
 {
-    let Some(word) = word else {
-        return Ok(MOST_TICKS);
-    };
-    match ticks_number(word.as_bytes()) {
+    match asked_number(word, MOST_TICKS) {
         Some(ticks) => Ok(ticks),
         None => Err(ProgramFault::Ticks),
     }
