@@ -19,7 +19,7 @@ use Rattle.rv_model.specs.vector.Groups.{access_type, register_of}
 use Rattle.vector_memory.proofs.Strides.{strides}
 use Rattle.commit_log.specs.declared.segments.Segments.{Segments}
 use Rattle.commit_log.specs.Lines.{Moved as Element, told_access, told_transfer}
-use Rattle.commit_log.specs.Segments.{access_segments, address_of, direction_of, element_place, end_of, grouped, indexed, is_fault_only_first, last_moved, moved_field, moved_fields, moved_segment, moved_segments, stores, strided, unit_stores, whole}
+use Rattle.commit_log.specs.Segments.{access_segments, address_of, direction_of, element_place, end_of, indexed, is_fault_only_first, last_moved, moved_field, moved_fields, moved_segment, moved_segments, of_width, stores, strided, unit_stores, whole}
 
 -- ---- the access that has these segments
 
@@ -51,11 +51,11 @@ described : (i : AccessInstr) (v : VState) (x : Scalar) (g : Segments) → acces
     → access_of i v x ≡ Some (access_with (direction_of i) (is_fault_only_first i) (end_of i v.conf.vl) v g)
 described (UnitStride op width nf vd rs1 vm) v x g e h =
     let k : Segments → VectorAccess = access_with (unit_direction op) (is_first_only op) v.conf.vl v in
-    typed_is v.conf.vtype (λ t. grouped (unit_stores op) vm nf width vd (strided (read_register x rs1) ((nf + 1) * element_bytes width)) t)
+    typed_is v.conf.vtype (λ t. of_width (unit_stores op) vm nf width vd (strided (read_register x rs1) ((nf + 1) * element_bytes width)) t)
     (λ t. unit_access op (access_type t width) nf vd rs1 vm v x) k g e (λ t same. refl)
 described (Strided d width nf vd rs1 rs2 vm) v x g e h =
     let k : Segments → VectorAccess = access_with d false v.conf.vl v in
-    let f : VType → Segments = λ t. grouped (stores d) vm nf width vd (strided (read_register x rs1) (read_register x rs2)) t in
+    let f : VType → Segments = λ t. of_width (stores d) vm nf width vd (strided (read_register x rs1) (read_register x rs2)) t in
     typed_is v.conf.vtype f (λ t. strided_access d (access_type t width) nf vd rs1 rs2 vm v x) k g e (λ t same.
     let below : read_register x rs2 < 2 ^ 64 = subst (λ (s : Segments). s.addresses.stride < 2 ^ 64) (sym same) h in
     ap (λ (to : ℕ → ℕ). record (k (f t)) { address = to }) (sym (strides (read_register x rs1) (read_register x rs2) below)))

@@ -35,16 +35,20 @@ unit_stores op = stores (unit_direction op)
 abbrev pub strided : ℕ → ℕ → Addresses
 strided base stride = record { base = base; stride = stride; offsets = None }
 
--- fields of an element width, as many as the vector type has
-abbrev pub grouped : Bool → Bool → ℕ → Eew → ℕ → Addresses → VType → Segments
-grouped is_store unmasked nf width vd addresses t =
+-- the multiplier of as many elements of a width as the vector type has, in eighths of a register
+abbrev pub width_emul : Eew → VType → ℕ
+width_emul width t = emul (sew_bits (element_width width)) t
+
+-- fields of so many bytes, each a group of a multiplier
+abbrev pub grouped : Bool → Bool → ℕ → ℕ → ℕ → ℕ → Addresses → Segments
+grouped is_store unmasked nf size emul vd addresses =
     record {
       is_store = is_store;
       unmasked = unmasked;
       fields = nf + 1;
-      size = element_bytes width;
+      size = size;
       register = vd;
-      field_registers = registers (emul (sew_bits (element_width width)) t);
+      field_registers = registers emul;
       addresses = addresses;
     }
 
@@ -61,29 +65,22 @@ whole is_store size count vd base =
       addresses = strided base size;
     }
 
+-- fields of an element width, at these addresses
+abbrev pub of_width : Bool → Bool → ℕ → Eew → ℕ → Addresses → VType → Segments
+of_width is_store unmasked nf width vd addresses t = grouped is_store unmasked nf (element_bytes width) (width_emul width t) vd addresses
+
 -- fields of SEW, at offsets of a width
 abbrev pub indexed : Bool → Bool → ℕ → Eew → ℕ → ℕ → ℕ → VType → Segments
 indexed is_store unmasked nf width vd base vs2 t =
-    record {
-      is_store = is_store;
-      unmasked = unmasked;
-      fields = nf + 1;
-      size = sew_bits t.sew / 8;
-      register = vd;
-      field_registers = registers (lmul_eighths t.lmul);
-      addresses = record {
-        base = base;
-        stride = 0;
-        offsets = Some (record { first = vs2; width = width; emul = emul (sew_bits (element_width width)) t });
-      };
-    }
+    grouped is_store unmasked nf (sew_bits t.sew / 8) (lmul_eighths t.lmul) vd
+    (record { base = base; stride = 0; offsets = Some (record { first = vs2; width = width; emul = width_emul width t }) })
 
 -- the segments of a load or store, by the registers and the vector type that it finds
 abbrev pub access_segments : AccessInstr → Scalar → Option VType → Option Segments
 access_segments (UnitStride op width nf vd rs1 vm) x t =
-    option_map (grouped (unit_stores op) vm nf width vd (strided (read_register x rs1) ((nf + 1) * element_bytes width))) t
+    option_map (of_width (unit_stores op) vm nf width vd (strided (read_register x rs1) ((nf + 1) * element_bytes width))) t
 access_segments (Strided direction width nf vd rs1 rs2 vm) x t =
-    option_map (grouped (stores direction) vm nf width vd (strided (read_register x rs1) (read_register x rs2))) t
+    option_map (of_width (stores direction) vm nf width vd (strided (read_register x rs1) (read_register x rs2))) t
 access_segments (Indexed direction order width nf vd rs1 vs2 vm) x t =
     option_map (indexed (stores direction) vm nf width vd (read_register x rs1) vs2) t
 access_segments (WholeLoad count width vd rs1) x t =

@@ -75,16 +75,7 @@ impl Found {
                 self.address = scalar.read(*rs1).wrapping_add(s_immediate(*imm));
                 self.value = scalar.read(*rs2);
             }
-            ScalarInstr::Upper { .. }
-            | ScalarInstr::Jump { .. }
-            | ScalarInstr::JumpRegister { .. }
-            | ScalarInstr::Branch { .. }
-            | ScalarInstr::RegisterImmediate { .. }
-            | ScalarInstr::ShiftImmediate { .. }
-            | ScalarInstr::ShiftImmediateWord { .. }
-            | ScalarInstr::RegisterRegister { .. }
-            | ScalarInstr::Fence { .. }
-            | ScalarInstr::System { .. } => {}
+            _ => {}
         }
     }
 

@@ -1,8 +1,8 @@
 //! The segments that a vector load or store moves ("V" Vector Extension 1.0, chapter 7).
 ghost use Rattle.std.specs.Prelude.{◌≡◌, ◌+◌, ◌<◌, ◌≤◌, ◌^◌, IfSome};
 ghost use Rattle.rv_model.specs.accesses.VectorAccess.{element_bytes};
-ghost use Rattle.commit_log.specs.Segments.{IsNarrow, access_segments, grouped, indexed, last_moved, strided, stores};
-ghost use Rattle.commit_log.specs.Segments.{unit_stores, whole};
+ghost use Rattle.commit_log.specs.Segments.{IsNarrow, access_segments, grouped, last_moved, strided, stores};
+ghost use Rattle.commit_log.specs.Segments.{unit_stores, whole, width_emul};
 ghost use Rattle.rv_model.specs.accesses.VectorAccess.{is_first_only};
 
 use reg_groups::{emul, register_count, registers};
@@ -114,28 +114,37 @@ fn strided(base: u64, stride: u64) -> Addresses
     }
 }
 
-/// Fields of an element width, as many as the vector type has.
+/// The multiplier of as many elements of a width as the vector type has, in eighths of a register.
+#[inline(always)]
+fn width_emul(width: Eew, vtype: VType) -> u32
+    ensures { result ≡ width_emul width vtype }
+{
+    emul(Sew::from_width(width).bits(), vtype)
+}
+
+/// Fields of so many bytes, each a group of a multiplier in eighths of a register.
 #[inline(always)]
 fn grouped(
     is_store: bool,
     unmasked: bool,
     nf: Field<3>,
-    width: Eew,
+    size: usize,
+    emul: u32,
     vd: VReg,
     addresses: Addresses,
-    vtype: VType,
 ) -> Segments
-    requires { addresses.stride < 2 ^ 64 }
-    ensures value { result ≡ grouped is_store unmasked nf width vd addresses vtype }
+    requires size { size ≤ 8 }
+    requires stride { addresses.stride < 2 ^ 64 }
+    ensures value { result ≡ grouped is_store unmasked nf size emul vd addresses }
     ensures narrow { IsNarrow result }
 {
     Segments {
         is_store,
         unmasked,
         fields: nf.value() as usize + 1,
-        size: element_bytes(width),
+        size,
         register: vd.number() as usize,
-        field_registers: registers(emul(Sew::from_width(width).bits(), vtype)) as usize,
+        field_registers: registers(emul) as usize,
         addresses,
     }
 }
@@ -158,42 +167,8 @@ fn whole(is_store: bool, size: usize, count: u8, vd: VReg, base: u64) -> Segment
     }
 }
 
-/// Fields of SEW, at offsets of a width.
-#[tactic(auto, using(crate::proofs::Destinations::sew_most))]
-#[inline(always)]
-fn indexed(
-    is_store: bool,
-    unmasked: bool,
-    nf: Field<3>,
-    width: Eew,
-    vd: VReg,
-    base: u64,
-    vs2: VReg,
-    vtype: VType,
-) -> Segments
-    ensures value { result ≡ indexed is_store unmasked nf width vd base vs2 vtype }
-    ensures narrow { IsNarrow result }
-{
-    Segments {
-        is_store,
-        unmasked,
-        fields: nf.value() as usize + 1,
-        size: usize::from(vtype.sew.bits()) / 8,
-        register: vd.number() as usize,
-        field_registers: registers(u32::from(vtype.lmul.eighths())) as usize,
-        addresses: Addresses {
-            base,
-            stride: 0,
-            offsets: Some(Offsets {
-                first: vs2,
-                width,
-                emul: emul(Sew::from_width(width).bits(), vtype),
-            }),
-        },
-    }
-}
-
 /// The segments of a load or store, by the registers and the vector type that it finds.
+#[tactic(auto, using(crate::proofs::Destinations::sew_most))]
 pub(crate) fn access_segments(
     instr: &AccessInstr,
     scalar: &Scalar,
@@ -212,9 +187,11 @@ pub(crate) fn access_segments(
             vm,
         } => {
             let vtype = vtype?;
-            let stride = (nf.value() as usize + 1) * element_bytes(width);
+            let size = element_bytes(width);
+            let stride = (nf.value() as usize + 1) * size;
             let addresses = strided(scalar.read(rs1), stride as u64);
-            Some(grouped(unit_stores(op), vm, nf, width, vd, addresses, vtype))
+            let emul = width_emul(width, vtype);
+            Some(grouped(unit_stores(op), vm, nf, size, emul, vd, addresses))
         }
         AccessInstr::Strided {
             direction,
@@ -227,7 +204,9 @@ pub(crate) fn access_segments(
         } => {
             let vtype = vtype?;
             let addresses = strided(scalar.read(rs1), scalar.read(rs2));
-            Some(grouped(stores(direction), vm, nf, width, vd, addresses, vtype))
+            let size = element_bytes(width);
+            let emul = width_emul(width, vtype);
+            Some(grouped(stores(direction), vm, nf, size, emul, vd, addresses))
         }
         AccessInstr::Indexed {
             direction,
@@ -240,16 +219,18 @@ pub(crate) fn access_segments(
             vm,
         } => {
             let vtype = vtype?;
-            Some(indexed(
-                stores(direction),
-                vm,
-                nf,
-                width,
-                vd,
-                scalar.read(rs1),
-                vs2,
-                vtype,
-            ))
+            let addresses = Addresses {
+                base: scalar.read(rs1),
+                stride: 0,
+                offsets: Some(Offsets {
+                    first: vs2,
+                    width,
+                    emul: width_emul(width, vtype),
+                }),
+            };
+            let size = usize::from(vtype.sew.bits()) / 8;
+            let emul = u32::from(vtype.lmul.eighths());
+            Some(grouped(stores(direction), vm, nf, size, emul, vd, addresses))
         }
         AccessInstr::WholeLoad {
             count,

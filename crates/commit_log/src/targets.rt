@@ -39,7 +39,7 @@ fn target_of_scalar(instr: &ScalarInstr) -> u32
         | ScalarInstr::ShiftImmediateWord { rd, .. }
         | ScalarInstr::RegisterRegister { rd, .. } => rd.number(),
         ScalarInstr::System { op } => target_of_system(*op),
-        ScalarInstr::Branch { .. } | ScalarInstr::Store { .. } | ScalarInstr::Fence { .. } => 0,
+        _ => 0,
     }
 }
 
@@ -55,16 +55,7 @@ fn target_of_vector(instr: &VectorInstr) -> u32
         | VectorInstr::SetVl { rd, .. }
         | VectorInstr::MaskToScalar { rd, .. }
         | VectorInstr::MoveToScalar { rd, .. } => rd.number(),
-        VectorInstr::Arith { .. }
-        | VectorInstr::Carry { .. }
-        | VectorInstr::Move { .. }
-        | VectorInstr::WholeMove { .. }
-        | VectorInstr::MaskLogic { .. }
-        | VectorInstr::Compress { .. }
-        | VectorInstr::Extend { .. }
-        | VectorInstr::MaskUnary { .. }
-        | VectorInstr::ElementIndex { .. }
-        | VectorInstr::MoveToVector { .. } => 0,
+        _ => 0,
     }
 }
 
@@ -153,11 +144,6 @@ fn typed_targets(instr: &VectorInstr, vtype: VType) -> Registers
 {
     let lmul = u32::from(vtype.lmul.eighths());
     match instr {
-        VectorInstr::SetVli { .. }
-        | VectorInstr::SetIvli { .. }
-        | VectorInstr::SetVl { .. }
-        | VectorInstr::MaskToScalar { .. }
-        | VectorInstr::MoveToScalar { .. } => none(),
         VectorInstr::Arith { arith, vd, .. } => {
             let (op, _source) = arith.parts();
             groups(*vd, 1, destination_emul(op, vtype))
@@ -178,6 +164,7 @@ fn typed_targets(instr: &VectorInstr, vtype: VType) -> Registers
         VectorInstr::WholeMove { count, vd, .. } => {
             groups(*vd, 1, 8 * u32::from(register_count(*count)))
         }
+        _ => none(),
     }
 }
 
@@ -240,39 +227,30 @@ fn typed_access_targets(instr: &AccessInstr, vtype: VType) -> Registers
             width,
             nf,
             vd,
-            rs1: _,
-            vm: _,
+            ..
         } => { if_written(loads(op), fields(vd, nf, width, vtype)) }
         AccessInstr::Strided {
             direction,
             width,
             nf,
             vd,
-            rs1: _,
-            rs2: _,
-            vm: _,
+            ..
         } => { if_written(is_load(direction), fields(vd, nf, width, vtype)) }
         AccessInstr::Indexed {
             direction,
-            order: _,
-            width: _,
             nf,
             vd,
-            rs1: _,
-            vs2: _,
-            vm: _,
+            ..
         } => {
             if_written(
                 is_load(direction),
                 groups(vd, nf.value() + 1, u32::from(vtype.lmul.eighths())),
             )
         }
-        AccessInstr::MaskAccess {
-            direction,
-            vd,
-            rs1: _,
-        } => { if_written(is_load(direction), groups(vd, 1, 8)) }
-        AccessInstr::WholeLoad { .. } | AccessInstr::WholeStore { .. } => none(),
+        AccessInstr::MaskAccess { direction, vd, .. } => {
+            if_written(is_load(direction), groups(vd, 1, 8))
+        }
+        _ => none(),
     }
 }
 
@@ -284,12 +262,9 @@ fn access_targets(instr: &AccessInstr, vtype: Option<VType>) -> Registers
     ensures inside { result.first < 32 }
 {
     match *instr {
-        AccessInstr::WholeLoad {
-            count,
-            width: _,
-            vd,
-            rs1: _,
-        } => { groups(vd, 1, 8 * u32::from(register_count(count))) }
+        AccessInstr::WholeLoad { count, vd, .. } => {
+            groups(vd, 1, 8 * u32::from(register_count(count)))
+        }
         AccessInstr::WholeStore { .. } => none(),
         AccessInstr::UnitStride { .. }
         | AccessInstr::Strided { .. }
