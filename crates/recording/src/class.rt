@@ -40,16 +40,7 @@ fn links(instr: &ScalarInstr) -> bool
     match instr {
         ScalarInstr::Jump { rd, .. } => is_link(*rd),
         ScalarInstr::JumpRegister { rd, rs1, .. } => is_link(*rd) || is_link(*rs1),
-        ScalarInstr::Upper { .. }
-        | ScalarInstr::Branch { .. }
-        | ScalarInstr::Load { .. }
-        | ScalarInstr::Store { .. }
-        | ScalarInstr::RegisterImmediate { .. }
-        | ScalarInstr::ShiftImmediate { .. }
-        | ScalarInstr::ShiftImmediateWord { .. }
-        | ScalarInstr::RegisterRegister { .. }
-        | ScalarInstr::Fence { .. }
-        | ScalarInstr::System { .. } => false,
+        _ => false,
     }
 }
 

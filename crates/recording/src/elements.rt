@@ -53,8 +53,7 @@ fn tail_end(class: Class, conf: VConf) -> usize
     match class {
         Class::Length { unmasked: _ } => most(conf),
         Class::MaskBytes => (most(conf) + 7) / 8,
-        Class::Plain | Class::Link | Class::Elements { count: _ } | Class::Registers { count: _ } =>
-            body_end(class, conf),
+        _ => body_end(class, conf),
     }
 }
 

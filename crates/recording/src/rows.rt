@@ -10,10 +10,7 @@ use crate::sums::Sums;
 fn is_word(key: Key) -> bool
     ensures { result ≡ is_word key }
 {
-    match key {
-        Key::Word { pc: _, word: _ } => true,
-        Key::Length { vtype: _, vl: _ } | Key::Jump { pc: _, target: _ } => false,
-    }
+    matches!(key, Key::Word { pc: _, word: _ })
 }
 
 /// What a row has of a word.

@@ -33,10 +33,7 @@ impl Sums {
     {
         Sums {
             times: 1,
-            ticks: 0,
-            active: 0,
-            masked: 0,
-            tail: 0,
+            ..Sums::none()
         }
     }
 
@@ -48,9 +45,7 @@ impl Sums {
         Sums {
             times: 1,
             ticks: ticks as u64,
-            active: 0,
-            masked: 0,
-            tail: 0,
+            ..Sums::none()
         }
     }
 
