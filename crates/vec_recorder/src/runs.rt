@@ -88,6 +88,8 @@ fn run_logged<'a, R: Outputs, K: Sink, O: Recorder<OwnBytes> + Drop>(
 }
 
 /// Carries out a run that is recorded, with its log if one is asked for. Answers how the program ended, and the record.
+/// Out of line, the loop of a run takes less.
+#[inline(never)]
 fn run_recorded<'a, R: Outputs, K: Sink, O: Recorder<OwnBytes> + Drop>(
     rt: &R,
     alloc: Global,
