@@ -79,4 +79,4 @@ pub record IsInTurn (width : Width) (o : WithSources BinaryOp) (destination : De
   pub made : IsTrue (is_simd o.op)
   pub first_read : IsReadFirst o.vs2 destination.vd (registers destination.emul)
   pub second_read : SourceIsReadFirst o.source destination.vd (registers destination.emul)
-  pub no_tail : destination.agnostic.fill_tail ≡ true → body.end ≡ destination.count
+  pub no_tail : destination.fill_tail ≡ true → body.end ≡ destination.count

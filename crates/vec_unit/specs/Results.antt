@@ -15,10 +15,14 @@ use Rattle.vec_unit.specs.declared.destination.Target.{Target}
 abbrev pub with_elements : ℕ → Agnostic → GroupType → Body → (ℕ → ℕ) → List ℕ → List ℕ
 with_elements vd agnostic t body number file = with_results t vd body agnostic.fill_masked_off agnostic.fill_tail number file
 
+-- what becomes of the agnostic elements of a destination
+abbrev pub agnostic_in : Destination → Agnostic
+agnostic_in destination = record { fill_masked_off = destination.fill_masked_off; fill_tail = destination.fill_tail }
+
 -- the same, as elements of this width in the destination's group
 abbrev pub with_written : Width → Destination → Body → (ℕ → ℕ) → List ℕ → List ℕ
 with_written w destination body number file =
-    with_elements destination.vd destination.agnostic (record { width = w; emul = destination.emul }) body number file
+    with_elements destination.vd (agnostic_in destination) (record { width = w; emul = destination.emul }) body number file
 
 -- what becomes of the agnostic elements of a body, under a target's policy and type
 abbrev pub agnostic_of : Target → Body → Agnostic

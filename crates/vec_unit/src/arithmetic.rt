@@ -1,8 +1,8 @@
 //! Arithmetic instructions, once they are known to be legal ("V" Vector Extension 1.0, chapter 11).
-ghost use Rattle.std.specs.Prelude.{◌≤◌, IsTrue, Some, not};
+ghost use Rattle.std.specs.Prelude.{◌≡◌, ◌≢◌, ◌≤◌, IsTrue, Some, not, ℕ};
 ghost use Rattle.rv_model.specs.vector.Groups.{group_type, vlmax, wide_type};
 ghost use Rattle.rv_model.specs.legality.Legality.{is_legal};
-ghost use Rattle.rv_model.specs.step.Step.{arith_step, typed_step};
+ghost use Rattle.rv_model.specs.step.Step.{arith_step, typed, typed_step};
 ghost use Rattle.vec_unit.specs.Arithmetic.{is_binary};
 ghost use Rattle.vec_unit.specs.Steps.{Performs};
 
@@ -13,9 +13,7 @@ use crate::operation::perform;
 use crate::two_widths::{perform_narrowing, perform_single, perform_widening};
 use crate::widen::Added;
 use rv_model::instructions::operations::VectorOp;
-use rv_model::{
-    ArithOperation, Instr, Policy, Scalar, Source, VEnd, VReg, VState, VType, VectorInstr,
-};
+use rv_model::{ArithOperation, Instr, Policy, Scalar, Source, VEnd, VReg, VState, VectorInstr};
 
 /// Performs a legal operation with a line of its own in the manual's table, but for vstart, and not one of one width
 /// on two operands.
@@ -69,24 +67,27 @@ fn perform_rest(
     }
 }
 
-/// Performs a legal operation with a line of its own in the manual's table under its vector type, but for vstart.
+/// Performs a legal operation with a line of its own in the manual's table.
 #[tactic(auto, using(rv_model::proofs::legality_lemmas::Bounds::binary_inside))]
 #[inline(always)]
 pub(crate) fn perform_arith(
     operation: ArithOperation,
-    vtype: VType,
-    policy: Policy,
     state: &mut VState,
     scalar: &Scalar,
-)
+    policy: Policy,
+) -> VEnd
     requires legal { IsTrue (is_legal
-        (Instr.Vector (VectorInstr.Arith operation.arith operation.vd operation.vs2 operation.unmasked)) (Some vtype)
-        state.old.vstart) }
-    requires length { state.old.conf.vl ≤ vlmax vtype }
-    ensures model { Performs
-        (typed_step (VectorInstr.Arith operation.arith operation.vd operation.vs2 operation.unmasked) vtype)
-        policy scalar.now state.old VEnd.Done scalar.now (record state.new { vstart = 0 }) }
+        (Instr.Vector (VectorInstr.Arith operation.arith operation.vd operation.vs2 operation.unmasked))
+        state.old.conf.vtype state.old.vstart) }
+    ensures model { Performs (typed state.old.conf.vtype
+        (typed_step (VectorInstr.Arith operation.arith operation.vd operation.vs2 operation.unmasked)))
+        policy scalar.now state.old result scalar.now state.new }
+    ensures illegal { result ≡ VEnd.Illegal → state.new ≡ state.old }
+    ensures uncut { (index : ℕ) → result ≢ VEnd.Cut index }
 {
+    let Some(vtype) = state.conf.vtype() else {
+        return VEnd::Illegal;
+    };
     let (op, source) = operation.arith.parts();
     let vs2 = operation.vs2;
     let target = Target::new(operation.vd, operation.unmasked, vtype, policy);
@@ -100,4 +101,6 @@ pub(crate) fn perform_arith(
             perform_rest(op, vs2, source, target, state, scalar);
         }
     }
+    state.vstart = 0;
+    VEnd::Done
 }

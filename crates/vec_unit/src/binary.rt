@@ -69,7 +69,7 @@ impl WithSources<BinaryOp> {
             size.min(body.end().div_ceil(L::count()))
         };
         let bytes = group_mut(file, VReg::new(0), 8 * 32);
-        let fill_masked_off = destination.agnostic.fill_masked_off;
+        let fill_masked_off = destination.fill_masked_off;
         operation.write::<L>(used, body, all, fill_masked_off, bytes);
     }
 
@@ -100,7 +100,7 @@ impl WithSources<BinaryOp> {
     )
         requires full { (body.now.start ≡ 0) × (body.now.end ≡ destination.count) }
         requires masked { body.now.unmasked ≡ false }
-        requires kept { destination.agnostic.fill_masked_off ≡ false }
+        requires kept { destination.fill_masked_off ≡ false }
         requires in_turn { IsInTurn L.width self destination body.now }
         ensures { file.new ≡ with_binary_results L.width self destination body.now file.old scalar.now }
     {
@@ -121,7 +121,7 @@ impl WithSources<BinaryOp> {
         requires in_turn { IsInTurn L.width self.now destination body.now }
         ensures { file.new ≡ with_binary_results L.width self.now destination body.now file.old scalar.now }
     {
-        let keeps = !destination.agnostic.fill_masked_off;
+        let keeps = !destination.fill_masked_off;
         if !(body.start() == 0 && body.end() == destination.count && keeps) {
             let destination = Destination { ..destination };
             (*self).write_part_in_turn::<L>(destination, &body.copied(), file, scalar);
@@ -173,7 +173,7 @@ impl Operation for WithSources<BinaryOp> {
     // The elements of a body that begins with the first one and isn't masked are in line.
     #[inline(always)]
     fn write<L: Lane>(&self, to: Destination, body: &Body<'_>, file: &mut VFile, scalar: &Scalar) {
-        let has_tail = to.agnostic.fill_tail && body.end() != to.count;
+        let has_tail = to.fill_tail && body.end() != to.count;
         if !has_tail && self.is_in_turn(to.vd, registers(to.emul)) {
             self.write_all::<L>(to, body, file, scalar);
         } else {

@@ -61,6 +61,6 @@ impl Operation for CompressOperation {
         let a: &[u8] = group_copy_mut(file, self.vs2, to.emul, &mut copy);
         let select = register_copy(file, self.vs1);
         let group = group_mut(file, to.vd, to.emul);
-        compress_filled::<L>(a, &select, end, to.agnostic.fill_tail, count, group);
+        compress_filled::<L>(a, &select, end, to.fill_tail, count, group);
     }
 }

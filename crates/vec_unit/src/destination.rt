@@ -1,6 +1,6 @@
 //! The destination of an element-wise instruction: lent to a kernel, and then filled ("V" Vector Extension
 //! 1.0, sections 3.4.3, 5.3 and 5.4).
-ghost use Rattle.std.specs.Prelude.{◌≡◌, ◌*◌, ◌/◌, ◌<◌, ◌≤◌, ℕ, false, if◌then◌else◌, length, true};
+ghost use Rattle.std.specs.Prelude.{◌≡◌, ◌*◌, ◌<◌, ◌≤◌, ℕ, false, if◌then◌else◌, length, true};
 ghost use Rattle.rv_model.specs.elements.Arithmetic.{fills_masked_off, fills_tail, with_results};
 ghost use Rattle.rv_model.specs.elements.Elements.{is_changed, result_or_ones};
 ghost use Rattle.rv_model.specs.elements.Formulas.{ones};
@@ -8,7 +8,6 @@ ghost use Rattle.rv_model.specs.lending.Writes.{Writes};
 ghost use Rattle.rv_model.specs.lending.GroupBounds.{HoldsBody, IsInside};
 ghost use Rattle.rv_model.specs.vector.Groups.{lmul_eighths, registers, width_bytes};
 ghost use Rattle.vec_unit.specs.Agnostic.{is_agnostic};
-ghost use Rattle.vec_unit.specs.Results.{agnostic_of};
 
 use lane_arith::{Body, Lane, Results, fill, write_results};
 use reg_groups::{group_mut, registers};
@@ -37,23 +36,25 @@ impl Target {
         }
     }
 
-    /// Where it writes the elements of a body, of so many bytes each.
+    /// Where it writes the elements of a body, as bytes.
     #[inline(always)]
-    pub(crate) fn destination(self, size: usize, body: &Body<'_>) -> Destination
-        requires { 1 ≤ size }
+    pub(crate) fn destination(self, body: &Body<'_>) -> Destination
         ensures { result ≡ record {
           vd = self.vd;
           emul = lmul_eighths self.vtype.lmul;
-          count = VLENB * registers (lmul_eighths self.vtype.lmul) / size;
-          agnostic = agnostic_of self body.now;
+          count = VLENB * registers (lmul_eighths self.vtype.lmul);
+          fill_masked_off = fills_masked_off self.policy self.vtype body.now;
+          fill_tail = fills_tail self.policy self.vtype body.now;
         } }
     {
         let emul = u32::from(self.vtype.lmul.eighths());
+        let agnostic = agnostic_under(self.policy, self.vtype, body);
         Destination {
             vd: self.vd,
             emul,
-            count: VLENB * registers(emul) as usize / size,
-            agnostic: agnostic_under(self.policy, self.vtype, body),
+            count: VLENB * registers(emul) as usize,
+            fill_masked_off: agnostic.fill_masked_off,
+            fill_tail: agnostic.fill_tail,
         }
     }
 
@@ -94,26 +95,25 @@ pub(crate) fn agnostic_under(policy: Policy, vtype: VType, body: &Body<'_>) -> A
 }
 
 /// Where an operation writes: its first register, the multiplier of its groups in eighths of a register, how many
-/// elements the registers of a group hold, and what becomes of those that are agnostic.
+/// elements the registers of a group hold, and whether those of the body that are masked off, and those of the tail, become
+/// all ones. These two aren't a struct of their own, since its bytes would be put together to be handed on.
 #[derive(Clone, Copy)]
 pub(crate) struct Destination {
     pub vd: VReg,
     pub emul: u32,
     pub count: usize,
-    pub agnostic: Agnostic,
+    pub fill_masked_off: bool,
+    pub fill_tail: bool,
 }
 
 impl Destination {
     /// The same, whose elements that are masked off keep.
     #[inline(always)]
     pub(crate) fn keeping(self) -> Destination
-        ensures { result ≡ record self { agnostic = record self.agnostic { fill_masked_off = false } } }
+        ensures { result ≡ record self { fill_masked_off = false } }
     {
         Destination {
-            agnostic: Agnostic {
-                fill_masked_off: false,
-                ..self.agnostic
-            },
+            fill_masked_off: false,
             ..self
         }
     }
@@ -148,25 +148,24 @@ pub(crate) fn fill_agnostic<L: Lane>(
     fill(L::all_ones(), from, to, group);
 }
 
-/// Writes results to the bytes of a destination of `count` elements, and fills it.
+/// Writes results to the bytes of a group, and fills it.
 #[inline(always)]
 fn write_filled<L: Lane, R: Results<L>>(
     results: &R,
     body: &Body<'_>,
-    agnostic: Agnostic,
-    count: usize,
-    destination: &mut [u8],
+    destination: Destination,
+    group: &mut [u8],
 )
     requires operands { (i : ℕ) → i < body.now.end → R.has results.now i }
-    requires room { width_bytes L.width * body.now.end ≤ length destination.old }
-    requires whole { length destination.old ≡ width_bytes L.width * count }
-    requires most { count ≤ GROUP_BYTES }
-    ensures { Writes (width_bytes L.width) (is_changed body.now agnostic.fill_masked_off agnostic.fill_tail)
-        (result_or_ones body.now (R.number results.now) (ones L.width)) destination.old destination.new }
+    requires room { width_bytes L.width * body.now.end ≤ length group.old }
+    requires whole { length group.old ≡ width_bytes L.width * destination.count }
+    requires most { destination.count ≤ GROUP_BYTES }
+    ensures { Writes (width_bytes L.width) (is_changed body.now destination.fill_masked_off destination.fill_tail)
+        (result_or_ones body.now (R.number results.now) (ones L.width)) group.old group.new }
 {
-    write_results(results, body, destination, agnostic.fill_masked_off);
-    if agnostic.fill_tail {
-        fill(L::all_ones(), body.end(), count, destination);
+    write_results(results, body, group, destination.fill_masked_off);
+    if destination.fill_tail {
+        fill(L::all_ones(), body.end(), destination.count, group);
     }
 }
 
@@ -182,14 +181,8 @@ pub(crate) fn write_group<L: Lane, R: Results<L>>(
     requires inside { IsInside destination.vd destination.emul }
     requires holds { HoldsBody L.width destination.emul destination.count body.now.end }
     ensures { file.new ≡ with_results (record { width = L.width; emul = destination.emul }) destination.vd body.now
-        destination.agnostic.fill_masked_off destination.agnostic.fill_tail (R.number results.now) file.old }
+        destination.fill_masked_off destination.fill_tail (R.number results.now) file.old }
 {
     let group = group_mut(file, destination.vd, destination.emul);
-    write_filled(
-        results,
-        body,
-        destination.agnostic,
-        destination.count,
-        group,
-    );
+    write_filled(results, body, destination, group);
 }

@@ -56,9 +56,7 @@ fn perform_irregular(
 
 /// Carries out a vector operation of a user that has a line of its own in the manual's table, by its operands: the same
 /// as `exec` of the instruction.
-#[tactic(auto, unfolding(rv_model::specs::step::Step::vector_executed,
-// Without a vector type it isn't legal.
-rv_model::specs::legality::Legality::is_legal, rv_model::specs::legality::Legality::operands))]
+#[tactic(auto, unfolding(rv_model::specs::step::Step::vector_executed))]
 #[inline(always)]
 pub fn exec_arith(
     operation: ArithOperation,
@@ -82,16 +80,10 @@ pub fn exec_arith(
         vs2,
         unmasked,
     } = operation;
-    // Read once for both, before the match of which the compiler doesn't see that it leaves the type as it is.
-    let Some(vtype) = state.conf.vtype() else {
-        return VEnd::Illegal;
-    };
     if !legal_arith(arith, vd, vs2, unmasked, &state.conf, state.vstart) {
         return VEnd::Illegal;
     }
-    perform_arith(operation, vtype, policy, state, scalar);
-    state.vstart = 0;
-    VEnd::Done
+    perform_arith(operation, state, scalar, policy)
 }
 
 /// Carries out a vector operation of a user that has no line of its own in the manual's table: the same as `exec` of

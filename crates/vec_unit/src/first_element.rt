@@ -25,8 +25,8 @@ impl<L: Lane> Results<L> for Same<L> {
 /// Writes a number to element 0 of the destination's first register, where the body has an element, and fills the tail of
 /// that register.
 pub(crate) fn write_first<L: Lane>(number: L, to: Destination, body: &Body<'_>, file: &mut VFile)
-    requires tail { to.agnostic.fill_tail ≡ true → nat_lt body.now.start body.now.end ≡ true }
-    ensures { file.new ≡ with_first_result L.width to.vd body.now to.agnostic.fill_tail (L.value number) file.old }
+    requires tail { to.fill_tail ≡ true → nat_lt body.now.start body.now.end ≡ true }
+    ensures { file.new ≡ with_first_result L.width to.vd body.now to.fill_tail (L.value number) file.old }
 {
     let first = Body::new(true, body.mask(), 0, usize::from(body.start() < body.end()));
     let destination = Destination {

@@ -4,7 +4,7 @@ ghost use Rattle.rv_model.specs.declared.scalar.Scalar.{Scalar as ScalarRegister
 ghost use Rattle.rv_model.specs.elements.Elements.{Body as BodyOf};
 ghost use Rattle.rv_model.specs.vector.Groups.{GroupType, group_type, vlmax, register_of};
 ghost use Rattle.rv_model.specs.lending.GroupBounds.{HoldsBody};
-ghost use Rattle.vec_unit.specs.Results.{registers_left};
+ghost use Rattle.vec_unit.specs.Results.{agnostic_in, registers_left};
 ghost use Rattle.vec_unit.specs.declared.destination.Agnostic.{Agnostic as AgnosticElements};
 
 use crate::body::body_under;
@@ -28,9 +28,9 @@ pub(crate) trait Operation {
         requires operands { inside self.now to.vd (record { width = L.width; emul = to.emul })
             body.now.end }
         requires holds { HoldsBody L.width to.emul to.count body.now.end }
-        requires tail { to.agnostic.fill_tail ≡ true → nat_lt body.now.start body.now.end ≡ true }
+        requires tail { to.fill_tail ≡ true → nat_lt body.now.start body.now.end ≡ true }
         requires mask { body.now.mask ≡ register_of file.old 0 }
-        ensures { file.new ≡ written self.now to.vd to.agnostic
+        ensures { file.new ≡ written self.now to.vd (agnostic_in to)
             (record { width = L.width; emul = to.emul }) body.now file.old scalar.now };
 }
 
@@ -50,12 +50,22 @@ pub(crate) fn perform<O: Operation>(
     let sew = target.vtype.sew;
     let mask = mask_register(&state.file);
     let body = body_under(target.unmasked, &mask, state);
+    let mut to = target.destination(&body);
     let file = &mut state.file;
     match sew {
-        Sew::E8 => operation.write::<u8>(target.destination(1, &body), &body, file, scalar),
-        Sew::E16 => operation.write::<u16>(target.destination(2, &body), &body, file, scalar),
-        Sew::E32 => operation.write::<u32>(target.destination(4, &body), &body, file, scalar),
-        Sew::E64 => operation.write::<u64>(target.destination(8, &body), &body, file, scalar),
+        Sew::E8 => operation.write::<u8>(to, &body, file, scalar),
+        Sew::E16 => {
+            to.count /= 2;
+            operation.write::<u16>(to, &body, file, scalar);
+        }
+        Sew::E32 => {
+            to.count /= 4;
+            operation.write::<u32>(to, &body, file, scalar);
+        }
+        Sew::E64 => {
+            to.count /= 8;
+            operation.write::<u64>(to, &body, file, scalar);
+        }
     }
 }
 

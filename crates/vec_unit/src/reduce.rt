@@ -49,8 +49,8 @@ impl WithSources<WidenReduceOp> {
         requires first { IsInside self.now.vs2 to.emul }
         requires second { SourceIsInside self.now.source 8 }
         requires room { HasRoom N.width to.emul body.now.end }
-        requires tail { to.agnostic.fill_tail ≡ true → nat_lt body.now.start body.now.end ≡ true }
-        ensures { file.new ≡ with_first_result W.width to.vd body.now to.agnostic.fill_tail
+        requires tail { to.fill_tail ≡ true → nat_lt body.now.start body.now.end ≡ true }
+        ensures { file.new ≡ with_first_result W.width to.vd body.now to.fill_tail
             (widen_reduce_result (record { width = N.width; emul = to.emul })
             (record { width = W.width; emul = 2 * to.emul }) self.now.op body.now self.now.vs2 self.now.source file.old
             scalar.now) file.old }
@@ -82,11 +82,12 @@ impl WithSources<WidenReduceOp> {
         let sew = target.vtype.sew;
         let mask = mask_register(&state.file);
         let body = body_under(target.unmasked, &mask, state);
+        let to = target.destination(&body);
         let file = &mut state.file;
         match sew {
-            Sew::E8 => self.write::<u8, u16>(target.destination(1, &body), &body, file, scalar),
-            Sew::E16 => self.write::<u16, u32>(target.destination(2, &body), &body, file, scalar),
-            Sew::E32 => self.write::<u32, u64>(target.destination(4, &body), &body, file, scalar),
+            Sew::E8 => self.write::<u8, u16>(to, &body, file, scalar),
+            Sew::E16 => self.write::<u16, u32>(to, &body, file, scalar),
+            Sew::E32 => self.write::<u32, u64>(to, &body, file, scalar),
             Sew::E64 => unreachable!(),
         }
     }

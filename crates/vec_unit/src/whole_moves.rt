@@ -5,7 +5,7 @@ ghost use Rattle.rv_model.specs.vector.Groups.{register_count, whole_type, regis
 ghost use Rattle.rv_model.specs.lending.GroupBounds.{HoldsBody, IsInside};
 ghost use Rattle.rv_model.specs.step.Step.{whole_body};
 
-use crate::destination::{Agnostic, Destination, write_group};
+use crate::destination::{Destination, write_group};
 use lane_arith::{Body, Copies, Lane};
 use reg_groups::{group_copy, mask_register, register_count};
 use rv_model::instructions::operations::RegisterCount;
@@ -37,10 +37,8 @@ impl WholeMoveOperation {
             vd: self.vd,
             emul: self.emul,
             count,
-            agnostic: Agnostic {
-                fill_masked_off: false,
-                fill_tail: false,
-            },
+            fill_masked_off: false,
+            fill_tail: false,
         };
         write_group::<L, Copies<'_>>(&Copies { b }, destination, &body, file);
     }

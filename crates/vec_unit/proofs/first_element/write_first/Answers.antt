@@ -14,7 +14,7 @@ some_tail false some h = refl
 pub returns : goal.returns
 returns g c =
     let to = c.args.to in
-    let fill : Bool = to.agnostic.fill_tail in
+    let fill : Bool = to.fill_tail in
     let t : VType = record { sew = E8; lmul = M1; tail_agnostic = fill; mask_agnostic = false } in
     let is = some_tail fill _ c.requires.tail in
     (rw (c.new-first.ensures, c.keeping.ensures, c.mask.ensures, c.from.ensures, c.start.ensures, c.end.ensures.value) at c.write_group.ensures)

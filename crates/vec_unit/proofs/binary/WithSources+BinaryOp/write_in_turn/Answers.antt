@@ -60,12 +60,12 @@ returns g c =
     rw (first, all_bytes file long) at c.group_mut-bytes.ensures.value in
     let was : Writes (width_bytes g.L.Lane.width)
     (test_from (n * c.args.destination.vd)
-    (is_changed c.args.body.now c.args.destination.agnostic.fill_masked_off false))
+    (is_changed c.args.body.now c.args.destination.fill_masked_off false))
     (number_from (n * c.args.destination.vd)
     (result_or_ones c.args.body.now (turn_result g.L.Lane.width n o.op o.vs2 o.source c.second_number.result file) (ones g.L.Lane.width))) file new =
     rw given at c.write.ensures in
     rw (first, all_put file new was.same_length)
     (turned_results t n c.args.destination.vd c.second_number.result o.op o.vs2 o.source c.args.scalar.now c.args.body.now
-    c.args.destination.agnostic.fill_masked_off c.args.destination.agnostic.fill_tail c.args.destination.count file new
+    c.args.destination.fill_masked_off c.args.destination.fill_tail c.args.destination.count file new
     (bytes_positive g.L.Lane.width) g.met.L.Lane.fills long c.requires.in_turn.inside
     (rw (← c.has_unsigned_immediate-unsigned.ensures) c.second_number.ensures) c.requires.in_turn.holds.room c.requires.in_turn.holds.whole c.requires.in_turn.no_tail was)

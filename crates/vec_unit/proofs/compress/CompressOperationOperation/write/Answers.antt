@@ -13,7 +13,7 @@ returns g c =
     let o = c.args.self.now in
     let file = c.args.file.now in
     let end : ℕ = c.end-end.result in
-    let fill_tail : Bool = c.args.to.agnostic.fill_tail in
+    let fill_tail : Bool = c.args.to.fill_tail in
     let numbers : List ℕ = packed c.register_copy-select.result (element k c.group_copy_mut.result.now) end in
     let same : numbers ≡ packed (register_of file o.vs1) (group_element t file o.vs2) end =
     ap (λ (select : List ℕ). packed select (element k c.group_copy_mut.result.now) end) c.register_copy-select.ensures

@@ -16,7 +16,7 @@ returns g c =
     let file = c.args.file.now in
     let x = c.args.scalar.now in
     c.write_group.ensures
-    ∙ results_same t to.vd c.args.body.now to.agnostic.fill_masked_off to.agnostic.fill_tail
+    ∙ results_same t to.vd c.args.body.now to.fill_masked_off to.fill_tail
     _ (carry_result t o.op o.vs2 o.source file x) file
     (three_operands t t (λ a b bit. wrap t.width (carry_formula o.op a b bit))
     c.group_copy_mut.result.now c.second_copy-b.result.now file o.vs2

@@ -18,5 +18,5 @@ returns g c =
     λ i h. c.second_copy-b.ensures.elements i (omega (arith, h, c.end.ensures.value))
     ∙ ap (λ (s : SecondOperand). second_element (record { width = t.width; emul = s.emul }) s.unsigned s.source file x i) c.signed_operand-operand.ensures in
     c.write_group.ensures
-    ∙ results_same t to.vd c.args.body.now to.agnostic.fill_masked_off to.agnostic.fill_tail
+    ∙ results_same t to.vd c.args.body.now to.fill_masked_off to.fill_tail
     (λ i. element k c.second_copy-b.result.now i) (second_element t false o.source file x) file second
