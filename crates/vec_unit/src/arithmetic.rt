@@ -8,7 +8,7 @@ ghost use Rattle.vec_unit.specs.Steps.{Performs};
 
 use crate::compare::Carried;
 use crate::destination::Target;
-use crate::operands::{Rounded, Sources, WithSources};
+use crate::operands::{Rounded, on};
 use crate::operation::perform;
 use crate::two_widths::{perform_narrowing, perform_single, perform_widening};
 use crate::widen::Added;
@@ -35,35 +35,36 @@ fn perform_rest(
         target.vd vs2 target.unmasked)
         target.policy scalar.now state.old VEnd.Done scalar.now (record state.new { vstart = 0 }) }
 {
-    let (mode, sources) = (state.vxrm, Sources { vs2, source });
     match op {
         VectorOp::Binary(_) => unreachable!(),
-        VectorOp::MultiplyAdd(op) => perform(&sources.with(op), target, state, scalar),
-        VectorOp::Compare(op) => perform(&sources.with(op), target, state, scalar),
+        VectorOp::MultiplyAdd(op) => perform(&on(op, vs2, source), target, state, scalar),
+        VectorOp::Compare(op) => perform(&on(op, vs2, source), target, state, scalar),
         VectorOp::CarryOut(op) => {
             let alone = target.unmasked;
             let op = Carried { op, alone };
-            perform(&sources.with(op), target.whole_body(), state, scalar);
+            perform(&on(op, vs2, source), target.whole_body(), state, scalar);
         }
         VectorOp::FixedPoint(op) => {
+            let mode = state.vxrm;
             let op = Rounded { op, mode };
-            perform_single(&sources.with(op), target, state, scalar);
+            perform_single(&on(op, vs2, source), target, state, scalar);
         }
-        VectorOp::Reduce(op) => perform(&sources.with(op), target, state, scalar),
-        VectorOp::Permute(op) => perform(&sources.with(op), target, state, scalar),
-        VectorOp::Widen(op) => perform_widening(&sources.with(op), target, state, scalar),
-        VectorOp::WideSource(op) => perform_widening(&sources.with(op), target, state, scalar),
+        VectorOp::Reduce(op) => perform(&on(op, vs2, source), target, state, scalar),
+        VectorOp::Permute(op) => perform(&on(op, vs2, source), target, state, scalar),
+        VectorOp::Widen(op) => perform_widening(&on(op, vs2, source), target, state, scalar),
+        VectorOp::WideSource(op) => perform_widening(&on(op, vs2, source), target, state, scalar),
         VectorOp::WidenMultiplyAdd(op) => {
             let vd = target.vd;
             let op = Added { op, vd };
-            perform_widening(&sources.with(op), target, state, scalar);
+            perform_widening(&on(op, vs2, source), target, state, scalar);
         }
-        VectorOp::NarrowShift(op) => perform_narrowing(&sources.with(op), target, state, scalar),
+        VectorOp::NarrowShift(op) => perform_narrowing(&on(op, vs2, source), target, state, scalar),
         VectorOp::Clip(op) => {
+            let mode = state.vxrm;
             let op = Rounded { op, mode };
-            perform_narrowing(&sources.with(op), target, state, scalar);
+            perform_narrowing(&on(op, vs2, source), target, state, scalar);
         }
-        VectorOp::WidenReduce(op) => sources.with(op).perform(target, state, scalar),
+        VectorOp::WidenReduce(op) => on(op, vs2, source).perform(target, state, scalar),
     }
 }
 
@@ -93,7 +94,7 @@ pub(crate) fn perform_arith(
     let target = Target::new(operation.vd, operation.unmasked, vtype, policy);
     match op {
         VectorOp::Binary(op) => {
-            perform(&WithSources { op, vs2, source }, target, state, scalar);
+            perform(&on(op, vs2, source), target, state, scalar);
         }
         _ => {
             // A copy, so that the target itself needs no place in memory.

@@ -18,8 +18,8 @@ use rv_model::{GROUP_BYTES, Policy, VFile, VLENB, VReg, VType};
 #[derive(Clone, Copy)]
 pub(crate) struct Target {
     pub vd: VReg,
-    pub unmasked: bool,
     pub vtype: VType,
+    pub unmasked: bool,
     pub policy: Policy,
 }
 

@@ -68,10 +68,10 @@ pub(crate) fn perform_typed(
         VectorInstr::Carry { carry, vd, vs2 } => {
             let (op, source) = carry.parts();
             let operation = WithSources { op, vs2, source };
-            perform_apart(&operation, vd, true, vtype, policy, state, scalar);
+            perform_apart::<_, true>(&operation, vd, vtype, policy, state, scalar);
         }
         VectorInstr::Move { source, vd } => {
-            perform_apart(&Move { source }, vd, true, vtype, policy, state, scalar);
+            perform_apart::<_, true>(&Move { source }, vd, vtype, policy, state, scalar);
         }
         VectorInstr::Extend { op, vd, vs2, vm } => {
             let target = Target::new(vd, vm, vtype, policy);
@@ -85,19 +85,22 @@ pub(crate) fn perform_typed(
             let target = Target::new(vd, vm, vtype, policy);
             perform_mask_unary(op, vs2, target, state, scalar);
         }
-        VectorInstr::ElementIndex { vd, vm } => {
-            perform_apart(&IndexOperation, vd, vm, vtype, policy, state, scalar);
+        VectorInstr::ElementIndex { vd, vm: true } => {
+            perform_apart::<_, true>(&IndexOperation, vd, vtype, policy, state, scalar);
+        }
+        VectorInstr::ElementIndex { vd, vm: false } => {
+            perform_apart::<_, false>(&IndexOperation, vd, vtype, policy, state, scalar);
         }
         VectorInstr::Compress { vd, vs1, vs2 } => {
             let operation = CompressOperation { vs1, vs2 };
-            perform_apart(&operation, vd, true, vtype, policy, state, scalar);
+            perform_apart::<_, true>(&operation, vd, vtype, policy, state, scalar);
         }
         VectorInstr::MoveToScalar { rd, vs2 } => {
             scalar.write(rd, scalar_of_first(vs2, vtype, &state.file));
         }
         VectorInstr::MoveToVector { vd, rs1 } => {
             let operation = MoveToVector { rs1 };
-            perform_apart(&operation, vd, true, vtype, policy, state, scalar);
+            perform_apart::<_, true>(&operation, vd, vtype, policy, state, scalar);
         }
         VectorInstr::WholeMove { count, vd, vs2 } => {
             perform_whole_move(count, vd, vs2, vtype, state);

@@ -22,22 +22,12 @@ pub(crate) struct WithSources<O> {
     pub source: Source,
 }
 
-/// A group and a second operand.
-#[derive(Clone, Copy)]
-pub(crate) struct Sources {
-    pub vs2: VReg,
-    pub source: Source,
-}
-
-impl Sources {
-    /// An operation on these.
-    #[inline(always)]
-    pub(crate) fn with<O: Copy>(self, op: O) -> WithSources<O>
-        ensures { result ≡ record { op = op; vs2 = self.vs2; source = self.source } }
-    {
-        let Sources { vs2, source } = self;
-        WithSources { op, vs2, source }
-    }
+/// An operation on a group and a second operand.
+#[inline(always)]
+pub(crate) fn on<O: Copy>(op: O, vs2: VReg, source: Source) -> WithSources<O>
+    ensures { result ≡ record { op = op; vs2 = vs2; source = source } }
+{
+    WithSources { op, vs2, source }
 }
 
 /// An operation, and how it rounds.

@@ -69,12 +69,11 @@ pub(crate) fn perform<O: Operation>(
     }
 }
 
-/// The same, out of line.
+/// The same, out of line, and unmasked or masked.
 #[inline(never)]
-pub(crate) fn perform_apart<O: Operation>(
+pub(crate) fn perform_apart<O: Operation, const UNMASKED: bool>(
     operation: &O,
     vd: VReg,
-    unmasked: bool,
     vtype: VType,
     policy: Policy,
     state: &mut VState,
@@ -83,8 +82,8 @@ pub(crate) fn perform_apart<O: Operation>(
     requires operands { O.inside operation.now vd (group_type vtype) state.old.conf.vl }
     requires length { state.old.conf.vl ≤ vlmax vtype }
     ensures { state.new ≡ registers_left (O.written operation.now)
-        (record { vd = vd; unmasked = unmasked; vtype = vtype; policy = policy }) scalar.now state.old }
+        (record { vd = vd; unmasked = UNMASKED; vtype = vtype; policy = policy }) scalar.now state.old }
 {
-    let target = Target::new(vd, unmasked, vtype, policy);
+    let target = Target::new(vd, UNMASKED, vtype, policy);
     perform(operation, target, state, scalar);
 }
