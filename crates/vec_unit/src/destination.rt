@@ -11,7 +11,7 @@ ghost use Rattle.vec_unit.specs.Agnostic.{is_agnostic};
 
 use lane_arith::{Body, Lane, Results, fill, write_results};
 use reg_groups::{group_mut, registers};
-use rv_model::{GROUP_BYTES, Policy, VFile, VLENB, VReg, VType};
+use rv_model::{GROUP_BYTES, Policy, VFile, VReg, VType};
 
 /// What an instruction writes, whether it is unmasked, and the type and the policy under which it is carried
 /// out.
@@ -36,13 +36,13 @@ impl Target {
         }
     }
 
-    /// Where it writes the elements of a body, as bytes.
+    /// Where it writes the elements of a body; its count is that of its registers.
     #[inline(always)]
     pub(crate) fn destination(self, body: &Body<'_>) -> Destination
         ensures { result ≡ record {
           vd = self.vd;
           emul = lmul_eighths self.vtype.lmul;
-          count = VLENB * registers (lmul_eighths self.vtype.lmul);
+          count = registers (lmul_eighths self.vtype.lmul);
           fill_masked_off = fills_masked_off self.policy self.vtype body.now;
           fill_tail = fills_tail self.policy self.vtype body.now;
         } }
@@ -52,7 +52,7 @@ impl Target {
         Destination {
             vd: self.vd,
             emul,
-            count: VLENB * registers(emul) as usize,
+            count: registers(emul) as usize,
             fill_masked_off: agnostic.fill_masked_off,
             fill_tail: agnostic.fill_tail,
         }

@@ -11,7 +11,7 @@ use crate::body::body_under;
 use crate::destination::{Destination, Target};
 use lane_arith::{Body, Lane};
 use reg_groups::mask_register;
-use rv_model::{Policy, Scalar, Sew, VFile, VReg, VState, VType};
+use rv_model::{Policy, Scalar, Sew, VFile, VLENB, VReg, VState, VType};
 
 /// An operation and its operands.
 pub(crate) trait Operation {
@@ -53,17 +53,20 @@ pub(crate) fn perform<O: Operation>(
     let mut to = target.destination(&body);
     let file = &mut state.file;
     match sew {
-        Sew::E8 => operation.write::<u8>(to, &body, file, scalar),
+        Sew::E8 => {
+            to.count *= VLENB;
+            operation.write::<u8>(to, &body, file, scalar);
+        }
         Sew::E16 => {
-            to.count /= 2;
+            to.count *= VLENB / 2;
             operation.write::<u16>(to, &body, file, scalar);
         }
         Sew::E32 => {
-            to.count /= 4;
+            to.count *= VLENB / 4;
             operation.write::<u32>(to, &body, file, scalar);
         }
         Sew::E64 => {
-            to.count /= 8;
+            to.count *= VLENB / 8;
             operation.write::<u64>(to, &body, file, scalar);
         }
     }
