@@ -25,4 +25,4 @@ def test_each_room_stands_on_those_above_it() -> None:
 
 def test_the_version_is_that_of_the_changelog() -> None:
     changelog = (TOP / "CHANGELOG.md").read_text("utf-8")
-    assert re.findall(r"^Version ([0-9.]+),", changelog, re.MULTILINE) == [vecmon_lab.__version__]
+    assert re.findall(r"^## ([0-9.]+)$", changelog, re.MULTILINE)[0] == vecmon_lab.__version__

@@ -9,7 +9,7 @@ if TYPE_CHECKING:
     from .kernels.kernel import CallStopped, Kernel, Placed, PoliciesDiffer, Result
 
 __all__ = ["CallStopped", "Kernel", "LabError", "Placed", "PoliciesDiffer", "Result"]
-__version__ = "0.9.0"  # as CHANGELOG.md has it
+__version__ = "1.0.0"  # of program, lab and packages; the newest one in CHANGELOG.md
 
 
 class LabError(Exception):
