@@ -2,9 +2,11 @@
 
 import asyncio
 import csv
+import io
 import json
 import pathlib
 import time
+import zipfile
 from collections.abc import AsyncIterator
 from typing import Any
 
@@ -252,6 +254,30 @@ HOSTILE = [
     "ret\n.zero 1044480",
     "nop\n" * 16384,
 ]
+
+
+async def test_answers_are_taken_home(room: Served) -> None:
+    """Of each exercise the last one that passed, else the last one; also where the seat has no machine, and nobody else's."""
+    tab, other = await room.sit("A1"), await room.sit("A2")
+    shorter = "mul a0, a1, a1\nebreak"
+    for text in (WRONG, RIGHT, shorter, WRONG):
+        await check(tab, "square", text)
+    await check(tab, "doubles", "li a0, 1\nret")
+    await check(tab, "doubles", "ret")
+    await check(other, "square", WRONG)
+    taken = {"A1/answers/doubles.s": "ret", "A1/answers/square.s": shorter}
+    assert await home(room, "A1") == taken
+    await tab.do("enter")
+    assert list(await home(room, "A1")) == ["A1/A1.script", "A1/A1.html", *taken]
+    assert await home(room, "A2") == {"A2/answers/square.s": WRONG}
+
+
+async def home(room: Served, seat: str) -> dict[str, str]:
+    """The texts of what a seat takes home, by name."""
+    status, data = await room.get(f"{seat}/home", seat)
+    assert status == 200, data
+    with zipfile.ZipFile(io.BytesIO(data)) as packed:
+        return {name: packed.read(name).decode() for name in packed.namelist()}
 
 
 async def test_bad_answers_cost_the_others_nothing(room: Served) -> None:

@@ -50,7 +50,7 @@ async def test_an_archive(tmp_path: pathlib.Path) -> None:
         assert [(await room.get(place, who))[0] for place, who in (("A4/home", "A3"), ("A3/home", None))] == [404, 404]
         told = await asyncio.gather(*(room.get("A5/home", who) for who in ("A5", "teacher")))
         assert {words for status, words in told if status == 503} == {
-            b"a lesson has a line at least, and this one has none", b"it is being made already"
+            b"nothing was done at seat A5", b"it is being made already"
         }  # fmt: skip
 
 

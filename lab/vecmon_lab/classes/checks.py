@@ -127,7 +127,7 @@ class Checks:
         self._lessons: dict[str, bytes] = {}  # before exercises, by name
         self._good: dict[str, Taken] = {}  # what good answers take, as far as that was told
         self._making = asyncio.Lock()
-        for seat, name, _, done in sorted(self._found()):
+        for seat, name, _, done in sorted(_found(store)):
             self._of(seat, name).add(done)
 
     def begin(self, seat: str, name: str, source: SourceText) -> None:
@@ -274,11 +274,24 @@ class Checks:
             raise BadRequest("there is no such exercise")
         return self.exercises[name]
 
-    def _found(self) -> Iterator[tuple[str, str, int, Try]]:
-        """The tries that the folder has."""
-        for path in (self._store.folder / ANSWERS).glob("*.json"):
-            if parts := re.fullmatch(r"([A-L][1-8])\.([\w-]+)\.(\d+)\.json", path.name):
-                yield parts[1], parts[2], int(parts[3]), self._store.read(f"{ANSWERS}/{path.name}", Try)
+
+def kept_answers(store: Store, seat: str) -> dict[str, SourceText]:
+    """What a seat has answered by exercise, as the folder has it: the last try that passed; where none has, the last one."""
+    answers, passed = dict[str, SourceText](), set[str]()
+    for of, name, _, done in sorted(_found(store)):
+        cases = done["told"].get("cases", [])
+        is_passed = bool(cases) and all(cases)
+        if of == seat and (is_passed or name not in passed):
+            answers[name] = _source(done)
+            passed |= {name} if is_passed else set()
+    return answers
+
+
+def _found(store: Store) -> Iterator[tuple[str, str, int, Try]]:
+    """The tries that the folder has: the seat, the exercise, the number of the try, and the try itself."""
+    for path in (store.folder / ANSWERS).glob("*.json"):
+        if parts := re.fullmatch(r"([A-L][1-8])\.([\w-]+)\.(\d+)\.json", path.name):
+            yield parts[1], parts[2], int(parts[3]), store.read(f"{ANSWERS}/{path.name}", Try)
 
 
 def _file(seat: str, name: str, number: int) -> str:

@@ -1,4 +1,4 @@
-"""What a student takes home: an archive with the source, the script, its images, and a lesson of it for any browser."""
+"""What a student takes home: an archive with the source, the script, its images, a lesson of it for any browser, and answers."""
 
 import contextlib
 import io
@@ -16,7 +16,9 @@ from ..lessons.frames import make_frames
 from ..lessons.page import lesson_page
 from ..lessons.script import Script, Step, add_line, read_compiled, read_source
 from ..machine.lines import words_of
+from .checks import kept_answers
 from .live import is_servers
+from .languages import SourceText
 from .names import NAMES
 from .solo import solo
 from .sources import kept_program, kept_source
@@ -50,6 +52,21 @@ def _frames(step: Step) -> int:
 def archive(store: Store, seat: str) -> bytes:
     """The archive of a seat. Raises LabError where it has done nothing."""
     lines, own = solo(store, seat), kept_source(store, seat)
+    files = _played(store, seat, lines, own) if lines else {}
+    files |= {f"{seat}.{own.suffix}": own.text} if own.text else {}
+    answers = kept_answers(store, seat)
+    files |= {f"answers/{name}.{answer.suffix}": answer.text for name, answer in sorted(answers.items())}
+    if not files:
+        raise LabError(f"nothing was done at seat {seat}")
+    data = io.BytesIO()
+    with zipfile.ZipFile(data, "w", zipfile.ZIP_DEFLATED) as packed:
+        for name, content in files.items():
+            packed.writestr(f"{seat}/{name}", content)
+    return data.getvalue()
+
+
+def _played(store: Store, seat: str, lines: Sequence[str], own: SourceText) -> dict[str, str | bytes]:
+    """Of what was done at a machine: the script, the lesson of it, and the images that it loads, by name."""
     name = store.read(NAMES, dict[str, str]).get(seat)
     script = Script(f"Seat {seat}, {name}" if name else f"Seat {seat}", steps_of(lines))
     with contextlib.suppress(LabError):  # a source that isn't finished
@@ -64,14 +81,8 @@ def archive(store: Store, seat: str) -> bytes:
     frames = [replace(frame, log=frame.log[-MOST_ENTRIES:]) for frame in frames]
     files: dict[str, str | bytes] = {f"{seat}.script": "".join(f"{line}\n" for line in lines)}
     files |= {f"{seat}.html": lesson_page(script.title, frames, script)}
-    files |= {f"{seat}.{own.suffix}": own.text} if own.text else {}
     loaded = {words_of(line)[1] for line in lines if words_of(line)[:1] == ["load"] and words_of(line)[1:]}
-    files |= {f"{name}.elf": path.read_bytes() for name, path in store.images.items() if name in loaded}
-    data = io.BytesIO()
-    with zipfile.ZipFile(data, "w", zipfile.ZIP_DEFLATED) as packed:
-        for name, content in files.items():
-            packed.writestr(f"{seat}/{name}", content)
-    return data.getvalue()
+    return files | {f"{name}.elf": path.read_bytes() for name, path in store.images.items() if name in loaded}
 
 
 if __name__ == "__main__":
