@@ -146,7 +146,7 @@ def test_output_comes_while_it_runs_and_ctrl_c_ends_it(program: pathlib.Path, tm
         ([STOCK], f"vecmon-lab: {STOCK}: Is a directory"),
         (
             [STOCK / "sum.c"],
-            f"vecmon-lab: {STOCK}/sum.c: the machine refuses image (E09 Magic): it doesn't begin with ",
+            f"vecmon-lab: {STOCK}/sum.c is a source, and an image is needed: ",
         ),
         (
             [STOCK / "short"],
