@@ -329,7 +329,7 @@ def test_no_c_is_graded_without_a_compiler_and_a_sandbox(
     assert status == 1 and b"answer.c: " in told
     monkeypatch.setattr(shutil, "which", lambda name, path=None: None)
     status, told, complaint = lab("grade", "strlen", tmp_path / "answer.c")
-    assert (status, told) == (2, b"") and "there is no compiler for C: apt-get install clang-19 lld-19" in complaint
+    assert (status, told) == (2, b"") and "no compiler for C: apt-get install clang-19 lld-19 bubblewrap" in complaint
 
 
 def test_an_exercise_may_be_in_c(program: pathlib.Path, tmp_path: pathlib.Path, clang: Compiler) -> None:

@@ -138,7 +138,7 @@ def find_compiler(name: str | None) -> Compiler:
         if compiler.name == name:
             return compiler
     missing = "there is no compiler for C" if name is None else f"{name} is no compiler that is here"
-    raise LabError(f"{missing}: apt-get install clang-19 lld-19")
+    raise LabError(f"{missing}: apt-get install clang-19 lld-19 bubblewrap")
 
 
 def _is_there(compiler: Compiler) -> bool:
