@@ -337,6 +337,8 @@ def test_back_by_instructions_and_to_a_write() -> None:
         and told[at + 1] == "   11040  64 00 00 00 64 00 00 00 64 00 00 00 64 00 00 00  d...d...d...d..."
     )
     assert [line for line in told if line.endswith("before.")] == ["This is the begin: there is nothing before."] * 2
+    nobody = told.index("No instruction has changed what lies at 11040 y.")
+    assert told[nobody + 1] == "This is the begin: there is nothing before."
     assert stands[4:] == ["10000  addi x10, x0, 13", "10004  auipc x11, 1", "10000  addi x10, x0, 13"]
     assert shown(["back", "leave", "back"], STRIP_MINED)[-1] == "This is the begin: there is nothing before."
 

@@ -291,6 +291,8 @@ class Console:
             self._timeline.watches = []
         if is_there:
             self._timeline.back()
+        elif is_there is False:
+            self._screen.say(f"No instruction has changed what lies at {self._place(address)}.")
         self._tell_back(is_there)
 
     def _tell_back(self, is_there: bool | None) -> None:
