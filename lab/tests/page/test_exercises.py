@@ -27,8 +27,8 @@ ANSWERS = "#scores button[aria-label^='Answers of seat A3 to']"
 
 @pytest.fixture(scope="module")
 def course(program: pathlib.Path, tmp_path_factory: pytest.TempPathFactory) -> Iterator[Served]:
-    """A class with all exercises of the course."""
-    words = [word for name in COURSE for word in ("--exercise", name)]
+    """A class of thirty-two with all exercises of the course."""
+    words = ["--machines", "4", *(word for name in COURSE for word in ("--exercise", name))]
     served = Served(tmp_path_factory.mktemp("course") / "class", program, *words, takes_c=True)
     yield served
     served.end()
@@ -130,6 +130,9 @@ def test_what_passed_is_told(tabs: "Chrome", course: Served) -> None:
     assert "✓ Doubles" in tab.text("#exercise select")
     teacher = Tab(tabs, course, "teacher")
     teacher.wait("one(arguments[0])?.textContent.startsWith('✓ try 2')", ANSWERS)
+    assert teacher.run(
+        "all('#seats tr').length === 32 && one('#scores tbody tr').getBoundingClientRect().bottom < innerHeight"
+    )
     teacher.click(ANSWERS)
     teacher.wait("id('scores').querySelector('pre').textContent.includes('vadd.vv')")
     teacher.choose("#scores select", "try 1")

@@ -13,7 +13,7 @@ export class Scores {
     Object.assign(this, { teacher, told: {} });
     const save = () => teacher.connection.download("exercises.csv", "exercises.csv");
     const head = Object.assign(make("h2", "", "Exercises"), { id: "scores-title" });
-    this.table = make("div", "wide");
+    this.table = make("div", "scroll");
     this.which = Object.assign(make("select", ""), { ariaLabel: "Try", onchange: () => this.read(Number(this.which.value)) });
     this.what = make("span", "");
     this.source = Object.assign(make("pre", ""), { tabIndex: 0 });
