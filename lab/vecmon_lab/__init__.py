@@ -13,7 +13,7 @@ __version__ = "1.0.0"  # of program, lab and packages; the newest one in CHANGEL
 
 
 class LabError(Exception):
-    """What the user of the lab can mend: its text is one line that says what is wrong."""
+    """What the user of the lab can mend: its text is one line that says what is wrong, or one for each mistake in C."""
 
 
 @contextlib.contextmanager

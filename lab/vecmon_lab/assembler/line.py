@@ -29,6 +29,10 @@ class SourceError(LabError):
     def __str__(self) -> str:
         return f"line {self.line}, column {self.column}: {self.message}"
 
+    def told(self, name: str) -> str:
+        """The same in a line of a source of this name, also where it stands at no line of it, which is line 0."""
+        return f"{name}:{self.line}:{self.column}: {self.message}" if self.line else f"{name}: {self.message}"
+
 
 @dataclass(frozen=True)
 class Token:

@@ -5,7 +5,6 @@ import pathlib
 
 from .. import LabError
 from ..compilers.compiler import C_SOURCE, CHOICES
-from ..lessons.script import check_compiled
 from .beside import Beside
 from .builds import Builds
 from .codes import new_code
@@ -44,7 +43,7 @@ class Comparisons:
         for compiler, choice in ((self._builds.compiler, source.choice), self._others[other]):
             assert compiler and choice is not None
             program = await self._builds.compile(seat, source.text, choice, compiler)
-            check_compiled(program, compiler.title(choice))
+            program.check(compiler.title(choice))
             listings.append((compiler.title(choice), program.told.decode("utf-8", "replace")))
         script = json.dumps([source.text, listings]).encode("ascii")
         return await self._beside.run("lessons.listings", str(self._program), script=script)

@@ -41,6 +41,11 @@ class CompiledProgram(Program):
     variables: Sequence[Variable] = ()
     told: bytes = b""
 
+    def check(self, name: str) -> None:
+        """Raises LabError where a source of this name has mistakes, with a line for each."""
+        if self.mistakes:
+            raise LabError("\n".join(error.told(name) for error in self.mistakes))
+
     def text(self) -> range:
         """The addresses of its instructions."""
         return range(self.rows[0][0], self.rows[-1][0], 4) if self.rows else range(0)

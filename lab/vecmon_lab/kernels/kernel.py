@@ -22,7 +22,6 @@ from ..guest.guest import MOST_STEPS, QUANTUM, STACK_END, Guest, peeks, pokes
 from ..guest.notebook import registers_html
 from ..guest.symbols import Symbols
 from ..instructions.accesses import PAGE_BYTES
-from ..lessons.script import check_compiled
 from ..machine.answers import Memory, Output, Refused, ScalarRegisters, Stop
 from ..machine.program import find_program
 from ..machine.session import Session
@@ -220,7 +219,7 @@ def _read(path: pathlib.Path, options: str, compiler: str | None) -> tuple[Answe
         with ThreadPoolExecutor(1) as thread:  # where another event loop, as a notebook's, isn't in the way
             words = (text, find_compiler(compiler), choice_of(options), path.parent)
             program = thread.submit(compile_c, *words).result()
-        check_compiled(program, path.name)
+        program.check(path.name)
         return Answer(path, program.lines), Symbols.of_labels(program.names())
     answer = read_answer(path.resolve())
     if answer.source:

@@ -13,7 +13,7 @@ from ..machine.program import find_program, images_of
 from .frames import make_frames
 from .listings import Listing, listing_of, listings_page
 from .page import lesson_page
-from .script import check_compiled, read_compiled, read_script, read_source
+from .script import read_compiled, read_script, read_source
 
 SOURCE_SUFFIXES, C_SUFFIX = (".s", ".S"), ".c"
 
@@ -76,6 +76,6 @@ def _listings(arguments: argparse.Namespace) -> str:
         compiler, choice = find_compiler(cc), choice_for(path, each)
         assert choice is not None, "a source in C has options"
         program = compile_c(text, compiler, choice, path.parent)
-        check_compiled(program, f"{compiler.title(choice)}: {path.name}")
+        program.check(f"{compiler.title(choice)}: {path.name}")
         listings.append(listing_of(program, compiler.title(choice), machine))
     return listings_page(arguments.title or path.name, text, listings)

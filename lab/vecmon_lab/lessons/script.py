@@ -79,7 +79,7 @@ def read_source(text: str, name: str) -> Script:
     try:
         program = assemble(text)
     except SourceError as error:
-        raise _mistake(name, error) from error
+        raise LabError(error.told(name)) from error
     return _script_of(program, [line.strip() for line in text.split("\n")], name)
 
 
@@ -88,18 +88,12 @@ def read_compiled(text: str, name: str, program: CompiledProgram, is_c: bool) ->
 
     In C lines that begin with `//` are as those of an assembler source that begin with `#`.
     """
-    check_compiled(program, name)
+    program.check(name)
     lines = [line.strip() for line in text.split("\n")]
     if is_c:
         lines = [f"#{line[2:]}" if line.startswith("//") else line.replace("#", " #", 1) for line in lines]
     script, said = _script_of(program, lines, name), program.source_lines(text)
     return replace(script, said=said, starts=program.line_starts(), variables=program.variables)
-
-
-def check_compiled(program: CompiledProgram, name: str) -> None:
-    """Raises LabError with the first mistake of a compiled source that has any."""
-    for error in program.mistakes:
-        raise _mistake(name, error) if error.line else LabError(f"{name}: {error.message}")
 
 
 def _script_of(program: Program, lines: list[str], name: str) -> Script:
@@ -120,7 +114,7 @@ def refused_statement(script: Script, line: str, answer: Refused) -> LabError:
     """What is wrong with an instruction of the source, by the machine's answer to the line that writes it."""
     statement = script.statements[line]
     if answer.code == "E15":
-        return _mistake(script.source, refusal(statement, int(answer.detail)))
+        return LabError(refusal(statement, int(answer.detail)).told(script.source))
     return LabError(f"{script.source}:{statement.line}: the machine answers {answer.code} to {statement.text}")
 
 
@@ -131,11 +125,6 @@ def send(guest: Guest, commands: Sequence[str], source: Script | None = None) ->
             if source and f"1 {command}" in source.statements:
                 raise refused_statement(source, f"1 {command}", answer)
             raise LabError(f"{command[:60]}: {refusal_in_words(f'1 {command}', answer)[-1]}")
-
-
-def _mistake(name: str, error: SourceError) -> LabError:
-    """The one line that tells a mistake in a source."""
-    return LabError(f"{name}:{error.line}:{error.column}: {error.message}")
 
 
 def _sentence(lines: list[str]) -> str:
