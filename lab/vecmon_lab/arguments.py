@@ -8,8 +8,18 @@ from typing import Any
 from . import LabError
 
 
+def image_path(word: str) -> pathlib.Path:
+    """The image that a word names; of a source in C one that is compiled of it. Raises LabError and OSError."""
+    path = pathlib.Path(word)
+    if path.suffix != ".c":
+        return path
+    from .compilers.compiled import compiled_image  # which an image doesn't need
+
+    return compiled_image(path)
+
+
 class _Program(argparse.Action):
-    """Divides an image from the words behind it, which are `words` then."""
+    """Divides an image from the words behind it, which are `words` then; `named` is what the image was named by."""
 
     def __call__(
         self,
@@ -20,10 +30,12 @@ class _Program(argparse.Action):
     ) -> None:
         words = list(values or ())
         path, *namespace.words = words[1:] if words[0] == "--" else words
-        namespace.image = pathlib.Path(path)
+        namespace.named, namespace.image = pathlib.Path(path), image_path(path)
 
 
-def add_program(parser: argparse.ArgumentParser, told: str = "an ELF file", is_needed: bool = True) -> None:
+def add_program(
+    parser: argparse.ArgumentParser, told: str = "an ELF file, or a source in C (.c)", is_needed: bool = True
+) -> None:
     """An image, and all words behind it as the program's own, options too; and a file as its input."""
     parser.allow_abbrev = False  # so that no word of the program's is looked up among the options
     told = f"{told}; the words behind it are the program's, also with a dash"

@@ -27,7 +27,7 @@ FORKS = """
 import os, time
 from vecmon_lab.compilers import inside
 
-def fork(compiler, choice, is_answer):
+def fork(command):
     made = 0
     try:
         while made < 500:

@@ -280,7 +280,7 @@ def bad_images(folder: pathlib.Path) -> Iterator[tuple[pathlib.Path, str]]:
     yield folder / "missing", "No such file or directory"
     yield folder, "Is a directory"
     yield STOCK / "short", "E09 Short"
-    yield STOCK / "sum.c", "is a source"
+    yield STOCK.parent / "refusals.page", "E09 Magic"
     yield STOCK.parent / "dyn", "E09 Type"
     yield STOCK.parent / "sizes", "E09 FileSize"
     (folder / "large").write_bytes(bytes(4_194_305))

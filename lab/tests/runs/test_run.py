@@ -9,7 +9,7 @@ import pytest
 
 from support.commands import Lab
 from support.images import MARCH, make_image
-from support.places import DATA, SORT, SQUARES, SQUARES_DWARF5, STOCK, SUM, TOP
+from support.places import DATA, EXAMPLES, SORT, SQUARES, SQUARES_DWARF5, STOCK, SUM, TOP
 from support.sources import ARGUMENTS, EXIT, FOREVER, WRITES
 
 QEMU = DATA / "qemu"  # what qemu-riscv64 7.2.22 of Debian 12 told
@@ -145,8 +145,8 @@ def test_output_comes_while_it_runs_and_ctrl_c_ends_it(program: pathlib.Path, tm
         (["none"], "vecmon-lab: none: No such file or directory"),
         ([STOCK], f"vecmon-lab: {STOCK}: Is a directory"),
         (
-            [STOCK / "sum.c"],
-            f"vecmon-lab: {STOCK}/sum.c is a source, and an image is needed: ",
+            [EXAMPLES / "strip_mined.s"],
+            f"vecmon-lab: {EXAMPLES}/strip_mined.s is an assembler source, and no image: ",
         ),
         (
             [STOCK / "short"],

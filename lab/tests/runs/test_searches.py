@@ -1,7 +1,6 @@
 """The programs of docs/LAB.md with a mistake each: that they have it, and that the commands of that page show where."""
 
 import pathlib
-import shutil
 import subprocess
 from collections.abc import Mapping
 
@@ -9,8 +8,8 @@ import pytest
 
 from support.commands import Lab
 from support.images import MARCH
-from support.places import EXAMPLES, TOP
-from vecmon_lab.compilers.compiler import RUNTIME, Compiler
+from support.places import EXAMPLES
+from vecmon_lab.compilers.compiler import Compiler
 
 SEARCHES = EXAMPLES / "searches"
 SQUARES = "".join(f"{number * number}\n" for number in range(200)).encode()
@@ -82,15 +81,3 @@ def test_a_tail(lab: Lab, clang: Compiler, tmp_path: pathlib.Path) -> None:
     assert status == 1 and b": vredsum.vs " in output and b"which comes from the tail of " in output
     mended = compiled(clang, copied(tmp_path / "mended", "dot_product.c", {"_vmacc_vv_u32m2": "_vmacc_vv_u32m2_tu"}))
     assert lab("run", "--policy", "ones", mended)[0] == 0 == lab("compare", mended)[0]
-
-
-def test_an_image_of_a_source_in_c(lab: Lab, clang: Compiler, tmp_path: pathlib.Path) -> None:
-    """By the page's command. Six instructions work on 45 pixels, of which 32 have room in a round; so 19 places are in the tail."""
-    page = (TOP / "docs" / "LAB.md").read_text("utf-8").partition("### An image of a source in C")[2]
-    command = page.partition("$ clang-19 ")[2].partition("\n$")[0]
-    words = command.replace("\\\n", "").replace("$runtime", f"{RUNTIME}").replace("=lld-19", "=lld").split()
-    shutil.copy(EXAMPLES / "kernels" / "grey.c", tmp_path)
-    subprocess.run([clang.name, *words], cwd=tmp_path, check=True)
-    status, output, _ = lab("profile", tmp_path / "grey")
-    row = output.decode().splitlines()[1].split()
-    assert status == 0 and row[3:5] == ["grey.c:14-20", "2"] and row[-5:] == ["270", "0", "114", "70", "%"]

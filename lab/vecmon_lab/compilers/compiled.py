@@ -1,20 +1,22 @@
 """A source compiled to lines of the monitor, which bring its image in; they are carried out again without a compiler."""
 
+import atexit
 import bisect
 import json
 import math
 import pathlib
 import re
+import tempfile
 from collections.abc import Iterable, Iterator, Mapping, Sequence
 from dataclasses import dataclass, replace
 from itertools import groupby, islice
 from typing import Any
 
-from .. import LabError
+from .. import LabError, mistakes_in
 from ..assembler.source import Program, SourceError
 from ..guest.guest import STACK_END, STACK_POINTER, pokes
 from ..instructions.accesses import PAGE_BYTES, ROW_BYTES
-from .compiler import FUNCTION, OWN_SOURCES, Compiler
+from .compiler import C_SOURCE, FUNCTION, IMAGE, OWN_SOURCES, Compiler, find_compiler
 from .debug import MOST_BYTES, MOST_ROWS, MOST_SEGMENTS, MOST_SYMBOLS
 from .inside import MESSAGE_LETTERS, MOST_MESSAGES
 from .variables import Variable, read_variables
@@ -90,6 +92,23 @@ def compile_c(
     """
     words = words_for(text, compiler, choice, is_answer)
     return read_answer(answer_of_own(words, text, headers) if headers else answer_sandboxed(words, text))
+
+
+def compiled_image(path: pathlib.Path) -> pathlib.Path:
+    """The image of a source in C of one's own, by the first compiler, which is there until the command ends.
+
+    It has the source's name without `.c`. Raises LabError where there is no compiler, or the source has mistakes, and OSError.
+    """
+    with mistakes_in(path):
+        text = path.read_text("utf-8", "replace")
+        words = [*words_for(text, find_compiler(None), 0), f"{path.absolute()}"]
+        kept = tempfile.TemporaryDirectory()
+        atexit.register(kept.cleanup)
+        folder = pathlib.Path(kept.name)
+        program = read_answer(answer_of_own(words, text, path.parent, folder))
+    program.check(f"{path}")
+    (folder / C_SOURCE).rename(folder / path.name)  # where its lines are looked for
+    return (folder / IMAGE).rename(folder / path.stem)
 
 
 def words_for(text: str, compiler: Compiler, choice: int, is_answer: bool = False) -> list[str]:

@@ -72,10 +72,12 @@ class Compiler:
             f"{self.name} {CHOICES[choice].name}{'' if self.has_vectors else ' (scalar C alone: it has no intrinsics)'}"
         )
 
-    def words(self, choice: int, is_answer: bool = False) -> list[str]:
+    def words(self, choice: int, is_answer: bool = False, is_alone: bool = False, named: str = "") -> list[str]:
         """The command that compiles the source in its folder. Raises LabError where there is no such choice.
 
         is_answer: to an exercise, whose loops have vectors where the source asks for them alone
+        is_alone: whether the source begins by itself, and nothing is linked to it
+        named: the path that debug data names in place of the source's name
         """
         source = source_of(choice)
         if self.is_clang:
@@ -88,11 +90,9 @@ class Compiler:
         if is_answer:
             plain = _PLAIN_CLANG if self.is_clang else _PLAIN_GCC
             own += ["-DVECMON_ANSWER", f"-Wl,--entry={FUNCTION}", *plain]
-        folder = (
-            f"-I{RUNTIME}",
-            f"-fdebug-prefix-map={RUNTIME}=runtime",
-        )  # so that an image is the same in each folder
-        linked = (source, str(RUNTIME / "runtime.c")) if source == C_SOURCE else (source,)
+        places = {str(RUNTIME): "runtime", source: named or source}  # so that an image is the same in each folder
+        folder = (f"-I{RUNTIME}", *(f"-fdebug-prefix-map={place}={name}" for place, name in places.items()))
+        linked = (source,) if is_alone or source != C_SOURCE else (source, str(RUNTIME / "runtime.c"))
         return [self.name, *_ALL, *_TOLD, *own, *folder, "-o", IMAGE, *linked]
 
 

@@ -1,7 +1,7 @@
 """What runs in the sandbox: compiles the source on its input, and answers what became of it, as JSON.
 
-`inside COMPILER CHOICE [answer]`, in a folder of its own, with that word for an answer to an exercise. What is answered has
-`messages`, and `image` where there is one (`debug.py`).
+`inside COMPILER CHOICE [answer | PATH]`, in a folder of its own, with that word for an answer to an exercise, and a path that
+debug data names. What is answered has `messages`, and `image` where there is one (`debug.py`).
 """
 
 import importlib
@@ -12,6 +12,7 @@ import re
 import resource
 import subprocess
 import sys
+from collections.abc import Sequence
 from typing import NamedTuple
 
 from .compiler import FUNCTION, IMAGE, OWN_SOURCES, Compiler, source_of
@@ -25,6 +26,7 @@ LIMITS = {
     resource.RLIMIT_NOFILE: 64,
     resource.RLIMIT_CORE: 0,
 }
+OWN_BEGIN = re.compile(rb"\bvoid\s+_start\s*\(")  # of a source that has no need of the runtime's
 
 _MESSAGE = re.compile(r"(?:([^:\s]+):(\d+):(?:(\d+):)? )?(?:[^:\s]+: )?(fatal error|[Ee]rror|[Ww]arning): (.*)")
 _FOLDERS = re.compile(r"(?:/[\w.+-]+)+/")
@@ -54,9 +56,8 @@ def read_messages(complaint: str) -> list[Message]:
     return list(dict.fromkeys(messages))[:MOST_MESSAGES]
 
 
-def compile_source(compiler: Compiler, choice: int, is_answer: bool) -> list[Message]:
+def compile_source(command: Sequence[str]) -> list[Message]:
     """Compiles the source of this folder; what the compiler said."""
-    command = compiler.words(choice, is_answer)
     with subprocess.Popen(
         command, stdin=subprocess.DEVNULL, stdout=subprocess.DEVNULL, stderr=subprocess.PIPE
     ) as child:
@@ -77,8 +78,11 @@ def main() -> None:
     for limit, most in LIMITS.items():
         resource.setrlimit(limit, (most, most))
     compiler, choice, is_answer = Compiler(sys.argv[1]), int(sys.argv[2]), sys.argv[3:] == [FUNCTION]
-    pathlib.Path(source_of(choice)).write_bytes(sys.stdin.buffer.read())
-    messages, image = compile_source(compiler, choice, is_answer), None
+    named = "" if is_answer else "".join(sys.argv[3:])
+    text = sys.stdin.buffer.read()
+    pathlib.Path(source_of(choice)).write_bytes(text)
+    is_alone = not is_answer and OWN_BEGIN.search(text) is not None
+    messages, image = compile_source(compiler.words(choice, is_answer, is_alone, named)), None
     try:
         if not any(message.is_error for message in messages):
             image = image_of(pathlib.Path(IMAGE))

@@ -55,11 +55,16 @@ async def answer_beside(words: Sequence[str], text: str) -> bytes:
     return await _answer(command, text, pathlib.Path("/"), {"PATH": os.environ.get("PATH", os.defpath)})
 
 
-def answer_of_own(words: Sequence[str], text: str, headers: pathlib.Path) -> bytes:
-    """What words of `inside` answer to a text of one's own, which includes headers of a folder. Raises LabError."""
+def answer_of_own(words: Sequence[str], text: str, headers: pathlib.Path, kept: pathlib.Path | None = None) -> bytes:
+    """What words of `inside` answer to a text of one's own, which includes headers of a folder. Raises LabError.
+
+    kept: the folder in which source and image are left; without it nothing is
+    """
     variables = os.environ | {"PYTHONPATH": f"{LAB}", "CPATH": f"{headers.absolute()}", "LC_ALL": "C.UTF-8"}
     with tempfile.TemporaryDirectory() as folder:
-        return asyncio.run(_answer([sys.executable, "-PB", *MODULE, *words], text, pathlib.Path(folder), variables))
+        return asyncio.run(
+            _answer([sys.executable, "-PB", *MODULE, *words], text, kept or pathlib.Path(folder), variables)
+        )
 
 
 async def _answer(command: Sequence[str], text: str, folder: pathlib.Path, variables: Mapping[str, str]) -> bytes:

@@ -23,7 +23,7 @@ MARK = "vecmon> "
 
 def add_arguments(parser: argparse.ArgumentParser) -> None:
     """The words of `vecmon-lab console`."""
-    told = "an image, or an assembler source (.s, .S); without one there is no program yet"
+    told = "an image, or a source in C (.c) or assembler (.s, .S); without one there is no program yet"
     add_program(parser, told, is_needed=False)
 
 

@@ -10,6 +10,7 @@ from collections.abc import Iterable, Iterator, Sequence
 
 from .. import LabError
 from ..assembler.commands import COMMANDS, help_on, refusal_in_words
+from ..compilers.compiler import RUNTIME
 from ..guest.changes import NAMES, Carried, Change, Stepper, vtype_text
 from ..guest.guest import Guest
 from ..guest.symbols import Symbols
@@ -349,7 +350,7 @@ class Console:
             return self._source[0], lines[address]
         if not path or not name:
             raise LabError(f"no source line is known of {self._place(address)}")
-        for folder in (path.parent, pathlib.Path()):
+        for folder in (path.parent, pathlib.Path(), RUNTIME):
             if (folder / name).is_file():
                 return folder / name, int(number)
         raise LabError(f"the source {name} lies neither beside {path.name} nor here")

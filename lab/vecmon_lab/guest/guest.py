@@ -245,12 +245,12 @@ def started(
 
 
 def check_image(path: pathlib.Path) -> None:
-    """Raises LabError and OSError where an image can't be read, is too large, a source, or compiled for another machine."""
+    """Raises LabError and OSError where an image can't be read, is too large, an assembler source, or compiled for another machine."""
     with path.open("rb") as opened:
         if len(opened.read(IMAGE_BYTES + 1)) > IMAGE_BYTES:
             raise LabError(f"{path} has more than {IMAGE_BYTES:,} bytes")
-    if path.suffix in (".c", ".s", ".S"):
-        raise LabError(f"{path} is a source, and an image is needed: docs/LAB.md says how to make an image of one in C")
+    if path.suffix in (".s", ".S"):
+        raise LabError(f"{path} is an assembler source, and no image: the console and lessons take it")
     with mistakes_in(path):
         check_flags(path)
 

@@ -8,7 +8,7 @@ from collections.abc import Iterator
 from dataclasses import asdict
 
 from .. import LabError
-from ..arguments import add_image, check_output
+from ..arguments import add_image, check_output, image_path
 from ..guest.symbols import Symbols
 from ..page.pages import lone_page
 from ..tables.table import table_lines
@@ -25,7 +25,7 @@ def add_arguments(parser: argparse.ArgumentParser) -> None:
     add_image(parser)
     parser.add_argument("-o", dest="page", metavar="FILE.html", type=pathlib.Path, help="a page, and FILE.csv")
     help_ = "another image, as one of an earlier source, which runs with the same words: which lines got cheaper"
-    parser.add_argument("--against", metavar="IMAGE", type=pathlib.Path, help=help_)
+    parser.add_argument("--against", metavar="IMAGE", type=image_path, help=help_)
 
 
 def run(arguments: argparse.Namespace) -> int:

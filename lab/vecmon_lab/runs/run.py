@@ -40,20 +40,20 @@ def add_arguments(parser: argparse.ArgumentParser) -> None:
 
 def run(arguments: argparse.Namespace) -> int:
     """Runs the image; its status, or one that says how it stopped. Raises LabError and OSError for bad input."""
-    image, symbols = arguments.image, Symbols.read(arguments.image)
+    named, symbols = arguments.named, Symbols.read(arguments.image)
     _check_window(arguments)
     for output in (arguments.trace, arguments.log):
-        check_output(output, image, *filter(None, [arguments.input]))
+        check_output(output, named, *filter(None, [arguments.input]))
     with arguments.trace.open("w", encoding="utf-8") if arguments.trace else contextlib.nullcontext() as file:
         counts = counted(arguments, write_out, [*_logs(arguments)])
         lines = [*stats(counts)] if arguments.stats else [total(counts)] if arguments.count else []
         is_exit = counts.stop is not None and counts.stop.kind == "exit"
         if not is_exit:
-            lines.append(f"vecmon-lab: {image}: {told(arguments, counts, symbols)}")
+            lines.append(f"vecmon-lab: {named}: {told(arguments, counts, symbols)}")
         if counts.short_writes:
             with _begun(arguments) as guest:
                 short = short_write(guest, counts, symbols)
-            lines += [f"vecmon-lab: {image}: {short}"] if short else []
+            lines += [f"vecmon-lab: {named}: {short}"] if short else []
         sys.stderr.writelines(f"{line}\n" for line in lines)
         window = _window(arguments, counts)
         if file:

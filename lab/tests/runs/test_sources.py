@@ -1,0 +1,74 @@
+"""Sources in C in place of images, as docs/LAB.md has it: of kernels, beside images of its commands, and with mistakes."""
+
+import pathlib
+import shutil
+import subprocess
+import sys
+import tempfile
+
+import pytest
+
+from support.commands import Lab
+from support.places import DOCS, EXAMPLES
+from vecmon_lab.compilers.compiler import RUNTIME, Compiler
+
+GREY = EXAMPLES / "kernels" / "grey.c"
+
+
+@pytest.fixture(autouse=True)
+def images(tmp_path_factory: pytest.TempPathFactory, monkeypatch: pytest.MonkeyPatch) -> None:
+    """Images are in a folder that goes with the tests, as a worker among tests ends without a word."""
+    monkeypatch.setattr(tempfile, "tempdir", str(tmp_path_factory.mktemp("images")))
+
+
+def test_a_kernel(lab: Lab, clang: Compiler, tmp_path: pathlib.Path) -> None:
+    """Beside an image by the page's command; of 45 pixels 32 have room in a round, so six instructions have 19 in the tail."""
+    page = (DOCS / "LAB.md").read_text("utf-8").partition("### A source in place of an image")[2]
+    command = page.partition("$ clang-19 ")[2].partition("\n```")[0]
+    words = command.replace("\\\n", "").replace("$runtime", f"{RUNTIME}").replace("=lld-19", "=lld").split()
+    shutil.copy(GREY, tmp_path)
+    subprocess.run([clang.name, *words], cwd=tmp_path, check=True)
+    told = [lab("profile", image) for image in (tmp_path / "grey", tmp_path / "grey.c")]
+    row = told[1][1].decode().splitlines()[1].split()
+    assert told[0] == told[1] and told[1][0] == 0
+    assert row[3:5] == ["grey.c:14-20", "2"] and row[-5:] == ["270", "0", "114", "70", "%"]
+    status, output, _ = lab("run", GREY)
+    pixels = [(5 * i % 256, (255 - 3 * i) % 256, i * i % 256) for i in range(45)]
+    assert (status, output) == (0, bytes((77 * r + 150 * g + 29 * b) >> 8 for r, g, b in pixels))
+
+
+def test_a_source_with_a_begin_of_its_own(lab: Lab, clang: Compiler, tmp_path: pathlib.Path) -> None:
+    """It is linked to nothing. A slip of two, and the same mended: a line has fewer ticks, and nothing is relied on."""
+    slip = (EXAMPLES / "searches" / "dot_product.c").read_text("ascii")
+    mended = tmp_path / "dot_product.c"
+    mended.write_text(slip.replace("_vmacc_vv_u32m2", "_vmacc_vv_u32m2_tu"))
+    status, output, _ = lab("compare", EXAMPLES / "searches" / "dot_product.c")
+    assert status == 1 and b" dot_product.c:12: vmacc.vv " in output
+    assert lab("compare", mended)[0] == 0
+    status, output, _ = lab("profile", "--against", EXAMPLES / "searches" / "dot_product.c", mended)
+    assert status == 0 and output.startswith(b"source            ticks  against  change\n")
+
+
+def test_mistakes_and_what_is_missing(
+    lab: Lab, clang: Compiler, tmp_path: pathlib.Path, monkeypatch: pytest.MonkeyPatch
+) -> None:
+    bad = tmp_path / "bad.c"
+    bad.write_text("int main(void)\n{\n    int x = y;\n    return z;\n}\n")
+    told = f"vecmon-lab: {bad}:3:13: use of undeclared identifier 'y'\n{bad}:4:12: use of undeclared identifier 'z'\n"
+    assert lab("run", bad) == (2, b"", told)
+    bad.write_text("int twice(int x) { return 2 * x; }\n")
+    assert lab("profile", bad) == (2, b"", f"vecmon-lab: {bad}: undefined symbol: main\n")
+    assert lab("run", tmp_path / "none.c") == (2, b"", f"vecmon-lab: {tmp_path}/none.c: No such file or directory\n")
+    status, _, told = lab("run", "--trace", GREY, GREY)
+    assert status == 2 and told.startswith(f"vecmon-lab: {GREY} would be overwritten")
+    monkeypatch.setattr(shutil, "which", lambda name, path=None: None)
+    told = f"vecmon-lab: {GREY}: there is no compiler for C: apt-get install clang-19 lld-19 bubblewrap\n"
+    assert lab("gdb", GREY) == lab("console", GREY) == (2, b"", told)
+
+
+def test_nothing_is_left(clang: Compiler, tmp_path: pathlib.Path, monkeypatch: pytest.MonkeyPatch) -> None:
+    monkeypatch.setenv("TMPDIR", str(tmp_path))
+    lines = b"until main\nlist\nlist _start\n"
+    run = subprocess.run([sys.executable, "-m", "vecmon_lab", "console", GREY], input=lines, stdout=subprocess.PIPE)
+    assert run.returncode == 0 and not [*tmp_path.iterdir()]
+    assert b"=>   25  {\n" in run.stdout and b"exit(main());" in run.stdout
