@@ -354,7 +354,8 @@ def gdb() -> Callable[..., str]:
     def said(image: pathlib.Path, *commands: str) -> str:
         words = [f"target remote | exec {sys.executable} -m vecmon_lab gdb {image}", *commands]
         options = [word for command in words for word in ("-ex", command)]
-        command = ["gdb-multiarch", "-nx", "-batch", "-l", "120", "-d", str(STOCK), *options, str(image)]
+        command = ["gdb-multiarch", "-nx", "-batch", "-l", "120", "-d", str(STOCK), *options]
+        command += [str(image)] * (image.suffix != ".c")  # else what is compiled of it, as the lab names it
         run = subprocess.run(
             command, cwd=TOP, stdin=subprocess.DEVNULL, stdout=subprocess.PIPE, stderr=subprocess.STDOUT
         )
@@ -385,6 +386,12 @@ def test_the_session_of_the_manual(gdb: Callable[..., str]) -> None:
     for line in shown:  # in this order
         assert line in rest
         rest = rest[rest.index(line) :]
+
+
+def test_gdb_with_a_source_in_c(gdb: Callable[..., str], clang: Compiler) -> None:
+    """gdb reads symbols and lines of the image that is compiled of it. The grey of red 0, green 255 and blue 0 is 149."""
+    told = gdb(EXAMPLES / "kernels" / "grey.c", "break grey.c:32", "continue", "print greys[0]")
+    assert "grey.c:32\n32\t    put(greys, sizeof greys);\n$1 = 149 " in told
 
 
 def test_a_bug_found_backwards(gdb: Callable[..., str], clang: Compiler, tmp_path: pathlib.Path) -> None:

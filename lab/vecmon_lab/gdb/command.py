@@ -38,7 +38,7 @@ BEGUN = "S00"  # no signal: gdb would tell of one where the last machine was sto
 INTERRUPTED, ILLEGAL, TRAPPED, MISALIGNED, UNMAPPED = "S02", "S04", "S05", "S0a", "S0b"  # SIGINT, ILL, TRAP, BUS, SEGV
 FAULTS = {0: MISALIGNED, 1: UNMAPPED, 2: ILLEGAL, 5: UNMAPPED, 7: UNMAPPED}  # by cause
 REFUSED, TOO_MANY, THERE_ALREADY = "E04", "E12", Refused("E13")
-FEATURES = "qXfer:features:read+;QStartNoAckMode+;ReverseStep+;ReverseContinue+"
+FEATURES = "qXfer:features:read+;QStartNoAckMode+;ReverseStep+;ReverseContinue+;qXfer:exec-file:read+"
 FIRST_INSTANT = "T05replaylog:begin;"
 WATCHES = {"2": "watch", "3": "rwatch", "4": "awatch"}  # by the number in a packet
 PACKET_BYTES = 512  # so that what gdb writes at once, in two digits a byte, isn't too much for `poke`
@@ -50,7 +50,7 @@ VCSR = FIRST_VECTOR + 32
 
 def add_arguments(parser: argparse.ArgumentParser) -> None:
     """The words of `vecmon-lab gdb`."""
-    add_program(parser, "the image that the machine loads")
+    add_program(parser, "the image that the machine loads, or a source in C (.c)")
 
 
 def run(arguments: argparse.Namespace) -> int:
@@ -59,7 +59,7 @@ def run(arguments: argparse.Namespace) -> int:
     with started(
         arguments.image, arguments=words, file=arguments.input, write=lambda data: link.send(f"O{data.hex()}")
     ) as guest:
-        target = Target(guest, link)
+        target = Target(guest, link, arguments.image)
         with contextlib.suppress(EOFError, BrokenPipeError):
             while target.is_attached:
                 link.send(target.answer(link.receive()))
@@ -69,8 +69,8 @@ def run(arguments: argparse.Namespace) -> int:
 class Target:
     """A guest, by gdb's packets. It is attached until gdb detaches."""
 
-    def __init__(self, guest: Guest, link: Link) -> None:
-        self.is_attached = True
+    def __init__(self, guest: Guest, link: Link, image: pathlib.Path) -> None:
+        self.is_attached, self._image = True, image
         self._guest, self._link, self._timeline = guest, link, Timeline(guest)
         self._last = BEGUN  # the last stop
 
@@ -86,8 +86,9 @@ class Target:
             case "q", ["Supported", *_]:
                 return f"PacketSize={PACKET_BYTES:x};{FEATURES}"
             case "q", ["Xfer", "features", "read", "target.xml", offset, length]:
-                part = DESCRIPTION[int(offset, 16) :]
-                return ("m" if len(part) > int(length, 16) else "l") + part[: int(length, 16)]
+                return _part(DESCRIPTION, offset, length)
+            case "q", ["Xfer", "exec-file", "read", _, offset, length]:
+                return _part(f"{self._image.absolute()}", offset, length)
             case "q", ["Rcmd", digits]:
                 return self._monitor(bytes.fromhex(digits).decode("latin-1")).encode().hex()
             case ("Q", ["StartNoAckMode"]) | ("H", _):
@@ -206,3 +207,9 @@ class Target:
         """What gdb is told after a command."""
         (answer,) = self._guest.ask(command)
         return "OK" if isinstance(answer, Done) or answer == THERE_ALREADY else str(answer)
+
+
+def _part(text: str, offset: str, length: str) -> str:
+    """A part of what gdb reads piece by piece, and whether more of it is left."""
+    part = text[int(offset, 16) :]
+    return ("m" if len(part) > int(length, 16) else "l") + part[: int(length, 16)]

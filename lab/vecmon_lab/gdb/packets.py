@@ -26,8 +26,9 @@ class Link:
     def receive(self) -> str:
         """The data of the next packet; what comes between packets is dropped. Raises EOFError at the end."""
         while True:
-            while not (packet := _PACKET.search(self._unread)):
+            while not (packets := [*_PACKET.finditer(self._unread)]):
                 self._read()
+            packet = packets[-1]  # gdb sends one at a time, and the same again where it has waited for some seconds
             self._unread = self._unread[packet.end() :]
             data, is_good = packet[1], sum(packet[1]) % 256 == int(packet[2], 16)
             if self._acknowledges:
