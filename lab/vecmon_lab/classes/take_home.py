@@ -17,8 +17,8 @@ from ..lessons.page import lesson_page
 from ..lessons.script import Script, Step, add_line, read_compiled, read_source
 from ..machine.lines import words_of
 from .checks import kept_answers
-from .live import is_servers
 from .languages import SourceText
+from .live import is_servers
 from .names import NAMES
 from .solo import solo
 from .sources import kept_program, kept_source
