@@ -36,7 +36,7 @@ def main() -> int:
         return 141
     except OSError as error:
         mistake = f"{error.filename}: {error.strerror}" if error.filename else str(error)
-    print(f"vecmon-lab: {mistake}", file=sys.stderr)
+    sys.stderr.writelines(f"vecmon-lab: {line}\n" for line in mistake.split("\n"))
     return 2
 
 

@@ -54,16 +54,16 @@ def test_mistakes_and_what_is_missing(
 ) -> None:
     bad = tmp_path / "bad.c"
     bad.write_text("int main(void)\n{\n    int x = y;\n    return z;\n}\n")
-    told = f"vecmon-lab: {bad}:3:13: use of undeclared identifier 'y'\n{bad}:4:12: use of undeclared identifier 'z'\n"
-    assert lab("run", bad) == (2, b"", told)
+    told = [f"{bad}:3:13: use of undeclared identifier 'y'", f"{bad}:4:12: use of undeclared identifier 'z'"]
+    assert lab("run", bad) == (2, b"", "".join(f"vecmon-lab: {line}\n" for line in told))
     bad.write_text("int twice(int x) { return 2 * x; }\n")
     assert lab("profile", bad) == (2, b"", f"vecmon-lab: {bad}: undefined symbol: main\n")
     assert lab("run", tmp_path / "none.c") == (2, b"", f"vecmon-lab: {tmp_path}/none.c: No such file or directory\n")
-    status, _, told = lab("run", "--trace", GREY, GREY)
-    assert status == 2 and told.startswith(f"vecmon-lab: {GREY} would be overwritten")
+    status, _, complaint = lab("run", "--trace", GREY, GREY)
+    assert status == 2 and complaint.startswith(f"vecmon-lab: {GREY} would be overwritten")
     monkeypatch.setattr(shutil, "which", lambda name, path=None: None)
-    told = f"vecmon-lab: {GREY}: there is no compiler for C: apt-get install clang-19 lld-19 bubblewrap\n"
-    assert lab("gdb", GREY) == lab("console", GREY) == (2, b"", told)
+    complaint = f"vecmon-lab: {GREY}: there is no compiler for C: apt-get install clang-19 lld-19 bubblewrap\n"
+    assert lab("gdb", GREY) == lab("console", GREY) == (2, b"", complaint)
 
 
 def test_nothing_is_left(clang: Compiler, tmp_path: pathlib.Path, monkeypatch: pytest.MonkeyPatch) -> None:
