@@ -17,6 +17,21 @@ class BadRequest(LabError):
 
 
 @dataclass(frozen=True)
+class _OfSeat:
+    """A request that says a seat alone."""
+
+    seat: str
+
+
+@dataclass(frozen=True)
+class _OfExercise:
+    """A request that says an exercise, and a source as an answer to it."""
+
+    exercise: str
+    source: SourceText
+
+
+@dataclass(frozen=True)
 class Lines:
     """Lines without digits that are carried out, slices for the student's own program, and lines that look."""
 
@@ -67,25 +82,16 @@ class SetRights:
     own_slices: bool
 
 
-@dataclass(frozen=True)
-class Renew:
+class Renew(_OfSeat):
     """A new code for a seat."""
 
-    seat: str
 
-
-@dataclass(frozen=True)
-class LookOver:
+class LookOver(_OfSeat):
     """The seat that a teacher looks at; "" for none."""
 
-    seat: str
 
-
-@dataclass(frozen=True)
-class PutOnWall:
+class PutOnWall(_OfSeat):
     """The seat that the wall shows; "" for none."""
-
-    seat: str
 
 
 @dataclass(frozen=True)
@@ -127,20 +133,12 @@ class Compare:
     other: int
 
 
-@dataclass(frozen=True)
-class Check:
+class Check(_OfExercise):
     """A source that is checked as an answer to an exercise."""
 
-    exercise: str
-    source: SourceText
 
-
-@dataclass(frozen=True)
-class TryCase:
+class TryCase(_OfExercise):
     """A source for a new machine of the student's, which is given the case of an exercise that failed first."""
-
-    exercise: str
-    source: SourceText
 
 
 @dataclass(frozen=True)
@@ -168,11 +166,8 @@ class Write:
     text: str
 
 
-@dataclass(frozen=True)
-class Reset:
+class Reset(_OfSeat):
     """That a seat's machine is taken away."""
-
-    seat: str
 
 
 StudentRequest = Lines | Source | StepLine | Draft | ReadVersion | SetName | Compare | Check | TryCase
