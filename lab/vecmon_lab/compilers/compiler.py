@@ -40,12 +40,8 @@ class Choice:
 
 _PLAIN_CLANG, _PLAIN_GCC = ("-fno-vectorize", "-fno-slp-vectorize"), ("-fno-tree-vectorize",)
 CHOICES = [
-    Choice("O2", ("-O2",), ("-O2",)),
-    Choice("O0", ("-O0",), ("-O0",)),
-    Choice("O1", ("-O1",), ("-O1",)),
-    Choice("O3", ("-O3",), ("-O3",)),
-    Choice("O2-scalar", ("-O2", *_PLAIN_CLANG), ("-O2", *_PLAIN_GCC)),
-    Choice("O3-scalar", ("-O3", *_PLAIN_CLANG), ("-O3", *_PLAIN_GCC)),
+    *(Choice(level, (f"-{level}",), (f"-{level}",)) for level in ("O2", "O0", "O1", "O3")),
+    *(Choice(f"{it}-scalar", (f"-{it}", *_PLAIN_CLANG), (f"-{it}", *_PLAIN_GCC)) for it in ("O2", "O3")),
     Choice("stock", ("-Wno-unused-command-line-argument",), (), ASSEMBLER_SOURCE),
 ]
 
@@ -68,9 +64,8 @@ class Compiler:
 
     def title(self, choice: int) -> str:
         """The compiler with its options, as pages name it; and what it lacks."""
-        return (
-            f"{self.name} {CHOICES[choice].name}{'' if self.has_vectors else ' (scalar C alone: it has no intrinsics)'}"
-        )
+        lacking = "" if self.has_vectors else " (scalar C alone: it has no intrinsics)"
+        return f"{self.name} {CHOICES[choice].name}{lacking}"
 
     def words(self, choice: int, is_answer: bool = False, is_alone: bool = False, named: str = "") -> list[str]:
         """The command that compiles the source in its folder. Raises LabError where there is no such choice.
