@@ -1,16 +1,14 @@
 """All that a machine is: what the lines of its script say, what looks show, and what is found out by destroying it."""
 
 import pathlib
-import struct
 from collections.abc import Callable, Iterator, Mapping
 from dataclasses import dataclass, field
 
-from ..guest.guest import STACK_END, Guest
+from ..guest.guest import STACK_BYTES, STACK_END, Guest
 from ..guest.notebook import registers_html
 from ..instructions.accesses import PAGE_BYTES
 from ..machine.answers import (
     Addresses,
-    Answer,
     ControlRegisters,
     Granted,
     Output,
@@ -21,6 +19,7 @@ from ..machine.answers import (
     read,
 )
 from ..machine.lines import DIGITS, words_of
+from ..machine.program import segments_of
 from ..machine.session import Session
 
 EXECUTE, WRITE, READ = 1, 2, 4  # permissions, as an image's program headers have them
@@ -31,7 +30,6 @@ Opening = Callable[[], Session]
 """Opens a session on a new machine."""
 
 PERMISSIONS = {"r": READ, "w": WRITE, "x": EXECUTE}
-_STACK_PAGES = 4
 _FOLLOWED = set(" elmpv")  # how the commands begin that `_follow` knows
 
 
@@ -157,14 +155,11 @@ def pages_of(user: User, images: Mapping[str, pathlib.Path]) -> Iterator[tuple[i
 
 def _image_pages(image: bytes) -> dict[int, int]:
     """The pages of an image that `load` takes, by its program headers, and those of its stack."""
-    stack = range(STACK_END - _STACK_PAGES * PAGE_BYTES, STACK_END, PAGE_BYTES)
+    stack = range(STACK_END - STACK_BYTES, STACK_END, PAGE_BYTES)
     pages = dict.fromkeys(stack, READ | WRITE)
-    (place,), (size, number) = struct.unpack_from("<Q", image, 32), struct.unpack_from("<HH", image, 54)
-    for header in range(place, place + number * size, size):
-        kind, flags, _, address, _, _, length = struct.unpack_from("<IIQQQQQ", image, header)
-        if kind == 1 and length:
-            for page in range(address // PAGE_BYTES * PAGE_BYTES, address + length, PAGE_BYTES):
-                pages[page] = pages.get(page, 0) | flags & 7
+    for address, flags, length, _ in segments_of(image):
+        for page in range(address // PAGE_BYTES * PAGE_BYTES, address + length, PAGE_BYTES):
+            pages[page] = pages.get(page, 0) | flags
     return pages
 
 

@@ -37,7 +37,7 @@ OUTPUT_BYTES, WRITE_BYTES = 1024, 256  # that the buffer holds; and that a call 
 PACES = ((MOST_STEPS, OUTPUT_BYTES - WRITE_BYTES), (OUTPUT_BYTES // WRITE_BYTES, OUTPUT_BYTES))
 """Steps at once, and with how many bytes of output all calls have found room behind them; the last ones always find it."""
 
-STACK_POINTER, STACK_END = 0x7FFF_EFC0, 0x7FFF_F000  # as `load` leaves them
+STACK_POINTER, STACK_END, STACK_BYTES = 0x7FFF_EFC0, 0x7FFF_F000, 0x4000  # as `load` leaves them
 
 Told = TypeVar("Told", bound=Answer)
 

@@ -3,7 +3,9 @@
 import os
 import pathlib
 import shutil
+import struct
 import subprocess
+from collections.abc import Iterator
 
 from .. import LabError, mistakes_in
 from ..tables.table import read_table
@@ -22,6 +24,7 @@ HOW_TO_BUILD_RECORDER = (
 MARCH = "-march=rv64im_zicsr_zve64x_zvl256b"
 """The compiler's word for what the machine has, as docs/COMPILING.md has it."""
 
+PT_LOAD = 1
 _FLAGS = {1: "compressed instructions", 6: "a floating-point ABI"}  # by the bits of e_flags that say so
 
 
@@ -81,6 +84,15 @@ def images_of(words: list[str]) -> dict[str, pathlib.Path]:
 def image_refusal(name: str, code: str) -> str:
     """What is said of an image that the machine refuses."""
     return f"the machine refuses {name} ({code}): {dict(read_table('image_faults')).get(code)}"
+
+
+def segments_of(image: bytes) -> Iterator[tuple[int, int, int, bytes]]:
+    """What an image has loaded, by its program headers: an address, permissions, how many bytes, and the first of these."""
+    (table,), (size, count) = struct.unpack_from("<Q", image, 32), struct.unpack_from("<HH", image, 54)
+    for at in range(table, table + size * count, size):
+        kind, flags, offset, address, _, in_file, length = struct.unpack_from("<IIQQQQQ", image, at)
+        if kind == PT_LOAD and length:
+            yield address, flags & 7, length, image[offset : offset + in_file]
 
 
 def check_flags(image: pathlib.Path) -> None:

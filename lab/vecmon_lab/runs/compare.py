@@ -4,17 +4,17 @@ and stack filled where nobody has written."""
 import argparse
 import itertools
 import pathlib
-import struct
 from collections.abc import Iterator, Sequence
 from concurrent.futures import ThreadPoolExecutor
 from dataclasses import replace
 from random import Random
 
 from ..arguments import add_image
-from ..guest.guest import STACK_END, Guest, started
+from ..guest.guest import STACK_BYTES, STACK_END, Guest, started
 from ..guest.symbols import Symbols
 from ..instructions.accesses import REGISTER_BYTES
 from ..machine.answers import Stop
+from ..machine.program import segments_of
 from ..machine.recorder import Beginning
 from ..machine.session import ScriptFull
 from .counts import beginning_of
@@ -24,8 +24,7 @@ from .run import status_of
 POLICIES, QUANTUMS = ("keep", "ones"), (1000, 7, 1)
 LOADED, ONES = "as loaded", "under ones"  # names of runs
 FILLED = {"filled": 0, "filled anew": 0xFF}  # others, and which bits are turned round there
-SHOWN_BYTES, PT_LOAD = 40, 1
-STACK_BYTES = 0x4000  # that `load` lays below STACK_END
+SHOWN_BYTES = 40
 Outcome = tuple[Stop | None, str, bytes]
 """How a run ended, if it did; that in words, and what it wrote."""
 
@@ -76,12 +75,9 @@ def filled(beginning: Beginning, turned: int) -> Beginning:
 
 def _segments_in_stack(image: pathlib.Path) -> Iterator[tuple[int, str, bytes]]:
     """What an image itself has in the pages of the stack, by its program headers."""
-    data = image.read_bytes()
-    (table,), (size, count) = struct.unpack_from("<Q", data, 32), struct.unpack_from("<HH", data, 54)
-    for at in range(table, table + size * count, size):
-        kind, _, offset, address, _, in_file, length = struct.unpack_from("<IIQQQQQ", data, at)
-        if kind == PT_LOAD and length and address < STACK_END and address + length > STACK_END - STACK_BYTES:
-            yield address, "rw", data[offset : offset + in_file].ljust(length, b"\0")
+    for address, _, length, data in segments_of(image.read_bytes()):
+        if address < STACK_END and address + length > STACK_END - STACK_BYTES:
+            yield address, "rw", data.ljust(length, b"\0")
 
 
 def _relies(runs: dict[str, Beginning], symbols: Symbols, ticks: int) -> bool:
