@@ -36,7 +36,7 @@ class Whole:
     def __init__(self, session: Session) -> None:
         looks = ["1 regs", "1 vcsr", *(f"1 vreg v{number} 8" for number in range(32))]
         looks += [f"1 peek {DATA + place:x} 256" for place in range(0, DATA_BYTES, 256)]
-        registers, (control,), *others = session.look_all(looks)
+        registers, (control,), *others = session.do_all(looks)
         words = " ".join(line[2:] for line in registers).split()
         self.registers = {name: int(value, 16) for name, value in zip(words[2::2], words[3::2])}
         for word in control.split()[1:]:

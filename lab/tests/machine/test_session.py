@@ -43,13 +43,14 @@ def test_what_was_done_makes_the_machine_anew(counting: Session, program: pathli
     answers = [counting.do("1 step 9"), counting.do("1 nonsense"), counting.look("1 trace"), counting.do("1 state")]
     assert [answer[0].split()[1] for answer in answers] == ["stepped", "E03", "trace", "state"]
     assert counting.script.decode("ascii").splitlines() == [*COUNTING, "1 step 9", "1 nonsense"]
-    with Session(program, script=counting.script) as again:
+    with counting.rewound(counting.script) as again:
         assert again.look("1 regs") == counting.look("1 regs")
         assert (again.script, again.digest, again.policy) == (counting.script, counting.digest, counting.policy)
 
 
-def test_empty_lines_of_a_script_are_left_out(program: pathlib.Path) -> None:
-    with Session(program, script=b"\n1 enter\n\n1 regs\n1 step 1") as session:
+def test_lines_that_look_are_left_out_of_a_script(program: pathlib.Path) -> None:
+    with Session(program) as session:
+        session.do_all(["1 enter", "1 regs", "1 step 1"])
         assert session.script == b"1 enter\n1 step 1\n"
 
 
@@ -115,7 +116,8 @@ def test_a_spare_takes_the_place_of_a_process_that_ended(counting: Session) -> N
 
 
 def test_a_process_that_hangs_is_replaced(program: pathlib.Path) -> None:
-    with Session(program, patience=2.0, script="\n".join(COUNTING).encode("ascii")) as session:
+    with Session(program, patience=2.0) as session:
+        session.do_all(COUNTING)
         first = session.process
         assert first
         os.kill(first, signal.SIGSTOP)
@@ -149,7 +151,8 @@ def test_a_process_is_out_of_reach_of_ctrl_c(session: Session) -> None:
 def test_a_script_that_is_full(program: pathlib.Path) -> None:
     script = "".join(f"{line}\n" for line in COUNTING)
     room = len(script) + 3 * len("1 step 2\n")
-    with Session(program, script=script.encode("ascii"), script_bytes=room) as session:
+    with Session(program, script_bytes=room) as session:
+        session.do_all(COUNTING)
         for _ in range(3):
             assert session.do("1 step 2") == ["1 stepped 2 pc=0000000000010000"]
         processes = set()
@@ -160,7 +163,8 @@ def test_a_script_that_is_full(program: pathlib.Path) -> None:
             processes.add(session.process)
         assert len(processes) > 2
         assert len(session.script) == room
-    with Session(program, script=script.encode("ascii"), script_bytes=room - 1) as session:
+    with Session(program, script_bytes=room - 1) as session:
+        session.do_all(COUNTING)
         for _ in range(2):
             session.do("1 step 2")
         with pytest.raises(ScriptFull):
@@ -169,7 +173,8 @@ def test_a_script_that_is_full(program: pathlib.Path) -> None:
 
 
 def test_looks_are_not_fed_again(program: pathlib.Path) -> None:
-    with Session(program, script="\n".join(COUNTING).encode("ascii"), script_bytes=400) as session:
+    with Session(program, script_bytes=400) as session:
+        session.do_all(COUNTING)
         first = session.process
         for _ in range(100):
             session.look("1 vreg v31 64")
@@ -181,7 +186,8 @@ def test_looks_are_not_fed_again(program: pathlib.Path) -> None:
 def test_a_replay_that_differs_is_refused(program: pathlib.Path, tmp_path: pathlib.Path) -> None:
     image = tmp_path / "image"
     shutil.copy(SUM, image)
-    with Session(program, {"it": image}, script=b"1 enter\n1 load it\n") as session:
+    with Session(program, {"it": image}) as session:
+        session.do_all(["1 enter", "1 load it"])
         registers = session.look("1 regs")
         shutil.copy(SHORT, image)
         assert session.process

@@ -205,11 +205,10 @@ class Session(contextlib.AbstractContextManager["Session"]):
         *,
         quantum: int | None = None,
         patience: float = 30.0,
-        script: bytes = b"",
         script_bytes: int = SCRIPT_BYTES,
         check: Callable[[], object] = lambda: None,
     ) -> None:
-        """Starts the program with these images by name, and does what the script has.
+        """Starts the program with these images by name.
 
         A process hangs that says nothing for `patience` seconds. The script has room for `script_bytes`. `check` is
         called once a process has started, and raises where that mustn't be used. Raises as `do` does.
@@ -240,8 +239,6 @@ class Session(contextlib.AbstractContextManager["Session"]):
         self._process: _Process | None = None
         try:
             self._replay()
-            for line in filter(None, script.decode("latin-1").split("\n")):
-                self.do(line)
         except BaseException as error:
             self.close()
             if isinstance(error, ProgramGone | OutOfStep):
@@ -371,15 +368,10 @@ class Session(contextlib.AbstractContextManager["Session"]):
 
     def look(self, line: str) -> list[str]:
         """The answer to a line that only looks. Raises BadLine for any other one, and else as `do`."""
-        return self.look_all([line])[0]
-
-    def look_all(self, lines: Sequence[str]) -> list[list[str]]:
-        """The answers to some dozens of lines that only look."""
-        for line in lines:
-            check_line(line)
-            if not is_look(line):
-                raise BadLine(f"{line[:40]!r} isn't a line that only looks")
-        return self._ask(lines)
+        check_line(line)
+        if not is_look(line):
+            raise BadLine(f"{line[:40]!r} isn't a line that only looks")
+        return self._ask([line])[0]
 
     def close(self) -> None:
         """Ends the process. The session goes on with a new one where it is asked again."""
