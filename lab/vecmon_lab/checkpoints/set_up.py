@@ -4,10 +4,10 @@ from collections.abc import Iterable, Iterator, Mapping
 
 from ..guest.guest import STACK_POINTER
 from ..instructions.accesses import LINE_BYTES, PAGE_BYTES, REGISTER_BYTES
+from ..machine.answers import VILL
 from ..machine.lines import DIGITS
 from .machine_state import EXECUTE, READ, TOUCHING, WRITE, Machine
 
-NO_TYPE = 1 << 63  # vtype of a machine that has begun, with vl 0
 TRACED = 16  # addresses that a trace has at most
 _GAP = 16  # bytes that are poked though they stay, so that there are fewer lines
 
@@ -51,7 +51,7 @@ class _SetUp:
         self.user, self._shown, self._digit = machine.users[digit], machine.shown[digit], digit
         control = self._shown.control
         self._fixed_point = control.vxrm << 1 | control.vxsat
-        self._has_type = (control.vl, control.vtype) != (0, NO_TYPE)
+        self._has_type = (control.vl, control.vtype) != (0, VILL)
         self.has_vector_state = self._has_type or control.vstart != 0 or self._fixed_point != 0
         self._memory = {page: bytearray(data) for page, data in fresh.items()}  # as far as it is known
         self._texts = dict[int, str]()  # instructions that stand there

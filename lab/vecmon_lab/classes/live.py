@@ -5,12 +5,12 @@ They end in a space, which the machine leaves out, and by which they are known f
 
 from collections.abc import Iterable, Sequence
 
+from ..checkpoints.set_up import TRACED
 from ..machine.answers import is_refusal, is_stop
 from ..machine.lines import words_of
 from ..page.state import State
 
 OUT, STOP, GO = "out ", "stop ", "go "
-TRACED = 16  # instructions of which a listing has all that were carried out
 
 
 def is_servers(line: str) -> bool:
@@ -45,4 +45,5 @@ def _calls(state: State, steps: int) -> bool:
     code = state.get("code", {})
     if steps == 1:
         return code.get(state.get("pc", ""), "ecall").endswith("ecall")
+    # a listing has so many of the instructions that were carried out
     return steps > TRACED or any(text.endswith("ecall") for text in code.values())

@@ -7,6 +7,7 @@ from collections import deque
 from collections.abc import Iterator, Sequence
 
 from .. import LabError
+from ..guest.guest import MOST_SLICES
 from ..machine.answers import Granted, is_refusal, read
 from ..machine.lines import DIGITS, words_of
 from ..machine.program import find_program
@@ -14,7 +15,6 @@ from ..machine.session import Session
 from .store import Store
 
 PATIENCE = 30.0
-MOST_SLICES = 1000  # that a line grants
 
 
 def add_arguments(parser: argparse.ArgumentParser) -> None:

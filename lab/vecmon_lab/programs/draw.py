@@ -10,7 +10,7 @@ from ..instructions.reasons import illegal_reasons
 from ..instructions.table import Row, instruction_table
 from ..instructions.words import LOAD, OP_V, STORE, STORE_FP, SUPPORTED, SYSTEM, VECTOR_ACCESSES, Operand, decode
 from ..machine.answers import ControlRegisters
-from ..vectors.cases import reads_two_widths
+from ..vectors.cases import PLACES, reads_two_widths
 from .registers import Registers, operands_of
 
 FIRST = ControlRegisters(vl=32, vtype=0)
@@ -19,7 +19,6 @@ FIRST = ControlRegisters(vl=32, vtype=0)
 TENTH = 10  # of so many instructions each has a digest
 CHECKPOINT, DONE = -1, -2  # among words: the call for a digest, behind which stands which registers count; and the end
 _BASE, _END = 29, 0x22  # the scalar register that has the middle of memory; the number of the page behind it
-_PLACES = {"rd": 7, "vd": 7, "rs1": 15, "vs1": 15, "rs2": 20, "vs2": 20}
 _JUMPS, _BRANCH, _FENCE = (0x6F, 0x67), 0x63, 0x0F
 _CONTROL = {0x009: 2, 0x00A: 4, 0x00F: 8}  # vxsat, vxrm and vcsr, and how many values each takes
 _READ = (0x008, *_CONTROL, 0xC20, 0xC21, 0xC22)
@@ -128,7 +127,7 @@ class _Generator:
         if self._since >= TENTH and not self._is_atomic:
             self._checkpoint()
         for place, number in numbers.items():
-            bits = bits & ~(31 << _PLACES[place]) | number << _PLACES[place]
+            bits = bits & ~(31 << PLACES[place]) | number << PLACES[place]
         row = instruction_table()[name]
         self._drawn.words.append(row.word(bits))
         self._drawn.executed += self._times
@@ -275,7 +274,7 @@ class _Generator:
     def _bits(self, numbers: dict[str, int]) -> int:
         """Registers and `vm` at their places in a word, and any bits for an immediate."""
         bits = numbers["vm"] << 25 | (0 if {"vs1", "rs1"} & set(numbers) else self._draws.randrange(32) << 15)
-        return bits | sum(number << _PLACES[place] for place, number in numbers.items() if place != "vm")
+        return bits | sum(number << PLACES[place] for place, number in numbers.items() if place != "vm")
 
     def _carry_out(self, row: Row, numbers: dict[str, int]) -> bool:
         """Appends a vector instruction with these registers, and what reads its results where the standard fixes only a part."""

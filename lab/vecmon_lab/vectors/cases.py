@@ -33,7 +33,7 @@ DATA, READ_ONLY, DATA_END = 0x20000, 0x21000, 0x22000
 """Where two pages of data begin and end, of which the second can only be read."""
 
 _LOADS, _STORES = (LOAD, LOAD_FP), (STORE, STORE_FP)
-_PLACES = {"rd": 7, "vd": 7, "rs1": 15, "vs1": 15, "rs2": 20, "vs2": 20, "csr": 20, "vtypei": 20}  # lowest bits
+PLACES = {"rd": 7, "vd": 7, "rs1": 15, "vs1": 15, "rs2": 20, "vs2": 20, "csr": 20, "vtypei": 20}  # lowest bits
 _MASKABLE = "[, v0.t]"
 _REACH = 512  # the bytes that a strided or indexed access spans
 _SCALAR_CASES, _TROUBLES, _DRAWS = 24, 8, 40  # cases in a plan, those of them that fault, and how often a word is drawn
@@ -62,7 +62,7 @@ class Case:
 
     def register(self, name: str) -> int:
         """The number of the register at a place of the word."""
-        return self.word >> _PLACES[name] & 31
+        return self.word >> PLACES[name] & 31
 
 
 class _Draws(random.Random):
@@ -174,9 +174,9 @@ def _draw_word(row: Row, kind: Kind, draws: _Draws, steps: Sequence[int]) -> tup
         word, step = draws.getrandbits(32), draws.choice(steps)
         if _MASKABLE in row.operands:
             word = word & ~(1 << 25) | (not kind.is_masked) << 25
-        for name in filter(_PLACES.__contains__, row.fields()):
+        for name in filter(PLACES.__contains__, row.fields()):
             mask, value = draws.field(row, name, step)
-            word = word & ~(mask << _PLACES[name]) | value << _PLACES[name]
+            word = word & ~(mask << PLACES[name]) | value << PLACES[name]
         word = row.word(word)
         is_illegal = bool(illegal_reasons(word, view))
         stride_is_base = _is_strided(row) and not (word >> 15 ^ word >> 20) & 31
