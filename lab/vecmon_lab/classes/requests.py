@@ -1,6 +1,6 @@
 """What a tab asks for (docs/CLASS_PROTOCOL.md): each request is checked here, once."""
 
-from collections.abc import Mapping
+from collections.abc import Callable, Mapping
 from dataclasses import dataclass
 
 from .. import LabError
@@ -174,57 +174,52 @@ StudentRequest = Lines | Source | StepLine | Draft | ReadVersion | SetName | Com
 TeacherRequest = Give | Write | Reset | SetClock | SetRights | Renew | LookOver | PutOnWall | ShowCodes | ReadAnswer
 Request = StudentRequest | TeacherRequest
 
-
 _LIMITS = {"on": (0, 1), "slices": (1, 1000), "ms": (10, 10_000), "limit": (100_000, 10**12)}  # of a clock's settings
 
+Message = Mapping[str, object]
+Reader = Callable[[Message], Request]
+"""Makes the request of a message. Raises BadRequest and BadLine."""
 
-def read_request(message: Mapping[str, object], is_teacher: bool) -> Request:
+_OF_ALL: Mapping[str, Reader] = {
+    "name": lambda it: SetName(_name(it, "seat"), _name(it, "name")),
+    "version": lambda it: ReadVersion(_number(it)),
+}
+_OF_STUDENTS: Mapping[str, Reader] = {
+    **_OF_ALL,
+    "lines": lambda it: _lines(it, is_teacher=False),
+    "source": lambda it: Source(_source(it)),
+    "again": lambda it: Source(None),
+    "step-line": lambda it: StepLine(),
+    "draft": lambda it: Draft(_source(it), _number(it)),
+    "listings": lambda it: Compare(_source(it), _number(it, "other")),
+    "check": lambda it: Check(_name(it, "exercise"), _source(it)),
+    "case": lambda it: TryCase(_name(it, "exercise"), _source(it)),
+}
+_OF_TEACHERS: Mapping[str, Reader] = {
+    **_OF_ALL,
+    "lines": lambda it: _lines(it, is_teacher=True),
+    "answer": lambda it: ReadAnswer(_name(it, "seat"), _name(it, "exercise"), _number(it)),
+    "give": lambda it: Give(_name(it, "seat"), _source(it)),
+    "write": lambda it: Write(_name(it, "seat"), _sentence(it)),
+    "reset": lambda it: Reset(_name(it, "seat")),
+    "clock": lambda it: SetClock(_name(it, "machine"), _settings(it)),
+    "rights": lambda it: SetRights(_name(it, "machine"), bool(it.get("own_slices"))),
+    "renew": lambda it: Renew(_name(it, "seat")),
+    "shoulder": lambda it: LookOver(_name(it, "seat")),
+    "wall": lambda it: PutOnWall(_name(it, "seat")),
+    "codes": lambda it: ShowCodes(_name(it, "seat"), bool(it.get("pictures"))),
+}
+
+
+def read_request(message: Message, is_teacher: bool) -> Request:
     """The request of a message that a teacher or a student sends. Raises BadRequest and BadLine."""
-    match message.get("ask"), is_teacher:
-        case "lines", _:
-            return _lines(message, is_teacher)
-        case "source", False:
-            return Source(_source(message))
-        case "again", False:
-            return Source(None)
-        case "step-line", False:
-            return StepLine()
-        case "draft", False:
-            return Draft(_source(message), _number(message))
-        case "name", _:
-            return SetName(_name(message, "seat"), _name(message, "name"))
-        case "listings", False:
-            return Compare(_source(message), _number(message, "other"))
-        case "check", False:
-            return Check(_name(message, "exercise"), _source(message))
-        case "case", False:
-            return TryCase(_name(message, "exercise"), _source(message))
-        case "answer", True:
-            return ReadAnswer(_name(message, "seat"), _name(message, "exercise"), _number(message))
-        case "version", _:
-            return ReadVersion(_number(message))
-        case "give", True:
-            return Give(_name(message, "seat"), _source(message))
-        case "write", True:
-            return Write(_name(message, "seat"), _sentence(message))
-        case "reset", True:
-            return Reset(_name(message, "seat"))
-        case "clock", True:
-            return SetClock(_name(message, "machine"), _settings(message))
-        case "rights", True:
-            return SetRights(_name(message, "machine"), bool(message.get("own_slices")))
-        case "renew", True:
-            return Renew(_name(message, "seat"))
-        case "shoulder", True:
-            return LookOver(_name(message, "seat"))
-        case "wall", True:
-            return PutOnWall(_name(message, "seat"))
-        case "codes", True:
-            return ShowCodes(_name(message, "seat"), bool(message.get("pictures")))
-    raise BadRequest("there is no such request for this seat")
+    ask, readers = message.get("ask"), _OF_TEACHERS if is_teacher else _OF_STUDENTS
+    if not isinstance(ask, str) or ask not in readers:
+        raise BadRequest("there is no such request for this seat")
+    return readers[ask](message)
 
 
-def _lines(message: Mapping[str, object], is_teacher: bool) -> Lines:
+def _lines(message: Message, is_teacher: bool) -> Lines:
     do, look, slices = message.get("do", []), message.get("look", []), message.get("slices", 0)
     if not isinstance(do, list) or not isinstance(look, list) or len(do) + len(look) > REQUEST_LINES:
         raise BadRequest(f"a request has lists of {REQUEST_LINES} lines at most")
@@ -241,7 +236,7 @@ def _lines(message: Mapping[str, object], is_teacher: bool) -> Lines:
     return Lines(_name(message, "machine") if is_teacher else "", do, slices, look)
 
 
-def _settings(message: Mapping[str, object]) -> Mapping[str, int]:
+def _settings(message: Message) -> Mapping[str, int]:
     """What a message names of a clock's settings."""
     settings = {}
     for name in _LIMITS.keys() & message.keys():
@@ -252,23 +247,18 @@ def _settings(message: Mapping[str, object]) -> Mapping[str, int]:
     return settings
 
 
-def _source(message: Mapping[str, object]) -> SourceText:
+def _source(message: Message) -> SourceText:
     """The source of a message, in assembler where that doesn't say its language."""
     language = message.get("language", 0)
     if not isinstance(language, int) or not 0 <= language < len(LANGUAGES):
         raise BadRequest(f"languages have numbers from 0 to {len(LANGUAGES) - 1}")
-    return SourceText(_text(message), int(language))
-
-
-def _text(message: Mapping[str, object]) -> str:
-    """The text of a source of a message."""
     text = message.get("text")
     if not isinstance(text, str) or len(text) > SOURCE_LETTERS:
         raise BadRequest(f"a source is a text of {SOURCE_LETTERS} characters at most")
-    return text.encode("utf-8", "replace").decode()
+    return SourceText(text.encode("utf-8", "replace").decode(), int(language))
 
 
-def _sentence(message: Mapping[str, object]) -> str:
+def _sentence(message: Message) -> str:
     """The sentence of a message."""
     text = message.get("text")
     if not isinstance(text, str) or not 0 < len(text) <= SENTENCE_LETTERS or not text.isprintable():
@@ -276,7 +266,7 @@ def _sentence(message: Mapping[str, object]) -> str:
     return text
 
 
-def _number(message: Mapping[str, object], name: str = "number") -> int:
+def _number(message: Message, name: str = "number") -> int:
     """The number that a message has by a name."""
     number = message.get(name)
     if not isinstance(number, int):
@@ -284,7 +274,7 @@ def _number(message: Mapping[str, object], name: str = "number") -> int:
     return number
 
 
-def _name(message: Mapping[str, object], kind: str) -> str:
+def _name(message: Message, kind: str) -> str:
     """The name of a machine or a seat; "" without one."""
     name = message.get(kind) or ""
     if not isinstance(name, str):
