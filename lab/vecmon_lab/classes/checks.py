@@ -27,6 +27,7 @@ from .beside import Beside
 from .builds import Builds
 from .codes import new_code
 from .languages import NUMBERS, C, SourceText
+from .names import local_time
 from .requests import BadRequest
 from .store import BadFolder, Store
 
@@ -205,8 +206,7 @@ class Checks:
         yield "seat", "name", "exercise", "tries", "passed at try", "cases passed", "of", "time"
         for name, exercise in self.table().items():
             for seat, it in sorted(exercise["seats"].items()):
-                when = time.strftime("%Y-%m-%d %H:%M:%S", time.localtime(it["time"]))
-                passed = it["passed"] or ""
+                passed, when = it["passed"] or "", local_time(it["time"])
                 yield seat, names.get(seat, ""), name, it["tries"], passed, it["best"], exercise["of"], when
 
     def _view(self, seat: str, name: str, exercise: Exercise) -> ExerciseView:

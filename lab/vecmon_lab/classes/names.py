@@ -2,6 +2,7 @@
 
 import csv
 import io
+import time
 import unicodedata
 from collections.abc import Iterable
 
@@ -23,6 +24,11 @@ def checked_name(text: str) -> str:
     if not is_fit or len(name) > MOST_LETTERS or name and kinds[0][0] != "L":
         raise BadRequest(f"a name begins with a letter, and has {MOST_LETTERS} letters, digits, spaces or -'. at most")
     return name
+
+
+def local_time(seconds: float) -> str:
+    """A time in seconds since 1970, as tables have it."""
+    return time.strftime("%Y-%m-%d %H:%M:%S", time.localtime(seconds))
 
 
 def as_csv(rows: Iterable[Iterable[object]]) -> bytes:

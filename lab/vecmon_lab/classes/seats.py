@@ -6,7 +6,6 @@ from collections import deque
 from collections.abc import Iterable, Sequence
 from dataclasses import dataclass, field
 from itertools import takewhile
-from typing import Any
 
 from ..assembler.commands import log_entries
 from ..assembler.source import Program
@@ -22,6 +21,7 @@ from .live import is_servers
 from ..page.state import ABSENT, RowChoice, State, Watch, look_at, with_rows
 
 LOG_ENTRIES = 500
+UNNAMED: State = {"labels": {}, "lines": {}}
 BLOCK_DIGITS, BLOCKS = 2048, 64  # of output, of which a page has the last 64 KB
 
 Done = tuple[str, Sequence[str]]
@@ -35,8 +35,8 @@ class Seat:
     log, number: its last entries, and how many there were
     state, shown: all that is known of the user, and what pages show of it
     written, program: the source that stands in the machine, and its program
-    labels, lines: its labels, and its line for each word, by address
-    starts, variables: of a source in C, as CompiledProgram has them
+    named: what pages show of that source: its labels, and its line for each word, by address; of one in C also where
+        instructions of its lines begin, and its variables
     stop, line, answer: the last stop, command and line of an answer, without the digit
     output: the last of what the program has put out, in hexadecimal digits, in blocks by number
     stands, is_stuck, since: how its program stands, in a few words beside the state's `run`; whether its student may need
@@ -55,10 +55,7 @@ class Seat:
     shown: State = field(default_factory=ABSENT.copy)
     watch: Watch = field(default_factory=Watch)
     rows: RowChoice = field(default_factory=RowChoice)
-    labels: dict[str, list[str]] = field(default_factory=dict)
-    lines: dict[str, str] = field(default_factory=dict)
-    starts: dict[str, int] = field(default_factory=dict)
-    variables: Sequence[Sequence[Any]] = ()
+    named: State = field(default_factory=UNNAMED.copy)
     written: SourceText = SourceText()
     program: Program | None = None
     output: dict[str, str] = field(default_factory=dict)
@@ -94,10 +91,9 @@ class Seat:
     def take(self, source: SourceText, program: Program) -> None:
         """Takes up which source stands in the machine now."""
         self.written, self.program = source, program
-        self.labels, self.lines = program.names(), program.source_lines(source.text)
-        self.starts, self.variables = {}, []
-        if isinstance(program, CompiledProgram):
-            self.starts, self.variables = program.line_starts(), program.variables
+        self.named = {"labels": program.names(), "lines": program.source_lines(source.text)}
+        if isinstance(program, CompiledProgram) and program.rows:
+            self.named.update({"starts": program.line_starts(), "variables": program.variables})
 
     def list_program(self, program: Program) -> None:
         """Has instructions and variables of a program shown that a compiler made, in place of all that lines name."""
@@ -193,7 +189,7 @@ class Seats:
             asker.used += len(line) + 1
         if _begins_anew(line, answer):
             asker.stop, asker.written, asker.program = "", SourceText(), None
-            asker.labels, asker.lines, asker.starts, asker.output = {}, {}, {}, {}
+            asker.named, asker.output = UNNAMED.copy(), {}
         elif words == ["go"] and not is_refusal(answer):
             asker.stop, asker.slices, asker.seen = "", 0.0, 0.0
         for part, entry in zip(answer, log_entries(line, answer)):

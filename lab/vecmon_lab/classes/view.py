@@ -5,7 +5,7 @@ import contextlib
 import json
 import pathlib
 import time
-from collections.abc import Callable, Iterable, Mapping
+from collections.abc import Callable, Iterable, Mapping, Sequence
 from dataclasses import asdict
 from functools import partial
 from typing import TypedDict
@@ -22,7 +22,7 @@ from .checks import Checks, ExerciseTable, ExerciseView
 from .codes import TEACHER, WALL
 from .comparisons import Comparisons
 from .languages import LANGUAGES, SourceText
-from .names import NAMES, as_csv, checked_name
+from .names import NAMES, as_csv, checked_name, local_time
 from .requests import (
     BadRequest,
     Check,
@@ -111,20 +111,20 @@ class StudentView(TypedDict):
 
 
 WallView = TypedDict("WallView", {"seat": str, "state": State, "stop": str, "trouble": str})
-SeatView = TypedDict(
-    "SeatView",
-    {
-        "name": str,
-        "tabs": int,
-        "run": str,
-        "stands": str,
-        "stuck": bool,
-        "since": int,
-        "line": str,
-        "answer": str,
-        "used": int,
-    },
-)
+
+
+class SeatView(TypedDict):
+    """What the teacher's page shows of a seat."""
+
+    name: str
+    tabs: int
+    run: str
+    stands: str
+    stuck: bool
+    since: int
+    line: str
+    answer: str
+    used: int
 
 
 class MachineView(TypedDict):
@@ -549,14 +549,11 @@ class Class:
 
     def table(self) -> bytes:
         """Who sits where, and how each stands, as CSV."""
-        head = ("seat", "name", "state", "how it stands", "since", "bytes of the script")
-        seats = [seat for room in self.rooms.values() for seat in room.seats.users.values()]
-        since = (time.strftime("%Y-%m-%d %H:%M:%S", time.localtime(seat.since)) for seat in seats)
-        rows = (
-            (seat.name, self.names.get(seat.name, ""), seat.state["run"], seat.stands, when, seat.used)
-            for seat, when in zip(seats, since)
-        )
-        return as_csv([head, *rows])
+        rows: list[Sequence[object]] = [("seat", "name", "state", "how it stands", "since", "bytes of the script")]
+        for seat in (seat for room in self.rooms.values() for seat in room.seats.users.values()):
+            name, since = self.names.get(seat.name, ""), local_time(seat.since)
+            rows.append((seat.name, name, seat.state["run"], seat.stands, since, seat.used))
+        return as_csv(rows)
 
     def exercise_table(self) -> bytes:
         """What seats have done of exercises, as CSV."""
@@ -579,9 +576,7 @@ class Class:
 def _shown(seat: Seat) -> State:
     """A seat's state as pages show it."""
     shown = seat.shown.copy()
-    shown["labels"], shown["lines"] = seat.labels, seat.lines
-    if seat.starts:
-        shown["starts"], shown["variables"] = seat.starts, seat.variables
+    shown.update(seat.named)
     if seat.output:
         shown["outputs"] = seat.output
     return shown
