@@ -4,6 +4,7 @@ import os
 import pathlib
 import sys
 from collections.abc import Mapping
+from functools import partial
 
 from .. import LabError
 from ..machine.answers import Granted, read
@@ -61,9 +62,8 @@ def _stops_at_once(session: Session, machine: Machine, digit: str) -> bool:
 def main(program: str, quantum: str, *images: str) -> None:
     """Puts out the checkpoint of a script that comes in, behind the number of lines that it stands for."""
     paths = images_of(list(images))
-    made = checkpoint(
-        lambda: Session(pathlib.Path(program), paths, quantum=int(quantum)), sys.stdin.buffer.read(), paths
-    )
+    opening = partial(Session, pathlib.Path(program), paths, quantum=int(quantum))
+    made = checkpoint(opening, sys.stdin.buffer.read(), paths)
     sys.stdout.buffer.write(b"%d\n" % made.number + made.lines)
 
 

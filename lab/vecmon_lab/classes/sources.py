@@ -78,9 +78,8 @@ class SeatSource:
             self._saved = self.own
         if self.written != self._saved_written:
             told = program.told.decode("utf-8", "replace") if isinstance(program, CompiledProgram) else ""
-            if self._store.write_text(f"{self._name}.{MADE}", told) and self._write(
-                f"{self._name}.written", self.written
-            ):
+            is_saved = self._store.write_text(f"{self._name}.{MADE}", told)
+            if is_saved and self._write(f"{self._name}.written", self.written):
                 self._saved_written = self.written
         for version in self.versions:
             number = version["number"]

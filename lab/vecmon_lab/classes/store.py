@@ -177,9 +177,8 @@ class Store:
         self.machines = LETTERS[: facts.machines]
         self.images = {name: self._image(name) for name in facts.images}
         self.codes = Codes(self.machines, self.read("codes.json", dict[str, str]))
-        if not self._is_reading and not (
-            self.write("class.json", asdict(facts)) and self.write("codes.json", self.codes.codes)
-        ):
+        begun: dict[str, Mapping[str, object]] = {"class.json": asdict(facts), "codes.json": self.codes.codes}
+        if not self._is_reading and not all(self.write(name, value) for name, value in begun.items()):
             raise BadFolder(self.trouble)
 
     def close(self) -> None:

@@ -165,10 +165,8 @@ def memory_rows(variables: Sequence[Sequence[Any]]) -> list[int]:
     """The rows of memory with numbers of variables that lie at an address, in the variables' order."""
     rows = dict[int, None]()
     for _, _, element, counts, _, _, locations in variables:
-        for first in (
-            int(offset, 16) for _, _, kind, register, offset in locations if kind == "memory" and not register
-        ):
-            size = int(element[1:]) // 8 * math.prod(counts) if element else 0
+        size = int(element[1:]) // 8 * math.prod(counts) if element else 0
+        for first in (int(each[4], 16) for each in locations if each[2] == "memory" and not each[3]):
             rows |= dict.fromkeys(range(first // ROW_BYTES * ROW_BYTES, first + min(size, PAGE_BYTES), ROW_BYTES))
     return list(rows)
 

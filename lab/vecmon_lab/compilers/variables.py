@@ -61,9 +61,8 @@ def read_variables(told: Iterable[Any]) -> list[Variable]:
     for name, words, element, counts, function, scopes, locations in islice(told, MOST_VARIABLES):
         if not _ELEMENT.fullmatch(element):
             raise ValueError("a kind of numbers that there isn't")
-        places = [
-            Location(int(a), int(b), str(c), d % 32, f"{int(e, 16):x}") for a, b, c, d, e in locations[:MOST_PARTS]
-        ]
+        parts = locations[:MOST_PARTS]
+        places = [Location(int(a), int(b), str(c), d % 32, f"{int(e, 16):x}") for a, b, c, d, e in parts]
         ranges = [(int(first), int(end)) for first, end in scopes[:MOST_PARTS]]
         name, words, function = (str(each)[:NAME_LETTERS] for each in (name, words, function))
         sizes = [int(each) for each in counts[:MOST_PARTS]]

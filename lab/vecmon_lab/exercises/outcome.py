@@ -28,9 +28,8 @@ def difference(expected: Results, done: Attempt, given: Mapping[str, int]) -> st
     """
     for where, value, old, left in _numbers(expected, done.before, done.found):
         if left != value:
-            near = next(
-                (ABI[name] for name, it in given.items() if min(it, left) >= ADDRESSES and abs(left - it) < 4096), ""
-            )
+            addresses = {name: it for name, it in given.items() if min(it, left) >= ADDRESSES}
+            near = next((ABI[name] for name, it in addresses.items() if abs(left - it) < 4096), "")
             found = f"found {left}" + (f" ({left:#x}, near {near}'s address)" if near else "")
             return f"{where}: expected {value}, {'and it was left as it was' if left == old else found}"
     if done.found.output != expected.output:
