@@ -132,14 +132,7 @@ def describe_stop(where: Place, word: int | None = None, view: ControlRegisters 
     return sentence
 
 
-_BRIEF = {
-    "break": "at a breakpoint",
-    "ebreak": "at an ebreak",
-    "exit": "ended with status {number}",
-    "outfull": "waits, since its output is full",
-    "fault cause=1": "no instruction at {pc}",
-    "fault cause=2": "illegal instruction {text}",
-}
+_BRIEF = dict(read_table("brief_stops"))
 
 
 def brief_stop(where: Place, word: int | None, view: ControlRegisters, text: str) -> str:
