@@ -30,7 +30,7 @@ Opening = Callable[[], Session]
 """Opens a session on a new machine."""
 
 PERMISSIONS = {"r": READ, "w": WRITE, "x": EXECUTE}
-_FOLLOWED = set(" elmpv")  # how the commands begin that `_follow` knows
+_FOLLOWED = set(" elmv")  # how the commands begin that `_follow` knows
 
 
 @dataclass
@@ -44,7 +44,6 @@ class User:
 
     image: str = ""
     maps: list[tuple[int, int, str]] = field(default_factory=list)
-    policy: str = "keep"
     has_area: bool = False
     pages: dict[int, int] = field(default_factory=dict)  # permissions, by address
 
@@ -60,6 +59,7 @@ class Shown:
     is_running: bool
     registers: ScalarRegisters
     control: ControlRegisters
+    policy: str
     vectors: list[bytes]
     breakpoints: list[int]
     trace: list[int]
@@ -138,8 +138,6 @@ def _follow(users: dict[str, User], line: str) -> None:
             del users[digit]
         case ["map", address, pages, permission]:
             users[digit].maps.append((int(address, 16), int(pages), permission))
-        case ["policy", policy]:
-            users[digit].policy = policy
         case ["vset", *_]:
             users[digit].has_area = True
 
@@ -172,6 +170,7 @@ def _look(guest: Guest, user: User) -> Shown:
         is_running,
         guest.told("regs", ScalarRegisters),
         guest.told("vcsr", ControlRegisters),
+        guest.session.policy[guest.user],
         guest.vectors(),
         list(guest.told("breaks", Addresses).addresses),
         list(guest.told("trace", Addresses).addresses),

@@ -72,7 +72,7 @@ class _SetUp:
 
     def ending(self) -> list[str]:
         """The policy, the breakpoints, and whether the program runs."""
-        policy = [] if self.user.policy == "keep" else [f"policy {self.user.policy}"]
+        policy = [] if self._shown.policy == "keep" else [f"policy {self._shown.policy}"]
         breakpoints = [f"break {address:x}" for address in self._shown.breakpoints]
         return self._told(policy + breakpoints + ["go"] * self._shown.is_running)
 

@@ -12,7 +12,8 @@ Taken = TypedDict("Taken", {"instructions": int, "work": int})
 
 def taken_by(program: pathlib.Path, answer: Answer, exercise: Exercise) -> Taken:
     """What an answer takes that passes. Raises LabError where there is no recorder."""
-    from ..runs.counts import beginning_at, count  # which is for answers that pass
+    from ..runs.beginning import beginning_at  # which is for answers that pass
+    from ..runs.recorder import record
 
     instructions, elements = 0, [0, 0, 0]
     for case in exercise.cases:
@@ -20,7 +21,7 @@ def taken_by(program: pathlib.Path, answer: Answer, exercise: Exercise) -> Taken
             with ready(program, answer, exercise, case) as guest:
                 lines = guest.session.script.decode("ascii").splitlines()
                 image = answer.path if answer.commands is None else None
-                counts = count(beginning_at(guest, lines, image), exercise.limits.ticks)
+                counts = record(beginning_at(guest, lines, image), exercise.limits.ticks)
             instructions += counts.instructions
             elements = [sum(pair) for pair in zip(elements, counts.elements)]
     return {"instructions": instructions, "work": round(100 * elements[0] / max(1, sum(elements)))}

@@ -25,7 +25,9 @@ from ..instructions.accesses import PAGE_BYTES
 from ..machine.answers import Memory, Output, Refused, ScalarRegisters, Stop
 from ..machine.program import find_program
 from ..machine.session import Session
-from ..runs.counts import Counts, beginning_at, count
+from ..runs.beginning import beginning_at
+from ..runs.counts import Counts
+from ..runs.recorder import record
 from ..tables.table import html_table
 
 Array: TypeAlias = "bytes | bytearray | memoryview | array.array[Any]"
@@ -181,7 +183,7 @@ class Kernel(contextlib.AbstractContextManager["Kernel"]):
         looks = ["regs", *(look for place in places for look in peeks(place.address, len(place.data))), "out"]
         answers, counts = guest.ask(*(before if counted else ())), None
         if counted:
-            counts = count(beginning_at(guest, [f"1 {line}" for line in before], self._images.get("image")), ticks)
+            counts = record(beginning_at(guest, [f"1 {line}" for line in before], self._images.get("image")), ticks)
         answers += guest.ask(*before[len(answers) :], f"step {MOST_STEPS}", *looks)
         for command, answer in zip(before, answers):
             if isinstance(answer, Refused):

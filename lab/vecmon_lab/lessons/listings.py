@@ -13,8 +13,10 @@ from ..compilers.compiled import CompiledProgram, read_answer
 from ..guest.guest import Guest
 from ..machine.session import Session
 from ..page.pages import lone_page
-from ..runs.counts import Place, beginning_at, count
+from ..runs.beginning import beginning_at
+from ..runs.counts import Place
 from ..runs.profile import summary_of
+from ..runs.recorder import record
 from .script import send
 
 MOST_TICKS, MOST_WORDS = 50_000, 4000
@@ -47,7 +49,7 @@ def listing_of(program: CompiledProgram, name: str, machine: pathlib.Path) -> Li
         send(guest, ["enter", *program.lines, f"setpc {program.entry:x}"])
         words = guest.words(lines)
         lines_done = session.script.decode("ascii").splitlines()
-        counts, stop = count(beginning_at(guest, lines_done), MOST_TICKS), guest.go(MOST_TICKS)
+        counts, stop = record(beginning_at(guest, lines_done), MOST_TICKS), guest.go(MOST_TICKS)
         end = f"status {stop.number}" if stop and stop.kind == "exit" else guest.tell(stop)
     by_address = {place.address: place for place in counts.places}
     places = [(word, by_address.get(word.address, Place(word.address, word.word))) for word in words]

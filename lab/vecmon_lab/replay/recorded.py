@@ -9,7 +9,9 @@ from typing import BinaryIO
 
 from ..instructions.accesses import LINE_BYTES
 from ..machine.answers import Stop
-from ..machine.recorder import Beginning, Record, Recording, record
+from ..runs.beginning import Beginning
+from ..runs.counts import Counts
+from ..runs.recorder import Record, record
 from .watches import Watch, logged_access
 
 FIRST_WINDOW, GROWTH = 4096, 16  # instructions of a log, the last ones; and how many times more each one before has
@@ -31,7 +33,7 @@ class Search:
         self._changed = [watch for watch in watches if watch.kind == "watch"]
         self._accessed = [watch for watch in watches if watch.kind != "watch"]
 
-    def first(self, ticks: int) -> tuple[Recording, list[Halt], int]:
+    def first(self, ticks: int) -> tuple[Counts, list[Halt], int]:
         """A run of so many ticks; its first halt, among others; and how many bytes it writes."""
         done, halts, written = self._changes(ticks)
         if self._needs_log(done):
@@ -64,17 +66,17 @@ class Search:
             size, last = GROWTH * size, first - 1
         yield changes
 
-    def _covering(self, ticks: int, count: int) -> tuple[int, Recording, list[Halt]]:
+    def _covering(self, ticks: int, count: int) -> tuple[int, Counts, list[Halt]]:
         """How many ticks cover so many instructions, from a number on; a run of these; and where it changes places."""
         done, changes, _ = self._changes(ticks, count)
         covers = done.instructions >= count or isinstance(done.end, Stop)
         return (ticks, done, changes) if covers else self._covering(2 * ticks, count)
 
-    def _needs_log(self, done: Recording) -> bool:
+    def _needs_log(self, done: Counts) -> bool:
         """Whether a log tells more of a run: of accesses, or of instructions at breakpoints that were carried out."""
-        return bool(self._accessed) or any(b"%016x" % pc in self._breaks for pc, _ in done.words)
+        return bool(self._accessed) or any(b"%016x" % place.address in self._breaks for place in done.places)
 
-    def _changes(self, ticks: int, last: int = 1 << 63) -> tuple[Recording, list[Halt], int]:
+    def _changes(self, ticks: int, last: int = 1 << 63) -> tuple[Counts, list[Halt], int]:
         """A run of so many ticks; where it changes places, up to an instruction; and how many bytes it writes."""
         words = [word for watch in self._changed for place in self._places(watch) for word in ("--watch", place)]
         return self._run(ticks, [*words, "--changes"] if words else [], lambda file: self._halts_of_changes(file, last))
@@ -86,7 +88,7 @@ class Search:
 
     def _run(
         self, ticks: int, words: Sequence[str], read: Callable[[BinaryIO], Iterator[Halt]]
-    ) -> tuple[Recording, list[Halt], int]:
+    ) -> tuple[Counts, list[Halt], int]:
         """A run with a record, if there are words for it; the first and the last of what is read of it; and its bytes."""
         sizes = list[int]()
         end, other = os.pipe()

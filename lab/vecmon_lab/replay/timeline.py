@@ -10,8 +10,7 @@ from .. import LabError
 from ..checkpoints.machine_state import PERMISSIONS, carry_out, pages_of
 from ..guest.guest import OUTPUT_BYTES, Guest, stepping
 from ..machine.answers import Addresses, Position, Stop
-from ..machine.recorder import Beginning
-from ..runs.counts import beginning_at
+from ..runs.beginning import Beginning, beginning_at
 from .legs import Leg, Legs
 from .recorded import Halt, Search
 from .watches import Watch, accessed
@@ -177,8 +176,7 @@ class Timeline:
     def _beginning(self, script: bytes) -> Beginning:
         """What a run begins with behind a script."""
         with self._guest.session.rewound(b"") as session:
-            user = carry_out(session, script)[str(self._guest.user)]
-            lines = [f"1 policy {user.policy}"]
+            user, lines = carry_out(session, script)[str(self._guest.user)], list[str]()
             for page, allowed in pages_of(user, session.images):
                 lines.append(f"1 map {page:x} 1 {''.join(it for it, bit in PERMISSIONS.items() if allowed & bit)}")
             lines.append("1 go")  # the program may have written to each of them

@@ -15,9 +15,8 @@ from ..guest.symbols import Symbols
 from ..instructions.accesses import REGISTER_BYTES
 from ..machine.answers import Stop
 from ..machine.program import segments_of
-from ..machine.recorder import Beginning
 from ..machine.session import ScriptFull
-from .counts import beginning_of
+from .beginning import Beginning, beginning_of
 from .partings import Pair, alike_until, explain, recorded
 from .run import status_of
 

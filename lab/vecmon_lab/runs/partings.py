@@ -14,8 +14,10 @@ from ..guest.symbols import Symbols
 from ..instructions.accesses import REGISTER_BITS
 from ..instructions.words import listed
 from ..machine.answers import CONTROL, Memory
-from ..machine.recorder import Beginning, Recording, record
+from .beginning import Beginning
+from .counts import Counts
 from .dataflow import Executed, Place, conditions, parts
+from .recorder import record
 
 STEPPED = 1000  # so many instructions are stepped at once, back from one that is looked for
 EXACT_LEAPS = 2  # so often the last change of a value is looked for, and then the first one that made it differ
@@ -48,7 +50,7 @@ class Step:
         return f"{' '.join([f'{carried.pc:x}', *filter(None, places)])}: {carried.text}"
 
 
-def recorded(beginning: Beginning, ticks: int | None) -> tuple[Recording, bytes]:
+def recorded(beginning: Beginning, ticks: int | None) -> tuple[Counts, bytes]:
     """What a run carries out, and its output."""
     output = list[bytes]()
     return record(beginning, ticks, output.append), b"".join(output)

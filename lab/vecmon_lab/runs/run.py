@@ -15,9 +15,10 @@ from ..guest.guest import QUANTUM, Guest, started
 from ..guest.symbols import Symbols
 from ..instructions.reasons import describe_stop
 from ..machine.answers import Stop
-from ..machine.recorder import Record
 from ..output import write_out
-from .counts import Counts, beginning_of, count
+from .beginning import beginning_of
+from .counts import Counts
+from .recorder import Record, record
 from .trace import trace
 from .writes import short_write
 
@@ -73,12 +74,12 @@ def counted(
     """
     words = [arguments.image.name, *arguments.words]
     beginning = beginning_of(arguments.image, words, arguments.input, arguments.policy)
-    return count(beginning, arguments.ticks, write, more)
+    return record(beginning, arguments.ticks, write, more)
 
 
 def told(arguments: argparse.Namespace, counts: Counts, symbols: Symbols) -> str:
     """How a run that was counted ended, in a line; of a stop why, by the registers of a machine that comes there."""
-    stop, place = counts.stop, f"{counts.pc:x} {symbols.place(counts.pc)}".rstrip()
+    stop, place = counts.stop, f"{counts.end.pc:x} {symbols.place(counts.end.pc)}".rstrip()
     if stop is None:
         return f"the ticks ran out at {place}"
     if stop.kind == "exit":

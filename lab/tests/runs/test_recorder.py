@@ -7,7 +7,9 @@ import pytest
 from support.places import STOCK
 from vecmon_lab import LabError
 from vecmon_lab.machine.answers import Position, Stop
-from vecmon_lab.machine.recorder import Beginning, read_counts, record
+from vecmon_lab.runs.beginning import Beginning
+from vecmon_lab.runs.counts import Place, read_counts
+from vecmon_lab.runs.recorder import record
 
 # A loop: addi x5, x5, -1; bne x5, x0, -4; ebreak.
 LOOP = b"".join(word.to_bytes(4, "little") for word in (0xFFF28293, 0xFE029EE3, 0x00100073))
@@ -20,11 +22,12 @@ fault cause=7 pc=0000000000010198 value=0000000000012000 8 101
 
 
 def test_counts_are_read() -> None:
-    recording = read_counts(TEXT)
-    assert recording.words == {(0x10000, 0x300293): (1, 1, 0, 0, 0), (0x10004, 0x2056407): (7, 100, 100, 0, 12)}
-    assert recording.lengths == {(0xD1, 16): 6} and recording.calls == {(0x1000C, 0x10080): 2}
-    assert recording.end == Stop("fault", 0x10198, 0, 7, 0x12000)
-    assert (recording.instructions, recording.ticks) == (8, 101)
+    counts = read_counts(TEXT)
+    last = Place(0x10004, 0x2056407, 7, 100, (100, 0, 12))
+    assert counts.places == [Place(0x10000, 0x300293, 1, 1), last] and counts.elements == [100, 0, 12]
+    assert counts.lengths == {("e32,m2,ta,ma", 16): 6} and counts.calls == {(0x1000C, 0x10080): 2}
+    assert counts.stop == Stop("fault", 0x10198, 0, 7, 0x12000)
+    assert (counts.instructions, counts.ticks) == (8, 101)
 
 
 @pytest.mark.parametrize(
@@ -39,11 +42,12 @@ def test_memory_registers_and_ticks() -> None:
     """Half a megabyte of memory, more than a pipe holds; x5 counts down from 3, so there are six instructions."""
     memory = [(0x20000, "rw", bytes(1 << 19)), (0x10000, "rx", LOOP)]
     beginning = Beginning(None, memory, ["x5 3", "pc 10000"])
-    recording = record(beginning)
-    assert recording.words[0x10000, 0xFFF28293][0] == recording.words[0x10004, 0xFE029EE3][0] == 3
-    assert recording.end == Stop("ebreak", 0x10008) and recording.instructions == 6
-    recording = record(beginning, 5)
-    assert recording.end == Position("running", 0x10004) and recording.ticks == 5
+    counts = record(beginning)
+    done = [(place.address, place.word, place.times) for place in counts.places]
+    assert done == [(0x10000, 0xFFF28293, 3), (0x10004, 0xFE029EE3, 3)]
+    assert counts.end == Stop("ebreak", 0x10008) and counts.instructions == 6
+    counts = record(beginning, 5)
+    assert counts.end == Position("running", 0x10004) and counts.stop is None and counts.ticks == 5
 
 
 @pytest.mark.parametrize(

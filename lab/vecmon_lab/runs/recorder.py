@@ -3,37 +3,18 @@
 import contextlib
 import io
 import os
-import pathlib
 import re
 import subprocess
-from collections.abc import Callable, Mapping, Sequence
+from collections.abc import Callable, Sequence
 from dataclasses import dataclass, replace
 
 from .. import LabError
-from .answers import Place, read
-from .program import RECORDER, find_recorder, image_refusal
+from ..machine.program import RECORDER, find_recorder, image_refusal
+from .beginning import Beginning
+from .counts import Counts, read_counts
 
 TAKEN_BYTES = 1 << 16  # of the output, at once
 LARGE_PAGES = "glibc.malloc.hugetlb=1"  # which spare a short run a third of its time
-
-Laid = tuple[int, str, bytes]
-"""Memory: an address, the permissions of pages that aren't there, and bytes."""
-
-
-@dataclass(frozen=True)
-class Beginning:
-    """What a run begins with.
-
-    image: an ELF file; without one there is no memory, and all registers are 0
-    memory: what is laid over it, in this order
-    registers: lines, each the name of a register and its value in hexadecimal digits
-    policy: what becomes of agnostic elements, `keep` or `ones`
-    """
-
-    image: pathlib.Path | None = None
-    memory: Sequence[Laid] = ()
-    registers: Sequence[str] = ()
-    policy: str = "keep"
 
 
 @dataclass(frozen=True)
@@ -44,34 +25,12 @@ class Record:
     file: io.FileIO
 
 
-@dataclass(frozen=True)
-class Recording:
-    """What a run did.
-
-    words: by address and word how often it was carried out, in how many ticks, and with how many elements: those that
-    were active, that were masked off, and of the tail
-    lengths: by vtype and vl how many instructions with elements found these
-    calls: by the address of a jump that links or returns, and by where it led, how often
-    end: the stop, or where the program stands whose ticks ran out
-    instructions, ticks: of the whole run
-    short_writes: how many calls wrote some bytes, but less than they were asked to
-    """
-
-    words: Mapping[tuple[int, int], Sequence[int]]
-    lengths: Mapping[tuple[int, int], int]
-    calls: Mapping[tuple[int, int], int]
-    end: Place
-    instructions: int
-    ticks: int
-    short_writes: int = 0
-
-
 def record(
     beginning: Beginning,
     ticks: int | None = None,
     write: Callable[[bytes], object] | None = None,
     more: Sequence[Record] = (),
-) -> Recording:
+) -> Counts:
     """Carries out a run to its end, or until its ticks have run out. `write` is given its output as it comes.
 
     more: what else is recorded. Raises LabError where there is no recorder, or it refuses what it is given.
@@ -92,30 +51,6 @@ def record(
     if status != 0:
         raise LabError(_refusal(told, beginning) or f"{RECORDER} ended with status {status}")
     return replace(read_counts(text), short_writes=int(told.rpartition(" ")[2] or 0))
-
-
-def read_counts(text: str) -> Recording:
-    """What stands in a file of counts. Raises LabError where it is none."""
-    words, lengths, calls = dict[tuple[int, int], tuple[int, ...]](), dict[tuple[int, int], int](), {}
-    try:
-        *rows, last = text.splitlines()
-        for row in rows:
-            match row.split(" "):
-                case ["at", pc, word, times, used, active, masked, tail]:
-                    words[int(pc, 16), int(word, 16)] = tuple(map(int, (times, used, active, masked, tail)))
-                case ["vl", vtype, vl, times]:
-                    lengths[int(vtype, 16), int(vl)] = int(times)
-                case ["call", pc, target, times]:
-                    calls[int(pc, 16), int(target, 16)] = int(times)
-                case _:
-                    raise ValueError(row)
-        stop, instructions, ticks = last.rsplit(" ", 2)
-        end = read([f"1 {stop}"])
-        if not isinstance(end, Place):
-            raise ValueError(last)
-        return Recording(words, lengths, calls, end, int(instructions), int(ticks))
-    except ValueError as error:
-        raise LabError(f"{RECORDER} tells no counts: {str(error)[:60]!r}") from error
 
 
 def _carry_out(

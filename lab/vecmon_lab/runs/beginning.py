@@ -1,0 +1,82 @@
+"""What a run begins with: an image with its words and input, or where a guest stands."""
+
+import pathlib
+from collections.abc import Iterable, Sequence
+from dataclasses import dataclass
+
+from .. import mistakes_in
+from ..guest.guest import STACK_END, Guest, argument_block, check_image
+from ..guest.input import input_of
+from ..instructions.accesses import PAGE_BYTES, Span
+from ..machine.answers import ControlRegisters, ScalarRegisters
+from ..machine.lines import words_of
+
+Laid = tuple[int, str, bytes]
+"""Memory: an address, the permissions of pages that aren't there, and bytes."""
+
+
+@dataclass(frozen=True)
+class Beginning:
+    """What a run begins with.
+
+    image: an ELF file; without one there is no memory, and all registers are 0
+    memory: what is laid over it, in this order
+    registers: lines, each the name of a register and its value in hexadecimal digits
+    policy: what becomes of agnostic elements, `keep` or `ones`
+    """
+
+    image: pathlib.Path | None = None
+    memory: Sequence[Laid] = ()
+    registers: Sequence[str] = ()
+    policy: str = "keep"
+
+
+def beginning_of(
+    image: pathlib.Path, arguments: Sequence[str], file: pathlib.Path | None = None, policy: str = "keep"
+) -> Beginning:
+    """What a run of an image begins with, with arguments, the first of them its name; file: its input.
+
+    Raises LabError and OSError where the image can't be read or isn't for this machine, or these have no room.
+    """
+    check_image(image)
+    with mistakes_in(image):
+        block, given = argument_block(arguments), input_of(image, file) if file else {}
+    laid = {**given, STACK_END - len(block): block}
+    memory = [(address, "rw", data) for address, data in laid.items()]
+    return Beginning(image, memory, [f"x2 {STACK_END - len(block):x}"], policy)
+
+
+def beginning_at(guest: Guest, lines: Iterable[str], image: pathlib.Path | None = None) -> Beginning:
+    """What a run begins with where a guest stands, whom these lines of a script have brought there since it entered.
+
+    image: the one that they loaded, if any, whose other pages nothing has written to
+    """
+    pages, spans = dict[int, str](), dict[Span, None]()
+    for line in lines:
+        match words_of(line):
+            case ["map", address, number, permissions]:
+                first = int(address, 16)
+                pages |= dict.fromkeys(range(first, first + int(number) * PAGE_BYTES, PAGE_BYTES), permissions)
+            case ["poke" | "asm" as command, address, text, *_]:
+                spans[int(address, 16), len(text) // 2 if command == "poke" else 4] = None
+            case ["step" | "go", *_]:  # what is carried out may write to any page
+                spans |= dict.fromkeys((page, PAGE_BYTES) for page in pages)
+    control, scalars = guest.told("vcsr", ControlRegisters), guest.told("regs", ScalarRegisters)
+    registers = [f"pc {scalars.pc:x}", *(f"{name} {value:x}" for name, value in vars(control).items())]
+    registers += [f"x{number} {scalars.x[number]:x}" for number in range(1, 32)]
+    registers += [f"v{number} {data.hex()}" for number, data in enumerate(guest.vectors())]
+    memory = [(page, permissions, bytes(PAGE_BYTES)) for page, permissions in pages.items()]
+    memory += [(first, "rw", guest.peek(first, length)) for first, length in spans]
+    return Beginning(image, _joined(memory), registers, guest.session.policy[guest.user])
+
+
+def _joined(memory: Iterable[Laid]) -> Sequence[Laid]:
+    """The same, where what follows each other with the same permissions is one."""
+    joined = list[Laid]()
+    for address, permissions, data in memory:
+        first, before, held = joined[-1] if joined else (0, "", b"")
+        if (before, first + len(held)) == (permissions, address):
+            joined[-1] = first, permissions, held + data
+        else:
+            joined.append((address, permissions, data))
+    return joined
