@@ -10,9 +10,9 @@ import os
 import pathlib
 import re
 import resource
-import subprocess
 import sys
 from collections.abc import Sequence
+from subprocess import DEVNULL, PIPE, Popen
 from typing import NamedTuple
 
 from .compiler import FUNCTION, IMAGE, OWN_SOURCES, Compiler, source_of
@@ -58,9 +58,7 @@ def read_messages(complaint: str) -> list[Message]:
 
 def compile_source(command: Sequence[str]) -> list[Message]:
     """Compiles the source of this folder; what the compiler said."""
-    with subprocess.Popen(
-        command, stdin=subprocess.DEVNULL, stdout=subprocess.DEVNULL, stderr=subprocess.PIPE
-    ) as child:
+    with Popen(command, stdin=DEVNULL, stdout=DEVNULL, stderr=PIPE) as child:
         assert child.stderr
         importlib.import_module("elftools.elf.elffile")  # which is at hand then when the image is
         complaint = child.stderr.read(COMPLAINT_BYTES)

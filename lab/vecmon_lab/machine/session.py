@@ -10,7 +10,6 @@ import pathlib
 import re
 import select
 import signal
-import subprocess
 import threading
 import time
 import zlib
@@ -19,6 +18,7 @@ from collections import deque
 from collections.abc import Callable, Iterator, Mapping, Sequence
 from dataclasses import dataclass
 from functools import partial
+from subprocess import PIPE, Popen
 
 from .. import LabError
 from .answers import OutOfStep, Users, is_refusal, is_whole, read
@@ -70,11 +70,8 @@ class _Process:
         self.fed = 0
         self._patience = patience
         self._unread = b""
-        pipe = subprocess.PIPE
         try:  # in a session of its own, so that Ctrl-C in a terminal doesn't end it
-            self._child = subprocess.Popen(
-                command, stdin=pipe, stdout=pipe, stderr=pipe, bufsize=0, start_new_session=True
-            )
+            self._child = Popen(command, stdin=PIPE, stdout=PIPE, stderr=PIPE, bufsize=0, start_new_session=True)
         except OSError as error:
             raise ProgramGone(f"{command[0]} can't be started: {error.strerror}") from error
         assert self._child.stdin and self._child.stdout and self._child.stderr

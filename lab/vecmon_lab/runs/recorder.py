@@ -4,9 +4,9 @@ import contextlib
 import io
 import os
 import re
-import subprocess
 from collections.abc import Callable, Sequence
 from dataclasses import dataclass, replace
+from subprocess import DEVNULL, PIPE, Popen
 
 from .. import LabError
 from ..machine.program import RECORDER, find_recorder, image_refusal
@@ -60,15 +60,9 @@ def _carry_out(
 
     So many of the last ones are its own then, so that who reads one from a pipe comes to its end.
     """
-    command = [str(find_recorder()), *words]
-    with subprocess.Popen(
-        command,
-        stdin=subprocess.DEVNULL,
-        stdout=subprocess.PIPE if write else subprocess.DEVNULL,
-        stderr=subprocess.PIPE,
-        pass_fds=[file.fileno() for file in files],
-        env={"GLIBC_TUNABLES": LARGE_PAGES, **os.environ},
-    ) as process:
+    command, given = [str(find_recorder()), *words], [file.fileno() for file in files]
+    output, variables = PIPE if write else DEVNULL, {"GLIBC_TUNABLES": LARGE_PAGES, **os.environ}
+    with Popen(command, stdin=DEVNULL, stdout=output, stderr=PIPE, pass_fds=given, env=variables) as process:
         try:
             for file in files[len(files) - number :]:
                 file.close()
