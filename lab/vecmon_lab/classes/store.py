@@ -12,7 +12,6 @@ lock: held by the server that serves the class
 
 import contextlib
 import fcntl
-import hashlib
 import json
 import os
 import pathlib
@@ -23,6 +22,7 @@ from dataclasses import asdict, dataclass, field, replace
 from typing import TypeVar
 
 from .. import LabError
+from ..machine.program import digest_of
 from ..machine.session import BadLine, Block, OutOfStep, Session
 from .codes import LETTERS, Codes
 
@@ -203,7 +203,7 @@ class Store:
     def check_program(self) -> bool:
         """Whether the program is there. Raises BadFolder where another stands in its place, as after an upgrade."""
         try:
-            if _digest(self.program) == self._program_digest:
+            if digest_of(self.program) == self._program_digest:
                 return True
         except FileNotFoundError:
             return False
@@ -268,17 +268,17 @@ class Store:
         (self.folder / "images").mkdir(exist_ok=True)
         for name, path in images.items():
             shutil.copyfile(path, self._image(name))
-        digests = {name: _digest(self._image(name)) for name in images}
-        return Facts(_digest(self.program), quantum or 100, machines or 1, digests)
+        digests = {name: digest_of(self._image(name)) for name in images}
+        return Facts(digest_of(self.program), quantum or 100, machines or 1, digests)
 
     def _facts(
         self, kept: Facts, images: Mapping[str, pathlib.Path], quantum: int | None, machines: int | None
     ) -> Facts:
         """What the class was begun with, compared with what is there and what is named now."""
-        if _digest(self.program) != kept.program:
+        if digest_of(self.program) != kept.program:
             raise BadFolder(f"{self.folder} was begun with another program than {self.program}")
-        named = {name: _digest(path) for name, path in images.items()}
-        there = {name: _digest(self._image(name)) for name in kept.images}
+        named = {name: digest_of(path) for name, path in images.items()}
+        there = {name: digest_of(self._image(name)) for name in kept.images}
         if there != kept.images or images and named != there:
             raise BadFolder(f"{self.folder} was begun with other images")
         if quantum not in (None, kept.quantum):
@@ -310,7 +310,3 @@ def _locked(folder: pathlib.Path) -> int:
 def script_name(machine: str, number: int) -> str:
     """The name of a machine's script: the first one's is the shortest."""
     return f"{machine}.script" if number == 1 else f"{machine}.{number}.script"
-
-
-def _digest(path: pathlib.Path) -> str:
-    return hashlib.sha256(path.read_bytes()).hexdigest()

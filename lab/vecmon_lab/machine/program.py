@@ -1,5 +1,6 @@
 """Where the programs vecmon and vecmon-record and their images are."""
 
+import hashlib
 import os
 import pathlib
 import shutil
@@ -93,6 +94,11 @@ def segments_of(image: bytes) -> Iterator[tuple[int, int, int, bytes]]:
         kind, flags, offset, address, _, in_file, length = struct.unpack_from("<IIQQQQQ", image, at)
         if kind == PT_LOAD and length:
             yield address, flags & 7, length, image[offset : offset + in_file]
+
+
+def digest_of(path: pathlib.Path) -> str:
+    """The SHA-256 of a file, in hexadecimal digits."""
+    return hashlib.sha256(path.read_bytes()).hexdigest()
 
 
 def check_flags(image: pathlib.Path) -> None:
