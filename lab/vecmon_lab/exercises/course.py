@@ -4,7 +4,7 @@ import argparse
 import pathlib
 
 from ..machine.program import find_program
-from ..page.pages import lone_page
+from ..page.pages import lone_page, write_page
 from ..tables.table import read_table
 from .check import lesson_before
 from .exercise import OURS, read_exercise
@@ -20,12 +20,10 @@ def run(arguments: argparse.Namespace) -> int:
     program, folder, exercises = find_program(), arguments.folder, []
     folder.mkdir(parents=True, exist_ok=True)
     for name, minutes in read_table("course"):
-        exercise, path = read_exercise(OURS / name), folder / f"{name}.html"
+        exercise = read_exercise(OURS / name)
         title, page = lesson_before(program, exercise)
-        path.write_text(page, "utf-8")
+        write_page(folder, name, title, page)
         texts = {"title": exercise.title, "text": exercise.text, "lesson": title}
         exercises.append({"name": name, "minutes": minutes} | texts)
-        print(f"{path}: {title}")
-    (folder / "index.html").write_text(lone_page("course", "A course", exercises), "utf-8")
-    print(f"{folder / 'index.html'}: A course")
+    write_page(folder, "index", "A course", lone_page("course", "A course", exercises))
     return 0

@@ -6,7 +6,7 @@ import pathlib
 from itertools import islice
 
 from ..machine.program import find_program
-from ..page.pages import lone_page
+from ..page.pages import lone_page, write_page
 from ..tables.table import read_table
 from .frames import make_frames
 from .page import lesson_page
@@ -26,12 +26,9 @@ def run(arguments: argparse.Namespace) -> int:
     program, folder, scripts = find_program(), arguments.folder, tours()
     folder.mkdir(parents=True, exist_ok=True)
     links = [(name, script.title) for name, script in scripts.items()]
-    (folder / "index.html").write_text(lone_page("tour", "A tour", links), "utf-8")
-    print(f"{folder / 'index.html'}: A tour")
+    write_page(folder, "index", "A tour", lone_page("tour", "A tour", links))
     for name, script in scripts.items():
-        path = folder / f"{name}.html"
-        path.write_text(lesson_page(script.title, make_frames(script, program), script), "utf-8")
-        print(f"{path}: {script.title}")
+        write_page(folder, name, script.title, lesson_page(script.title, make_frames(script, program), script))
     return 0
 
 

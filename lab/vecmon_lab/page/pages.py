@@ -36,6 +36,13 @@ def lone_page(name: str, title: str, data: object) -> str:
     return page.text(html.escape(title), text, policy)
 
 
+def write_page(folder: pathlib.Path, name: str, title: str, page: str) -> None:
+    """Writes a page into a folder, and prints its path and its title."""
+    path = folder / f"{name}.html"
+    path.write_text(page, "utf-8")
+    print(f"{path}: {title}")
+
+
 def merge_patch(old: Mapping[str, object], new: Mapping[str, object]) -> dict[str, object]:
     """The merge patch (RFC 7396) that makes the new object from the old one; no value is None."""
     patch: dict[str, object] = {key: None for key in old if key not in new}
