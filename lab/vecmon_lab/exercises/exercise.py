@@ -14,7 +14,6 @@ from ..tables.table import read_table
 
 OURS = pathlib.Path(__file__).with_name("given")
 UNLIMITED = 1 << 63
-LIMITS = {"ticks": 100_000, "output": 4096, "instructions": UNLIMITED, "size": IMAGE_BYTES}  # where it has none
 FILES = ("reference", "good", "start", "start_c", "lesson")  # keys of an exercise that name a file in its folder
 PLACE_BYTES = 1 << 20  # all that a user's pages have
 ADDRESSES = 0x10000  # a register with so much in it may have an address
@@ -69,10 +68,10 @@ class Case:
 class Limits:
     """Of each case: ticks, bytes of output, and instructions; and how many bytes the file of an answer has."""
 
-    ticks: int
-    output: int
-    instructions: int
-    size: int
+    ticks: int = 100_000
+    output: int = 4096
+    instructions: int = UNLIMITED
+    size: int = IMAGE_BYTES
 
 
 @dataclass(frozen=True)
@@ -107,7 +106,7 @@ def read_exercise(folder: pathlib.Path) -> Exercise:
         entries = tomllib.loads(path.read_text("utf-8"))
     texts = dict.fromkeys(["text", *FILES], "") | {"title": path.parent.name}
     table = _taken(str(path), entries, {**texts, "limits": {}, "hints": [], "set_up": [], "junk": False, "cases": []})
-    limits = Limits(**vars(_taken(f"{path}: limits", table.limits, LIMITS)))
+    limits = Limits(**vars(_taken(f"{path}: limits", table.limits, vars(Limits()))))
     files = {key: path.parent / getattr(table, key) for key in FILES if getattr(table, key)}
     cases = [_case(f"{path}: case {number}", each, "reference" in files) for number, each in enumerate(table.cases, 1)]
     twice = [name for name, count in Counter(case.name for case in cases).items() if count > 1]
