@@ -126,11 +126,8 @@ def find_compilers() -> list[Compiler]:
 
 def find_compiler(name: str | None) -> Compiler:
     """The compiler of this name, or the first one. Raises LabError where it isn't there."""
-    found = find_compilers()
-    if name is None and found:
-        return found[0]
-    for compiler in found:
-        if compiler.name == name:
+    for compiler in find_compilers():
+        if name in (None, compiler.name):
             return compiler
     missing = "there is no compiler for C" if name is None else f"{name} is no compiler that is here"
     raise LabError(f"{missing}: apt-get install clang-19 lld-19 bubblewrap")
