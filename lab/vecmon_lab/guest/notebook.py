@@ -18,14 +18,10 @@ def registers_html(pc: int, x: Sequence[int], control: ControlRegisters, vectors
     scalars = [f"x{number}={value:x}" for number, value in enumerate(x) if value]
     rows = [scalars[at : at + IN_A_ROW] for at in range(0, len(scalars), IN_A_ROW)]
     digits = control.sew // 4
-    elements = [
-        [f"v{number}", *(f"{element:0{digits}x}" for element in elements_in(data, control.sew))]
-        for number, data in enumerate(vectors)
-        if any(data)
-    ]
+    held = {f"v{number}": elements_in(data, control.sew) for number, data in enumerate(vectors) if any(data)}
+    elements = [[name, *(f"{value:0{digits}x}" for value in values)] for name, values in held.items()]
     head = [f"e{control.sew}", *range(256 // control.sew)]
-    return (
-        html_table([list(told), list(told.values())], 0)
-        + html_table([[], *rows], IN_A_ROW) * bool(rows)
-        + (html_table([head, *elements], 1) * bool(elements))
-    )
+    tables = [html_table([list(told), list(told.values())], 0)]
+    tables += [html_table([[], *rows], IN_A_ROW)] if rows else []
+    tables += [html_table([head, *elements], 1)] if elements else []
+    return "".join(tables)
