@@ -181,9 +181,8 @@ class _Assembler:
         self._section.size += size
         if sum(section.pages() for section in self._sections.values()) > _USER_PAGES:
             self._section.size -= size  # so that others may fit
-            raise name.error(
-                f"here the program grows beyond {_USER_PAGES} pages of {PAGE_BYTES} bytes, all that a user has"
-            )
+            most = f"{_USER_PAGES} pages of {PAGE_BYTES} bytes"
+            raise name.error(f"here the program grows beyond {most}, all that a user has")
 
     def _read_instruction(self, name: Token, operands: list[Operand]) -> None:
         if self._section is not self._text:

@@ -9,8 +9,6 @@ from ..compilers.compiler import Compiler, find_compiler
 from ..compilers.sandbox import answer_beside, check_sandbox
 from .requests import BadRequest
 
-NO_COMPILER = "no compiler was named"
-
 
 def sandboxed_compiler(name: str | None) -> Compiler:
     """The compiler of this name, or the first one, for sources of others. Raises LabError where there can be none."""
@@ -26,7 +24,9 @@ class Builds:
     compiler, others: of sources, and those beside whose words its own may be shown
     """
 
-    def __init__(self, compiler: Compiler | None = None, no_c: str = NO_COMPILER, most: int = IMAGE_BYTES) -> None:
+    def __init__(
+        self, compiler: Compiler | None = None, no_c: str = "no compiler was named", most: int = IMAGE_BYTES
+    ) -> None:
         """most: bytes of an image that aren't zeros"""
         self.compiler, self._most = compiler, most
         self.others: Sequence[Compiler] = ()

@@ -96,11 +96,6 @@ class Room:
         """What is wrong with the machine, or the disk."""
         return self.stopped or self.down or self.rebuilding or self.file.trouble
 
-    @property
-    def loss(self) -> str:
-        """Why the program was replaced last."""
-        return self.session.losses[-1] if self.session.losses else ""
-
     def restore(self, notes: Notes, progress: Callable[[str], object]) -> None:
         """Brings the machine to where an earlier server left it. Raises BadFolder where it answers otherwise.
 

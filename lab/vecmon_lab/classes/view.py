@@ -324,9 +324,8 @@ class Class:
         tab.changed.clear()
         view = self._view(tab)
         patch, tab.view = merge_patch(tab.view, view), view
-        news, logs = Message(), Logs()
-        if patch:
-            news["patch"] = patch
+        news: Message = {"patch": patch} if patch else {}
+        logs = Logs()
         for seat in self._logs(tab):
             new = seat.number - tab.since.get(seat.name, 0)
             if new:
@@ -426,7 +425,7 @@ class Class:
             "lines": room.session.lines,
             "digest": room.session.digest,
             "restarts": len(room.session.losses),
-            "loss": room.loss,
+            "loss": "".join(room.session.losses[-1:]),
             "trouble": room.trouble,
         }
 

@@ -218,8 +218,7 @@ def _take_registers(guest: Guest, state: State) -> ControlRegisters:
     assert isinstance(breaks, Addresses)
     state["x"] = {str(number): f"{value:x}" for number, value in enumerate(scalar.x)}
     state["vtype"] = f"{control.vtype:x}"
-    state["vl"], state["vstart"] = control.vl, control.vstart
-    state["vxrm"], state["vxsat"] = control.vxrm, control.vxsat
+    state.update({"vl": control.vl, "vstart": control.vstart, "vxrm": control.vxrm, "vxsat": control.vxsat})
     state["breaks"] = [f"{address:x}" for address in breaks.addresses]
     return control
 
