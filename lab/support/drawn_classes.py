@@ -3,7 +3,7 @@
 import random
 from collections.abc import Iterator
 
-from vecmon_lab.checkpoints.machine_state import EXECUTE, TOUCHING, Machine
+from vecmon_lab.checkpoints.machine_state import TOUCHING, Machine
 
 CODE, DATA, NEXT = 0x20000, 0x30000, 0x31000
 SCALAR = ["addi x0, x0, 0", "addi x5, x5, 1", "csrrs x5, vlenb, x0", "csrrwi x0, vxsat, 0"]
@@ -93,10 +93,10 @@ def outcome(machine: Machine) -> Iterator[str]:
         looks += [f"peek {at:x} 256" for page in user.pages for at in range(page, page + 4096, 256)]
         yield from (f"{digit} {command}" for command in ("stop", *looks))
         yield from (f"{digit} unbreak {address:x}" for address in machine.shown[digit].breakpoints)
-        yield from (f"{digit} {command}" for page in user.pages for command in _accesses(page, user.first(EXECUTE)))
+        yield from (f"{digit} {command}" for page in user.pages for command in _accesses(page, user.first("x")))
     for _ in range(2):
         for digit, user in machine.users.items():
-            if (code := user.first(EXECUTE)) is not None:
+            if (code := user.first("x")) is not None:
                 for text in ("vsetivli x0, 1, e8, m1, ta, ma", "vadd.vi v8, v8, 1", TOUCHING):
                     yield from (f"{digit} asm {code:x} {text}", f"{digit} setpc {code:x}", f"{digit} step 1")
                     yield from ("* stats", f"{digit} vreg v8 8")

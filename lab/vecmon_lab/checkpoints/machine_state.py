@@ -4,6 +4,7 @@ import pathlib
 from collections.abc import Callable, Iterator, Mapping
 from dataclasses import dataclass, field
 
+from ..compilers.compiled import rights_by_page
 from ..guest.guest import STACK_BYTES, STACK_END, Guest
 from ..guest.notebook import registers_html
 from ..instructions.accesses import PAGE_BYTES
@@ -22,14 +23,12 @@ from ..machine.lines import DIGITS, words_of
 from ..machine.program import segments_of
 from ..machine.session import Session
 
-EXECUTE, WRITE, READ = 1, 2, 4  # permissions, as an image's program headers have them
 TOUCHING = "vadd.vv v0, v1, v2, v0.t"
 """An instruction that is illegal under each vector type: it makes its user the vector unit's owner and changes nothing."""
 
 Opening = Callable[[], Session]
 """Opens a session on a new machine."""
 
-PERMISSIONS = {"r": READ, "w": WRITE, "x": EXECUTE}
 _FOLLOWED = set(" elmv")  # how the commands begin that `_follow` knows
 
 
@@ -45,11 +44,11 @@ class User:
     image: str = ""
     maps: list[tuple[int, int, str]] = field(default_factory=list)
     has_area: bool = False
-    pages: dict[int, int] = field(default_factory=dict)  # permissions, by address
+    pages: dict[int, str] = field(default_factory=dict)  # permissions, by address
 
-    def first(self, permission: int) -> int | None:
+    def first(self, permission: str) -> int | None:
         """The address of the first page with a permission."""
-        return next((page for page, allowed in self.pages.items() if allowed & permission), None)
+        return next((page for page, allowed in self.pages.items() if permission in allowed), None)
 
 
 @dataclass(frozen=True)
@@ -142,23 +141,16 @@ def _follow(users: dict[str, User], line: str) -> None:
             users[digit].has_area = True
 
 
-def pages_of(user: User, images: Mapping[str, pathlib.Path]) -> Iterator[tuple[int, int]]:
+def pages_of(user: User, images: Mapping[str, pathlib.Path]) -> Iterator[tuple[int, str]]:
     """The addresses of a user's pages, with what programs may do there."""
     if user.image:
-        yield from _image_pages(images[user.image].read_bytes()).items()
+        segments = (
+            (address, rights, size) for address, rights, size, _ in segments_of(images[user.image].read_bytes())
+        )
+        yield from rights_by_page([(STACK_END - STACK_BYTES, "rw", STACK_BYTES), *segments]).items()
     for address, pages, permission in user.maps:
         for page in range(address, address + pages * PAGE_BYTES, PAGE_BYTES):
-            yield page, sum(PERMISSIONS[letter] for letter in permission)
-
-
-def _image_pages(image: bytes) -> dict[int, int]:
-    """The pages of an image that `load` takes, by its program headers, and those of its stack."""
-    stack = range(STACK_END - STACK_BYTES, STACK_END, PAGE_BYTES)
-    pages = dict.fromkeys(stack, READ | WRITE)
-    for address, flags, length, _ in segments_of(image):
-        for page in range(address // PAGE_BYTES * PAGE_BYTES, address + length, PAGE_BYTES):
-            pages[page] = pages.get(page, 0) | flags
-    return pages
+            yield page, permission
 
 
 def _look(guest: Guest, user: User) -> Shown:
@@ -188,7 +180,7 @@ def _switches(session: Session) -> dict[str, int]:
 
 def _find_areas(session: Session, users: Mapping[str, User], owner: str) -> bool:
     """Finds out who has a save area, and whether the owner's state was changed: each touches the unit, the owner last."""
-    touching = {digit: page for digit, user in users.items() if (page := user.first(EXECUTE)) is not None}
+    touching = {digit: page for digit, user in users.items() if (page := user.first("x")) is not None}
     own_page, is_dirty = touching.pop(owner, None), False
     if own_page is not None:
         stranger = next((digit for digit in DIGITS if digit not in touching and digit != owner), "")

@@ -6,7 +6,7 @@ from ..guest.guest import STACK_POINTER
 from ..instructions.accesses import LINE_BYTES, PAGE_BYTES, REGISTER_BYTES
 from ..machine.answers import VILL
 from ..machine.lines import DIGITS
-from .machine_state import EXECUTE, READ, TOUCHING, WRITE, Machine
+from .machine_state import TOUCHING, Machine
 
 TRACED = 16  # addresses that a trace has at most
 _GAP = 16  # bytes that are poked though they stay, so that there are fewer lines
@@ -57,7 +57,7 @@ class _SetUp:
         self._texts = dict[int, str]()  # instructions that stand there
         self._x = {2: STACK_POINTER} if self.user.image else dict[int, int]()
         self._vectors = [bytes(REGISTER_BYTES)] * 32
-        self._code = self.user.first(EXECUTE) or 0
+        self._code = self.user.first("x") or 0
 
     def lines(self, is_touching: bool) -> list[str]:
         """Sets all up but for policy, breakpoints and running. The user touches the vector unit, or doesn't."""
@@ -113,7 +113,7 @@ class _SetUp:
 
     def _write_call(self, place: int, data: bytes) -> Iterator[str]:
         """A call at a place that puts bytes into the output buffer."""
-        page = self.user.first(READ) or 0
+        page = self.user.first("r") or 0
         block = page + LINE_BYTES * (place // LINE_BYTES * LINE_BYTES == page)
         yield f"poke {block:x} {data.hex()}"
         self._spoil(block, LINE_BYTES)
@@ -122,8 +122,8 @@ class _SetUp:
 
     def _fault(self, vstart: int) -> Iterator[str]:
         """A load or store that faults at an element, so that it leaves vstart and no trace; where a page allows one."""
-        for permission, text in ((READ, "vl8re8.v v0, (x5)"), (WRITE, "vs8r.v v0, (x5)")):
-            pages = [page for page, allowed in self.user.pages.items() if allowed & permission]
+        for permission, text in (("r", "vl8re8.v v0, (x5)"), ("w", "vs8r.v v0, (x5)")):
+            pages = [page for page, allowed in self.user.pages.items() if permission in allowed]
             for end in [page + PAGE_BYTES for page in pages if page + PAGE_BYTES not in pages][:1]:
                 yield from self._step(self._code, text, x5=end - vstart)
                 self._vectors[:8] = [b""] * 8  # unknown now, as what stands in the page

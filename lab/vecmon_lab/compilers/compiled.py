@@ -148,13 +148,13 @@ def program_of(
     segments = [(address, rights, size, bytes.fromhex(data)) for address, rights, size, data in image["segments"]]
     if len(segments) > MOST_SEGMENTS or not all(0 < size <= MOST_BYTES for _, _, size, _ in segments):
         raise LabError(f"the image has more than {MOST_SEGMENTS} segments, or one of more than {MOST_BYTES:,} bytes")
-    pages = _pages((address, rights, size) for address, rights, size, _ in segments)
+    pages = rights_by_page((address, rights, size) for address, rights, size, _ in segments)
     pieces = [(address + piece.start(), piece[0]) for address, _, _, data in segments for piece in _DATA.finditer(data)]
     size = sum(len(data) for _, data in pieces)
     if len(pages) > IMAGE_PAGES or size > most_bytes:
         most = f"{IMAGE_PAGES} pages and {most_bytes:,} bytes that aren't zeros"
         raise LabError(f"the program has {len(pages)} pages and {size:,} bytes; {most} are the most")
-    lines = [*_maps(pages), *(line for address, data in pieces for line in pokes(address, data)), *STACK]
+    lines = [*maps(pages), *(line for address, data in pieces for line in pokes(address, data)), *STACK]
     rows = [(int(address), _own_line(line), str(inlined)) for address, line, inlined in image["rows"][:MOST_ROWS]]
     labels = dict(islice(dict(image["symbols"]).items(), MOST_SYMBOLS))
     variables = read_variables(image["variables"])
@@ -177,19 +177,20 @@ def _own_line(line: str) -> int:
     return int(number) if file in OWN_SOURCES else 0
 
 
-def _pages(segments: Iterable[tuple[int, str, int]]) -> dict[int, str]:
-    """What programs may do with each page: what the segments in it say together."""
+def rights_by_page(segments: Iterable[tuple[int, str, int]]) -> dict[int, str]:
+    """What programs may do with each page, by its address: what the segments in it say together."""
     pages: dict[int, str] = {}
     for address, rights, size in segments:
-        for page in range(address // PAGE_BYTES, -(-(address + size) // PAGE_BYTES)):
+        for page in range(address // PAGE_BYTES * PAGE_BYTES, address + size, PAGE_BYTES):
             own = pages.get(page, "") + rights
             pages[page] = "".join(letter for letter in "rwx" if letter in own)
     return pages
 
 
-def _maps(pages: Mapping[int, str]) -> Iterator[str]:
+def maps(pages: Mapping[int, str]) -> Iterator[str]:
     """The lines that map pages, one for those that follow each other and are alike."""
-    numbered = ((page - place, rights, page) for place, (page, rights) in enumerate(sorted(pages.items())))
+    ordered = enumerate(sorted(pages.items()))
+    numbered = ((page - PAGE_BYTES * place, rights, page) for place, (page, rights) in ordered)
     for (_, rights), run in groupby(numbered, key=lambda each: each[:2]):
         found = [page for _, _, page in run]
-        yield f"map {found[0] * PAGE_BYTES:x} {len(found)} {rights}"
+        yield f"map {found[0]:x} {len(found)} {rights}"

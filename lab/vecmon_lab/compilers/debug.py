@@ -6,6 +6,7 @@ from itertools import islice
 from typing import TYPE_CHECKING, NamedTuple, TypedDict
 
 from ..guest.symbols import Symbols, source_rows
+from ..machine.program import rights_of
 from .entries import NAME_LETTERS, name_of, ranges_of
 from .variables import Variable, variables_of
 
@@ -15,7 +16,6 @@ if TYPE_CHECKING:
 
 MOST_SEGMENTS, MOST_BYTES, MOST_SYMBOLS, MOST_ROWS = 64, 1 << 20, 2000, 20_000
 _CODE = 4  # SHF_EXECINSTR: the section has instructions
-_RIGHTS = {"r": 4, "w": 2, "x": 1}  # by the bits of p_flags
 
 
 class Segment(NamedTuple):
@@ -75,9 +75,8 @@ def _segments(elf: "ELFFile") -> Iterator[Segment]:
         left -= segment["p_memsz"]
         if left < 0 or segment["p_filesz"] > segment["p_memsz"]:
             raise ValueError(f"the image has more than {MOST_BYTES:,} bytes")
-        rights = "".join(letter for letter, bit in _RIGHTS.items() if segment["p_flags"] & bit)
         if segment["p_memsz"]:
-            yield Segment(segment["p_vaddr"], rights, segment["p_memsz"], segment.data().hex())
+            yield Segment(segment["p_vaddr"], rights_of(segment["p_flags"]), segment["p_memsz"], segment.data().hex())
 
 
 def _rows(elf: "ELFFile") -> list[Row]:

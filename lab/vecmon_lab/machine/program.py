@@ -26,6 +26,7 @@ MARCH = "-march=rv64im_zicsr_zve64x_zvl256b"
 """The compiler's word for what the machine has, as docs/COMPILING.md has it."""
 
 PT_LOAD = 1
+RIGHTS = {"r": 4, "w": 2, "x": 1}  # by the bits of p_flags
 _FLAGS = {1: "compressed instructions", 6: "a floating-point ABI"}  # by the bits of e_flags that say so
 
 
@@ -87,13 +88,18 @@ def image_refusal(name: str, code: str) -> str:
     return f"the machine refuses {name} ({code}): {dict(read_table('image_faults')).get(code)}"
 
 
-def segments_of(image: bytes) -> Iterator[tuple[int, int, int, bytes]]:
+def segments_of(image: bytes) -> Iterator[tuple[int, str, int, bytes]]:
     """What an image has loaded, by its program headers: an address, permissions, how many bytes, and the first of these."""
     (table,), (size, count) = struct.unpack_from("<Q", image, 32), struct.unpack_from("<HH", image, 54)
     for at in range(table, table + size * count, size):
         kind, flags, offset, address, _, in_file, length = struct.unpack_from("<IIQQQQQ", image, at)
         if kind == PT_LOAD and length:
-            yield address, flags & 7, length, image[offset : offset + in_file]
+            yield address, rights_of(flags), length, image[offset : offset + in_file]
+
+
+def rights_of(flags: int) -> str:
+    """What a program may do in a segment, as `rx`."""
+    return "".join(letter for letter, bit in RIGHTS.items() if flags & bit)
 
 
 def digest_of(path: pathlib.Path) -> str:

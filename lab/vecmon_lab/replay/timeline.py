@@ -7,7 +7,8 @@ from collections.abc import Callable, Iterator, Sequence
 from operator import itemgetter
 
 from .. import LabError
-from ..checkpoints.machine_state import PERMISSIONS, carry_out, pages_of
+from ..checkpoints.machine_state import carry_out, pages_of
+from ..compilers.compiled import maps
 from ..guest.guest import OUTPUT_BYTES, Guest, stepping
 from ..machine.answers import Addresses, Position, Stop
 from ..runs.beginning import Beginning, beginning_at
@@ -176,8 +177,6 @@ class Timeline:
     def _beginning(self, script: bytes) -> Beginning:
         """What a run begins with behind a script."""
         with self._guest.session.rewound(b"") as session:
-            user, lines = carry_out(session, script)[str(self._guest.user)], list[str]()
-            for page, allowed in pages_of(user, session.images):
-                lines.append(f"1 map {page:x} 1 {''.join(it for it, bit in PERMISSIONS.items() if allowed & bit)}")
-            lines.append("1 go")  # the program may have written to each of them
+            pages = dict(pages_of(carry_out(session, script)[str(self._guest.user)], session.images))
+            lines = [f"1 {line}" for line in (*maps(pages), "go")]  # the program may have written to each of them
             return beginning_at(Guest(session, self._guest.user), lines)
