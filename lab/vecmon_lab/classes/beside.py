@@ -6,10 +6,23 @@ import os
 import pathlib
 import sys
 from asyncio.subprocess import PIPE
+from collections.abc import Iterator
 
 from .. import LabError
 
 LAB = pathlib.Path(__file__).resolve().parents[2]
+
+
+@contextlib.contextmanager
+def alone(seat: str, busy: set[str], refusal: LabError) -> Iterator[None]:
+    """A seat is busy as long as its context lasts. Raises the refusal where it is already."""
+    if seat in busy:
+        raise refusal
+    busy.add(seat)
+    try:
+        yield
+    finally:
+        busy.discard(seat)
 
 
 class Beside:

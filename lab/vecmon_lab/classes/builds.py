@@ -7,6 +7,7 @@ from collections.abc import Sequence
 from ..compilers.compiled import IMAGE_BYTES, CompiledProgram, read_answer, words_for
 from ..compilers.compiler import Compiler, find_compiler
 from ..compilers.sandbox import answer_beside, check_sandbox
+from .beside import alone
 from .requests import BadRequest
 
 
@@ -44,13 +45,8 @@ class Builds:
         compiler = other or self.compiler
         if compiler is None:
             raise BadRequest(f"this class takes no C: {self.no_c}")
-        if seat in self._busy:
-            raise BadRequest("a source of this seat is being compiled")
-        words = words_for(text, compiler, choice, is_answer)
-        self._busy.add(seat)
-        try:
+        with alone(seat, self._busy, BadRequest("a source of this seat is being compiled")):
+            words = words_for(text, compiler, choice, is_answer)
             async with self._places:
                 answer = await answer_beside(words, text)
             return await asyncio.to_thread(read_answer, answer, self._most)
-        finally:
-            self._busy.discard(seat)

@@ -16,7 +16,7 @@ from ..exercises.check import Mistake, mistakes_told
 from ..machine.session import SCRIPT_BYTES
 from ..page.pages import merge_patch
 from ..page.state import State
-from .beside import Beside
+from .beside import Beside, alone
 from .builds import Builds
 from .checks import Checks, ExerciseTable, ExerciseView
 from .codes import TEACHER, WALL
@@ -268,14 +268,9 @@ class Class:
 
     async def take_home(self, seat: str) -> bytes:
         """The archive that a student takes home. Raises LabError where there is none, or it is being made already."""
-        if seat in self._packing:
-            raise LabError("it is being made already")
-        self._packing.add(seat)
-        try:
+        with alone(seat, self._packing, LabError("it is being made already")):
             self.keep()
             return await self._packers.run("classes.take_home", f"{self.store.folder}", f"{self.store.program}", seat)
-        finally:
-            self._packing.discard(seat)
 
     def seat(self, name: str) -> Seat:
         """The seat of a name. Raises BadRequest."""
