@@ -5,7 +5,7 @@ from collections.abc import Iterator
 from dataclasses import dataclass
 from string import Formatter
 
-from ..instructions.table import instruction_table
+from ..instructions.table import REGISTERS, instruction_table
 from ..tables.table import read_table
 from .line import Operand, SourceError, Token
 from .names import INSTRUCTION_NAMES, PSEUDO_NAMES, no_instruction
@@ -13,7 +13,7 @@ from .value import Symbols, Value
 
 _TEXT_BYTES, _VECTOR_TYPE = 256, "eSEW, mLMUL, ta|tu, ma|mu"
 _REGISTERS = {name: name for name in ["v0.t", *(f"{letter}{number}" for letter in "xv" for number in range(32))]}
-_REGISTERS |= dict(read_table("registers"))
+_REGISTERS |= REGISTERS
 _KEYWORD = re.compile("|".join(f"{name} (?:{words.replace(' ', '|')})" for name, words in read_table("keywords")))
 _REACH = {"jal": 1 << 20, "auipc": 1 << 30}
 

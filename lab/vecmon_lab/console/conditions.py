@@ -7,7 +7,7 @@ from operator import eq, ge, gt, le, lt, ne
 
 from .. import LabError
 from ..guest.changes import NAMES
-from .show import ABI_NAMES
+from ..instructions.table import ABI_NAMES
 
 REGISTERS = {name: number for number, name in ABI_NAMES.items()} | {"fp": "x8"} | {name: name for name in NAMES}
 """What scalar and control registers are called, and their names in NAMES."""

@@ -12,13 +12,11 @@ from ..guest.changes import Change, RegisterChange, vtype_text
 from ..instructions.accesses import ROW_BYTES
 from ..machine.answers import ControlRegisters, Memory, ScalarRegisters, VectorRegister, elements_in
 from ..output import write_out
-from ..tables.table import read_table
+from ..instructions.table import ABI_NAMES
 
 COLOURS = {"tail": "2", "masked": "35", "changed": "33", "refused": "31"}
 ROUNDING = ["rnu", "rne", "rdn", "rod"]  # vxrm, the manual's section 3.8
 WIDTH, ELEMENTS_WIDTH = 96, 72  # characters of a row, and of the elements of one, at most
-
-ABI_NAMES = {number: name for name, number in reversed(read_table("registers"))}  # x8 is s0, which stands first
 
 
 class Screen:

@@ -17,13 +17,14 @@ from dataclasses import replace
 from typing import TypedDict
 
 from .. import LabError
+from ..instructions.table import ABI_NAMES
 from ..assembler.source import SourceError, read_source
 from ..assembler.trial import all_mistakes
 from ..compilers.compiled import CompiledProgram
 from ..lessons.script import Script, Step
 from ..lessons.script import read_source as read_script
 from .answer import inputs, read_answer, source_answer
-from .exercise import ABI, ADDRESSES, Case, Exercise, Results
+from .exercise import ADDRESSES, Case, Exercise, Results
 from .outcome import outcome
 from .taken import Taken, taken_by
 
@@ -162,7 +163,9 @@ def _strips(results: Results, with_addresses: bool = False) -> list[tuple[str, l
     strips = []
     for name, value in results.registers.items():
         is_address = with_addresses and ADDRESSES <= value < 1 << 48
-        strips.append((f"{ABI[name]} ({name})", [f"{value:#x}" if is_address else f"{value - (value >> 63 << 64)}"]))
+        strips.append(
+            (f"{ABI_NAMES[name]} ({name})", [f"{value:#x}" if is_address else f"{value - (value >> 63 << 64)}"])
+        )
     strips += [(f"{place.type} at {place.address:#x}", [*map(str, place.numbers)]) for place in results.memory]
     if results.output is not None:
         strips.append(("output", [repr(results.output.decode("utf-8", "replace"))[:200]]))

@@ -10,7 +10,7 @@ from types import SimpleNamespace
 
 from .. import LabError, mistakes_in
 from ..guest.guest import IMAGE_BYTES
-from ..tables.table import read_table
+from ..instructions.table import REGISTERS
 
 OURS = pathlib.Path(__file__).with_name("given")
 UNLIMITED = 1 << 63
@@ -18,10 +18,8 @@ FILES = ("reference", "good", "start", "start_c", "lesson")  # keys of an exerci
 PLACE_BYTES = 1 << 20  # all that a user's pages have
 ADDRESSES = 0x10000  # a register with so much in it may have an address
 
-ABI = {register: name for name, register in reversed(read_table("registers"))}
-
 _NAMES = {bool: "true or false", int: "a number", str: "a text", list: "a list", dict: "a table"}
-_REGISTERS = dict(read_table("registers")) | {f"x{number}": f"x{number}" for number in range(32)}
+_REGISTERS = REGISTERS | {f"x{number}": f"x{number}" for number in range(32)}
 _FORMATS = {"i8": "b", "u8": "B", "i16": "h", "u16": "H", "i32": "i", "u32": "I", "i64": "q", "u64": "Q"}  # of struct
 
 

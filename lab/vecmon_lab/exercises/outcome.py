@@ -4,8 +4,9 @@ import pathlib
 from collections.abc import Iterator, Mapping
 
 from .. import LabError
+from ..instructions.table import ABI_NAMES
 from .answer import Answer, Attempt, attempt
-from .exercise import ABI, ADDRESSES, Case, Exercise, Results
+from .exercise import ADDRESSES, Case, Exercise, Results
 
 
 def outcome(program: pathlib.Path, answer: Answer, exercise: Exercise, case: Case) -> tuple[str, Attempt | None]:
@@ -29,7 +30,7 @@ def difference(expected: Results, done: Attempt, given: Mapping[str, int]) -> st
     for where, value, old, left in _numbers(expected, done.before, done.found):
         if left != value:
             addresses = {name: it for name, it in given.items() if min(it, left) >= ADDRESSES}
-            near = next((ABI[name] for name, it in addresses.items() if abs(left - it) < 4096), "")
+            near = next((ABI_NAMES[name] for name, it in addresses.items() if abs(left - it) < 4096), "")
             found = f"found {left}" + (f" ({left:#x}, near {near}'s address)" if near else "")
             return f"{where}: expected {value}, {'and it was left as it was' if left == old else found}"
     if done.found.output != expected.output:
@@ -42,7 +43,7 @@ def _numbers(expected: Results, before: Results, found: Results) -> Iterator[tup
     for name in expected.registers:
         values = (each.registers[name] for each in (expected, before, found))
         value, old, left = (each - (each >> 63 << 64) for each in values)
-        yield ABI[name], value, old, left
+        yield ABI_NAMES[name], value, old, left
     for place, *others in zip(expected.memory, before.memory, found.memory):
         size = len(place.data) // len(place.numbers)
         for number, (value, old, left) in enumerate(zip(place.numbers, *(each.numbers for each in others))):

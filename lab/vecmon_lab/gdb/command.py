@@ -168,8 +168,7 @@ class Target:
 
     def _scalars(self) -> list[str]:
         """The registers before the vector registers: x0 to x31, pc, and the control registers."""
-        registers, control = self._guest.ask("regs", "vcsr")
-        assert isinstance(registers, ScalarRegisters) and isinstance(control, ControlRegisters)
+        registers, control = self._guest.told("regs", ScalarRegisters), self._guest.told("vcsr", ControlRegisters)
         values = (*registers.x, registers.pc, *vars(control).values())
         return [value.to_bytes(8, "little").hex() for value in values]
 

@@ -30,6 +30,12 @@ class Row:
         return int(self.bits.replace("-", "0"), 2) | operands & operand_bits
 
 
+REGISTERS = dict(read_table("registers"))
+"""The numbers of scalar registers, as x10, by their names in the ABI."""
+
+ABI_NAMES = {number: name for name, number in reversed(REGISTERS.items())}  # x8 is s0, which stands first
+
+
 @functools.cache
 def instruction_table() -> dict[str, Row]:
     """The rows by name, in the page's order, but for `.word`."""
