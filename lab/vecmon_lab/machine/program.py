@@ -14,14 +14,7 @@ from ..tables.table import read_table
 _CRATES = pathlib.Path(__file__).resolve().parents[3] / "crates"
 BUILT, BUILT_RECORDER = _CRATES / "vecmon" / "out" / "vecmon", _CRATES / "vecmon_record" / "out" / "vecmon_record"
 RECORDER = "vecmon-record"
-HOW_TO_BUILD = (
-    "it is built with its proofs by `cd crates/vecmon && rt run < stdin`, in a quarter of an hour or more, and without "
-    "them by `python3 tools/unproved_build.py vecmon OUT`, in a minute or two, which VECMON=OUT then names"
-)
-HOW_TO_BUILD_RECORDER = (
-    "counts and runs need it, and it stands beside vecmon in a package; in a clone it is built by `cd crates/vecmon_record && rt "
-    "run`, or without its proofs by `python3 tools/unproved_build.py vecmon_record OUT`, which VECMON_RECORD=OUT then names"
-)
+HOW_TO_BUILD = dict(read_table("how_to_build"))
 MARCH = "-march=rv64im_zicsr_zve64x_zvl256b"
 """The compiler's word for what the machine has, as docs/COMPILING.md has it."""
 
@@ -40,7 +33,7 @@ def find_program() -> pathlib.Path:
     found = shutil.which(named) if named else shutil.which(str(BUILT)) or shutil.which("vecmon")
     if found is None:
         missing = f"VECMON={named} is no program" if named else "there is no program vecmon"
-        raise NoProgram(f"{missing}; {HOW_TO_BUILD}")
+        raise NoProgram(f"{missing}; {HOW_TO_BUILD['vecmon']}")
     return pathlib.Path(found).absolute()
 
 
@@ -54,7 +47,7 @@ def find_recorder() -> pathlib.Path:
     if found is None:
         if not os.environ.get("VECMON_RECORD"):
             check_is_vecmon(find_program())  # beside which it isn't
-        raise NoProgram(f"there is no program {named or RECORDER}; {HOW_TO_BUILD_RECORDER}")
+        raise NoProgram(f"there is no program {named or RECORDER}; {HOW_TO_BUILD[RECORDER]}")
     return pathlib.Path(found).absolute()
 
 
