@@ -9,8 +9,7 @@ from hypothesis import given, settings
 from hypothesis import strategies as st
 
 from support.places import DATA, DOCS
-from vecmon_lab.assembler.names import DIRECTIVES
-from vecmon_lab.assembler.source import Program, SourceError, assemble, read_source, refusal
+from vecmon_lab.assembler.source import DIRECTIVES, Program, SourceError, assemble, read_source, refusal
 from vecmon_lab.assembler.trial import all_mistakes
 from vecmon_lab.machine.session import Session
 

@@ -10,10 +10,6 @@ from ..tables.table import read_table
 INSTRUCTION_NAMES = frozenset(instruction_table())
 PSEUDO_NAMES = frozenset(["li", *(form.split()[0] for form, *_ in read_table("pseudo"))])
 SOURCE_NAMES = INSTRUCTION_NAMES | PSEUDO_NAMES
-DIRECTIVES = (
-    ".text .data .bss .section .globl .global .type .size .option .equ .set .align .balign .ascii .asciz .string .byte "
-    ".half .word .dword .zero"
-).split()
 MOST_NEAR = 3
 
 

@@ -104,7 +104,7 @@ class _Assembler:
         self._symbols = Symbols()
         self._instructions: list[Instruction] = []
         self.mistakes: dict[int, SourceError] = {}  # the first one of a line, by its number
-        self._directives: dict[str, Callable[[Token, list[Operand]], None]] = {
+        self.directives: dict[str, Callable[[Token, list[Operand]], None]] = {
             **dict.fromkeys((*self._sections, ".section"), self._enter_section),
             **dict.fromkeys((".globl", ".global", ".type", ".size", ".option"), lambda name, operands: None),
             **dict.fromkeys((".equ", ".set"), self._equate),
@@ -139,14 +139,14 @@ class _Assembler:
         name = tokens[0]
         if name.kind is not Kind.NAME:
             raise name.error(f"{name.text} stands where an instruction, a directive or a label has to")
-        if name.text.startswith(".") and name.text not in self._directives:
+        if name.text.startswith(".") and name.text not in self.directives:
             raise name.error(f"there is no directive {name.text}")
         if not name.text.startswith(".") and name.text not in SOURCE_NAMES:
             raise name.error(no_instruction(name.text))
         operands = operands_of(tokens[1:])
         if name.text in (*_WIDTHS, *_STRINGS) and not operands:
             raise name.error(f"{name.text} takes one operand or more")
-        self._directives.get(name.text, self._read_instruction)(name, operands)
+        self.directives.get(name.text, self._read_instruction)(name, operands)
 
     def finish(self, origin: int) -> Program:
         """The program, with its text at the origin, or what is wrong with it."""
@@ -239,3 +239,7 @@ class _Assembler:
             else:
                 width = _WIDTHS[name.text]
                 self._put(name, width, partial(self._symbols.data, operand, self._here(), width))
+
+
+DIRECTIVES = list(_Assembler().directives)
+"""The names of all directives."""

@@ -4,7 +4,7 @@ import json
 from collections.abc import Iterator
 
 from ..assembler.commands import COMMANDS, MEANINGS
-from ..assembler.names import DIRECTIVES
+from ..assembler.source import DIRECTIVES
 from ..instructions.table import instruction_table
 from ..tables.table import read_table
 
