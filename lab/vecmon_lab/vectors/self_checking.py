@@ -16,13 +16,7 @@ from .on_qemu import LAYOUT, Case, expected, held, state
 CASES_OF_A_PROGRAM = 200
 _HAS_MEMORY = 16
 _RELATIVE = (0x63, 0x6F)  # opcodes of jumps whose targets stock assemblers read in two ways
-_SECTIONS = """\
-                        .section .instruction, "awx", @nobits
-                        .zero 4096
-                        .section .memory, "aw", @nobits
-                        .zero 8192
-                        .section .cases, "a"
-"""
+_SECTIONS = pathlib.Path(__file__).with_name("sections.s").read_text("ascii")
 
 
 class Writer:
