@@ -2,10 +2,8 @@
 
 import argparse
 import asyncio
-import errno
 import os
 import pathlib
-import socket
 import sys
 from urllib.parse import urlsplit
 
@@ -56,7 +54,7 @@ def run(arguments: argparse.Namespace) -> int:
     images, host = images_of(arguments.images), arguments.host
     store = Store(arguments.folder, find_program(), images, arguments.quantum, arguments.machines)
     try:
-        doors = listening_at(host, arguments.port)  # before the class is carried out again, which may take a while
+        doors = listening(host, arguments.port)  # before the class is carried out again, which may take a while
     except LabError:
         store.close()
         raise
@@ -92,13 +90,3 @@ def _tell(sentence: str) -> None:
     """Tells at a terminal how far a machine has been rebuilt."""
     if sys.stderr.isatty():
         print(f"\r{sentence}", end="\n" if sentence.endswith(" 100 %") else "", file=sys.stderr, flush=True)
-
-
-def listening_at(host: str, port: int) -> list[socket.socket]:
-    """Sockets that listen at the host's addresses. Raises LabError where there can't be any."""
-    try:
-        return listening(host, port)
-    except OSError as error:
-        reason = (error.strerror or str(error)).partition(" (while")[0]
-        hint = "; --port names another port" if error.errno == errno.EADDRINUSE else ""
-        raise LabError(f"{host}, port {port}: {reason}{hint}") from error

@@ -12,9 +12,8 @@ from ..compilers.compiler import choice_for, find_compilers
 from ..lessons.lesson import add_compiler
 from ..machine.program import find_program
 from .builds import Builds, sandboxed_compiler
-from .command import listening_at
 from .languages import LANGUAGES, SourceText
-from .server import serve
+from .server import listening, serve
 from .store import Store
 from .view import Class
 
@@ -41,7 +40,7 @@ def run(arguments: argparse.Namespace) -> int:
         store = Store(pathlib.Path(folder) / "own", find_program(), quantum=arguments.quantum)
         members = Class(store, PATIENCE, builds=builds)
         members.sources[SEAT].give(source)
-        asyncio.run(serve(members, HOST, listening_at(HOST, arguments.port), {HOST}, SEAT))
+        asyncio.run(serve(members, HOST, listening(HOST, arguments.port), {HOST}, SEAT))
     return 0
 
 

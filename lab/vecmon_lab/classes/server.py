@@ -2,6 +2,7 @@
 
 import asyncio
 import contextlib
+import errno
 import ipaddress
 import json
 import logging
@@ -197,9 +198,14 @@ class Server:
 
 
 def listening(host: str, port: int) -> list[socket.socket]:
-    """Sockets that listen, one at each address of a host. Raises OSError where one can't be had."""
-    found = dict.fromkeys(socket.getaddrinfo(host, port, type=socket.SOCK_STREAM, flags=socket.AI_PASSIVE))
-    return [socket.create_server(address, family=family) for family, _, _, _, address in found]
+    """Sockets that listen, one at each address of a host. Raises LabError where one can't be had."""
+    try:
+        found = dict.fromkeys(socket.getaddrinfo(host, port, type=socket.SOCK_STREAM, flags=socket.AI_PASSIVE))
+        return [socket.create_server(address, family=family) for family, _, _, _, address in found]
+    except OSError as error:
+        reason = (error.strerror or str(error)).partition(" (while")[0]
+        hint = "; --port names another port" if error.errno == errno.EADDRINUSE else ""
+        raise LabError(f"{host}, port {port}: {reason}{hint}") from error
 
 
 @contextlib.asynccontextmanager
