@@ -88,26 +88,31 @@ class Message(TypedDict, total=False):
     logs: Logs
 
 
-class StudentView(TypedDict):
+class PageView(TypedDict):
+    """What students' pages show, and the teacher's as well: of a seat its state and its source."""
+
+    state: State
+    source: SourceView
+    images: list[str]
+    quantum: int
+    languages: list[str]
+    no_c: str
+    trouble: str
+
+
+class StudentView(PageView):
     """What a student's page shows."""
 
     seat: str
     name: str
-    state: State
     stop: str
-    images: list[str]
-    quantum: int
     clock: bool
     own_slices: bool
     share: Share
-    languages: list[str]
-    no_c: str
     against: list[str]
-    source: SourceView
     exercises: dict[str, ExerciseView]
     again: bool
     ready: bool
-    trouble: str
 
 
 WallView = TypedDict("WallView", {"seat": str, "state": State, "stop": str, "trouble": str})
@@ -143,21 +148,14 @@ class MachineView(TypedDict):
     trouble: str
 
 
-class TeacherView(TypedDict):
+class TeacherView(PageView):
     """What the teacher's page shows."""
 
     machines: dict[str, MachineView]
     share: int
-    images: list[str]
-    quantum: int
-    trouble: str
     shoulder: str
-    state: State
     wall: str
     address: str
-    languages: list[str]
-    no_c: str
-    source: SourceView
     exercises: dict[str, ExerciseTable]
 
 
