@@ -15,8 +15,7 @@ def input_of(image: pathlib.Path, file: pathlib.Path) -> dict[int, bytes]:
     Raises LabError where one of the symbols is missing or has no room for them, and OSError.
     """
     symbols = Symbols.read(image)
-    addresses = [symbols.addresses.get(name) for name in ("input", "input_size")]
-    place, size_place = addresses
+    place, size_place = map(symbols.addresses.get, ("input", "input_size"))
     if place is None or size_place is None:
         missing = "input_size" if size_place is None and place is not None else "input"
         raise LabError(f"a file is laid at its symbols input and input_size, and it has no {missing}")
