@@ -18,7 +18,7 @@ class BadRequest(LabError):
 
 @dataclass(frozen=True)
 class _OfSeat:
-    """A request that says a seat alone."""
+    """A request that says a seat, alone or before all else."""
 
     seat: str
 
@@ -95,10 +95,9 @@ class PutOnWall(_OfSeat):
 
 
 @dataclass(frozen=True)
-class ShowCodes:
+class ShowCodes(_OfSeat):
     """The code of a seat, or of the wall; "" for all of them. Pictures are those of a sheet to print."""
 
-    seat: str
     pictures: bool
 
 
@@ -118,10 +117,9 @@ class ReadVersion:
 
 
 @dataclass(frozen=True)
-class Give:
+class Give(_OfSeat):
     """A source for a seat; "" for all."""
 
-    seat: str
     source: SourceText
 
 
@@ -142,27 +140,24 @@ class TryCase(_OfExercise):
 
 
 @dataclass(frozen=True)
-class ReadAnswer:
+class ReadAnswer(_OfSeat):
     """The answer of a seat to an exercise, the first of which has the number 1."""
 
-    seat: str
     exercise: str
     number: int
 
 
 @dataclass(frozen=True)
-class SetName:
+class SetName(_OfSeat):
     """The name of whoever sits at a seat, which is the student's own unless a teacher says it; "" for none."""
 
-    seat: str
     name: str
 
 
 @dataclass(frozen=True)
-class Write:
+class Write(_OfSeat):
     """A sentence of the teacher's for a seat; "" for all."""
 
-    seat: str
     text: str
 
 
