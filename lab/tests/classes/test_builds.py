@@ -13,7 +13,8 @@ from support.class_tabs import Served, Tab, served
 from support.left_out import NO_SANDBOX, leave_out
 from support.places import EXAMPLES
 from vecmon_lab import LabError
-from vecmon_lab.classes.builds import Builds, sandboxed_compiler
+from vecmon_lab.classes.builds import Builds
+from vecmon_lab.compilers.sandbox import sandboxed_compiler
 from vecmon_lab.classes.languages import LANGUAGES
 from vecmon_lab.classes.room import SEAT_BYTES
 from vecmon_lab.compilers import sandbox

@@ -5,17 +5,10 @@ import os
 from collections.abc import Sequence
 
 from ..compilers.compiled import IMAGE_BYTES, CompiledProgram, read_answer, words_for
-from ..compilers.compiler import Compiler, find_compiler
-from ..compilers.sandbox import answer_beside, check_sandbox
+from ..compilers.compiler import Compiler
+from ..compilers.sandbox import answer_beside
 from .beside import alone
 from .requests import BadRequest
-
-
-def sandboxed_compiler(name: str | None) -> Compiler:
-    """The compiler of this name, or the first one, for sources of others. Raises LabError where there can be none."""
-    compiler = find_compiler(name)
-    check_sandbox()
-    return compiler
 
 
 class Builds:

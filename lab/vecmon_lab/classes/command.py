@@ -10,7 +10,8 @@ from urllib.parse import urlsplit
 from .. import LabError
 from ..arguments import between
 from ..machine.program import find_program, images_of
-from .builds import Builds, sandboxed_compiler
+from ..compilers.sandbox import sandboxed_compiler
+from .builds import Builds
 from .codes import LETTERS
 from .names import NAMES
 from .server import HOST, listening, serve

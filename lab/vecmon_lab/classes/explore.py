@@ -11,7 +11,8 @@ from ..arguments import between
 from ..compilers.compiler import choice_for, find_compilers
 from ..lessons.lesson import add_compiler
 from ..machine.program import find_program
-from .builds import Builds, sandboxed_compiler
+from ..compilers.sandbox import sandboxed_compiler
+from .builds import Builds
 from .languages import LANGUAGES, SourceText
 from .server import listening, serve
 from .store import Store

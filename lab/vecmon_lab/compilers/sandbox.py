@@ -14,6 +14,7 @@ from asyncio.subprocess import DEVNULL, PIPE
 from collections.abc import Mapping, Sequence
 
 from .. import LabError
+from .compiler import Compiler, find_compiler
 
 LAB = pathlib.Path(__file__).resolve().parents[2]
 SECONDS, ANSWER_BYTES, FOLDER_BYTES = 20, 4 << 20, 64 << 20  # by the clock; of what is answered; of all files there
@@ -41,6 +42,13 @@ def check_sandbox() -> None:
         raise LabError("others' C is compiled behind bwrap alone, which isn't here: apt-get install bubblewrap")
     if os.geteuid() == 0:
         raise LabError("others' C isn't compiled as root: begin this as another user")
+
+
+def sandboxed_compiler(name: str | None) -> Compiler:
+    """The compiler of this name, or the first one, for sources of others. Raises LabError where there can be none."""
+    compiler = find_compiler(name)
+    check_sandbox()
+    return compiler
 
 
 def answer_sandboxed(words: Sequence[str], text: str) -> bytes:

@@ -11,8 +11,7 @@ from functools import partial
 
 from .. import LabError
 from ..arguments import check_output
-from ..compilers.compiler import find_compiler
-from ..compilers.sandbox import check_sandbox
+from ..compilers.sandbox import sandboxed_compiler
 from ..machine.program import find_program
 from ..tables.table import spreadsheet_row, table_lines
 from .answer import C_SUFFIX, read_answer, settled
@@ -50,8 +49,7 @@ def run(arguments: argparse.Namespace) -> int:
     for report in (arguments.junit, arguments.gradescope):
         check_output(report, *arguments.answers)
     if any(path.suffix == C_SUFFIX for path in arguments.answers):
-        find_compiler(None)
-        check_sandbox()
+        sandboxed_compiler(None)
     program = find_program()
     exercise = settled(program, read_exercise(arguments.exercise))
     with ThreadPoolExecutor(os.cpu_count()) as pool:
