@@ -150,7 +150,7 @@ class Store:
         be more machines than before. Raises BadFolder, OSError, and ProgramGone where the program refuses the images.
         """
         self.folder, self.program = folder, program
-        self._troubles: dict[str, str] = {}  # by the name of what isn't saved
+        self.troubles: dict[str, str] = {}  # by the name of what wasn't saved when it was tried last
         self._is_reading = is_reading
         if is_reading:
             self._open(images, quantum, machines)
@@ -221,11 +221,7 @@ class Store:
     @property
     def trouble(self) -> str:
         """Why something isn't saved; empty if all is."""
-        return next(iter(self._troubles.values()), "")
-
-    def waits(self, name: str) -> bool:
-        """Whether what this name has wasn't saved when it was tried last."""
-        return name in self._troubles
+        return next(iter(self.troubles.values()), "")
 
     def read_text(self, name: str) -> str:
         """A text that was kept; empty if there is none."""
@@ -244,14 +240,14 @@ class Store:
             new.write_bytes(text.encode("utf-8", "replace"))
             new.replace(self.folder / name)
         except OSError as error:
-            self._troubles[name] = f"{name} isn't saved: {error.strerror}"
+            self.troubles[name] = f"{name} isn't saved: {error.strerror}"
             return False
-        self._troubles.pop(name, None)
+        self.troubles.pop(name, None)
         return True
 
     def remove(self, name: str) -> None:
         """Keeps it no more, whether it was saved or not."""
-        self._troubles.pop(name, None)
+        self.troubles.pop(name, None)
         with contextlib.suppress(OSError):
             (self.folder / name).unlink()
 

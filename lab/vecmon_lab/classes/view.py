@@ -56,7 +56,6 @@ from .store import Notes, ScriptFile, Store
 
 Logs = dict[str, list[str]]
 Answers = list[list[str]]
-Clock = Mapping[str, int]
 Share = TypedDict("Share", {"used": int, "of": int})
 SourceView = TypedDict(
     "SourceView",
@@ -136,7 +135,7 @@ class MachineView(TypedDict):
     """What the teacher's page shows of a machine."""
 
     seats: dict[str, SeatView]
-    clock: Clock
+    clock: Mapping[str, int]
     own_slices: bool
     script: int
     scripts: int
@@ -252,7 +251,7 @@ class Class:
                 self._keep(room.letter, notes)
         self.checks.keep()
         for name, kept in (("codes.json", self.codes.codes), (NAMES, self.names)):
-            if self.store.waits(name):
+            if name in self.store.troubles:
                 self.store.write(name, kept)
         if self.store.trouble != trouble:
             self._tell([])

@@ -120,22 +120,18 @@ def words_for(text: str, compiler: Compiler, choice: int, is_answer: bool = Fals
 
 def read_answer(told: bytes, most: int = IMAGE_BYTES) -> CompiledProgram:
     """The program of what was answered from the sandbox. Raises LabError where that is in bad form, or too much."""
+    errors, warnings = list[SourceError](), list[SourceError]()
     try:
-        return _read_answer(told, most)
+        answer = json.loads(told)
+        for line, column, is_error, text in answer["messages"][:MOST_MESSAGES]:
+            (errors if is_error else warnings).append(SourceError(int(line), int(column), str(text)[:MESSAGE_LETTERS]))
+        if errors:
+            return CompiledProgram([], {}, [], 0, errors, (), warnings)
+        program = program_of(answer["image"], warnings, most)
+        program.names()  # so that what is in bad form is told here
+        return replace(program, told=told)
     except (ValueError, TypeError, LookupError, AttributeError, RecursionError) as error:
         raise LabError("what the compiler made can't be read") from error
-
-
-def _read_answer(told: bytes, most: int) -> CompiledProgram:
-    answer = json.loads(told)
-    errors, warnings = list[SourceError](), list[SourceError]()
-    for line, column, is_error, message in answer["messages"][:MOST_MESSAGES]:
-        (errors if is_error else warnings).append(SourceError(int(line), int(column), str(message)[:MESSAGE_LETTERS]))
-    if errors:
-        return CompiledProgram([], {}, [], 0, errors, (), warnings)
-    program = program_of(answer["image"], warnings, most)
-    program.names()  # so that what is in bad form is told here
-    return replace(program, told=told)
 
 
 def program_of(

@@ -48,8 +48,8 @@ def variables_of(elf: "ELFFile") -> list[Variable]:
     try:
         debug = elf.get_dwarf_info() if elf.has_dwarf_info() else None
         for unit in debug.iter_CUs() if debug else ():
-            if name_of(unit.get_top_DIE()) == C_SOURCE:
-                found += islice(_Unit(debug, unit).variables(), MOST_VARIABLES - len(found))
+            if name_of(top := unit.get_top_DIE()) == C_SOURCE:
+                found += islice(_Unit(debug, unit).variables(top), MOST_VARIABLES - len(found))
     except Exception:  # pylint: disable=broad-except  # damaged data makes pyelftools raise what its parts do
         pass
     return found
@@ -81,11 +81,9 @@ class _Unit:
         first = unit.get_top_DIE().attributes.get("DW_AT_low_pc")
         self._base = first.value if first else 0
 
-    def variables(self) -> Iterator[Variable]:
-        """All of them."""
-        return self._within(self._unit.get_top_DIE(), "", (), None)
-
-    def _within(self, entry: "DIE", function: str, scopes: Sequence[Sum], frame: Sum | None) -> Iterator[Variable]:
+    def variables(
+        self, entry: "DIE", function: str = "", scopes: Sequence[Sum] = (), frame: Sum | None = None
+    ) -> Iterator[Variable]:
         """Those within an entry of this function, of these scopes, and with this base of its frame, if it is known."""
         for child in entry.iter_children():
             if child.tag in _VARIABLES:
@@ -95,7 +93,7 @@ class _Unit:
                 if own:  # else it is what a function is inlined from
                     name = name_of(child) or function
                     base = self._frame(child) if child.tag == _FUNCTION else frame
-                    yield from self._within(child, name, own, base)
+                    yield from self.variables(child, name, own, base)
                     yield from (_variable(each, name, own, ()) for each in _dropped(child))
 
     def _frame(self, entry: "DIE") -> Sum | None:

@@ -50,10 +50,9 @@ def run(arguments: argparse.Namespace) -> int:
     if page:
         with page.with_suffix(".csv").open("w", newline="", encoding="utf-8") as file:
             csv.writer(file).writerows([HEAD, *rows])
-        shown = {"summary": summary, "parts": [vars(part) for part in parts], "rows": rows}
+        data = {"summary": summary, "parts": [vars(part) for part in parts], "rows": rows}
         lengths = [(kind, vl, times) for (kind, vl), times in sorted(counts.lengths.items())]
-        frames = [asdict(frame) for frame in spent.callers.frames()]
-        data = {**shown, "lengths": lengths, "frames": frames}
+        data |= {"lengths": lengths, "frames": [asdict(frame) for frame in spent.callers.frames()]}
         page.write_text(lone_page("profile", f"Profile of {image.name}", data), "utf-8")
     return status_of(counts.stop)
 
