@@ -9,8 +9,9 @@ from collections.abc import Iterator
 
 from vecmon_lab.compilers.compiled import CompiledProgram, compile_c
 from vecmon_lab.compilers.compiler import Compiler, choice_of
-from vecmon_lab.lessons.tour import KERNEL, TOURS
+from vecmon_lab.lessons.tour import TOURS
 
+KERNEL = "kernel_in_c"  # how its files in the tour are named
 COMPILER, OPTIONS = Compiler("clang-19"), "O1"
 DIGITS = 128  # of a line that writes bytes: a table of the tour's page has no room for more
 

@@ -10,14 +10,14 @@ import pytest
 
 from support.commands import Lab
 from support.places import EXAMPLES
-from support.tour_kernel import COMPILER, made
+from support.tour_kernel import COMPILER, KERNEL, made
 from vecmon_lab import LabError
 from vecmon_lab.compilers.compiled import compile_c, memory_rows
 from vecmon_lab.compilers.compiler import CHOICES, Compiler, choice_of
 from vecmon_lab.lessons.frames import make_frames
 from vecmon_lab.lessons.listings import listing_of
 from vecmon_lab.lessons.script import read_compiled
-from vecmon_lab.lessons.tour import KERNEL, TOURS, tours
+from vecmon_lab.lessons.tour import TOURS, tours
 
 KERNELS = EXAMPLES / "kernels"
 LOOP = """

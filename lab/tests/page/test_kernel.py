@@ -7,10 +7,11 @@ from typing import TYPE_CHECKING
 import pytest
 
 from support.browser import CONTRAST, media, press
+from support.tour_kernel import KERNEL
 from vecmon_lab.lessons.frames import make_frames
 from vecmon_lab.lessons.listings import Listing, listings_page
 from vecmon_lab.lessons.page import lesson_page
-from vecmon_lab.lessons.tour import KERNEL, TOURS, tours
+from vecmon_lab.lessons.tour import TOURS, tours
 
 if TYPE_CHECKING:
     from selenium.webdriver import Chrome

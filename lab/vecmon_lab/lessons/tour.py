@@ -13,7 +13,6 @@ from .page import lesson_page
 from .script import Script, Step, add_line
 
 TOURS = pathlib.Path(__file__).with_name("tours")
-KERNEL = "kernel_in_c"  # which comes compiled, with what is told of its source beside it
 
 
 def add_arguments(parser: argparse.ArgumentParser) -> None:
