@@ -101,7 +101,7 @@ def test_a_run_that_begins_where_a_guest_stands(session: Session) -> None:
     lines += ["1 asm 10004 ebreak", "1 asm 10008 vsetivli x0, 3, e32, m1, ta, ma", "1 setpc 10008", "1 step 1"]
     lines += ["1 vset v0 " + "05" + "00" * 31, "1 setpc 10000", "1 policy ones"]
     session.do_all(lines)
-    counts = record(beginning_at(guest, lines))
+    counts = record(beginning_at(guest))
     assert [(place.address, place.times, list(place.elements)) for place in counts.places] == [(0x10000, 1, [2, 1, 5])]
     assert counts.lengths == {("e32,m1,ta,ma", 3): 1} and counts.stop and counts.stop.kind == "ebreak"
 

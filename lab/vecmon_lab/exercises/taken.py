@@ -19,9 +19,8 @@ def taken_by(program: pathlib.Path, answer: Answer, exercise: Exercise) -> Taken
     for case in exercise.cases:
         if not case.is_hidden:
             with ready(program, answer, exercise, case) as guest:
-                lines = guest.session.script.decode("ascii").splitlines()
                 image = answer.path if answer.commands is None else None
-                counts = record(beginning_at(guest, lines, image), exercise.limits.ticks)
+                counts = record(beginning_at(guest, image), exercise.limits.ticks)
             instructions += counts.instructions
             elements = [sum(pair) for pair in zip(elements, counts.elements)]
     return {"instructions": instructions, "work": round(100 * elements[0] / max(1, sum(elements)))}

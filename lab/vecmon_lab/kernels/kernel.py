@@ -183,7 +183,7 @@ class Kernel(contextlib.AbstractContextManager["Kernel"]):
         looks = ["regs", *(look for place in places for look in peeks(place.address, len(place.data))), "out"]
         answers, counts = guest.ask(*(before if counted else ())), None
         if counted:
-            counts = record(beginning_at(guest, [f"1 {line}" for line in before], self._images.get("image")), ticks)
+            counts = record(beginning_at(guest, self._images.get("image"), [f"1 {line}" for line in before]), ticks)
         answers += guest.ask(*before[len(answers) :], f"step {MOST_STEPS}", *looks)
         for command, answer in zip(before, answers):
             if isinstance(answer, Refused):

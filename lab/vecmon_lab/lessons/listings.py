@@ -48,8 +48,7 @@ def listing_of(program: CompiledProgram, name: str, machine: pathlib.Path) -> Li
         guest = Guest(session)
         send(guest, ["enter", *program.lines, f"setpc {program.entry:x}"])
         words = guest.words(lines)
-        lines_done = session.script.decode("ascii").splitlines()
-        counts, stop = record(beginning_at(guest, lines_done), MOST_TICKS), guest.go(MOST_TICKS)
+        counts, stop = record(beginning_at(guest), MOST_TICKS), guest.go(MOST_TICKS)
         end = f"status {stop.number}" if stop and stop.kind == "exit" else guest.tell(stop)
     by_address = {place.address: place for place in counts.places}
     places = [(word, by_address.get(word.address, Place(word.address, word.word))) for word in words]

@@ -178,5 +178,5 @@ class Timeline:
         """What a run begins with behind a script."""
         with self._guest.session.rewound(b"") as session:
             pages = dict(pages_of(carry_out(session, script)[str(self._guest.user)], session.images))
-            lines = [f"1 {line}" for line in (*maps(pages), "go")]  # the program may have written to each of them
-            return beginning_at(Guest(session, self._guest.user), lines)
+            # by `go` the program may have written to each of them
+            return beginning_at(Guest(session, self._guest.user), lines=[f"1 {it}" for it in (*maps(pages), "go")])

@@ -46,13 +46,13 @@ def beginning_of(
     return Beginning(image, memory, [f"x2 {STACK_END - len(block):x}"], policy)
 
 
-def beginning_at(guest: Guest, lines: Iterable[str], image: pathlib.Path | None = None) -> Beginning:
-    """What a run begins with where a guest stands, whom these lines of a script have brought there since it entered.
+def beginning_at(guest: Guest, image: pathlib.Path | None = None, lines: Iterable[str] | None = None) -> Beginning:
+    """What a run begins with where a guest stands, whom these lines have brought there since it entered; else its script.
 
     image: the one that they loaded, if any, whose other pages nothing has written to
     """
     pages, spans = dict[int, str](), dict[Span, None]()
-    for line in lines:
+    for line in guest.session.script.decode("ascii").splitlines() if lines is None else lines:
         match words_of(line):
             case ["map", address, number, permissions]:
                 first = int(address, 16)
