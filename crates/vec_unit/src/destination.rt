@@ -11,7 +11,7 @@ ghost use Rattle.vec_unit.specs.Agnostic.{is_agnostic};
 
 use lane_arith::{Body, Lane, Results, fill, write_results};
 use reg_groups::{group_mut, registers};
-use rv_model::{GROUP_BYTES, Policy, VFile, VReg, VType};
+use rv_model::{GROUP_BYTES, Policy, VFile, VLENB, VReg, VType};
 
 /// What an instruction writes, whether it is unmasked, and the type and the policy under which it is carried
 /// out.
