@@ -22,7 +22,7 @@ class _Program(argparse.Action):
     """Divides an image from the words behind it, which are `words` then; `named` is what the image was named by."""
 
     def __call__(
-        self, parser: object, namespace: argparse.Namespace, values: Any, option_string: object = None
+        self, parser: object, namespace: argparse.Namespace, values: str | Sequence[Any] | None, option: object = None
     ) -> None:
         words = list(values or ())
         path, *namespace.words = words[1:] if words[0] == "--" else words
