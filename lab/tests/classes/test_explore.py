@@ -17,6 +17,7 @@ from support.class_tabs import SECONDS, Tab
 from support.commands import Lab
 from support.left_out import NO_SANDBOX, leave_out
 from support.places import EXAMPLES, TOP
+from vecmon_lab.classes.builds import builds_by
 from vecmon_lab.classes.languages import LANGUAGES
 from vecmon_lab.compilers.compiler import Compiler
 
@@ -103,3 +104,4 @@ def test_what_it_refuses(lab: Lab, clang: Compiler, tmp_path: pathlib.Path, monk
     monkeypatch.setattr("os.geteuid", lambda: 0)
     status, _, told = lab("explore", GREY)
     assert status == 2 and ("as root" in told or "bubblewrap" in told) and told.count("\n") == 1
+    assert builds_by(None).no_c  # so that a source in assembler is served all the same

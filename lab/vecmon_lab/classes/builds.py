@@ -4,9 +4,10 @@ import asyncio
 import os
 from collections.abc import Sequence
 
+from .. import LabError
 from ..compilers.compiled import IMAGE_BYTES, CompiledProgram, read_answer, words_for
 from ..compilers.compiler import Compiler
-from ..compilers.sandbox import answer_beside
+from ..compilers.sandbox import answer_beside, sandboxed_compiler
 from .beside import alone
 from .requests import BadRequest
 
@@ -43,3 +44,13 @@ class Builds:
             async with self._places:
                 answer = await answer_beside(words, text)
             return await asyncio.to_thread(read_answer, answer, self._most)
+
+
+def builds_by(name: str | None, most: int = IMAGE_BYTES) -> Builds:
+    """What compiles sources in C; without a name nothing may. Raises LabError where a compiler of a name can't."""
+    try:
+        return Builds(sandboxed_compiler(name), most=most)
+    except LabError as error:
+        if name:
+            raise
+        return Builds(None, str(error))

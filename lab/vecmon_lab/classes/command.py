@@ -10,8 +10,7 @@ from urllib.parse import urlsplit
 from .. import LabError
 from ..arguments import between
 from ..machine.program import find_program, images_of
-from ..compilers.sandbox import sandboxed_compiler
-from .builds import Builds
+from .builds import builds_by
 from .codes import LETTERS
 from .names import NAMES
 from .server import HOST, listening, serve
@@ -59,7 +58,7 @@ def run(arguments: argparse.Namespace) -> int:
     except LabError:
         store.close()
         raise
-    builds = _builds(arguments.cc, arguments.image_size << 10)
+    builds = builds_by(arguments.cc, arguments.image_size << 10)
     members = Class(
         store, arguments.patience, _tell, not arguments.no_clock, arguments.spare, arguments.exercise, builds
     )
@@ -67,16 +66,6 @@ def run(arguments: argparse.Namespace) -> int:
     hosts = {*arguments.name, urlsplit(members.address).hostname or host}
     asyncio.run(serve(members, host, doors, hosts))
     return 0
-
-
-def _builds(name: str | None, most: int) -> Builds:
-    """What compiles sources in C; without a name nothing may. Raises LabError where a compiler of a name can't."""
-    try:
-        return Builds(sandboxed_compiler(name), most=most)
-    except LabError as error:
-        if name:
-            raise
-        return Builds(None, str(error))
 
 
 def _address(text: str) -> str:

@@ -11,8 +11,7 @@ from ..arguments import between
 from ..compilers.compiler import choice_for, find_compilers
 from ..lessons.lesson import add_compiler
 from ..machine.program import find_program
-from ..compilers.sandbox import sandboxed_compiler
-from .builds import Builds
+from .builds import builds_by
 from .languages import LANGUAGES, SourceText
 from .server import listening, serve
 from .store import Store
@@ -35,7 +34,9 @@ def run(arguments: argparse.Namespace) -> int:
     """Serves until it is told to end. Raises LabError and OSError for a bad source, or where nothing can be compiled."""
     os.umask(0o077)
     source = read(arguments.source, arguments.options)
-    builds = Builds(sandboxed_compiler(arguments.cc))
+    builds = builds_by(arguments.cc)
+    if builds.no_c and arguments.source.suffix == ".c":
+        raise LabError(builds.no_c)
     builds.others = find_compilers()
     with tempfile.TemporaryDirectory(prefix="vecmon-") as folder:
         store = Store(pathlib.Path(folder) / "own", find_program(), quantum=arguments.quantum)
