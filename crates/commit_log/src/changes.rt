@@ -50,34 +50,19 @@ pub(crate) fn push_changes(text: &mut Text, found: &Found, state: &VState)
         → text.new ≡ text.old ++ flat_map control_text (told_controls old state.now) }
     ensures bound { length text.new ≤ length text.old + 155 }
 {
-    push_control(
-        text,
-        ControlRegister::Vstart,
-        u64::from(found.vstart),
-        u64::from(state.vstart),
-    );
-    push_control(
-        text,
-        ControlRegister::Vxsat,
-        u64::from(found.vxsat),
-        u64::from(state.vxsat),
-    );
-    push_control(
-        text,
-        ControlRegister::Vxrm,
-        u64::from(found.vxrm.number()),
-        u64::from(state.vxrm.number()),
-    );
-    push_control(
-        text,
-        ControlRegister::Vl,
-        u64::from(found.conf.vl()),
-        u64::from(state.conf.vl()),
-    );
+    let (old, new) = (u64::from(found.vstart), u64::from(state.vstart));
+    push_control(text, ControlRegister::Vstart, old, new);
+    let (old, new) = (u64::from(found.vxsat), u64::from(state.vxsat));
+    push_control(text, ControlRegister::Vxsat, old, new);
+    let (old, new) = (found.vxrm.number(), state.vxrm.number());
+    push_control(text, ControlRegister::Vxrm, u64::from(old), u64::from(new));
+    let (old, new) = (found.conf.vl(), state.conf.vl());
+    push_control(text, ControlRegister::Vl, u64::from(old), u64::from(new));
+    let (old, new) = (found.conf.vtype(), state.conf.vtype());
     push_control(
         text,
         ControlRegister::Vtype,
-        vtype_number(found.conf.vtype()),
-        vtype_number(state.conf.vtype()),
+        vtype_number(old),
+        vtype_number(new),
     );
 }
