@@ -1,5 +1,5 @@
 -- The registers that an instruction writes are those of its destination.
-use Rattle.std.proofs.Common.{◌≡◌, refl, sym, ap, ◌∙◌, ℕ, ◌*◌, ◌/◌, Bool, true, false, List, [], ◌∷◌, ◌++◌, flat_map, append-nil, arith, ◌≤◌, Some}
+use Rattle.std.proofs.Common.{◌≡◌, refl, sym, ap, ◌∙◌, ℕ, ◌*◌, ◌/◌, Bool, true, false, List, [], ◌∷◌, ◌++◌, flat_map, append-nil, arith, Some}
 use Rattle.std.specs.List.{filter}
 use mir.Val.{bits}
 use Rattle.rv_model.specs.declared.instructions.instruction.Instr.TheVariants as instr
@@ -16,7 +16,7 @@ use Rattle.rv_model.specs.declared.vector.types.Sew.{Sew}
 use Rattle.rv_model.specs.declared.vector.types.Sew.TheVariants.{E8, E16, E32}
 use Rattle.rv_model.specs.declared.vector.types.VType.{VType}
 use Rattle.rv_model.specs.legality.OperandShapes.{destination, first_source, second_source, shape_of, shape_operands, v0}
-use Rattle.rv_model.specs.vector.Groups.{doubled, lmul_eighths, registers, sew_bits, sew_width, wide_type}
+use Rattle.rv_model.specs.vector.Groups.{doubled, group_type, lmul_eighths, registers, sew_width, wide_type, with_width}
 use Rattle.rv_model.specs.declared.instructions.operations.CarryOp.{CarryOp}
 use Rattle.rv_model.specs.declared.instructions.vector.VectorInstr.TheVariants.{Arith, Carry}
 use Rattle.rv_model.specs.legality.Legality.{operands}
@@ -30,6 +30,16 @@ twice E16 e = omega arith
 twice E32 e = omega arith
 twice _ e = omega arith
 
+own : (s : Sew) (e : ℕ) → bits (sew_width s) * e / bits (sew_width s) ≡ e
+own E8 e = omega arith
+own E16 e = omega arith
+own E32 e = omega arith
+own _ e = omega arith
+
+-- elements of the vector type's own width have its multiplier
+pub own_type : (t : VType) → with_width (sew_width t.sew) (group_type t) ≡ group_type t
+own_type t = ap (λ (n : ℕ). record { width = sew_width t.sew; emul = n }) (own t.sew (lmul_eighths t.lmul))
+
 pub wide_emul : (t : VType) → (wide_type t).emul ≡ 2 * lmul_eighths t.lmul
 wide_emul t = twice t.sew (lmul_eighths t.lmul)
 
@@ -38,12 +48,6 @@ permute_emul Vrgatherei16 vd t = refl
 permute_emul Vslidedown vd t = refl
 permute_emul Vslide1down vd t = refl
 permute_emul _ vd t = refl
-
-pub sew_most : (s : Sew) → sew_bits s ≤ 64
-sew_most E8 = omega arith
-sew_most E16 = omega arith
-sew_most E32 = omega arith
-sew_most _ = omega arith
 
 -- ---- operands
 

@@ -1,6 +1,7 @@
 mod ControlsTold
 pub mod Destinations
 pub mod Digits
+mod FilledRegisters
 mod Kept
 mod LoadsTold
 mod MemoryTold

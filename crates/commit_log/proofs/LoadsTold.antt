@@ -1,7 +1,7 @@
 -- That a line tells the vector registers of a load or store: a load changes none but those of its destination, a store none.
-use Rattle.std.proofs.Common.{◌≡◌, ◌∙◌, ◌⊎◌, inl, inr, ap, refl, sym, subst, ℕ, zero, suc, ◌+◌, ◌*◌, ◌/◌, ◌<◌, ◌≤◌, ◌==◌, ◌&&◌, Bool, true, cond, List, ◌∷◌, length, get_or, append-nil, Option, Some, None, arith}
+use Rattle.std.proofs.Common.{◌≡◌, ◌∙◌, ◌⊎◌, inl, inr, ap, refl, sym, subst, ℕ, zero, suc, ◌+◌, ◌*◌, ◌/◌, ◌<◌, ◌≤◌, ◌&&◌, Bool, true, cond, List, [], length, get_or, Option, Some, None, arith}
 use Rattle.std.specs.Prelude.{IfSome, nat_le, nat_lt}
-use Rattle.std.specs.Option.{option_and_then, option_map}
+use Rattle.std.specs.Option.{option_and_then, option_map_or}
 use Rattle.std.proofs.Math.Nat.{mul-le-mul_right, mul-suc, mul_comm}
 use Rattle.std.proofs.lemmas.Nat.{row_fits}
 use Rattle.std.proofs.lemmas.Simd.{length-put_chunk}
@@ -12,13 +12,6 @@ use Rattle.rv_model.specs.declared.instructions.operations.Direction.{Direction}
 use Rattle.rv_model.specs.declared.instructions.operations.Direction.TheVariants as direction
 use Rattle.rv_model.specs.declared.instructions.operations.Eew.{Eew}
 use Rattle.rv_model.specs.declared.instructions.operations.Eew.TheVariants.{E8}
-use Rattle.rv_model.specs.declared.instructions.operations.UnitOp.{UnitOp}
-use Rattle.rv_model.specs.declared.instructions.operations.UnitOp.TheVariants as unit
-use Rattle.rv_model.specs.declared.instructions.operations.Order.{Order}
-use Rattle.rv_model.specs.declared.instructions.operations.RegisterCount.{RegisterCount}
-use Rattle.rv_model.specs.declared.instructions.operations.RegisterCount.TheVariants.{One, Two, Four, Eight}
-use Rattle.rv_model.specs.declared.legality.Role.{Role}
-use Rattle.rv_model.specs.declared.legality.Role.TheVariants.{Apart, Read, Write}
 use Rattle.rv_model.specs.declared.memory.Access.TheVariants as access
 use Rattle.rv_model.specs.declared.step.memory_end.MemEnd.{MemEnd}
 use Rattle.rv_model.specs.declared.step.memory_end.MemEnd.TheVariants.{Done, Fault, Cut}
@@ -26,12 +19,11 @@ use Rattle.rv_model.specs.declared.vector.state.VState.{VState}
 use Rattle.rv_model.specs.declared.vector.types.VType.{VType}
 use Rattle.rv_model.specs.accesses.AccessRuns.{AccessRun, access_ends, directed_run, load_run}
 use Rattle.rv_model.specs.accesses.Transfers.{stop_index}
-use Rattle.rv_model.specs.accesses.VectorAccess.{VectorAccess, access_of, element_bytes, indexed_access, mask_length, plan, strided_access, unit_access, unit_direction, unmasked_access, whole_length}
+use Rattle.rv_model.specs.accesses.VectorAccess.{VectorAccess, access_of, element_bytes, indexed_access, mask_length, plan, strided_access, unit_access, unmasked_access, whole_length}
 use Rattle.rv_model.specs.elements.Arithmetic.{fills_tail}
 use Rattle.rv_model.specs.elements.Elements.{written}
 use Rattle.rv_model.specs.elements.Formulas.{ones}
-use Rattle.rv_model.specs.legality.Legality.{is_legal, operands}
-use Rattle.rv_model.specs.legality.OperandShapes.{field_groups, group, v0}
+use Rattle.rv_model.specs.legality.Legality.{is_legal}
 use Rattle.rv_model.specs.lending.GroupBounds.{SegmentsInside}
 use Rattle.rv_model.specs.memory.Memory.{Memory}
 use Rattle.rv_model.specs.step.Hart.{HartState}
@@ -48,7 +40,8 @@ use Rattle.rv_model.proofs.legality_lemmas.Bounds.{length_below}
 use Rattle.commit_log.specs.Lines.{told_vectors}
 use Rattle.commit_log.specs.Targets.{registers_from, vector_targets}
 use Rattle.commit_log.specs.Told.{with_vectors}
-use Rattle.commit_log.proofs.Destinations.{alone_written, mask_written, written as written_of}
+use Rattle.commit_log.proofs.FilledRegisters.{filled, filled_are}
+use Rattle.commit_log.proofs.MovedElements.{typed_fits}
 use Rattle.commit_log.proofs.VectorRegions.{region_told, same, written_short}
 
 -- ---- what a load leaves alone
@@ -133,7 +126,6 @@ filled_length None a end file = refl
 record Fits (i : AccessInstr) (s : HartState) (a : VectorAccess) : Type 0 where
   inside : a.direction ≡ direction.Load → InGroups a
   tails : AreFields a (filled_type i a s)
-  targets : a.direction ≡ direction.Load → vector_targets (instr.Access i) s.vector.conf.vtype ≡ registers_from a.register (a.fields * a.field_registers)
 
 groups_inside : (g : GroupType) (vd nf vl : ℕ) → SegmentsInside g vd nf vl → (i : ℕ) → i < vl → i * width_bytes g.width + width_bytes g.width ≤ 32 * registers g.emul
 groups_inside g vd nf vl s i before =
@@ -142,43 +134,6 @@ groups_inside g vd nf vl s i before =
 whole_fits : (w : Eew) (count : ℕ) → (count * 32 / element_bytes w) * element_bytes w ≤ 32 * count
 whole_fits E8 count = omega arith
 whole_fits _ count = omega arith
-
-unit_targets : (op : UnitOp) (w : Eew) (nf vd rs1 : ℕ) (vm : Bool) (t : VType) → unit_direction op ≡ direction.Load
-    → vector_targets (instr.Access (UnitStride op w nf vd rs1 vm)) (Some t) ≡ registers_from vd ((nf + 1) * registers (access_type t w).emul)
-unfolding operands
-unit_targets unit.Store w nf vd rs1 vm t load = absurd (cc)
-unit_targets _ w nf vd rs1 vm t load = alone_written _ _ (mask_written vm)
-
-strided_targets : (d : Direction) (w : Eew) (nf vd rs1 rs2 : ℕ) (vm : Bool) (t : VType) → d ≡ direction.Load
-    → vector_targets (instr.Access (Strided d w nf vd rs1 rs2 vm)) (Some t) ≡ registers_from vd ((nf + 1) * registers (access_type t w).emul)
-unfolding operands
-strided_targets direction.Store w nf vd rs1 rs2 vm t load = absurd (cc)
-strided_targets direction.Load w nf vd rs1 rs2 vm t load = alone_written _ _ (mask_written vm)
-
-indexed_targets : (d : Direction) (order : Order) (w : Eew) (nf vd rs1 vs2 : ℕ) (vm : Bool) (t : VType) → d ≡ direction.Load
-    → vector_targets (instr.Access (Indexed d order w nf vd rs1 vs2 vm)) (Some t) ≡ registers_from vd ((nf + 1) * registers (group_type t).emul)
-unfolding operands
-indexed_targets direction.Store order w nf vd rs1 vs2 vm t load = absurd (cc)
-indexed_targets direction.Load order w nf vd rs1 vs2 vm t load =
-    of_either (λ (role : Role). written_of (field_groups role (nf + 1) vd (group_type t) ∷ group Read vs2 (access_type t w) ∷ v0 vm) ≡ registers_from vd ((nf + 1) * registers (group_type t).emul))
-    (nf == 0) Write Apart (alone_written _ _ (mask_written vm)) (alone_written _ _ (mask_written vm))
-
-whole_targets : (count : RegisterCount) (w : Eew) (vd rs1 : ℕ) (o : Option VType)
-    → vector_targets (instr.Access (WholeLoad count w vd rs1)) o ≡ registers_from vd (1 * register_count count)
-unfolding operands
-whole_targets One w vd rs1 o = append-nil _
-whole_targets Two w vd rs1 o = append-nil _
-whole_targets Four w vd rs1 o = append-nil _
-whole_targets Eight w vd rs1 o = append-nil _
-
-mask_targets : (d : Direction) (vd rs1 : ℕ) (t : VType) → d ≡ direction.Load → vector_targets (instr.Access (MaskAccess d vd rs1)) (Some t) ≡ registers_from vd 1
-unfolding operands
-mask_targets direction.Store vd rs1 t load = absurd (cc)
-mask_targets direction.Load vd rs1 t load = append-nil _
-
-typed_fits : (o : Option VType) (make : VType → VectorAccess) (P : VectorAccess → Type 0) → ((t : VType) → o ≡ Some t → P (make t)) → IfSome (option_map make o) P
-typed_fits None make P each = tt
-typed_fits (Some t) make P each = each t refl
 
 module _ (s : HartState) (is : IsConfiguration s.vector.conf) where
   -- under the vector type, if the tails of these groups are filled
@@ -202,34 +157,28 @@ module _ (s : HartState) (is : IsConfiguration s.vector.conf) where
     inside = λ load. groups_inside (access_type t w) vd nf s.vector.conf.vl
         (unit_inside op w nf vd rs1 vm t s.vector.vstart s.vector.conf.vl (legal_at (UnitStride op w nf vd rs1 vm) t e legal) (length_under s.vector t e is));
     tails = tails_under (UnitStride op w nf vd rs1 vm) (unit_access op (access_type t w) nf vd rs1 vm s.vector s.scalar) t e refl;
-    targets = λ load. ap (vector_targets (instr.Access (UnitStride op w nf vd rs1 vm))) e ∙ unit_targets op w nf vd rs1 vm t load;
   })
   each_fits (Strided d w nf vd rs1 rs2 vm) legal = typed_fits s.vector.conf.vtype _ (Fits (Strided d w nf vd rs1 rs2 vm) s) (λ t e. record {
     inside = λ load. groups_inside (access_type t w) vd nf s.vector.conf.vl
         (strided_inside d w nf vd rs1 rs2 vm t s.vector.vstart s.vector.conf.vl (legal_at (Strided d w nf vd rs1 rs2 vm) t e legal) (length_under s.vector t e is));
     tails = tails_under (Strided d w nf vd rs1 rs2 vm) (strided_access d (access_type t w) nf vd rs1 rs2 vm s.vector s.scalar) t e refl;
-    targets = λ load. ap (vector_targets (instr.Access (Strided d w nf vd rs1 rs2 vm))) e ∙ strided_targets d w nf vd rs1 rs2 vm t load;
   })
   each_fits (Indexed d order w nf vd rs1 vs2 vm) legal = typed_fits s.vector.conf.vtype _ (Fits (Indexed d order w nf vd rs1 vs2 vm) s) (λ t e. record {
     inside = λ load. groups_inside (group_type t) vd nf s.vector.conf.vl
         (indexed_inside d order w nf vd rs1 vs2 vm t s.vector.vstart s.vector.conf.vl (legal_at (Indexed d order w nf vd rs1 vs2 vm) t e legal) (length_under s.vector t e is)).fields;
     tails = tails_under (Indexed d order w nf vd rs1 vs2 vm) (indexed_access d (group_type t) (access_type t w) nf vd rs1 vs2 vm s.vector s.scalar) t e refl;
-    targets = λ load. ap (vector_targets (instr.Access (Indexed d order w nf vd rs1 vs2 vm))) e ∙ indexed_targets d order w nf vd rs1 vs2 vm t load;
   })
   each_fits (WholeLoad count w vd rs1) legal = record {
     inside = λ load i before. omega (arith, row_fits i (element_bytes w) (whole_length count w) (element_bytes w) before (omega arith), whole_fits w (register_count count));
     tails = no_tails (WholeLoad count w vd rs1) (unmasked_access direction.Load (whole_length count w) (element_bytes w) (register_count count) vd rs1 s.vector s.scalar) (λ t. refl);
-    targets = λ load. whole_targets count w vd rs1 s.vector.conf.vtype;
   }
   each_fits (WholeStore count vd rs1) legal = record {
     inside = λ load. absurd (cc);
     tails = no_tails (WholeStore count vd rs1) (unmasked_access direction.Store (register_count count * 32) 1 (register_count count) vd rs1 s.vector s.scalar) (λ t. refl);
-    targets = λ load. absurd (cc);
   }
   each_fits (MaskAccess d vd rs1) legal = typed_fits s.vector.conf.vtype _ (Fits (MaskAccess d vd rs1) s) (λ t e. record {
     inside = λ load i before. omega (arith, before, length_below t s.vector.conf.vl (length_under s.vector t e is));
     tails = no_tails (MaskAccess d vd rs1) (unmasked_access d (mask_length s.vector.conf.vl) 1 1 vd rs1 s.vector s.scalar) (λ u. refl);
-    targets = λ load. ap (vector_targets (instr.Access (MaskAccess d vd rs1))) e ∙ mask_targets d vd rs1 t load;
   })
 
   fits_of : (i : AccessInstr) (a : VectorAccess) → is_legal (instr.Access i) s.vector.conf.vtype s.vector.vstart ≡ true → access_of i s.vector s.scalar ≡ Some a → Fits i s a
@@ -251,11 +200,15 @@ module _ (s : HartState) (is : IsConfiguration s.vector.conf) where
   directed_length direction.Load limit a load = load_length limit (load_fills_masked_off a s) a s.vector s.memory
   directed_length direction.Store limit a load = absurd (cc)
 
-  loaded_told : (limit : ℕ) (i : AccessInstr) (a : VectorAccess) → length s.vector.file ≡ 1024 → Fits i s a → a.direction ≡ direction.Load
+  loaded_told : (limit : ℕ) (i : AccessInstr) (a : VectorAccess) → length s.vector.file ≡ 1024 → access_of i s.vector s.scalar ≡ Some a → Fits i s a
+      → a.direction ≡ direction.Load
       → with_vectors (told_vectors (left limit i a) (vector_targets (instr.Access i) s.vector.conf.vtype)) s.vector.file ≡ left limit i a
-  loaded_told limit i a long fits load =
+  loaded_told limit i a long e fits load =
       let run : AccessRun = run_of a.direction limit a in
-      ap (λ (rs : List ℕ). with_vectors (told_vectors (left limit i a) rs) s.vector.file) (fits.targets load)
+      let targets : vector_targets (instr.Access i) s.vector.conf.vtype ≡ registers_from a.register (a.fields * a.field_registers) =
+      filled_are s.vector s.scalar i ∙ ap (λ (o : Option VectorAccess). option_map_or filled o []) e
+      ∙ ap (λ (d : Direction). cond (reads_memory d) (registers_from a.register (a.fields * a.field_registers)) []) load in
+      ap (λ (rs : List ℕ). with_vectors (told_vectors (left limit i a) rs) s.vector.file) targets
       ∙ region_told s.vector.file (left limit i a) a.register (a.fields * a.field_registers) long
       (filled_length (filled_type i a s) a run.end run.vector.file ∙ directed_length a.direction limit a load)
       (λ k out. filled_kept (filled_type i a s) a run.end run.vector.file fits.tails k out ∙ directed_kept a.direction limit a load (fits.inside load) k out)
@@ -278,7 +231,7 @@ module _ (s : HartState) (is : IsConfiguration s.vector.conf) where
   moved_told : (limit : ℕ) (i : AccessInstr) (a : VectorAccess) → length s.vector.file ≡ 1024 → is_legal (instr.Access i) s.vector.conf.vtype s.vector.vstart ≡ true
       → access_of i s.vector s.scalar ≡ Some a → (d : Direction) → a.direction ≡ d
       → with_vectors (told_vectors (left limit i a) (vector_targets (instr.Access i) s.vector.conf.vtype)) s.vector.file ≡ left limit i a
-  moved_told limit i a long legal e direction.Load is_load = loaded_told limit i a long (fits_of i a legal e) is_load
+  moved_told limit i a long legal e direction.Load is_load = loaded_told limit i a long e (fits_of i a legal e) is_load
   moved_told limit i a long legal e direction.Store is_store = stored_told limit i a e is_store
 
   pub access_told : (limit : ℕ) (i : AccessInstr) → length s.vector.file ≡ 1024 → is_legal (instr.Access i) s.vector.conf.vtype s.vector.vstart ≡ true

@@ -1,11 +1,12 @@
 -- What a vector load or store moves, by its segments.
-use Rattle.std.proofs.Common.{◌≡◌, refl, sym, ap, ◌∙◌, ℕ, zero, suc, ◌+◌, ◌*◌, ◌-◌, ◌%◌, ◌^◌, ◌<◌, Bool, true, false, cond, subst, List, [], ◌∷◌, ◌++◌, map, Option, Some, None}
+use Rattle.std.proofs.Common.{◌≡◌, refl, sym, ap, ◌∙◌, ℕ, zero, suc, ◌+◌, ◌*◌, ◌-◌, ◌%◌, ◌^◌, Bool, true, false, cond, List, [], ◌∷◌, ◌++◌, map, Option, Some, None}
 use Rattle.std.specs.List.{range_with_len}
 use Rattle.std.specs.Option.{option_map, option_map_or, unwrap_or}
+use Rattle.std.specs.Prelude.{IfSome}
 use Rattle.std.specs.Simd.Lanes.{chunk}
 use Rattle.std.proofs.lemmas.List.{map-append}
 use Rattle.rv_model.specs.accesses.Transfers.{Moved, Transfer, transfers}
-use Rattle.rv_model.specs.accesses.VectorAccess.{VectorAccess, access_of, element_start, mask_length, element_bytes, group_type, indexed_access, is_first_only, plan, strided_access, unit_access, unit_direction, unmasked_access, whole_length}
+use Rattle.rv_model.specs.accesses.VectorAccess.{VectorAccess, access_of, element_start, plan}
 use Rattle.rv_model.specs.declared.instructions.access.AccessInstr.{AccessInstr}
 use Rattle.rv_model.specs.declared.instructions.access.AccessInstr.TheVariants.{UnitStride, Strided, Indexed, WholeLoad, WholeStore, MaskAccess}
 use Rattle.rv_model.specs.declared.instructions.operations.Direction.{Direction}
@@ -14,142 +15,102 @@ use Rattle.rv_model.specs.declared.scalar.Scalar.{Scalar}
 use Rattle.rv_model.specs.declared.vector.state.VState.{VState}
 use Rattle.rv_model.specs.declared.vector.types.VType.{VType}
 use Rattle.rv_model.specs.elements.Elements.{Body, is_enabled}
-use Rattle.rv_model.specs.scalar.Registers.{read_register}
-use Rattle.rv_model.specs.vector.Groups.{access_type, register_of}
-use Rattle.vector_memory.proofs.Strides.{strides}
+use Rattle.rv_model.specs.step.MemoryStep.{reads_memory}
+use Rattle.rv_model.specs.vector.Groups.{register_of}
+use Rattle.commit_log.specs.declared.segments.Addresses.{Addresses}
 use Rattle.commit_log.specs.declared.segments.Segments.{Segments}
-use Rattle.commit_log.specs.Lines.{Moved as Element, told_access, told_transfer}
-use Rattle.commit_log.specs.Segments.{access_segments, address_of, direction_of, element_place, end_of, indexed, is_fault_only_first, last_moved, moved_field, moved_fields, moved_segment, moved_segments, of_width, stores, strided, unit_stores, whole}
+use Rattle.commit_log.specs.Lines.{Moved as Element, moved_end, told_access, told_transfer}
+use Rattle.commit_log.specs.Segments.{address_of, last_moved, moved_field, moved_fields, moved_segment, moved_segments, segments_of}
 
--- ---- the access that has these segments
+-- ---- of an access
 
-abbrev body_with : Segments → VState → ℕ → Body
-body_with g v end = record { unmasked = g.unmasked; mask = register_of v.file 0; start = v.vstart; end = end }
+-- what is made of a vector type, if there is one
+pub typed_fits : (o : Option VType) (make : VType → VectorAccess) (P : VectorAccess → Type 0) → ((t : VType) → o ≡ Some t → P (make t)) → IfSome (option_map make o) P
+typed_fits None make P each = tt
+typed_fits (Some t) make P each = each t refl
 
-abbrev access_with : Direction → Bool → ℕ → VState → Segments → VectorAccess
-access_with d first_only end v g =
-    record {
-      direction = d;
-      first_only = first_only;
-      body = body_with g v end;
-      fields = g.fields;
-      size = g.size;
-      register = g.register;
-      field_registers = g.field_registers;
-      address = λ i. address_of g.addresses v.file i;
-    }
+abbrev body_to : VState → Bool → ℕ → Body
+body_to v unmasked end = record { unmasked = unmasked; mask = register_of v.file 0; start = v.vstart; end = end }
 
--- under a vector type
-typed_is : (o : Option VType) (f : VType → Segments) (h : VType → VectorAccess) (k : Segments → VectorAccess) (g : Segments)
-    → option_map f o ≡ Some g → ((t : VType) → f t ≡ g → h t ≡ k (f t)) → option_map h o ≡ Some (k g)
-typed_is None f h k g e each = absurd (cc)
-typed_is (Some t) f h k g e each =
-    let same : f t ≡ g = ap (λ o. unwrap_or o g) e in
-    ap Some (each t same ∙ ap k same)
+-- its body, and the index past the last one that was moved
+abbrev Goes : AccessInstr → VState → VectorAccess → Type 0
+Goes i v a = (a.body ≡ body_to v a.body.unmasked a.body.end) × ((left : ℕ) → last_moved i v.conf.vl left ≡ moved_end a left)
 
-described : (i : AccessInstr) (v : VState) (x : Scalar) (g : Segments) → access_segments i x v.conf.vtype ≡ Some g → g.addresses.stride < 2 ^ 64
-    → access_of i v x ≡ Some (access_with (direction_of i) (is_fault_only_first i) (end_of i v.conf.vl) v g)
-described (UnitStride op width nf vd rs1 vm) v x g e h =
-    let k : Segments → VectorAccess = access_with (unit_direction op) (is_first_only op) v.conf.vl v in
-    typed_is v.conf.vtype (λ t. of_width (unit_stores op) vm nf width vd (strided (read_register x rs1) ((nf + 1) * element_bytes width)) t)
-    (λ t. unit_access op (access_type t width) nf vd rs1 vm v x) k g e (λ t same. refl)
-described (Strided d width nf vd rs1 rs2 vm) v x g e h =
-    let k : Segments → VectorAccess = access_with d false v.conf.vl v in
-    let f : VType → Segments = λ t. of_width (stores d) vm nf width vd (strided (read_register x rs1) (read_register x rs2)) t in
-    typed_is v.conf.vtype f (λ t. strided_access d (access_type t width) nf vd rs1 rs2 vm v x) k g e (λ t same.
-    let below : read_register x rs2 < 2 ^ 64 = subst (λ (s : Segments). s.addresses.stride < 2 ^ 64) (sym same) h in
-    ap (λ (to : ℕ → ℕ). record (k (f t)) { address = to }) (sym (strides (read_register x rs1) (read_register x rs2) below)))
-described (Indexed d order width nf vd rs1 vs2 vm) v x g e h =
-    let k : Segments → VectorAccess = access_with d false v.conf.vl v in
-    typed_is v.conf.vtype (λ t. indexed (stores d) vm nf width vd (read_register x rs1) vs2 t)
-    (λ t. indexed_access d (group_type t) (access_type t width) nf vd rs1 vs2 vm v x) k g e (λ t same. refl)
-described (WholeLoad count width vd rs1) v x g e h = ap (λ o. Some (access_with direction.Load false (whole_length count width) v (unwrap_or o g))) e
-described (WholeStore count vd rs1) v x g e h = ap (λ o. Some (access_with direction.Store false (end_of (WholeStore count vd rs1) v.conf.vl) v (unwrap_or o g))) e
-described (MaskAccess d vd rs1) v x g e h =
-    let k : Segments → VectorAccess = access_with d false (mask_length v.conf.vl) v in
-    typed_is v.conf.vtype (λ t. whole (stores d) 1 1 vd (read_register x rs1))
-    (λ t. unmasked_access d (mask_length v.conf.vl) 1 1 vd rs1 v x) k g e (λ t same. refl)
-
--- whether it stores
-typed_stores : (o : Option VType) (f : VType → Segments) (g : Segments) (b : Bool) → option_map f o ≡ Some g → ((t : VType) → b ≡ (f t).is_store) → b ≡ g.is_store
-typed_stores None f g b e each = absurd (cc)
-typed_stores (Some t) f g b e each = each t ∙ ap (λ o. (unwrap_or o g).is_store) e
-
-stores_are : (i : AccessInstr) (x : Scalar) (o : Option VType) (g : Segments) → access_segments i x o ≡ Some g → stores (direction_of i) ≡ g.is_store
-stores_are (UnitStride op width nf vd rs1 vm) x o g e = typed_stores o _ g _ e (λ t. refl)
-stores_are (Strided d width nf vd rs1 rs2 vm) x o g e = typed_stores o _ g _ e (λ t. refl)
-stores_are (Indexed d order width nf vd rs1 vs2 vm) x o g e = typed_stores o _ g _ e (λ t. refl)
-stores_are (WholeLoad count width vd rs1) x o g e = ap (λ o. (unwrap_or o g).is_store) e
-stores_are (WholeStore count vd rs1) x o g e = ap (λ o. (unwrap_or o g).is_store) e
-stores_are (MaskAccess d vd rs1) x o g e = typed_stores o _ g _ e (λ t. refl)
-
--- none where there is no vector type
-typed_none : (o : Option VType) (f : VType → Segments) (h : VType → VectorAccess) → option_map f o ≡ None → option_map h o ≡ None
-typed_none None f h e = refl
-typed_none (Some t) f h e = absurd (cc)
-
-pub none_described : (i : AccessInstr) (v : VState) (x : Scalar) → access_segments i x v.conf.vtype ≡ None → access_of i v x ≡ None
-none_described (UnitStride op width nf vd rs1 vm) v x e = typed_none v.conf.vtype _ _ e
-none_described (Strided d width nf vd rs1 rs2 vm) v x e = typed_none v.conf.vtype _ _ e
-none_described (Indexed d order width nf vd rs1 vs2 vm) v x e = typed_none v.conf.vtype _ _ e
-none_described (WholeLoad count width vd rs1) v x e = absurd (cc)
-none_described (WholeStore count vd rs1) v x e = absurd (cc)
-none_described (MaskAccess d vd rs1) v x e = typed_none v.conf.vtype _ _ e
+goes : (i : AccessInstr) (v : VState) (x : Scalar) → IfSome (access_of i v x) (Goes i v)
+goes (UnitStride op width nf vd rs1 vm) v x = typed_fits v.conf.vtype _ (Goes (UnitStride op width nf vd rs1 vm) v) (λ t e. (refl, λ left. refl))
+goes (Strided d width nf vd rs1 rs2 vm) v x = typed_fits v.conf.vtype _ (Goes (Strided d width nf vd rs1 rs2 vm) v) (λ t e. (refl, λ left. refl))
+goes (Indexed d order width nf vd rs1 vs2 vm) v x = typed_fits v.conf.vtype _ (Goes (Indexed d order width nf vd rs1 vs2 vm) v) (λ t e. (refl, λ left. refl))
+goes (WholeLoad count width vd rs1) v x = (refl, λ left. refl)
+goes (WholeStore count vd rs1) v x = (refl, λ left. refl)
+goes (MaskAccess d vd rs1) v x = typed_fits v.conf.vtype _ (Goes (MaskAccess d vd rs1) v) (λ t e. (refl, λ left. refl))
 
 -- ---- its elements
 
-module _ (d : Direction) (first_only : Bool) (end : ℕ) (v : VState) (g : Segments) (same : stores d ≡ g.is_store) where
-  abbrev a : VectorAccess
-  a = access_with d first_only end v g
+-- where the segments begin at these addresses, and this body enables the same indices
+module _ (v : VState) (a : VectorAccess) (to : Addresses) (body : Body) (begins : (i : ℕ) → address_of to v.file i ≡ a.address i)
+    (enables : (i : ℕ) → is_enabled a.body i ≡ is_enabled body i) where
+  abbrev g : Segments
+  g = segments_of a
 
-  told_is : (e : Direction) (t : Transfer) → told_transfer e (element_start a) v.file t
-      ≡ record { address = Rattle.rv_model.specs.accesses.Transfers.address_of t.kind; stored = cond (stores e) (Some (chunk (element_start a t) t.size v.file)) None }
+  abbrev told : Transfer → Element
+  told = told_transfer a.direction (element_start a) v.file
+
+  told_is : (d : Direction) (t : Transfer) → told_transfer d (element_start a) v.file t
+      ≡ record { address = Rattle.rv_model.specs.accesses.Transfers.address_of t.kind; stored = cond (reads_memory d) None (Some (chunk (element_start a t) t.size v.file)) }
   told_is direction.Load t = refl
   told_is direction.Store t = refl
 
   abbrev transfer_at : ℕ → ℕ → Transfer
-  transfer_at i f = record { index = i; field = f; size = g.size; kind = Moved ((address_of g.addresses v.file i + f * g.size) % 2 ^ 64) }
+  transfer_at i f = record { index = i; field = f; size = a.size; kind = Moved ((a.address i + f * a.size) % 2 ^ 64) }
 
-  field_is : (i f : ℕ) → told_transfer d (element_start a) v.file (transfer_at i f) ≡ moved_field g v.file (address_of g.addresses v.file i) i f
-  field_is i f =
-      told_is d (transfer_at i f)
-      ∙ ap (λ (b : Bool). record { address = (address_of g.addresses v.file i + f * g.size) % 2 ^ 64; stored = cond b (Some (chunk (element_place g i f) g.size v.file)) None }) same
-
-  fields_are : (i k n : ℕ) → map (told_transfer d (element_start a) v.file) (map (transfer_at i) (range_with_len k n)) ≡ moved_fields g v.file (address_of g.addresses v.file i) i k n
+  fields_are : (i k n : ℕ) → map told (map (transfer_at i) (range_with_len k n)) ≡ moved_fields g v.file (a.address i) i k n
   fields_are i k zero = refl
   fields_are i k (suc n) =
-      ap (λ (m : Element). m ∷ map (told_transfer d (element_start a) v.file) (map (transfer_at i) (range_with_len (k + 1) n))) (field_is i k)
-      ∙ ap (λ (ms : List Element). moved_field g v.file (address_of g.addresses v.file i) i k ∷ ms) (fields_are i (k + 1) n)
+      ap (λ (m : Element). m ∷ map told (map (transfer_at i) (range_with_len (k + 1) n))) (told_is a.direction (transfer_at i k))
+      ∙ ap (λ (ms : List Element). moved_field g v.file (a.address i) i k ∷ ms) (fields_are i (k + 1) n)
 
-  segment_is : (i : ℕ) → map (told_transfer d (element_start a) v.file) (plan a false i) ≡ moved_segment g (body_with g v end) v.file i
+  segment_is : (i : ℕ) → map told (plan a false i) ≡ moved_segment g to body v.file i
   unfolding plan
   segment_is i =
-      elim (is_enabled (body_with g v end) i) as (λ b. map (told_transfer d (element_start a) v.file) (cond b (map (transfer_at i) (range_with_len 0 g.fields)) []) ≡ cond b (moved_fields g v.file (address_of g.addresses v.file i) i 0 g.fields) []) [
-        | true ↦ fields_are i 0 g.fields
+      (elim (is_enabled a.body i) as (λ b. map told (cond b (map (transfer_at i) (range_with_len 0 a.fields)) []) ≡ cond b (moved_fields g v.file (a.address i) i 0 a.fields) []) [
+        | true ↦ fields_are i 0 a.fields
         | false ↦ refl
-      ]
+      ])
+      ∙ ap (λ (b : Bool). cond b (moved_fields g v.file (a.address i) i 0 a.fields) []) (enables i)
+      ∙ ap (λ (n : ℕ). cond (is_enabled body i) (moved_fields g v.file n i 0 a.fields) []) (sym (begins i))
 
-  segments_are : (i n : ℕ) → map (told_transfer d (element_start a) v.file) (transfers (plan a false) i n) ≡ moved_segments g (body_with g v end) v.file i n
+  segments_are : (i n : ℕ) → map told (transfers (plan a false) i n) ≡ moved_segments g to body v.file i n
   unfolding transfers moved_segments
   segments_are i zero = refl
   segments_are i (suc n) =
-      map-append (told_transfer d (element_start a) v.file) (plan a false i) (transfers (plan a false) (i + 1) n)
-      ∙ ap (λ (ms : List Element). ms ++ map (told_transfer d (element_start a) v.file) (transfers (plan a false) (i + 1) n)) (segment_is i)
-      ∙ ap (λ (ms : List Element). moved_segment g (body_with g v end) v.file i ++ ms) (segments_are (i + 1) n)
+      map-append told (plan a false i) (transfers (plan a false) (i + 1) n)
+      ∙ ap (λ (ms : List Element). ms ++ map told (transfers (plan a false) (i + 1) n)) (segment_is i)
+      ∙ ap (λ (ms : List Element). moved_segment g to body v.file i ++ ms) (segments_are (i + 1) n)
 
--- what an access moved, where the code goes over these segments up to this end
-pub access_told : (i : AccessInstr) (v : VState) (x : Scalar) (g : Segments) (vl : ℕ) → access_segments i x v.conf.vtype ≡ Some g → g.addresses.stride < 2 ^ 64
-    → option_map_or (told_access v vl) (access_of i v x) []
-    ≡ moved_segments g (record { unmasked = g.unmasked; mask = register_of v.file 0; start = v.vstart; end = end_of i v.conf.vl }) v.file v.vstart (last_moved i v.conf.vl vl - v.vstart)
-access_told i v x g vl e h =
-    ap (λ o. option_map_or (told_access v vl) o []) (described i v x g e h)
-    ∙ segments_are (direction_of i) (is_fault_only_first i) (end_of i v.conf.vl) v g (stores_are i x v.conf.vtype g e) v.vstart (last_moved i v.conf.vl vl - v.vstart)
+-- what an access moved, where the code goes over these segments from vstart up to this end
+abbrev moved_by : AccessInstr → VState → Segments → Addresses → ℕ → List Element
+moved_by i v g to vl = let end = last_moved i v.conf.vl vl in moved_segments g to (body_to v g.unmasked end) v.file v.vstart (end - v.vstart)
 
--- the mask alone says which index is enabled
-pub same_segments : (g : Segments) (unmasked : Bool) (mask : List ℕ) (start end other : ℕ) (file : List ℕ) (i n : ℕ)
-    → moved_segments g (record { unmasked = unmasked; mask = mask; start = start; end = end }) file i n
-    ≡ moved_segments g (record { unmasked = unmasked; mask = mask; start = start; end = other }) file i n
-unfolding moved_segments
-same_segments g unmasked mask start end other file i zero = refl
-same_segments g unmasked mask start end other file i (suc n) =
-    ap (λ (ms : List Element). moved_segment g (record { unmasked = unmasked; mask = mask; start = start; end = other }) file i ++ ms) (same_segments g unmasked mask start end other file (i + 1) n)
+access_told : (i : AccessInstr) (v : VState) (a : VectorAccess) (to : Addresses) (vl : ℕ) → Goes i v a → ((n : ℕ) → address_of to v.file n ≡ a.address n)
+    → moved_by i v (segments_of a) to vl ≡ told_access v vl a
+access_told i v a to vl goes begins =
+    let body : ℕ → Body = body_to v a.body.unmasked in
+    ap (λ (end : ℕ). moved_segments (segments_of a) to (body end) v.file v.vstart (end - v.vstart)) (goes.1 vl)
+    ∙ ap (λ (start : ℕ). moved_segments (segments_of a) to (body (moved_end a vl)) v.file start (moved_end a vl - start)) (sym (ap (λ (b : Body). b.start) goes.0))
+    ∙ sym (segments_are v a to (body (moved_end a vl)) begins (λ n. ap (λ (b : Body). is_enabled b n) goes.0) a.body.start (moved_end a vl - a.body.start))
+
+pub moves_told : (i : AccessInstr) (v : VState) (x : Scalar) (g : Segments) (to : Addresses) (vl : ℕ) → Some g ≡ option_map segments_of (access_of i v x)
+    → ((a : VectorAccess) → access_of i v x ≡ Some a → g ≡ segments_of a → (n : ℕ) → address_of to v.file n ≡ a.address n)
+    → moved_by i v g to vl ≡ option_map_or (told_access v vl) (access_of i v x) []
+moves_told i v x g to vl is begins = by (access_of i v x) refl (goes i v x) is
+  where
+    by : (o : Option VectorAccess) → access_of i v x ≡ o → IfSome o (Goes i v) → Some g ≡ option_map segments_of o → moved_by i v g to vl ≡ option_map_or (told_access v vl) o []
+    by None e goes is = absurd (cc)
+    by (Some a) e goes is =
+        let same : g ≡ segments_of a = ap (λ (o : Option Segments). unwrap_or o g) is in
+        ap (λ (h : Segments). moved_by i v h to vl) same ∙ access_told i v a to vl goes (begins a e same)
+
+-- nothing, where there are no segments
+pub none_told : (o : Option VectorAccess) → None ≡ option_map segments_of o → o ≡ None
+none_told None e = refl
+none_told (Some a) e = absurd (cc)

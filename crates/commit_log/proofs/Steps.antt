@@ -4,6 +4,7 @@ use Rattle.std.specs.List.{range_with_len}
 use Rattle.std.proofs.lemmas.List.Concat.{flat_map-append}
 use Rattle.rv_model.specs.elements.Elements.{Body}
 use Rattle.rv_model.specs.vector.Groups.{register_of}
+use Rattle.commit_log.specs.declared.segments.Addresses.{Addresses}
 use Rattle.commit_log.specs.declared.segments.Segments.{Segments}
 use Rattle.commit_log.specs.LineTexts.{moved_text, vector_text}
 use Rattle.commit_log.specs.Lines.{told_vectors}
@@ -38,27 +39,27 @@ pub fields_more : (g : Segments) (file text new whole : List ℕ) (address j i n
 fields_more g file text new whole address j i n h put all =
     joins text _ new _ _ whole put (ap (λ (fs : List ℕ). flat_map moved_text (map (moved_field g file address j) fs)) (range_on i n h)) all
 
-segments_on : (g : Segments) (b : Body) (file : List ℕ) (i n : ℕ) → i < n
-    → moved_segments g b file i (n - i) ≡ moved_segment g b file i ++ moved_segments g b file (i + 1) (n - (i + 1))
+segments_on : (g : Segments) (a : Addresses) (b : Body) (file : List ℕ) (i n : ℕ) → i < n
+    → moved_segments g a b file i (n - i) ≡ moved_segment g a b file i ++ moved_segments g a b file (i + 1) (n - (i + 1))
 unfolding moved_segments
-segments_on g b file i n h =
+segments_on g a b file i n h =
     let some : n - i ≡ suc (n - (i + 1)) = omega (arith, h) in
-    ap (λ (k : ℕ). moved_segments g b file i k) some
+    ap (λ (k : ℕ). moved_segments g a b file i k) some
 
-pub segments_more : (g : Segments) (b : Body) (file text new whole : List ℕ) (i n : ℕ) → i < n → new ≡ text ++ flat_map moved_text (moved_segment g b file i)
-    → text ++ flat_map moved_text (moved_segments g b file i (n - i)) ≡ whole
-    → new ++ flat_map moved_text (moved_segments g b file (i + 1) (n - (i + 1))) ≡ whole
-segments_more g b file text new whole i n h put all =
+pub segments_more : (g : Segments) (a : Addresses) (b : Body) (file text new whole : List ℕ) (i n : ℕ) → i < n → new ≡ text ++ flat_map moved_text (moved_segment g a b file i)
+    → text ++ flat_map moved_text (moved_segments g a b file i (n - i)) ≡ whole
+    → new ++ flat_map moved_text (moved_segments g a b file (i + 1) (n - (i + 1))) ≡ whole
+segments_more g a b file text new whole i n h put all =
     joins text _ new _ _ whole put
-    (ap (flat_map moved_text) (segments_on g b file i n h)
-    ∙ flat_map-append moved_text (moved_segment g b file i) (moved_segments g b file (i + 1) (n - (i + 1)))) all
+    (ap (flat_map moved_text) (segments_on g a b file i n h)
+    ∙ flat_map-append moved_text (moved_segment g a b file i) (moved_segments g a b file (i + 1) (n - (i + 1)))) all
 
 -- no segment more
-pub segments_end : (g : Segments) (b : Body) (file text whole : List ℕ) (i n : ℕ) → n ≡ 0
-    → text ++ flat_map moved_text (moved_segments g b file i n) ≡ whole → text ≡ whole
+pub segments_end : (g : Segments) (a : Addresses) (b : Body) (file text whole : List ℕ) (i n : ℕ) → n ≡ 0
+    → text ++ flat_map moved_text (moved_segments g a b file i n) ≡ whole → text ≡ whole
 unfolding moved_segments
-segments_end g b file text whole i zero none all = sym (append-nil text) ∙ all
-segments_end g b file text whole i (suc n) none all = absurd (omega (arith, none))
+segments_end g a b file text whole i zero none all = sym (append-nil text) ∙ all
+segments_end g a b file text whole i (suc n) none all = absurd (omega (arith, none))
 
 -- ---- a whole line
 

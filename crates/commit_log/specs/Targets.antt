@@ -7,8 +7,6 @@ use Rattle.rv_model.specs.declared.instructions.instruction.Instr.{Instr}
 use Rattle.rv_model.specs.declared.instructions.instruction.Instr.TheVariants as instr
 use Rattle.rv_model.specs.declared.instructions.operations.SystemOp.{SystemOp}
 use Rattle.rv_model.specs.declared.instructions.operations.SystemOp.TheVariants as system
-use Rattle.rv_model.specs.declared.instructions.access.AccessInstr.{AccessInstr}
-use Rattle.rv_model.specs.declared.instructions.access.AccessInstr.TheVariants.{WholeLoad, WholeStore}
 use Rattle.rv_model.specs.declared.instructions.scalar.ScalarInstr.{ScalarInstr}
 use Rattle.rv_model.specs.declared.instructions.scalar.ScalarInstr.TheVariants.{Upper, Jump, JumpRegister, Load, RegisterImmediate, ShiftImmediate, ShiftImmediateWord, RegisterRegister, System}
 use Rattle.rv_model.specs.declared.instructions.vector.VectorInstr.{VectorInstr}
@@ -66,12 +64,6 @@ is_destination Write = true
 is_destination Apart = true
 is_destination Free = true
 is_destination _ = false
-
--- whether an instruction loads or stores whole registers, whatever the vector type is
-abbrev pub is_whole : AccessInstr → Bool
-is_whole (WholeLoad count width vd rs1) = true
-is_whole (WholeStore count vd rs1) = true
-is_whole _ = false
 
 -- so many registers from one on, as far as there are any; the operands of a legal instruction end inside the file
 abbrev pub registers_from : ℕ → ℕ → List ℕ

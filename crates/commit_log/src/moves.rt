@@ -10,10 +10,13 @@ ghost use Rattle.commit_log.specs.Segments.{IsNarrow, address_of, moved_field, m
 ghost use Rattle.commit_log.specs.Segments.{offset_at};
 
 use crate::numbers::{push_hex16, push_reversed};
-use crate::segments::{Addresses, Offsets, Segments, access_segments, element_bytes, last_moved};
+use crate::segments::{
+    Addresses, Offsets, Segments, access_addresses, access_segments, element_bytes, last_moved,
+};
 use crate::text::{TEXT_SIZE, Text};
 use lane_arith::Body;
 use reg_groups::{mask_register, registers};
+use rv_model::instructions::operations::Direction;
 use rv_model::{AccessInstr, FILE_BYTES, GROUP_BYTES, Scalar, VLENB, VState};
 
 /// So many bytes from one place on, as far as there are any.
@@ -46,7 +49,7 @@ impl Offsets {
     {
         let first = VLENB * self.first.number() as usize;
         let group = chunk_at(file, first, VLENB * registers(self.emul) as usize);
-        let size = element_bytes(self.width);
+        let size = element_bytes(self.sew);
         number_of(chunk_at(group, size * index, size))
     }
 }
@@ -85,7 +88,7 @@ fn push_field(
 {
     text.push(b" mem 0x");
     push_hex16(text, address.wrapping_add((field * segments.size) as u64));
-    if segments.is_store {
+    if let Direction::Store = segments.direction {
         let register = segments.register + field * segments.field_registers;
         text.push(b" 0x");
         let at = VLENB * register + index * segments.size;
@@ -95,17 +98,24 @@ fn push_field(
 
 /// Adds the fields of a segment, if it isn't masked off.
 #[inline(always)]
-fn push_segment(text: &mut Text, segments: &Segments, body: &Body<'_>, file: &[u8], index: usize)
+fn push_segment(
+    text: &mut Text,
+    segments: &Segments,
+    addresses: &Addresses,
+    body: &Body<'_>,
+    file: &[u8],
+    index: usize,
+)
     requires narrow { IsNarrow segments.now }
     requires index { index + 1 ≤ GROUP_BYTES }
     requires room { length text.old + 336 ≤ TEXT_SIZE }
-    ensures text { text.new ≡ text.old ++ flat_map moved_text (moved_segment segments.now body.now file.now index) }
+    ensures text { text.new ≡ text.old ++ flat_map moved_text (moved_segment segments.now addresses.now body.now file.now index) }
     ensures bound { length text.new ≤ length text.old + 336 }
 {
     if !body.is_enabled(index) {
         return;
     }
-    let address = segments.addresses.address(file, index);
+    let address = addresses.address(file, index);
     for field in 0..segments.fields {
         push_field(text, segments, file, address, index, field);
     }
@@ -113,15 +123,22 @@ fn push_segment(text: &mut Text, segments: &Segments, body: &Body<'_>, file: &[u
 
 /// Adds the segments of the indices of a body.
 #[inline(never)]
-fn push_segments(text: &mut Text, segments: &Segments, body: &Body<'_>, file: &[u8])
+fn push_segments(
+    text: &mut Text,
+    segments: &Segments,
+    addresses: &Addresses,
+    body: &Body<'_>,
+    file: &[u8],
+)
     requires narrow { IsNarrow segments.now }
     requires room { length text.old + 86016 ≤ TEXT_SIZE }
     ensures text { text.new ≡ text.old
-        ++ flat_map moved_text (moved_segments segments.now body.now file.now body.now.start (body.now.end - body.now.start)) }
+        ++ flat_map moved_text (moved_segments segments.now addresses.now body.now file.now body.now.start
+        (body.now.end - body.now.start)) }
     ensures bound { length text.new ≤ length text.old + 86016 }
 {
     for index in body.start()..body.end() {
-        push_segment(text, segments, body, file, index);
+        push_segment(text, segments, addresses, body, file, index);
     }
 }
 
@@ -140,12 +157,14 @@ pub(crate) fn push_moves(
         ++ flat_map moved_text (option_map_or (told_access state.now vl) (access_of instr.now state.now scalar.now) []) }
     ensures bound { length text.new ≤ length text.old + 86016 }
 {
-    let Some(segments) = access_segments(instr, scalar, state.conf.vtype()) else {
+    let vtype = state.conf.vtype();
+    let Some(segments) = access_segments(instr, vtype) else {
         return;
     };
+    let addresses = access_addresses(instr, scalar, vtype, &segments);
     let end = last_moved(instr, state.conf.vl(), vl);
     let mask = mask_register(&state.file);
     let body = Body::new(segments.unmasked, &mask, usize::from(state.vstart), end);
     let bytes = state.file.part(0, FILE_BYTES);
-    push_segments(text, &segments, &body, bytes);
+    push_segments(text, &segments, &addresses, &body, bytes);
 }

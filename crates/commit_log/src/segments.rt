@@ -1,19 +1,22 @@
 //! The segments that a vector load or store moves ("V" Vector Extension 1.0, chapter 7).
-ghost use Rattle.std.specs.Prelude.{◌≡◌, ◌+◌, ◌<◌, ◌≤◌, ◌^◌, IfSome};
-ghost use Rattle.rv_model.specs.accesses.VectorAccess.{element_bytes};
-ghost use Rattle.commit_log.specs.Segments.{IsNarrow, access_segments, grouped, last_moved, strided, stores};
-ghost use Rattle.commit_log.specs.Segments.{unit_stores, whole, width_emul};
-ghost use Rattle.rv_model.specs.accesses.VectorAccess.{is_first_only};
+ghost use Rattle.std.specs.Prelude.{◌≡◌, ◌≤◌, ℕ, IfSome, Some, false};
+ghost use Rattle.std.specs.Option.{option_map};
+ghost use Rattle.rv_model.specs.accesses.VectorAccess.{VectorAccess, access_of, is_first_only, segments, unit_direction};
+ghost use Rattle.rv_model.specs.accesses.VectorAccess.{unmasked_access};
+ghost use Rattle.rv_model.specs.declared.scalar.Scalar.{Scalar};
+ghost use Rattle.rv_model.specs.declared.vector.state.VState.{VState};
+ghost use Rattle.rv_model.specs.vector.Groups.{group_type, sew_width, width_bytes, with_width};
+ghost use Rattle.commit_log.specs.Segments.{IsNarrow, address_of, is_whole, last_moved, segments_of};
 
 use reg_groups::{emul, register_count, registers};
-use rv_model::instructions::operations::{Direction, Eew, UnitOp};
+use rv_model::instructions::operations::{Direction, UnitOp};
 use rv_model::{AccessInstr, Field, GROUP_BYTES, Scalar, Sew, VLENB, VReg, VType};
 
 /// Offsets in bytes: elements of a width in the group from a register on, of a multiplier in eighths of a register.
 #[derive(Clone, Copy)]
 pub(crate) struct Offsets {
     pub first: VReg,
-    pub width: Eew,
+    pub sew: Sew,
     pub emul: u32,
 }
 
@@ -25,48 +28,42 @@ pub(crate) struct Addresses {
     pub offsets: Option<Offsets>,
 }
 
-/// The segments that a load or store moves: whether it stores; whether none is masked off; how many fields each has, and of
-/// how many bytes; the register where the first field begins, and how many registers each field takes.
+/// The segments that are loaded or stored: whether none is masked off; how many fields each has, and of how many bytes; the
+/// register where the first field begins, and how many registers each field takes.
 #[derive(Clone, Copy)]
 pub(crate) struct Segments {
-    pub is_store: bool,
+    pub direction: Direction,
     pub unmasked: bool,
     pub fields: usize,
     pub size: usize,
     pub register: usize,
     pub field_registers: usize,
-    pub addresses: Addresses,
 }
 
-/// The bytes of an element of a width.
+/// The bytes of an element.
 #[inline(always)]
-pub(crate) fn element_bytes(width: Eew) -> usize
-    ensures value { result ≡ element_bytes width }
+pub(crate) fn element_bytes(sew: Sew) -> usize
+    ensures value { result ≡ width_bytes (sew_width sew) }
     ensures some { 1 ≤ result }
     ensures most { result ≤ 8 }
 {
-    match width {
-        Eew::E8 => 1,
-        Eew::E16 => 2,
-        Eew::E32 => 4,
-        Eew::E64 => 8,
+    match sew {
+        Sew::E8 => 1,
+        Sew::E16 => 2,
+        Sew::E32 => 4,
+        Sew::E64 => 8,
     }
 }
 
-/// Whether an operation stores.
+/// Whether an operation loads or stores.
 #[inline(always)]
-fn unit_stores(op: UnitOp) -> bool
-    ensures { result ≡ unit_stores op }
+fn unit_direction(op: UnitOp) -> Direction
+    ensures { result ≡ unit_direction op }
 {
-    matches!(op, UnitOp::Store)
-}
-
-/// The same of a direction.
-#[inline(always)]
-fn stores(direction: Direction) -> bool
-    ensures { result ≡ stores direction }
-{
-    matches!(direction, Direction::Store)
+    match op {
+        UnitOp::Store => Direction::Store,
+        UnitOp::Load | UnitOp::FaultOnlyFirst => Direction::Load,
+    }
 }
 
 /// Whether an operation is a fault-only-first load.
@@ -94,164 +91,177 @@ pub(crate) fn last_moved(instr: &AccessInstr, found: u16, left: u16) -> usize
         }),
         AccessInstr::Strided { .. } | AccessInstr::Indexed { .. } => usize::from(found),
         AccessInstr::WholeLoad { count, width, .. } => {
-            usize::from(register_count(count)) * VLENB / element_bytes(width)
+            usize::from(register_count(count)) * VLENB / element_bytes(Sew::from_width(width))
         }
         AccessInstr::WholeStore { count, .. } => usize::from(register_count(count)) * VLENB,
         AccessInstr::MaskAccess { .. } => (usize::from(found) + 7) / 8,
     }
 }
 
-/// Segments at a distance of so many bytes.
-#[inline(always)]
-fn strided(base: u64, stride: u64) -> Addresses
-    ensures value { result ≡ strided base stride }
-    ensures wide { result.stride < 2 ^ 64 }
-{
-    Addresses {
-        base,
-        stride,
-        offsets: None,
-    }
-}
-
-/// The multiplier of as many elements of a width as the vector type has, in eighths of a register.
-#[inline(always)]
-fn width_emul(width: Eew, vtype: VType) -> u32
-    ensures { result ≡ width_emul width vtype }
-{
-    emul(Sew::from_width(width).bits(), vtype)
-}
-
-/// Fields of so many bytes, each a group of a multiplier in eighths of a register.
+/// Fields of a width, each a group of as many elements as the vector type has.
 #[inline(always)]
 fn grouped(
-    is_store: bool,
+    direction: Direction,
     unmasked: bool,
     nf: Field<3>,
-    size: usize,
-    emul: u32,
+    sew: Sew,
     vd: VReg,
-    addresses: Addresses,
+    vtype: VType,
 ) -> Segments
-    requires size { size ≤ 8 }
-    requires stride { addresses.stride < 2 ^ 64 }
-    ensures value { result ≡ grouped is_store unmasked nf size emul vd addresses }
+    ensures value { (address : ℕ → ℕ) (v : VState) → result
+        ≡ segments_of (segments direction (with_width (sew_width sew) (group_type vtype)) nf vd unmasked address v) }
     ensures narrow { IsNarrow result }
 {
     Segments {
-        is_store,
+        direction,
         unmasked,
         fields: nf.value() as usize + 1,
-        size,
+        size: element_bytes(sew),
         register: vd.number() as usize,
-        field_registers: registers(emul) as usize,
-        addresses,
+        field_registers: registers(emul(sew.bits(), vtype)) as usize,
     }
 }
 
 /// Elements of so many bytes that follow one another in so many registers.
 #[inline(always)]
-fn whole(is_store: bool, size: usize, count: u8, vd: VReg, base: u64) -> Segments
+fn whole(direction: Direction, size: usize, count: u8, vd: VReg) -> Segments
     requires { size ≤ 8 }
-    ensures value { result ≡ whole is_store size count vd base }
+    ensures value { (length rs1 : ℕ) (v : VState) (x : Scalar) → result
+        ≡ segments_of (unmasked_access direction length size count vd rs1 v x) }
     ensures narrow { IsNarrow result }
 {
     Segments {
-        is_store,
+        direction,
         unmasked: true,
         fields: 1,
         size,
         register: vd.number() as usize,
         field_registers: usize::from(count),
-        addresses: strided(base, size as u64),
     }
 }
 
-/// The segments of a load or store, by the registers and the vector type that it finds.
-#[tactic(auto, using(crate::proofs::Destinations::sew_most))]
-pub(crate) fn access_segments(
-    instr: &AccessInstr,
-    scalar: &Scalar,
-    vtype: Option<VType>,
-) -> Option<Segments>
-    ensures value { result ≡ access_segments instr.now scalar.now vtype }
+/// The segments of a load or store that needs a vector type, under one; none of any other.
+#[inline(always)]
+fn typed_segments(instr: &AccessInstr, vtype: VType) -> Option<Segments>
+    ensures value { (v : VState) (x : Scalar) → v.conf.vtype ≡ Some vtype → is_whole instr.now ≡ false
+        → result ≡ option_map segments_of (access_of instr.now v x) }
     ensures narrow { IfSome result IsNarrow }
 {
-    match *instr {
+    match instr {
         AccessInstr::UnitStride {
             op,
             width,
             nf,
             vd,
-            rs1,
             vm,
+            ..
         } => {
-            let vtype = vtype?;
-            let size = element_bytes(width);
-            let stride = (nf.value() as usize + 1) * size;
-            let addresses = strided(scalar.read(rs1), stride as u64);
-            let emul = width_emul(width, vtype);
-            Some(grouped(unit_stores(op), vm, nf, size, emul, vd, addresses))
+            let sew = Sew::from_width(*width);
+            Some(grouped(unit_direction(*op), *vm, *nf, sew, *vd, vtype))
         }
         AccessInstr::Strided {
             direction,
             width,
             nf,
             vd,
-            rs1,
-            rs2,
             vm,
+            ..
         } => {
-            let vtype = vtype?;
-            let addresses = strided(scalar.read(rs1), scalar.read(rs2));
-            let size = element_bytes(width);
-            let emul = width_emul(width, vtype);
-            Some(grouped(stores(direction), vm, nf, size, emul, vd, addresses))
+            let sew = Sew::from_width(*width);
+            Some(grouped(*direction, *vm, *nf, sew, *vd, vtype))
         }
         AccessInstr::Indexed {
             direction,
-            order: _,
-            width,
             nf,
             vd,
-            rs1,
-            vs2,
             vm,
-        } => {
-            let vtype = vtype?;
-            let addresses = Addresses {
-                base: scalar.read(rs1),
-                stride: 0,
-                offsets: Some(Offsets {
-                    first: vs2,
-                    width,
-                    emul: width_emul(width, vtype),
-                }),
-            };
-            let size = usize::from(vtype.sew.bits()) / 8;
-            let emul = u32::from(vtype.lmul.eighths());
-            Some(grouped(stores(direction), vm, nf, size, emul, vd, addresses))
-        }
+            ..
+        } => Some(grouped(*direction, *vm, *nf, vtype.sew, *vd, vtype)),
+        AccessInstr::MaskAccess { direction, vd, .. } => Some(whole(*direction, 1, 1, *vd)),
+        _ => None,
+    }
+}
+
+/// The segments of a load or store, under the vector type that it finds; none where it needs one and there is none.
+#[inline(always)]
+pub(crate) fn access_segments(instr: &AccessInstr, vtype: Option<VType>) -> Option<Segments>
+    ensures value { (v : VState) (x : Scalar) → v.conf.vtype ≡ vtype
+        → result ≡ option_map segments_of (access_of instr.now v x) }
+    ensures narrow { IfSome result IsNarrow }
+{
+    match instr {
         AccessInstr::WholeLoad {
             count,
             width,
             vd,
-            rs1,
+            ..
         } => {
-            Some(whole(
-                false,
-                element_bytes(width),
-                register_count(count),
-                vd,
-                scalar.read(rs1),
-            ))
+            let size = element_bytes(Sew::from_width(*width));
+            Some(whole(Direction::Load, size, register_count(*count), *vd))
         }
-        AccessInstr::WholeStore { count, vd, rs1 } => {
-            Some(whole(true, 1, register_count(count), vd, scalar.read(rs1)))
+        AccessInstr::WholeStore { count, vd, .. } => {
+            Some(whole(Direction::Store, 1, register_count(*count), *vd))
         }
-        AccessInstr::MaskAccess { direction, vd, rs1 } => {
-            let _vtype = vtype?;
-            Some(whole(stores(direction), 1, 1, vd, scalar.read(rs1)))
+        AccessInstr::UnitStride { .. }
+        | AccessInstr::Strided { .. }
+        | AccessInstr::Indexed { .. }
+        | AccessInstr::MaskAccess { .. } => typed_segments(instr, vtype?),
+    }
+}
+
+/// The multiplier of as many elements of a width as the vector type has, in eighths of a register; 0 without a type.
+#[inline(always)]
+fn width_emul(sew: Sew, vtype: Option<VType>) -> u32
+    ensures { (t : VType) → vtype ≡ Some t → result ≡ (with_width (sew_width sew) (group_type t)).emul }
+{
+    match vtype {
+        Some(vtype) => emul(sew.bits(), vtype),
+        None => 0,
+    }
+}
+
+/// Where the segments of a load or store begin, by the registers and the vector type that it finds.
+#[inline(always)]
+pub(crate) fn access_addresses(
+    instr: &AccessInstr,
+    scalar: &Scalar,
+    vtype: Option<VType>,
+    segments: &Segments,
+) -> Addresses
+    requires { IsNarrow segments.now }
+    ensures { (v : VState) (a : VectorAccess) → v.conf.vtype ≡ vtype → access_of instr.now v scalar.now ≡ Some a
+        → segments.now ≡ segments_of a → (i : ℕ) → address_of result v.file i ≡ a.address i }
+{
+    match instr {
+        AccessInstr::Strided { rs1, rs2, .. } => Addresses {
+            base: scalar.read(*rs1),
+            stride: scalar.read(*rs2),
+            offsets: None,
+        },
+        AccessInstr::Indexed {
+            width,
+            rs1,
+            vs2,
+            ..
+        } => {
+            let sew = Sew::from_width(*width);
+            Addresses {
+                base: scalar.read(*rs1),
+                stride: 0,
+                offsets: Some(Offsets {
+                    first: *vs2,
+                    sew,
+                    emul: width_emul(sew, vtype),
+                }),
+            }
         }
+        AccessInstr::UnitStride { rs1, .. }
+        | AccessInstr::WholeLoad { rs1, .. }
+        | AccessInstr::WholeStore { rs1, .. }
+        | AccessInstr::MaskAccess { rs1, .. } => Addresses {
+            base: scalar.read(*rs1),
+            stride: (segments.fields * segments.size) as u64,
+            offsets: None,
+        },
     }
 }

@@ -1,14 +1,16 @@
 //! The registers that an instruction writes.
-ghost use Rattle.std.specs.Prelude.{◌≡◌, ◌+◌, ◌*◌, ◌<◌, ◌≤◌, ℕ, Some, false, if◌then◌else◌};
-ghost use Rattle.rv_model.specs.legality.Legality.{data_role, mask_result, unit_role};
+ghost use Rattle.std.specs.Prelude.{◌≡◌, ◌*◌, ◌<◌, ℕ, Some};
+ghost use Rattle.rv_model.specs.legality.Legality.{mask_result};
 ghost use Rattle.rv_model.specs.legality.OperandShapes.{destination, shape_of};
-ghost use Rattle.rv_model.specs.vector.Groups.{access_type, registers};
-ghost use Rattle.commit_log.specs.Targets.{is_destination, is_whole, registers_from, scalar_target};
+ghost use Rattle.rv_model.specs.vector.Groups.{registers};
+ghost use Rattle.commit_log.specs.Segments.{IsNarrow, filled_by};
+ghost use Rattle.commit_log.specs.Targets.{registers_from, scalar_target};
 ghost use Rattle.commit_log.specs.Targets.{target_of_scalar, target_of_system, target_of_vector, vector_targets};
 
-use reg_groups::{emul, register_count, registers};
-use rv_model::instructions::operations::{Direction, Eew, MaskUnaryOp, SystemOp, UnitOp, VectorOp};
-use rv_model::{AccessInstr, CsrInstr, Field, Instr, ScalarInstr, Sew, VReg, VType, VectorInstr};
+use crate::segments::{Segments, access_segments};
+use reg_groups::{register_count, registers};
+use rv_model::instructions::operations::{Direction, MaskUnaryOp, SystemOp, VectorOp};
+use rv_model::{AccessInstr, CsrInstr, Instr, ScalarInstr, VReg, VType, VectorInstr};
 
 /// The scalar register that ECALL answers in; EBREAK has none.
 #[inline(always)]
@@ -88,16 +90,31 @@ fn none() -> Registers
     Registers { first: 0, count: 0 }
 }
 
-/// The registers of so many groups of a multiplier in eighths of a register.
+/// The registers of a group of a multiplier in eighths of a register.
 #[inline(always)]
-fn groups(first: VReg, fields: u32, emul: u32) -> Registers
-    requires { fields ≤ 8 }
-    ensures value { result ≡ record { first = first; count = fields * registers emul } }
+fn group(first: VReg, emul: u32) -> Registers
+    ensures value { result ≡ record { first = first; count = 1 * registers emul } }
     ensures inside { result.first < 32 }
 {
     Registers {
         first: first.number(),
-        count: u64::from(fields) * u64::from(registers(emul)),
+        count: u64::from(registers(emul)),
+    }
+}
+
+/// The registers that segments of a load fill.
+#[inline(always)]
+fn filled(segments: &Segments) -> Registers
+    requires { IsNarrow segments.now }
+    ensures value { registers_from result.first result.count ≡ filled_by segments.now }
+    ensures inside { result.first < 32 }
+{
+    match segments.direction {
+        Direction::Load => Registers {
+            first: segments.register as u32,
+            count: (segments.fields * segments.field_registers) as u64,
+        },
+        Direction::Store => none(),
     }
 }
 
@@ -146,134 +163,36 @@ fn typed_targets(instr: &VectorInstr, vtype: VType) -> Registers
     match instr {
         VectorInstr::Arith { arith, vd, .. } => {
             let (op, _source) = arith.parts();
-            groups(*vd, 1, destination_emul(op, vtype))
+            group(*vd, destination_emul(op, vtype))
         }
         VectorInstr::Carry {
             carry: _carry,
             vd,
             vs2: _vs2,
-        } => groups(*vd, 1, lmul),
+        } => group(*vd, lmul),
         VectorInstr::Move { vd, .. }
         | VectorInstr::Compress { vd, .. }
         | VectorInstr::Extend { vd, .. }
-        | VectorInstr::ElementIndex { vd, .. } => groups(*vd, 1, lmul),
-        VectorInstr::MaskUnary { op, vd, .. } => groups(*vd, 1, unary_emul(*op, vtype)),
-        VectorInstr::MaskLogic { vd, .. } | VectorInstr::MoveToVector { vd, .. } => groups(
-            *vd, 1, 8,
-        ),
+        | VectorInstr::ElementIndex { vd, .. } => group(*vd, lmul),
+        VectorInstr::MaskUnary { op, vd, .. } => group(*vd, unary_emul(*op, vtype)),
+        VectorInstr::MaskLogic { vd, .. } | VectorInstr::MoveToVector { vd, .. } => group(*vd, 8),
         VectorInstr::WholeMove { count, vd, .. } => {
-            groups(*vd, 1, 8 * u32::from(register_count(*count)))
-        }
-        _ => none(),
-    }
-}
-
-/// The registers of the fields of a load or store whose elements have a width of their own, under a vector type.
-#[inline(always)]
-fn fields(vd: VReg, nf: Field<3>, width: Eew, vtype: VType) -> Registers
-    ensures value { result ≡ record { first = vd; count = (nf + 1) * registers (access_type vtype width).emul } }
-    ensures inside { result.first < 32 }
-{
-    groups(
-        vd,
-        nf.value() + 1,
-        emul(Sew::from_width(width).bits(), vtype),
-    )
-}
-
-/// Whether a unit-stride operation loads.
-#[inline(always)]
-fn loads(op: UnitOp) -> bool
-    ensures { result ≡ is_destination (unit_role op) }
-{
-    match op {
-        UnitOp::Load | UnitOp::FaultOnlyFirst => true,
-        UnitOp::Store => false,
-    }
-}
-
-/// Whether a direction is that of a load.
-#[inline(always)]
-fn is_load(direction: Direction) -> bool
-    ensures { result ≡ is_destination (data_role direction) }
-{
-    match direction {
-        Direction::Load => true,
-        Direction::Store => false,
-    }
-}
-
-/// These registers, if they are written.
-#[inline(always)]
-fn if_written(written: bool, registers: Registers) -> Registers
-    requires { registers.first < 32 }
-    ensures value { result ≡ (if written then registers else record { first = 0; count = 0 }) }
-    ensures inside { result.first < 32 }
-{
-    if written { registers } else { none() }
-}
-
-/// The vector registers that a load of elements writes, under a vector type.
-#[tactic(auto, using(crate::proofs::Destinations::alone_written, crate::proofs::Destinations::mask_written, crate::proofs::Destinations::shape_written), unfolding(rv_model::specs::legality::Legality::operands))]
-#[inline(always)]
-fn typed_access_targets(instr: &AccessInstr, vtype: VType) -> Registers
-    ensures value { is_whole instr.now ≡ false
-        → registers_from result.first result.count ≡ vector_targets (Instr.Access instr.now) (Some vtype) }
-    ensures inside { result.first < 32 }
-{
-    match *instr {
-        AccessInstr::UnitStride {
-            op,
-            width,
-            nf,
-            vd,
-            ..
-        } => { if_written(loads(op), fields(vd, nf, width, vtype)) }
-        AccessInstr::Strided {
-            direction,
-            width,
-            nf,
-            vd,
-            ..
-        } => { if_written(is_load(direction), fields(vd, nf, width, vtype)) }
-        AccessInstr::Indexed {
-            direction,
-            nf,
-            vd,
-            ..
-        } => {
-            if_written(
-                is_load(direction),
-                groups(vd, nf.value() + 1, u32::from(vtype.lmul.eighths())),
-            )
-        }
-        AccessInstr::MaskAccess { direction, vd, .. } => {
-            if_written(is_load(direction), groups(vd, 1, 8))
+            group(*vd, 8 * u32::from(register_count(*count)))
         }
         _ => none(),
     }
 }
 
 /// The vector registers that a load writes, under the vector type that it finds, if there is one.
-#[tactic(auto, using(crate::proofs::Destinations::alone_written, crate::proofs::Destinations::mask_written, crate::proofs::Destinations::shape_written), unfolding(rv_model::specs::legality::Legality::operands))]
 #[inline(always)]
 fn access_targets(instr: &AccessInstr, vtype: Option<VType>) -> Registers
     ensures value { registers_from result.first result.count ≡ vector_targets (Instr.Access instr.now) vtype }
     ensures inside { result.first < 32 }
 {
-    match *instr {
-        AccessInstr::WholeLoad { count, vd, .. } => {
-            groups(vd, 1, 8 * u32::from(register_count(count)))
-        }
-        AccessInstr::WholeStore { .. } => none(),
-        AccessInstr::UnitStride { .. }
-        | AccessInstr::Strided { .. }
-        | AccessInstr::Indexed { .. }
-        | AccessInstr::MaskAccess { .. } => match vtype {
-            Some(vtype) => typed_access_targets(instr, vtype),
-            None => none(),
-        },
-    }
+    let Some(segments) = access_segments(instr, vtype) else {
+        return none();
+    };
+    filled(&segments)
 }
 
 /// The vector registers that an instruction writes, under the vector type that it finds, if there is one.

@@ -15,8 +15,8 @@ loop-index-preserved c =
       low = omega (arith, l.invariant.low);
       high = grind (arith, nat_tests, l.invariant.high, c.loop-index-test.true, c.end-index-end.ensures.value);
       room = omega (arith, c.push_segment.ensures.bound, l.invariant.room, l.invariant.low);
-      text = segments_more a.segments.now b a.file.now l.text c.push_segment.new.text
-          (a.text.now ++ flat_map moved_text (moved_segments a.segments.now b a.file.now b.start (b.end - b.start)))
+      text = segments_more a.segments.now a.addresses.now b a.file.now l.text c.push_segment.new.text
+          (a.text.now ++ flat_map moved_text (moved_segments a.segments.now a.addresses.now b a.file.now b.start (b.end - b.start)))
           l.index b.end (grind (arith, nat_tests, c.loop-index-test.true, c.end-index-end.ensures.value)) c.push_segment.ensures.text l.invariant.text;
     }
 
@@ -25,7 +25,7 @@ returns-clause-text c =
     let l = c.loop-index in
     let a = c.args in
     let b = a.body.now in
-    segments_end a.segments.now b a.file.now l.text (a.text.now ++ flat_map moved_text (moved_segments a.segments.now b a.file.now b.start (b.end - b.start)))
+    segments_end a.segments.now a.addresses.now b a.file.now l.text (a.text.now ++ flat_map moved_text (moved_segments a.segments.now a.addresses.now b a.file.now b.start (b.end - b.start)))
     l.index (b.end - l.index) (grind (arith, nat_tests, c.loop-index-test.false, c.end-index-end.ensures.value)) l.invariant.text
 
 pub returns-clause-bound : goal.returns-clause-bound
