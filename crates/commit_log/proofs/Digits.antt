@@ -1,5 +1,6 @@
 -- Hexadecimal digits, and those of bytes that are put together.
 use Rattle.std.proofs.Common.{◌≡◌, refl, sym, ap, ◌∙◌, ℕ, zero, suc, ◌+◌, ◌/◌, ◌%◌, ◌<◌, ◌≤◌, cond, nat_lt, bit_and, List, [], ◌∷◌, ◌++◌, length, take, drop, append_assoc, arith}
+use Rattle.std.specs.Int.{to_be_bytes, w32, w64}
 use Rattle.std.specs.Prelude.{reverse, slice_index}
 use Rattle.std.proofs.lemmas.List.{reverse-append, take-append-drop, drop-drop, take_all, length-drop}
 use Rattle.std.proofs.lemmas.Nat.{and_mask}
@@ -55,14 +56,6 @@ digits_are (b ∷ bs) h =
 
 -- ---- lists of a known length
 
-pub list_of_4 : (xs : List ℕ) → length xs ≡ 4 → xs ≡ slice_index xs 0 ∷ slice_index xs 1 ∷ slice_index xs 2 ∷ slice_index xs 3 ∷ []
-list_of_4 ([]) h = absurd (omega (arith, h))
-list_of_4 (a0 ∷ []) h = absurd (omega (arith, h))
-list_of_4 (a0 ∷ a1 ∷ []) h = absurd (omega (arith, h))
-list_of_4 (a0 ∷ a1 ∷ a2 ∷ []) h = absurd (omega (arith, h))
-list_of_4 (a0 ∷ a1 ∷ a2 ∷ a3 ∷ []) h = refl
-list_of_4 (a0 ∷ a1 ∷ a2 ∷ a3 ∷ a4 ∷ rest) h = absurd (omega (arith, h))
-
 pub list_of_8 : (xs : List ℕ) → length xs ≡ 8 → xs ≡ slice_index xs 0 ∷ slice_index xs 1 ∷ slice_index xs 2 ∷ slice_index xs 3 ∷ slice_index xs 4 ∷ slice_index xs 5 ∷ slice_index xs 6 ∷ slice_index xs 7 ∷ []
 list_of_8 ([]) h = absurd (omega (arith, h))
 list_of_8 (a0 ∷ []) h = absurd (omega (arith, h))
@@ -74,6 +67,22 @@ list_of_8 (a0 ∷ a1 ∷ a2 ∷ a3 ∷ a4 ∷ a5 ∷ []) h = absurd (omega (arit
 list_of_8 (a0 ∷ a1 ∷ a2 ∷ a3 ∷ a4 ∷ a5 ∷ a6 ∷ []) h = absurd (omega (arith, h))
 list_of_8 (a0 ∷ a1 ∷ a2 ∷ a3 ∷ a4 ∷ a5 ∷ a6 ∷ a7 ∷ []) h = refl
 list_of_8 (a0 ∷ a1 ∷ a2 ∷ a3 ∷ a4 ∷ a5 ∷ a6 ∷ a7 ∷ a8 ∷ rest) h = absurd (omega (arith, h))
+
+-- ---- the last ones
+
+pub low_digits : (n : ℕ) → take 8 (drop 8 (encode_lower (to_be_bytes w64 n))) ≡ encode_lower (to_be_bytes w32 n)
+unfolding encode_with
+low_digits n = refl
+
+pub behind_zeros : (bs : List ℕ) → length bs ≡ 4
+    → take 8 (drop 8 (encode_lower (0 ∷ 0 ∷ 0 ∷ 0 ∷ slice_index bs 3 ∷ slice_index bs 2 ∷ slice_index bs 1 ∷ slice_index bs 0 ∷ []))) ≡ highest_first bs
+unfolding encode_with
+behind_zeros ([]) h = absurd (omega (arith, h))
+behind_zeros (a0 ∷ []) h = absurd (omega (arith, h))
+behind_zeros (a0 ∷ a1 ∷ []) h = absurd (omega (arith, h))
+behind_zeros (a0 ∷ a1 ∷ a2 ∷ []) h = absurd (omega (arith, h))
+behind_zeros (a0 ∷ a1 ∷ a2 ∷ a3 ∷ []) h = refl
+behind_zeros (a0 ∷ a1 ∷ a2 ∷ a3 ∷ a4 ∷ rest) h = absurd (omega (arith, h))
 
 -- ---- put together
 

@@ -34,28 +34,6 @@ fn digits_of_8(bytes: &[u8]) -> [u8; 16]
     (numbers + offsets).to_array()
 }
 
-/// The place of the byte that each of 8 digits is of.
-const PLACES_8: [usize; 8] = [0, 0, 1, 1, 2, 2, 3, 3];
-
-/// 0 for the high digit of a byte, 1 for the low one.
-const PARTS_8: [u8; 8] = [0, 1, 0, 1, 0, 1, 0, 1];
-
-/// The hexadecimal digits of 4 bytes, two a byte.
-#[inline(always)]
-fn digits_of_4(bytes: &[u8]) -> [u8; 8]
-    requires { length bytes.now ≡ 4 }
-    ensures { result ≡ encode_lower bytes.now }
-{
-    let twice = u8x4::from_array([bytes[0], bytes[1], bytes[2], bytes[3]]).swizzle(PLACES_8);
-    let numbers = u8x8::from_array(PARTS_8)
-        .simd_eq(u8x8::splat(0))
-        .select(twice >> u8x8::splat(4), twice & u8x8::splat(15));
-    let offsets = numbers
-        .simd_lt(u8x8::splat(10))
-        .select(u8x8::splat(b'0'), u8x8::splat(b'a' - 10));
-    (numbers + offsets).to_array()
-}
-
 /// Adds 16 hexadecimal digits, the highest first.
 #[tactic(auto, unfolding(rv_model::specs::commands::Printing::hex16))]
 #[inline(always)]
@@ -68,14 +46,13 @@ pub(crate) fn push_hex16(text: &mut Text, number: u64)
 }
 
 /// Adds 8 hexadecimal digits, the highest first.
-#[tactic(auto, unfolding(rv_model::specs::commands::Printing::hex8))]
 #[inline(always)]
 pub(crate) fn push_hex8(text: &mut Text, number: u32)
     requires { length text.old + 8 ≤ TEXT_SIZE }
     ensures text { text.new ≡ text.old ++ hex8 number }
     ensures bound { length text.new ≡ length text.old + 8 }
 {
-    text.push(&digits_of_4(&number.to_be_bytes()));
+    text.push(&digits_of_8(&u64::from(number).to_be_bytes())[8..]);
 }
 
 /// 8 bytes, the last one first.
@@ -100,16 +77,7 @@ fn push_8(text: &mut Text, bytes: &[u8])
     text.push(&digits_of_8(&reversed_8(bytes)));
 }
 
-/// 4 bytes, the last one first.
-#[inline(always)]
-fn reversed_4(bytes: &[u8]) -> [u8; 4]
-    requires { length bytes.now ≡ 4 }
-    ensures { result ≡ reverse bytes.now }
-{
-    [bytes[3], bytes[2], bytes[1], bytes[0]]
-}
-
-/// Adds two hexadecimal digits for each of 4 bytes, the last byte first.
+/// Adds two hexadecimal digits for each of 4 bytes, the last byte first: the last digits of 8 bytes.
 #[inline(always)]
 fn push_4(text: &mut Text, bytes: &[u8])
     requires size { length bytes.now ≡ 4 }
@@ -117,7 +85,8 @@ fn push_4(text: &mut Text, bytes: &[u8])
     ensures text { text.new ≡ text.old ++ highest_first bytes.now }
     ensures bound { length text.new ≡ length text.old + 8 }
 {
-    text.push(&digits_of_4(&reversed_4(bytes)));
+    let reversed = [0, 0, 0, 0, bytes[3], bytes[2], bytes[1], bytes[0]];
+    text.push(&digits_of_8(&reversed)[8..]);
 }
 
 /// The same of at most 8 bytes.
