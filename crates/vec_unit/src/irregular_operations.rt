@@ -74,16 +74,14 @@ pub(crate) fn perform_typed(
             perform_apart::<_, true>(&Move { source }, vd, vtype, policy, state, scalar);
         }
         VectorInstr::Extend { op, vd, vs2, vm } => {
-            let target = Target::new(vd, vm, vtype, policy);
-            ExtendOperation { op, vs2 }.perform(target, state, scalar);
+            ExtendOperation { op, vs2 }.perform(Target::new(vd, vm, vtype, policy), state, scalar);
         }
         VectorInstr::MaskLogic { op, vd, vs1, vs2 } => perform_logic(op, vd, vs1, vs2, state),
         VectorInstr::MaskToScalar { op, rd, vs2, vm } => {
             scalar.write(rd, scalar_of_mask(op, vs2, vm, state));
         }
         VectorInstr::MaskUnary { op, vd, vs2, vm } => {
-            let target = Target::new(vd, vm, vtype, policy);
-            perform_mask_unary(op, vs2, target, state, scalar);
+            perform_mask_unary(op, vs2, Target::new(vd, vm, vtype, policy), state, scalar);
         }
         VectorInstr::ElementIndex { vd, vm: true } => {
             perform_apart::<_, true>(&IndexOperation, vd, vtype, policy, state, scalar);
@@ -99,8 +97,7 @@ pub(crate) fn perform_typed(
             scalar.write(rd, scalar_of_first(vs2, vtype, &state.file));
         }
         VectorInstr::MoveToVector { vd, rs1 } => {
-            let operation = MoveToVector { rs1 };
-            perform_apart::<_, true>(&operation, vd, vtype, policy, state, scalar);
+            perform_apart::<_, true>(&MoveToVector { rs1 }, vd, vtype, policy, state, scalar);
         }
         VectorInstr::WholeMove { count, vd, vs2 } => {
             perform_whole_move(count, vd, vs2, vtype, state);
