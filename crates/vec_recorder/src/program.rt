@@ -15,7 +15,7 @@ use crate::numbers::{policy, ticks, window};
 use crate::outputs::Outputs;
 use crate::program_fault::{ProgramFault, STATUS_DONE};
 use crate::runs::run_machine;
-use crate::watch_words::watched_places;
+use crate::watch_words::{WatchWords, watched_places};
 use crate::words::options;
 use devices::{Sink, WriterSink};
 use first_state::OwnBytes;
@@ -71,12 +71,13 @@ fn record_options<'a, R: Inputs + Outputs, K: Sink>(
         options.registers,
     )?;
     check_places(&alone, places.as_slice())?;
-    let paths = (options.counts, options.changes);
+    let (counted, path) = (options.counts, options.changes);
+    let watch = WatchWords { path, places };
     let log = LogWords {
         path: options.log,
         window,
     };
-    let short = run_machine(rt, alloc, &mut alone, output, ticks, paths, places, log)?;
+    let short = run_machine(rt, alloc, &mut alone, output, ticks, counted, watch, log)?;
     Ok(short)
 }
 

@@ -11,10 +11,11 @@ use crate::log_words::LogWords;
 use crate::outputs::Outputs;
 use crate::program_fault::ProgramFault;
 use crate::record_lines::{sort_rows, write_last, write_rows};
+use crate::watch_words::WatchWords;
 use commit_log::{Log, Window};
 use devices::{DeviceFault, Sink};
 use first_state::OwnBytes;
-use memory_changes::{Changes, Place};
+use memory_changes::Changes;
 use recording::{Alone, Both, Carried, Counts, Recorder, Row, ShortWrites, run, totals};
 use rv_model::StepEnd;
 use std::alloc::Global;
@@ -119,7 +120,7 @@ fn run_recorded<'a, R: Outputs, K: Sink, O: Recorder<OwnBytes> + Drop>(
     }
 }
 
-/// The same with the changes of places in the file at a path, if one is asked for.
+/// The same with the changes of watched places, if a file is asked for.
 fn run_watched<'a, R: Outputs, K: Sink, O: Recorder<OwnBytes> + Drop>(
     rt: &R,
     alloc: Global,
@@ -127,8 +128,7 @@ fn run_watched<'a, R: Outputs, K: Sink, O: Recorder<OwnBytes> + Drop>(
     output: &mut K,
     ticks: u64,
     log: LogWords<'a>,
-    path: Option<&'a str>,
-    places: Vec<Place>,
+    watch: WatchWords<'a>,
     recorder: O,
 ) -> Result<(Option<StepEnd>, O), ProgramFault<'a>>
     ensures recorded { IfOk result
@@ -138,12 +138,13 @@ fn run_watched<'a, R: Outputs, K: Sink, O: Recorder<OwnBytes> + Drop>(
     ensures output { OnOk result (K.took output.old
         (flat_map put_out (ran ticks (state_of own_memory alone.old)).found) output.new) }
     ensures changes { OnOk result (AreKept (R.is_made rt.now) R.Made.took
-        (option_map (λ path. path.now) path.entry)
-        (λ told. AreChanged told places.items ticks (state_of own_memory alone.old))) }
+        (option_map (λ path. path.now) watch.entry.path)
+        (λ told. AreChanged told watch.entry.places.items ticks (state_of own_memory alone.old))) }
     ensures log { OnOk result (AreKept (R.is_made rt.now) R.Made.took
         (option_map (λ path. path.now) log.entry.path)
         (λ told. AreLogged told log.entry.window ticks (state_of own_memory alone.old))) }
 {
+    let WatchWords { path, places } = watch;
     let Some(path) = path else {
         return run_recorded(rt, alloc, alone, output, ticks, log, recorder);
     };
@@ -174,26 +175,25 @@ pub(crate) fn run_machine<'a, R: Outputs, K: Sink>(
     alone: &mut Alone<OwnBytes>,
     output: &mut K,
     ticks: u64,
-    paths: (Option<&'a str>, Option<&'a str>),
-    places: Vec<Place>,
+    counted: Option<&'a str>,
+    watch: WatchWords<'a>,
     log: LogWords<'a>,
 ) -> Result<u64, ProgramFault<'a>>
     ensures output { OnOk result (K.took output.old
         (flat_map put_out (ran ticks (state_of own_memory alone.old)).found) output.new) }
     ensures counts { OnOk result (AreKept (R.is_made rt.now) R.Made.took
-        (option_map (λ path. path.now) paths.entry.0)
+        (option_map (λ path. path.now) counted.entry)
         (λ told. AreCounted told ticks (state_of own_memory alone.old))) }
     ensures changes { OnOk result (AreKept (R.is_made rt.now) R.Made.took
-        (option_map (λ path. path.now) paths.entry.1)
-        (λ told. AreChanged told places.items ticks (state_of own_memory alone.old))) }
+        (option_map (λ path. path.now) watch.entry.path)
+        (λ told. AreChanged told watch.entry.places.items ticks (state_of own_memory alone.old))) }
     ensures log { OnOk result (AreKept (R.is_made rt.now) R.Made.took
         (option_map (λ path. path.now) log.entry.path)
         (λ told. AreLogged told log.entry.window ticks (state_of own_memory alone.old))) }
 {
-    let (counted, watched) = paths;
     let short = ShortWrites::none();
     let Some(path) = counted else {
-        let (_, short) = run_watched(rt, alloc, alone, output, ticks, log, watched, places, short)?;
+        let (_, short) = run_watched(rt, alloc, alone, output, ticks, log, watch, short)?;
         return Ok(short.count);
     };
     let counts = Counts::new(alloc)?;
@@ -202,7 +202,7 @@ pub(crate) fn run_machine<'a, R: Outputs, K: Sink>(
         first: short,
         second: counts,
     };
-    let (end, mut both) = run_watched(rt, alloc, alone, output, ticks, log, watched, places, both)?;
+    let (end, mut both) = run_watched(rt, alloc, alone, output, ticks, log, watch, both)?;
     let rows = both.second.table.rows.as_mut_slice();
     let Ok(()) = write_counts(&mut file, rows, alone.scalar.pc, end) else {
         return Err(ProgramFault::Record(path));

@@ -12,6 +12,12 @@ use memory_changes::Place;
 use monitor_cmds::address;
 use std::alloc::Allocator;
 
+/// Places that are watched, and the path of the file for their changes, if there is one.
+pub(crate) struct WatchWords<'a> {
+    pub path: Option<&'a str>,
+    pub places: Vec<Place>,
+}
+
 /// Splits a word of a place at its first colon.
 fn watched_place(word: &str) -> Option<Place>
     ensures { MatchOption result (NamesNoPlace word.now) (IsPlaceOf word.now) }
