@@ -13,6 +13,7 @@ use monitor_cmds::address;
 use std::alloc::Allocator;
 
 /// Places that are watched, and the path of the file for their changes, if there is one.
+#[derive(Drop)]
 pub(crate) struct WatchWords<'a> {
     pub path: Option<&'a str>,
     pub places: Vec<Place>,
