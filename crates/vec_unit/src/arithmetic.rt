@@ -8,12 +8,14 @@ ghost use Rattle.vec_unit.specs.Steps.{Performs};
 
 use crate::compare::Carried;
 use crate::destination::Target;
-use crate::operands::{Rounded, on};
+use crate::operands::{Rounded, Sources, on};
 use crate::operation::perform;
 use crate::two_widths::{perform_narrowing, perform_single, perform_widening};
 use crate::widen::Added;
 use rv_model::instructions::operations::VectorOp;
-use rv_model::{ArithOperation, Instr, Policy, Scalar, Source, VEnd, VReg, VState, VectorInstr};
+use rv_model::{
+    ArithOperation, Instr, Policy, Scalar, Source, VEnd, VReg, VState, VType, VectorInstr,
+};
 
 /// Performs a legal operation with a line of its own in the manual's table, but for vstart, and not one of one width
 /// on two operands.
@@ -21,20 +23,24 @@ use rv_model::{ArithOperation, Instr, Policy, Scalar, Source, VEnd, VReg, VState
 #[inline(never)]
 fn perform_rest(
     op: VectorOp,
-    vs2: VReg,
-    source: Source,
-    target: Target,
+    sources: Sources,
+    vd: VReg,
+    unmasked: bool,
+    vtype: VType,
+    policy: Policy,
     state: &mut VState,
     scalar: &Scalar,
 )
-    requires legal { IsTrue (is_legal (Instr.Vector (VectorInstr.Arith (op, source) target.vd vs2 target.unmasked))
-        (Some target.vtype) state.old.vstart) }
+    requires legal { IsTrue (is_legal (Instr.Vector (VectorInstr.Arith (op, sources.source) vd sources.vs2 unmasked))
+        (Some vtype) state.old.vstart) }
     requires rest { IsTrue (not (is_binary op)) }
-    requires length { state.old.conf.vl ≤ vlmax target.vtype }
-    ensures model { Performs (arith_step target.vtype (group_type target.vtype) (wide_type target.vtype) op source
-        target.vd vs2 target.unmasked)
-        target.policy scalar.now state.old VEnd.Done scalar.now (record state.new { vstart = 0 }) }
+    requires length { state.old.conf.vl ≤ vlmax vtype }
+    ensures model { Performs (arith_step vtype (group_type vtype) (wide_type vtype) op sources.source
+        vd sources.vs2 unmasked)
+        policy scalar.now state.old VEnd.Done scalar.now (record state.new { vstart = 0 }) }
 {
+    let Sources { vs2, source } = sources;
+    let target = Target::new(vd, unmasked, vtype, policy);
     match op {
         VectorOp::Binary(_) => unreachable!(),
         VectorOp::MultiplyAdd(op) => perform(&on(op, vs2, source), target, state, scalar),
@@ -97,9 +103,10 @@ pub(crate) fn perform_arith(
             perform(&on(op, vs2, source), target, state, scalar);
         }
         _ => {
-            // A copy, so that the target itself needs no place in memory.
-            let target = Target { ..target };
-            perform_rest(op, vs2, source, target, state, scalar);
+            // One by one, since a target that is handed on out of line is kept in memory.
+            let ArithOperation { vd, unmasked, .. } = operation;
+            let sources = Sources { vs2, source };
+            perform_rest(op, sources, vd, unmasked, vtype, policy, state, scalar);
         }
     }
     state.vstart = 0;

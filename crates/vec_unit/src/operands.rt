@@ -22,6 +22,13 @@ pub(crate) struct WithSources<O> {
     pub source: Source,
 }
 
+/// A group and a second operand.
+#[derive(Clone, Copy)]
+pub(crate) struct Sources {
+    pub vs2: VReg,
+    pub source: Source,
+}
+
 /// An operation on a group and a second operand.
 #[inline(always)]
 pub(crate) fn on<O: Copy>(op: O, vs2: VReg, source: Source) -> WithSources<O>
