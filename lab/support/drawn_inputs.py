@@ -4,7 +4,7 @@ from collections.abc import Callable, Sequence
 from dataclasses import dataclass
 from random import Random
 
-from vecmon_lab.exercises.exercise import Place, Results
+from vecmon_lab.exercises.exercise import Numbers, Results
 
 OUT, IN, MORE = 0x20000, 0x30000, 0x30800  # in pages that the exercises have
 
@@ -14,7 +14,7 @@ class Drawn:
     """What an answer is given, and what is expected of it."""
 
     registers: dict[str, int]
-    memory: list[Place]
+    memory: list[Numbers]
     expected: Results
 
 
@@ -43,15 +43,15 @@ def _given(*values: int) -> dict[str, int]:
 
 
 def _written(
-    random: Random, registers: dict[str, int], memory: list[Place], kind: str, results: Sequence[int]
+    random: Random, registers: dict[str, int], memory: list[Numbers], kind: str, results: Sequence[int]
 ) -> Drawn:
     """An input after which these results stand at OUT, and behind them what stood there before."""
     before, behind = numbers(random, kind, len(results)), numbers(random, kind, 3)
-    place = Place(OUT, kind, [*results, *behind])
-    return Drawn(registers, [*memory, Place(OUT, kind, before + behind)], Results({}, [place], None))
+    place = Numbers(OUT, kind, [*results, *behind])
+    return Drawn(registers, [*memory, Numbers(OUT, kind, before + behind)], Results({}, [place], None))
 
 
-def _answered(registers: dict[str, int], memory: list[Place], value: int) -> Drawn:
+def _answered(registers: dict[str, int], memory: list[Numbers], value: int) -> Drawn:
     """An input to which a0 is the answer."""
     return Drawn(registers, memory, Results({"x10": value % (1 << 64)}, [], None))
 
@@ -59,68 +59,70 @@ def _answered(registers: dict[str, int], memory: list[Place], value: int) -> Dra
 def doubles(random: Random) -> Drawn:
     n, x = random.randint(0, 8), numbers(random, "i32", 10)
     given = _given(OUT, OUT + 0x800, n)
-    return _written(random, given, [Place(OUT + 0x800, "i32", x)], "i32", [wrapped(2 * each) for each in x[:n]])
+    return _written(random, given, [Numbers(OUT + 0x800, "i32", x)], "i32", [wrapped(2 * each) for each in x[:n]])
 
 
 def strip_mined_copy(random: Random) -> Drawn:
     n = length(random, 300)
     x = numbers(random, "u8", n + 3)
-    return _written(random, _given(OUT, IN, n), [Place(IN, "u8", x)], "u8", x[:n])
+    return _written(random, _given(OUT, IN, n), [Numbers(IN, "u8", x)], "u8", x[:n])
 
 
 def saturating_sum(random: Random) -> Drawn:
     n = length(random, 200)
     x, y = numbers(random, "i16", n + 1), numbers(random, "i16", n + 1)
     sums = [max(-32768, min(32767, one + other)) for one, other in zip(x[:n], y)]
-    memory = [Place(OUT + 0x400, "i16", x), Place(OUT + 0x800, "i16", y)]
+    memory = [Numbers(OUT + 0x400, "i16", x), Numbers(OUT + 0x800, "i16", y)]
     return _written(random, _given(OUT, OUT + 0x400, OUT + 0x800, n), memory, "i16", sums)
 
 
 def byte_sum(random: Random) -> Drawn:
     n = length(random, 1000)
     x = numbers(random, "u8", n + 3)
-    return _answered(_given(OUT, n), [Place(OUT, "u8", x)], sum(x[:n]))
+    return _answered(_given(OUT, n), [Numbers(OUT, "u8", x)], sum(x[:n]))
 
 
 def dot_product(random: Random) -> Drawn:
     n = length(random, 400)
     x, y = numbers(random, "i8", n + 3), numbers(random, "i8", n + 3)
-    memory = [Place(OUT, "i8", x), Place(IN, "i8", y)]
+    memory = [Numbers(OUT, "i8", x), Numbers(IN, "i8", y)]
     return _answered(_given(OUT, IN, n), memory, sum(one * other for one, other in zip(x[:n], y)))
 
 
 def mask_count(random: Random) -> Drawn:
     n = length(random, 300)
     x, (least, most) = numbers(random, "i16", n + 3), numbers(random, "i16", 2)
-    return _answered(_given(OUT, n, least, most), [Place(OUT, "i16", x)], sum(least <= each <= most for each in x[:n]))
+    return _answered(
+        _given(OUT, n, least, most), [Numbers(OUT, "i16", x)], sum(least <= each <= most for each in x[:n])
+    )
 
 
 def clamped_magnitude(random: Random) -> Drawn:
     n, most = length(random, 150), random.choice([0, 1, 1000, (1 << 31) - 1, random.randint(0, (1 << 31) - 1)])
     x, flags = numbers(random, "i32", n + 2), numbers(random, "u8", n + 2)
     results = [min(abs(each), most) if flag else each for each, flag in zip(x[:n], flags)] + x[n:]
-    memory = [Place(OUT, "i32", x), Place(IN, "u8", flags)]
-    return Drawn(_given(OUT, IN, n, most), memory, Results({}, [Place(OUT, "i32", results)], None))
+    memory = [Numbers(OUT, "i32", x), Numbers(IN, "u8", flags)]
+    return Drawn(_given(OUT, IN, n, most), memory, Results({}, [Numbers(OUT, "i32", results)], None))
 
 
 def strlen(random: Random) -> Drawn:
     n = length(random, 400)
     at = random.choice([0x20100, 0x20FFF - n])
     text = [1 + each % 255 for each in numbers(random, "u8", n)]
-    return _answered(_given(at), [Place(at, "u8", [*text, 0])], n)
+    return _answered(_given(at), [Numbers(at, "u8", [*text, 0])], n)
 
 
 def rgb_to_grey(random: Random) -> Drawn:
     n = length(random, 150)
     x = numbers(random, "u8", 3 * n + 3)
     greys = [round((77 * x[3 * at] + 150 * x[3 * at + 1] + 29 * x[3 * at + 2]) / 256) for at in range(n)]
-    return _written(random, _given(OUT, IN, n), [Place(IN, "u8", x)], "u8", greys)  # round goes to the even one, too
+    return _written(random, _given(OUT, IN, n), [Numbers(IN, "u8", x)], "u8", greys)  # round goes to the even one, too
 
 
 def table_look_up(random: Random) -> Drawn:
     n, table = length(random, 300), numbers(random, "u8", 16)
     x = [each % 16 for each in numbers(random, "u8", n + 3)]
-    memory = [Place(IN, "u8", x), Place(MORE, "u8", table)]
+    memory = [Numbers(IN, "u8", x), Numbers(MORE, "u8", table)]
     return _written(random, _given(OUT, IN, n, MORE), memory, "u8", [table[each] for each in reversed(x[:n])])
 
 
@@ -128,7 +130,7 @@ def filter(random: Random) -> Drawn:
     n, (bound,) = length(random, 200), numbers(random, "i32", 1)
     x = numbers(random, "i32", n + 1)
     kept = [each for each in x[:n] if each > bound]
-    drawn = _written(random, _given(OUT, IN, n, bound), [Place(IN, "i32", x)], "i32", kept)
+    drawn = _written(random, _given(OUT, IN, n, bound), [Numbers(IN, "i32", x)], "i32", kept)
     return Drawn(drawn.registers, drawn.memory, Results({"x10": len(kept)}, drawn.expected.memory, None))
 
 
@@ -136,7 +138,7 @@ def prefix_sums(random: Random) -> Drawn:
     n = length(random, 150)
     x = numbers(random, "i32", n + 1)
     sums = [wrapped(sum(x[: place + 1])) for place in range(n)]
-    return _written(random, _given(OUT, IN, n), [Place(IN, "i32", x)], "i32", sums)
+    return _written(random, _given(OUT, IN, n), [Numbers(IN, "i32", x)], "i32", sums)
 
 
 DRAWS: dict[str, Callable[[Random], Drawn]] = {

@@ -18,7 +18,7 @@ from vecmon_lab.compilers.sandbox import sandboxed_compiler
 from vecmon_lab.classes.languages import LANGUAGES
 from vecmon_lab.classes.room import SEAT_BYTES
 from vecmon_lab.compilers import sandbox
-from vecmon_lab.compilers.compiled import read_answer
+from vecmon_lab.compilers.compiled import read_compiled_program
 from vecmon_lab.compilers.compiler import Compiler
 
 pytestmark = pytest.mark.asyncio
@@ -234,7 +234,7 @@ async def test_what_is_too_large(tmp_path: pathlib.Path, clang: Compiler, builds
 )
 async def test_what_comes_from_the_sandbox_may_be_crafted(told: bytes) -> None:
     with pytest.raises(LabError):
-        read_answer(told)
+        read_compiled_program(told)
 
 
 async def test_no_c_as_root(clang: Compiler, monkeypatch: pytest.MonkeyPatch) -> None:

@@ -9,7 +9,7 @@ import pytest
 
 from support.class_tabs import LOOP, SECONDS, served
 from support.places import SUM, TOP, TOURS
-from vecmon_lab.classes.solo import Part, own_lines
+from vecmon_lab.classes.solo import OwnScript, own_lines
 from vecmon_lab.machine.lines import is_look
 from vecmon_lab.machine.session import Session
 
@@ -58,7 +58,7 @@ def test_random_classes(program: pathlib.Path, seed: int) -> None:
     script = "".join(f"{line}\n" for line in lines).encode()
     whole = subprocess.run([program, "/dev/stdin", f"sum={SUM}"], input=script, stdout=subprocess.PIPE, check=True)
     for digit in "12345":
-        part = Part(digit)
+        part = OwnScript(digit)
         with Session(program, {"sum": SUM}) as session, Session(program, {"sum": SUM}) as single:
             part.follow(session, single, script)
         alone, expected = part.script, part.answers
@@ -72,7 +72,7 @@ def test_random_classes(program: pathlib.Path, seed: int) -> None:
 @pytest.mark.parametrize("digit", "123")
 def test_the_tours_class_of_three(program: pathlib.Path, digit: str) -> None:
     lines = [line for line in CLASS_OF_THREE.read_text().splitlines() if line and not is_look(line)]
-    part = Part(digit)
+    part = OwnScript(digit)
     with Session(program) as session, Session(program) as single:
         part.follow(session, single, "".join(f"{line}\n" for line in lines).encode())
     with Session(program) as session:

@@ -12,7 +12,7 @@ from support.places import EXAMPLES
 from vecmon_lab import LabError
 from vecmon_lab.compilers.compiled import compile_c, program_of
 from vecmon_lab.compilers.compiler import CHOICES, Compiler, choice_for, choice_of, find_compiler
-from vecmon_lab.compilers.inside import Message, read_messages
+from vecmon_lab.compilers.inside import Diagnostic, read_messages
 from vecmon_lab.guest.guest import Guest
 from vecmon_lab.machine.session import Session
 
@@ -122,13 +122,13 @@ def test_messages() -> None:
         "source.s:3: Warning: odd",
     ]
     assert read_messages("\n".join([*told, told[0]])) == [
-        Message(3, 12, True, "use of undeclared identifier 'x'"),
-        Message(1, 10, True, "'passwd' file not found"),
-        Message(0, 0, False, "runtime.c:5: odd"),
-        Message(0, 0, True, "undefined symbol: f"),
-        Message(0, 0, True, "unable to open output file 'image': 'Disk quota exceeded'"),
-        Message(2, 1, True, "illegal operands `vadd.vv v1,v2'"),
-        Message(3, 1, False, "odd"),
+        Diagnostic(3, 12, True, "use of undeclared identifier 'x'"),
+        Diagnostic(1, 10, True, "'passwd' file not found"),
+        Diagnostic(0, 0, False, "runtime.c:5: odd"),
+        Diagnostic(0, 0, True, "undefined symbol: f"),
+        Diagnostic(0, 0, True, "unable to open output file 'image': 'Disk quota exceeded'"),
+        Diagnostic(2, 1, True, "illegal operands `vadd.vv v1,v2'"),
+        Diagnostic(3, 1, False, "odd"),
     ]
 
 

@@ -36,7 +36,7 @@ def fork(command):
             made += 1
     except OSError:
         pass
-    return [inside.Message(made, 0, True, "processes")]
+    return [inside.Diagnostic(made, 0, True, "processes")]
 
 inside.compile_source = fork
 inside.main()

@@ -9,7 +9,7 @@ from vecmon_lab.checkpoints.machine_state import machine_after
 from vecmon_lab.lessons.frames import make_frames
 from vecmon_lab.lessons.script import read_script
 from vecmon_lab.machine.session import Session
-from vecmon_lab.runs.parts import Part
+from vecmon_lab.runs.spent import Table
 
 LINES = [
     "1 enter",
@@ -66,5 +66,5 @@ def test_a_kernel_and_its_counts() -> None:
 
 
 def test_a_part_of_a_profile() -> None:
-    part = Part("Loops", ("loop", "ticks"), 1, [("main<0>", 7)])
-    assert _Rows(part).rows == [["loop", "ticks"], ["main<0>", "7"]]
+    table = Table("Loops", ("loop", "ticks"), 1, [("main<0>", 7)])
+    assert _Rows(table).rows == [["loop", "ticks"], ["main<0>", "7"]]

@@ -12,7 +12,7 @@ from support.commands import Lab
 from support.places import EXAMPLES
 from support.tour_kernel import COMPILER, KERNEL, made
 from vecmon_lab import LabError
-from vecmon_lab.compilers.compiled import compile_c, memory_rows
+from vecmon_lab.compilers.compiled import compile_c, variable_rows
 from vecmon_lab.compilers.compiler import CHOICES, Compiler, choice_of
 from vecmon_lab.lessons.frames import make_frames
 from vecmon_lab.lessons.listings import listing_of
@@ -110,7 +110,7 @@ def test_rows_of_variables() -> None:
         ["c", "", "i64", [1 << 40], "", [], [[0, 9, "memory", 0, "2000"]]],
         ["d", "", "", [7], "", [], places],
     ]
-    assert memory_rows(variables) == [0x1000, 0x1010, *range(0x2000, 0x3000, 16)]
+    assert variable_rows(variables) == [0x1000, 0x1010, *range(0x2000, 0x3000, 16)]
 
 
 def test_the_tours_kernel_is_what_the_compiler_makes(clang: Compiler) -> None:

@@ -18,7 +18,7 @@ from vecmon_lab import LabError
 from vecmon_lab.lessons import frames
 from vecmon_lab.lessons.frames import Frame, make_frames
 from vecmon_lab.lessons.page import lesson_page
-from vecmon_lab.lessons.script import read_script, read_source
+from vecmon_lab.lessons.script import read_assembled, read_script
 from vecmon_lab.lessons.tour import TOURS, tours
 from vecmon_lab.machine.session import Session
 from vecmon_lab.page.pages import FILES, merge_patch
@@ -157,7 +157,7 @@ def test_rows_of_memory_that_tell_most(program: pathlib.Path) -> None:
 
 def test_a_source(program: pathlib.Path) -> None:
     path = EXAMPLES / "strip_mined.s"
-    script = read_source(path.read_text("utf-8"), path.name)
+    script = read_assembled(path.read_text("utf-8"), path.name)
     made = make_frames(script, program)
     assert script.title == "A strip-mined loop"
     assert made[0].note.startswith("y[i] += 3 x[i]") and made[0].line == "1 enter"
@@ -176,14 +176,14 @@ def test_a_source_without_lines_runs_to_its_end(program: pathlib.Path) -> None:
     source = (
         '.data\ns: .ascii "hi\\n"\n.text\nli a0, 1\nla a1, s\nli a2, 3\nli a7, 64\necall\nli a0, 0\nli a7, 93\necall\n'
     )
-    made = make_frames(read_source(source, "hi.s"), program)
+    made = make_frames(read_assembled(source, "hi.s"), program)
     assert made[-1].line == "1 out" and made[-1].states["1"]["output"] == "68690a"
     assert "status 0" in made[-2].states["1"]["stop"]
 
 
 def test_set_up_of_a_source_names_labels(program: pathlib.Path) -> None:
     source = "#> break end\n#> go\n#> * run 1\n nop\nend: nop\n"
-    made = make_frames(read_source(source, "x.s"), program)
+    made = make_frames(read_assembled(source, "x.s"), program)
     assert logged(made, "<")[-2:] == ["1 break pc=0000000000010004", "* granted 1"]
     assert made[-1].states["1"]["instruction"] == "10000"
 
@@ -199,7 +199,7 @@ def test_the_example_of_the_manual(program: pathlib.Path) -> None:
 
 def test_sixty_frames_are_a_small_page(program: pathlib.Path) -> None:
     source = (EXAMPLES / "strip_mined.s").read_text("utf-8").replace("li a0, 13", "li a0, 45")
-    made = make_frames(read_source(source, "x.s"), program)
+    made = make_frames(read_assembled(source, "x.s"), program)
     assert len(made) >= 60
     assert len(lesson_page("Sixty", made).encode("utf-8")) < 150_000
 

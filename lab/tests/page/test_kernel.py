@@ -9,7 +9,7 @@ import pytest
 from support.browser import CONTRAST, media, press
 from support.tour_kernel import KERNEL
 from vecmon_lab.lessons.frames import make_frames
-from vecmon_lab.lessons.listings import Listing, listings_page
+from vecmon_lab.lessons.listings import CompiledListing, listings_page
 from vecmon_lab.lessons.page import lesson_page
 from vecmon_lab.lessons.tour import TOURS, tours
 
@@ -107,12 +107,12 @@ def test_contrast_and_width_of_a_kernel(kernel: "Chrome", scheme: str) -> None:
 
 
 def test_listings_stand_side_by_side(browser: "Chrome", tmp_path: pathlib.Path) -> None:
-    one = Listing(
+    one = CompiledListing(
         "one <b>",
         ["4 instructions in 4 ticks"],
         [("10", 1, "", "addi x1, x0, 1", 1, 0, 0, 0), ("18", 1, "f", "vadd.vv v1, v2, v3", 3, 12, 6, 6)],
     )
-    other = Listing("other", [], [("20", 2, "", "ecall", 0, 0, 0, 0)])
+    other = CompiledListing("other", [], [("20", 2, "", "ecall", 0, 0, 0, 0)])
     opened(browser, tmp_path, listings_page("<i>", "a = 1; // <u>\nb();\n", [one, other]))
     rows = browser.execute_script(
         "return [...document.querySelectorAll('#rows > tbody > tr')].map((row) => row.innerText)"

@@ -12,7 +12,7 @@ from support.lesson_follower import PICTURE, Follower
 from support.places import EXAMPLES
 from vecmon_lab.lessons.frames import make_frames
 from vecmon_lab.lessons.page import lesson_page
-from vecmon_lab.lessons.script import read_script, read_source
+from vecmon_lab.lessons.script import read_assembled, read_script
 from vecmon_lab.lessons.tour import tours
 from vecmon_lab.machine.session import Session
 from vecmon_lab.page.pages import lone_page
@@ -48,7 +48,7 @@ def test_forth_and_back(
     from selenium.webdriver.common.keys import Keys
 
     source = EXAMPLES / f"{name}.s"
-    script = read_source(source.read_text("utf-8"), "x") if name == "strip_mined" else tours()[name]
+    script = read_assembled(source.read_text("utf-8"), "x") if name == "strip_mined" else tours()[name]
     browser = opened(lesson_page(name, make_frames(script, program)))
     frames = json.loads(text_of(browser, "#lesson"))["frames"]
     follower, pictures, masked = Follower(session), [], 0
@@ -228,7 +228,7 @@ def test_stops_and_refusals_are_told(opened: Callable[[str], "Chrome"], program:
 def test_contrast_and_width(opened: Callable[[str], "Chrome"], program: pathlib.Path, scheme: str) -> None:
     from selenium.webdriver.common.keys import Keys
 
-    script = read_source((EXAMPLES / "strip_mined.s").read_text("utf-8"), "x")
+    script = read_assembled((EXAMPLES / "strip_mined.s").read_text("utf-8"), "x")
     pages = [
         make_frames(script, program),
         *(make_frames(tours()[n], program) for n in ("fault_and_resumption", "class_of_three")),

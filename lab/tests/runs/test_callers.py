@@ -1,6 +1,6 @@
 """Ticks of functions with those that they call, by calls that were worked out by hand."""
 
-from vecmon_lab.runs.callers import Callers, Frame
+from vecmon_lab.runs.callers import CallFrame, Callers
 
 
 def test_a_function_with_two_callers() -> None:
@@ -10,8 +10,8 @@ def test_a_function_with_two_callers() -> None:
     )
     assert callers.total == {"main": 75, "sum": 60, "add": 60}
     assert sorted(callers.edges()) == [("main", "add", 1, 10), ("main", "sum", 2, 60), ("sum", "add", 5, 50)]
-    in_sum, in_main = Frame("add", 50, 50, ()), Frame("add", 10, 10, ())
-    assert callers.frames() == (Frame("main", 5, 75, (Frame("sum", 10, 60, (in_sum,)), in_main)),)
+    in_sum, in_main = CallFrame("add", 50, 50, ()), CallFrame("add", 10, 10, ())
+    assert callers.frames() == (CallFrame("main", 5, 75, (CallFrame("sum", 10, 60, (in_sum,)), in_main)),)
 
 
 def test_functions_that_call_each_other() -> None:
@@ -21,13 +21,13 @@ def test_functions_that_call_each_other() -> None:
     assert callers.total == {"main": 39, "even": 38, "odd": 18}
     assert ("odd", "even", 9, 0) in callers.edges() and ("even", "even", 3, 0) in callers.edges()
     (top,) = callers.frames()
-    assert [top.total, top.callees[0].total, top.callees[0].callees] == [39, 38, (Frame("odd", 18, 18, ()),)]
+    assert [top.total, top.callees[0].total, top.callees[0].callees] == [39, 38, (CallFrame("odd", 18, 18, ()),)]
 
 
 def test_functions_that_nobody_calls() -> None:
     """As one that is jumped to; and one of two ticks of 3,002 has no frame."""
     callers = Callers({"main": 2000, "jumped": 1000, "rare": 2}, {("main", "rare"): 1}, "main")
-    assert callers.frames() == (Frame("main", 2000, 2002, ()), Frame("jumped", 1000, 1000, ()))
+    assert callers.frames() == (CallFrame("main", 2000, 2002, ()), CallFrame("jumped", 1000, 1000, ()))
 
 
 def test_calls_of_any_depth() -> None:

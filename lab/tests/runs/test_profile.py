@@ -160,7 +160,7 @@ def test_the_page(browser: "Chrome", lab: Lab, program: pathlib.Path, tmp_path: 
     rows = browser.execute_script(TEXTS)
     heads = browser.execute_script("return [...document.querySelectorAll('h2')].map((head) => head.textContent)")
     assert heads[1:3] == ["Loops", "Functions"]
-    loop = browser.execute_script("return document.querySelector('#parts tbody tr').innerText").split()
+    loop = browser.execute_script("return document.querySelector('#tables tbody tr').innerText").split()
     assert loop == "10010 10014 20 40 40 85 %".split()
     assert not browser.find_element("id", "calls").is_displayed()  # as there is no call
     assert len(rows) == 10 and rows[5][:5] == ["10010", "addi x5, x5, -1", "", "20", "20"]

@@ -8,7 +8,7 @@ from support.places import STOCK
 from vecmon_lab import LabError
 from vecmon_lab.machine.answers import Position, Stop
 from vecmon_lab.runs.beginning import Beginning
-from vecmon_lab.runs.counts import Place, read_counts
+from vecmon_lab.runs.counts import CountedWord, read_counts
 from vecmon_lab.runs.recorder import record
 
 # A loop: addi x5, x5, -1; bne x5, x0, -4; ebreak.
@@ -23,8 +23,8 @@ fault cause=7 pc=0000000000010198 value=0000000000012000 8 101
 
 def test_counts_are_read() -> None:
     counts = read_counts(TEXT)
-    last = Place(0x10004, 0x2056407, 7, 100, (100, 0, 12))
-    assert counts.places == [Place(0x10000, 0x300293, 1, 1), last] and counts.elements == [100, 0, 12]
+    last = CountedWord(0x10004, 0x2056407, 7, 100, (100, 0, 12))
+    assert counts.places == [CountedWord(0x10000, 0x300293, 1, 1), last] and counts.elements == [100, 0, 12]
     assert counts.lengths == {("e32,m2,ta,ma", 16): 6} and counts.calls == {(0x1000C, 0x10080): 2}
     assert counts.stop == Stop("fault", 0x10198, 0, 7, 0x12000)
     assert (counts.instructions, counts.ticks) == (8, 101)

@@ -91,7 +91,7 @@ def tokens_of(text: str, line: int) -> list[Token]:
     return tokens
 
 
-def operands_of(tokens: list[Token]) -> list[Operand]:
+def split_operands(tokens: list[Token]) -> list[Operand]:
     """The operands that commas separate. Raises SourceError."""
     operands: list[Operand] = [[]]
     for token in tokens:

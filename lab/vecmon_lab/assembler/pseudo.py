@@ -13,7 +13,7 @@ from .line import Operand, Token, check_count
 _LABEL_LAST = ("beq", "bne", "blt", "bge", "bltu", "bgeu", "jal")
 _FORMS = [(form.split()[0], re.split(",? ", form)[1:], texts) for form, *texts in read_table("pseudo")]
 
-Step = tuple[str, int]
+Operation = tuple[str, int]
 """One of the instructions that make a constant: its name and its number. It works on what the one before it made."""
 
 
@@ -67,7 +67,7 @@ def _load_constant(operand: Operand, value: int) -> list[str]:
     return texts
 
 
-def constant_steps(value: int) -> list[Step]:
+def constant_steps(value: int) -> list[Operation]:
     """The steps by which LLVM 19 makes a constant of 64 bits, signed or unsigned: the first of its shortest ways."""
     value = _signed(value, 64)
     zeros = max(0, (value & -value).bit_length() - 1)  # at the end
@@ -84,12 +84,12 @@ def constant_steps(value: int) -> list[Step]:
     return min(ways, key=len)
 
 
-def _plain_steps(value: int) -> list[Step]:
+def _plain_steps(value: int) -> list[Operation]:
     """From the top down: what is above the lowest 12 bits, shifted as far as it has zeros, then those."""
     low = _signed(value, 12)
     rest, shift = _signed(value - low, 64), 0
     if _signed(value, 32) == value:
-        steps: list[Step] = [("lui", rest >> 12 & 0xFFFFF)] if rest else []
+        steps: list[Operation] = [("lui", rest >> 12 & 0xFFFFF)] if rest else []
         add = "addiw" if rest else "addi"
     else:
         if _signed(rest, 32) != rest:
@@ -101,7 +101,7 @@ def _plain_steps(value: int) -> list[Step]:
     return steps + ([(add, low)] if low or not steps else [])
 
 
-def _steps_with_leading_zeros(value: int) -> list[list[Step]]:
+def _steps_with_leading_zeros(value: int) -> list[list[Operation]]:
     """Ways to make a positive value shifted to the top, with ones or with zeros below it, and shifted back."""
     zeros = 64 - value.bit_length()
     shifted = value << zeros

@@ -11,7 +11,7 @@ from functools import partial
 
 from ..instructions.accesses import PAGE_BYTES
 from .instruction import Instruction, Statement, refusal
-from .line import Kind, Operand, SourceError, Token, check_count, operands_of, tokens_of
+from .line import Kind, Operand, SourceError, Token, check_count, split_operands, tokens_of
 from .names import SOURCE_NAMES, no_instruction
 from .pseudo import templates
 from .value import Section, Symbols, Value
@@ -143,7 +143,7 @@ class _Assembler:
             raise name.error(f"there is no directive {name.text}")
         if not name.text.startswith(".") and name.text not in SOURCE_NAMES:
             raise name.error(no_instruction(name.text))
-        operands = operands_of(tokens[1:])
+        operands = split_operands(tokens[1:])
         if name.text in (*_WIDTHS, *_STRINGS) and not operands:
             raise name.error(f"{name.text} takes one operand or more")
         self.directives.get(name.text, self._read_instruction)(name, operands)

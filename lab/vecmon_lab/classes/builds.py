@@ -5,7 +5,7 @@ import os
 from collections.abc import Sequence
 
 from .. import LabError
-from ..compilers.compiled import IMAGE_BYTES, CompiledProgram, read_answer, words_for
+from ..compilers.compiled import IMAGE_BYTES, CompiledProgram, read_compiled_program, words_for
 from ..compilers.compiler import Compiler
 from ..compilers.sandbox import answer_beside, sandboxed_compiler
 from .beside import alone
@@ -43,7 +43,7 @@ class Builds:
             words = words_for(text, compiler, choice, is_answer)
             async with self._places:
                 answer = await answer_beside(words, text)
-            return await asyncio.to_thread(read_answer, answer, self._most)
+            return await asyncio.to_thread(read_compiled_program, answer, self._most)
 
 
 def builds_by(name: str | None, most: int = IMAGE_BYTES) -> Builds:

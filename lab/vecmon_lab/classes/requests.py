@@ -171,8 +171,8 @@ Request = StudentRequest | TeacherRequest
 
 _LIMITS = {"on": (0, 1), "slices": (1, 1000), "ms": (10, 10_000), "limit": (100_000, 10**12)}  # of a clock's settings
 
-Message = Mapping[str, object]
-Reader = Callable[[Message], Request]
+JsonObject = Mapping[str, object]
+Reader = Callable[[JsonObject], Request]
 """Makes the request of a message. Raises BadRequest and BadLine."""
 
 _OF_ALL: Mapping[str, Reader] = {
@@ -206,7 +206,7 @@ _OF_TEACHERS: Mapping[str, Reader] = {
 }
 
 
-def read_request(message: Message, is_teacher: bool) -> Request:
+def read_request(message: JsonObject, is_teacher: bool) -> Request:
     """The request of a message that a teacher or a student sends. Raises BadRequest and BadLine."""
     ask, readers = message.get("ask"), _OF_TEACHERS if is_teacher else _OF_STUDENTS
     if not isinstance(ask, str) or ask not in readers:
@@ -214,7 +214,7 @@ def read_request(message: Message, is_teacher: bool) -> Request:
     return readers[ask](message)
 
 
-def _lines(message: Message, is_teacher: bool) -> Lines:
+def _lines(message: JsonObject, is_teacher: bool) -> Lines:
     do, look, slices = message.get("do", []), message.get("look", []), message.get("slices", 0)
     if not isinstance(do, list) or not isinstance(look, list) or len(do) + len(look) > REQUEST_LINES:
         raise BadRequest(f"a request has lists of {REQUEST_LINES} lines at most")
@@ -231,7 +231,7 @@ def _lines(message: Message, is_teacher: bool) -> Lines:
     return Lines(_name(message, "machine") if is_teacher else "", do, slices, look)
 
 
-def _settings(message: Message) -> Mapping[str, int]:
+def _settings(message: JsonObject) -> Mapping[str, int]:
     """What a message names of a clock's settings."""
     settings = {}
     for name in _LIMITS.keys() & message.keys():
@@ -242,7 +242,7 @@ def _settings(message: Message) -> Mapping[str, int]:
     return settings
 
 
-def _source(message: Message) -> SourceText:
+def _source(message: JsonObject) -> SourceText:
     """The source of a message, in assembler where that doesn't say its language."""
     language = message.get("language", 0)
     if not isinstance(language, int) or not 0 <= language < len(LANGUAGES):
@@ -253,7 +253,7 @@ def _source(message: Message) -> SourceText:
     return SourceText(text.encode("utf-8", "replace").decode(), int(language))
 
 
-def _sentence(message: Message) -> str:
+def _sentence(message: JsonObject) -> str:
     """The sentence of a message."""
     text = message.get("text")
     if not isinstance(text, str) or not 0 < len(text) <= SENTENCE_LETTERS or not text.isprintable():
@@ -261,7 +261,7 @@ def _sentence(message: Message) -> str:
     return text
 
 
-def _number(message: Message, name: str = "number") -> int:
+def _number(message: JsonObject, name: str = "number") -> int:
     """The number that a message has by a name."""
     number = message.get(name)
     if not isinstance(number, int):
@@ -269,7 +269,7 @@ def _number(message: Message, name: str = "number") -> int:
     return number
 
 
-def _name(message: Message, kind: str) -> str:
+def _name(message: JsonObject, kind: str) -> str:
     """The name of a machine or a seat; "" without one."""
     name = message.get(kind) or ""
     if not isinstance(name, str):

@@ -9,16 +9,16 @@ from itertools import takewhile
 
 from ..assembler.commands import log_entries
 from ..assembler.source import Program
-from ..compilers.compiled import CompiledProgram, memory_rows
+from ..compilers.compiled import CompiledProgram, variable_rows
 from ..guest.guest import Guest
 from ..instructions.reasons import brief_stop
 from ..lessons.frames import MOST_NAMED
-from ..machine.answers import ControlRegisters, Granted, Stop, is_refusal, is_stop, read, told
+from ..machine.answers import ControlRegisters, Granted, Stop, by_whom, is_refusal, is_stop, read
 from ..machine.lines import DIGITS, is_look, words_of
 from ..machine.session import Session
 from .languages import SourceText
 from .live import is_servers
-from ..page.state import ABSENT, RowChoice, State, Watch, look_at, with_rows
+from ..page.state import ABSENT, LookedAt, RowChoice, State, look_at, with_rows
 
 LOG_ENTRIES = 500
 UNNAMED: State = {"labels": {}, "lines": {}}
@@ -53,7 +53,7 @@ class Seat:
     number: int = 0
     state: State = field(default_factory=ABSENT.copy)
     shown: State = field(default_factory=ABSENT.copy)
-    watch: Watch = field(default_factory=Watch)
+    looked_at: LookedAt = field(default_factory=LookedAt)
     rows: RowChoice = field(default_factory=RowChoice)
     named: State = field(default_factory=UNNAMED.copy)
     written: SourceText = SourceText()
@@ -98,7 +98,7 @@ class Seat:
     def list_program(self, program: Program) -> None:
         """Has instructions and variables of a program shown that a compiler made, in place of all that lines name."""
         if isinstance(program, CompiledProgram):
-            self.watch.take_compiled(program.text(), memory_rows(program.variables)[:MOST_NAMED])
+            self.looked_at.take_compiled(program.text(), variable_rows(program.variables)[:MOST_NAMED])
 
     def put_out(self, digits: str) -> None:
         """Takes up what the program has put out. Full blocks stay as they are, so that pages aren't told them again."""
@@ -133,7 +133,7 @@ class Seats:
         """Takes up what a user's line says of the user's memory."""
         if line[0] in self.users and not is_refusal(answer):
             seat = self.users[line[0]]
-            seat.watch.follow(line)
+            seat.looked_at.follow(line)
             if _begins_anew(line, answer):
                 seat.rows = RowChoice()
 
@@ -145,7 +145,7 @@ class Seats:
     def look(self, session: Session, done: Sequence[Done], digits: Iterable[str]) -> dict[str, tuple[State, State]]:
         """The states of users after what was done: all that is known, and what pages show of it."""
         lines, states = [line for line, _ in done], {}
-        said = [each for _, answer in done for each in told(answer)]
+        said = [each for _, answer in done for each in by_whom(answer)]
         for digit in digits:
             seat = self.users[digit]
             anew = any(line[0] == digit and _begins_anew(line, answer) for line, answer in done)
@@ -154,10 +154,10 @@ class Seats:
             single = lines == [f"{digit} step 1"] and before["run"] == "stopped"
             carried_out = before["code"].get(before["pc"], "")[9:] if single else ""
             is_done = not all(map(is_look, lines))
-            state = look_at(Guest(session, int(digit)), seat.watch, before, own, carried_out, is_done)
+            state = look_at(Guest(session, int(digit)), seat.looked_at, before, own, carried_out, is_done)
             state.pop("output", None)  # which the seat has
             seat.rows.add(state)
-            states[digit] = state, with_rows(state, seat.rows.rows(seat.watch, 1 + seat.watch.is_compiled))
+            states[digit] = state, with_rows(state, seat.rows.rows(seat.looked_at, 1 + seat.looked_at.is_compiled))
         return states
 
     def take(self, states: dict[str, tuple[State, State]]) -> None:

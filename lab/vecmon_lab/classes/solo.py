@@ -36,7 +36,7 @@ def solo(store: Store, seat: str) -> list[str]:
     machine, digit = seat[:-1], seat[-1:]
     if not machine or machine not in list(store.machines) or digit not in list(DIGITS):
         raise LabError(f"there is no seat {seat}; A1 is one")
-    part = Part(digit)
+    part = OwnScript(digit)
     for set_up, script in store.scripts(machine):
         with store.session(PATIENCE) as whole, store.session(PATIENCE) as single:
             for session in (whole, single):
@@ -54,7 +54,7 @@ def own_lines(session: Session, lines: Sequence[str], digit: str) -> list[str]:
     return [part for _, answer in session.do_script(script) for part in answer if part[0] == digit]
 
 
-class Part:
+class OwnScript:
     """A user's part of a class, whose scripts follow each other.
 
     script, answers: the user's own lines, with the slices that the user was granted; and what the user was answered

@@ -11,7 +11,7 @@ import time
 from typing import TypedDict
 
 from ..assembler.source import Program, read_source
-from ..compilers.compiled import CompiledProgram, read_answer
+from ..compilers.compiled import CompiledProgram, read_compiled_program
 from ..compilers.debug import MOST_BYTES
 from .languages import LANGUAGES, NUMBERS, SourceText
 from .requests import BadRequest
@@ -142,4 +142,4 @@ def kept_program(store: Store, seat: str) -> tuple[SourceText, Program]:
     source = kept_source(store, f"{seat}.written")
     if source.choice is None:
         return source, read_source(source.text)
-    return source, read_answer(store.read_text(f"{seat}.{MADE}").encode("utf-8"), MOST_BYTES)
+    return source, read_compiled_program(store.read_text(f"{seat}.{MADE}").encode("utf-8"), MOST_BYTES)

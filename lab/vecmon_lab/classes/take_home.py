@@ -14,7 +14,7 @@ from ..assembler.source import assemble
 from ..compilers.compiled import CompiledProgram
 from ..lessons.frames import make_frames
 from ..lessons.page import lesson_page
-from ..lessons.script import Script, Step, add_line, read_compiled, read_source
+from ..lessons.script import Script, Step, add_line, read_assembled, read_compiled
 from ..machine.lines import words_of
 from .checks import kept_answers
 from .languages import SourceText
@@ -75,7 +75,7 @@ def _played(store: Store, seat: str, lines: Sequence[str], own: SourceText) -> d
             named = read_compiled(written.text, seat, program, written.suffix.endswith(".c"))
         else:
             text = written.text or own.text
-            named = replace(read_source(text, seat), said=assemble(text).source_lines(text))
+            named = replace(read_assembled(text, seat), said=assemble(text).source_lines(text))
         script = replace(named, title=script.title, steps=script.steps, source="", statements={}, program=None)
     frames = make_frames(script, store.program, store.images, store.quantum)
     frames = [replace(frame, log=frame.log[-MOST_ENTRIES:]) for frame in frames]

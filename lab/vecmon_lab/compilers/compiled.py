@@ -91,7 +91,7 @@ def compile_c(
     is_answer: whether it is to answer an exercise
     """
     words = words_for(text, compiler, choice, is_answer)
-    return read_answer(answer_of_own(words, text, headers) if headers else answer_sandboxed(words, text))
+    return read_compiled_program(answer_of_own(words, text, headers) if headers else answer_sandboxed(words, text))
 
 
 def compiled_image(path: pathlib.Path) -> pathlib.Path:
@@ -105,7 +105,7 @@ def compiled_image(path: pathlib.Path) -> pathlib.Path:
         kept = tempfile.TemporaryDirectory()
         atexit.register(kept.cleanup)
         folder = pathlib.Path(kept.name)
-        program = read_answer(answer_of_own(words, text, path.parent, folder))
+        program = read_compiled_program(answer_of_own(words, text, path.parent, folder))
     program.check(f"{path}")
     (folder / C_SOURCE).rename(folder / path.name)  # where its lines are looked for
     return (folder / IMAGE).rename(folder / path.stem)
@@ -118,7 +118,7 @@ def words_for(text: str, compiler: Compiler, choice: int, is_answer: bool = Fals
     return [compiler.name, f"{choice}", *[FUNCTION] * is_answer]
 
 
-def read_answer(told: bytes, most: int = IMAGE_BYTES) -> CompiledProgram:
+def read_compiled_program(told: bytes, most: int = IMAGE_BYTES) -> CompiledProgram:
     """The program of what was answered from the sandbox. Raises LabError where that is in bad form, or too much."""
     errors, warnings = list[SourceError](), list[SourceError]()
     try:
@@ -157,7 +157,7 @@ def program_of(
     return CompiledProgram(lines, labels, [], int(image["entry"]), [], rows, warnings, variables)
 
 
-def memory_rows(variables: Sequence[Sequence[Any]]) -> list[int]:
+def variable_rows(variables: Sequence[Sequence[Any]]) -> list[int]:
     """The rows of memory with numbers of variables that lie at an address, in the variables' order."""
     rows = dict[int, None]()
     for _, _, element, counts, _, _, locations in variables:

@@ -27,7 +27,7 @@ class Segment(NamedTuple):
     data: str
 
 
-class Row(NamedTuple):
+class LineRow(NamedTuple):
     """Where instructions of a line begin: the file and the line, as `source.c:12`, or "" for none; and the function
     that was inlined there, or ""."""
 
@@ -42,7 +42,7 @@ class Image(TypedDict):
     entry: int
     segments: list[Segment]
     symbols: dict[str, int]
-    rows: list[Row]
+    rows: list[LineRow]
     variables: list[Variable]
 
 
@@ -79,14 +79,14 @@ def _segments(elf: "ELFFile") -> Iterator[Segment]:
             yield Segment(segment["p_vaddr"], rights_of(segment["p_flags"]), segment["p_memsz"], segment.data().hex())
 
 
-def _rows(elf: "ELFFile") -> list[Row]:
+def _rows(elf: "ELFFile") -> list[LineRow]:
     """The rows of the line tables, by addresses; none where those are damaged."""
     rows = []
     try:
         inlined = sorted(_inlined(elf.get_dwarf_info())) if elf.has_dwarf_info() else []
         for address, line in islice(source_rows(elf), MOST_ROWS):
             names = [name for _, low, high, name in inlined if low <= address < high]
-            rows.append(Row(address, line[:NAME_LETTERS], names[-1] if names else ""))
+            rows.append(LineRow(address, line[:NAME_LETTERS], names[-1] if names else ""))
     except Exception:  # pylint: disable=broad-except  # damaged data makes pyelftools raise what its parts do
         return []
     return sorted(rows, key=lambda row: (row.address, row.line != ""))

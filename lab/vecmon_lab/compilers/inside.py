@@ -32,7 +32,7 @@ _MESSAGE = re.compile(r"(?:([^:\s]+):(\d+):(?:(\d+):)? )?(?:[^:\s]+: )?(fatal er
 _FOLDERS = re.compile(r"(?:/[\w.+-]+)+/")
 
 
-class Message(NamedTuple):
+class Diagnostic(NamedTuple):
     """What a compiler said of a place in the source; line 0 where it said it of something else."""
 
     line: int
@@ -41,7 +41,7 @@ class Message(NamedTuple):
     text: str
 
 
-def read_messages(complaint: str) -> list[Message]:
+def read_messages(complaint: str) -> list[Diagnostic]:
     """The messages of a compiler and its linker, without folders of this system."""
     messages = []
     for line in complaint.split("\n"):
@@ -52,11 +52,11 @@ def read_messages(complaint: str) -> list[Message]:
             is_own = file in OWN_SOURCES
             text = text if is_own or not file else f"{file}:{number}: {text}"
             place = (int(number), int(column or 1)) if is_own else (0, 0)
-            messages.append(Message(*place, kind.lower() != "warning", _FOLDERS.sub("", text)[:MESSAGE_LETTERS]))
+            messages.append(Diagnostic(*place, kind.lower() != "warning", _FOLDERS.sub("", text)[:MESSAGE_LETTERS]))
     return list(dict.fromkeys(messages))[:MOST_MESSAGES]
 
 
-def compile_source(command: Sequence[str]) -> list[Message]:
+def compile_source(command: Sequence[str]) -> list[Diagnostic]:
     """Compiles the source of this folder; what the compiler said."""
     with Popen(command, stdin=DEVNULL, stdout=DEVNULL, stderr=PIPE) as child:
         assert child.stderr
@@ -66,7 +66,7 @@ def compile_source(command: Sequence[str]) -> list[Message]:
         is_done = child.wait() == 0
     messages = read_messages(complaint.decode("utf-8", "replace"))
     if not is_done and not any(message.is_error for message in messages):
-        messages.append(Message(0, 0, True, "the compiler ended without a word; it may have taken too much"))
+        messages.append(Diagnostic(0, 0, True, "the compiler ended without a word; it may have taken too much"))
     return messages
 
 
@@ -85,9 +85,11 @@ def main() -> None:
         if not any(message.is_error for message in messages):
             image = image_of(pathlib.Path(IMAGE))
             if is_answer and image["symbols"].get(FUNCTION) != image["entry"]:
-                messages.append(Message(0, 0, True, f"the source has no function `{FUNCTION}`, which each case calls"))
+                messages.append(
+                    Diagnostic(0, 0, True, f"the source has no function `{FUNCTION}`, which each case calls")
+                )
     except (ValueError, OSError) as error:
-        messages.append(Message(0, 0, True, f"the image can't be read: {error}"))
+        messages.append(Diagnostic(0, 0, True, f"the image can't be read: {error}"))
     sys.stdout.write(json.dumps({"messages": messages, "image": image}))
 
 

@@ -16,7 +16,7 @@ from ..guest.guest import Guest
 from ..guest.symbols import Symbols
 from ..instructions.accesses import PAGE_BYTES, REGISTER_BYTES
 from ..instructions.reasons import describe_stop
-from ..lessons.script import read_source, send
+from ..lessons.script import read_assembled, send
 from ..machine.answers import (
     Addresses,
     Answer,
@@ -25,10 +25,10 @@ from ..machine.answers import (
     Listing,
     Loaded,
     Memory,
-    Place,
     Position,
     Refused,
     ScalarRegisters,
+    Standing,
     Stop,
     VectorRegister,
     read,
@@ -81,7 +81,7 @@ class Console:
 
     def source(self, path: pathlib.Path) -> None:
         """The user's machine begins anew with a source. Raises LabError and OSError, and then it is as before."""
-        script = read_source(path.read_text("utf-8", "replace"), str(path))
+        script = read_assembled(path.read_text("utf-8", "replace"), str(path))
         commands = [line[2:] for line in script.steps[0].lines]
         with Session(find_program()) as trial:
             send(Guest(trial), commands, script)
@@ -367,7 +367,7 @@ class Console:
         for number in numbers:
             pc = self._guest.pc
             if self._interrupt.is_set() or number and pc in breaks and self._holds(pc):
-                self._screen.say(describe_stop(Place("stopped" if self._interrupt.is_set() else "break", pc)))
+                self._screen.say(describe_stop(Standing("stopped" if self._interrupt.is_set() else "break", pc)))
                 return
             carried = self._stepper.step()
             self._has_mask = carried.text.endswith("v0.t")

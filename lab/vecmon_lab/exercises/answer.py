@@ -13,7 +13,7 @@ from .. import LabError, mistakes_in
 from ..compilers.compiled import STACK, CompiledProgram, compile_c
 from ..compilers.compiler import find_compiler
 from ..guest.guest import IMAGE_BYTES, MOST_STEPS, QUANTUM, STACK_END, Guest, pokes
-from ..lessons.script import Script, read_compiled, read_source, send
+from ..lessons.script import Script, read_assembled, read_compiled, send
 from ..machine.answers import Position, ScalarRegisters, Stop
 from ..machine.lines import check_line, words_of
 from ..machine.program import check_flags
@@ -86,7 +86,7 @@ def source_answer(text: str, path: pathlib.Path, compiled: CompiledProgram | Non
 
     compiled: of one in C what a compiler made of it
     """
-    source = read_compiled(text, path.name, compiled, True) if compiled else read_source(text, path.name)
+    source = read_compiled(text, path.name, compiled, True) if compiled else read_assembled(text, path.name)
     if not (source.statements or compiled):
         raise LabError("there is no instruction in the source")
     stack = [] if compiled else STACK  # which a compiled program has

@@ -10,7 +10,7 @@ from ..machine.program import find_program
 from .answer import C_SUFFIX, settled
 from .exercise import OURS, Exercise, read_exercise
 from .grade import grade
-from .reports import told
+from .reports import reason_shown
 
 SKELETON = OURS / "doubles"
 
@@ -61,4 +61,4 @@ def _verdict(exercise: Exercise, outcomes: list[str]) -> str:
     if not failing:
         return f"passes {len(outcomes)} cases"
     first, reason = next((each for each in failing if not each[0].is_hidden), failing[0])
-    return f"passes {outcomes.count('')} of {len(outcomes)} cases; {first.name}: {told(first, reason)}"
+    return f"passes {outcomes.count('')} of {len(outcomes)} cases; {first.name}: {reason_shown(first, reason)}"

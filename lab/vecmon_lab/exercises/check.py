@@ -21,8 +21,7 @@ from ..instructions.table import ABI_NAMES
 from ..assembler.source import SourceError, read_source
 from ..assembler.trial import all_mistakes
 from ..compilers.compiled import CompiledProgram
-from ..lessons.script import Script, Step
-from ..lessons.script import read_source as read_script
+from ..lessons.script import Script, Step, read_assembled
 from .answer import inputs, read_answer, source_answer
 from .exercise import ADDRESSES, Case, Exercise, Results
 from .outcome import outcome
@@ -31,7 +30,7 @@ from .taken import Taken, taken_by
 NAME = pathlib.Path("answer")
 MOST_SHOWN, BEFORE = 48, 4  # numbers of a row; and of them before the first wrong one
 CPU_SECONDS = 10
-Row = TypedDict("Row", {"where": str, "first": int, "numbers": list[str], "more": int, "wrong": list[int]})
+NumberRow = TypedDict("NumberRow", {"where": str, "first": int, "numbers": list[str], "more": int, "wrong": list[int]})
 """Numbers that stand one behind another: where, the number of the first one that is shown, how many more there are
 behind those that are shown, and places of wrong ones."""
 Mistake = TypedDict("Mistake", {"line": int, "column": int, "message": str})
@@ -51,9 +50,9 @@ class Told(TypedDict, total=False):
     number: int
     reason: str
     notes: list[str]
-    given: list[Row]
-    expected: list[Row]
-    found: list[Row]
+    given: list[NumberRow]
+    expected: list[NumberRow]
+    found: list[NumberRow]
     taken: Taken
     good: Taken
 
@@ -114,7 +113,7 @@ def lesson(program: pathlib.Path, exercise: Exercise, number: int, text: str, co
 def lesson_before(program: pathlib.Path, exercise: Exercise) -> tuple[str, str]:
     """The title of the lesson before an exercise, and its page in HTML."""
     file = exercise.files["lesson"]
-    script = read_script(file.read_text("utf-8"), file.name)
+    script = read_assembled(file.read_text("utf-8"), file.name)
     return script.title, _page(script.title, script, program)
 
 
@@ -133,14 +132,14 @@ def _notes(exercise: Exercise, case: Case) -> list[str]:
     return [junk] * exercise.junk + [agnostic] * (case.policy == "ones")
 
 
-def _given(case: Case, cut: Row | None) -> list[Row]:
+def _given(case: Case, cut: NumberRow | None) -> list[NumberRow]:
     """The rows of what is given, each from the number on that belongs to the first one of a row that is shown of results."""
     first, of = (cut["first"], cut["first"] + len(cut["numbers"]) + cut["more"]) if cut else (0, 1)
     strips = _strips(Results(case.registers, case.memory, None), True)
     return [_row(where, texts, first * max(1, len(texts) // of)) for where, texts in strips]
 
 
-def _compared(expected: Results, found: Results) -> tuple[list[Row], list[Row]]:
+def _compared(expected: Results, found: Results) -> tuple[list[NumberRow], list[NumberRow]]:
     """The rows of what is expected and of what is found, from the same number on, with the wrong ones marked."""
     pairs = []
     for (where, texts), (_, others) in zip(_strips(expected), _strips(found)):
@@ -151,7 +150,7 @@ def _compared(expected: Results, found: Results) -> tuple[list[Row], list[Row]]:
     return [own for own, _ in pairs], [other for _, other in pairs]
 
 
-def _row(where: str, texts: Sequence[str], first: int = 0, wrong: Sequence[int] = ()) -> Row:
+def _row(where: str, texts: Sequence[str], first: int = 0, wrong: Sequence[int] = ()) -> NumberRow:
     first = first if first < len(texts) else 0
     shown = list(texts[first : first + MOST_SHOWN])
     more = len(texts) - first - len(shown)

@@ -24,7 +24,7 @@ _FORMATS = {"i8": "b", "u8": "B", "i16": "h", "u16": "H", "i32": "i", "u32": "I"
 
 
 @dataclass(frozen=True)
-class Place:
+class Numbers:
     """Numbers in memory, one after another, of a type from `u8` to `i64`."""
 
     address: int
@@ -36,7 +36,7 @@ class Place:
         """The bytes of the numbers."""
         return struct.pack(f"<{len(self.numbers)}{_FORMATS[self.type]}", *self.numbers)
 
-    def holding(self, data: bytes) -> "Place":
+    def holding(self, data: bytes) -> "Numbers":
         """The place with the numbers that these bytes are."""
         return replace(self, numbers=struct.unpack(f"<{len(self.numbers)}{_FORMATS[self.type]}", data))
 
@@ -46,7 +46,7 @@ class Results:
     """What is looked up after a run, or expected there: registers by number, as x10, memory, and the output, if any."""
 
     registers: Mapping[str, int]
-    memory: Sequence[Place]
+    memory: Sequence[Numbers]
     output: bytes | None
 
 
@@ -58,7 +58,7 @@ class Case:
     is_hidden: bool
     policy: str
     registers: Mapping[str, int]
-    memory: Sequence[Place]
+    memory: Sequence[Numbers]
     expected: Results
 
 
@@ -166,11 +166,11 @@ def _registers(where: str, named: Mapping[str, object]) -> dict[str, int]:
     return values
 
 
-def _place(where: str, entries: object, by_reference: bool) -> Place:
+def _place(where: str, entries: object, by_reference: bool) -> Numbers:
     """A place in memory: `at`, and the numbers, or how many, by their type; or a text. Raises LabError."""
     match entries:
         case {"at": int(address), **others} if 0 <= address < 1 << 48:
-            place = Place(address, *_numbers(f"{where}: the place at {address:#x}", others, by_reference))
+            place = Numbers(address, *_numbers(f"{where}: the place at {address:#x}", others, by_reference))
         case {"at": address}:
             raise LabError(f"{where}: {address} is no address of a place in memory, which is below 2^48")
         case _:

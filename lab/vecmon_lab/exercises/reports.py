@@ -13,7 +13,7 @@ Grades = list[tuple[pathlib.Path, list[str]]]
 _NO_XML = re.compile("[^\t\n\r -\ud7ff\ue000-\ufffd\U00010000-\U0010ffff]")  # characters that XML can't have
 
 
-def told(case: Case, reason: str) -> str:
+def reason_shown(case: Case, reason: str) -> str:
     """Why an answer fails in a case, as whoever wrote it may know: of a hidden case no more than that."""
     return "fails" if case.is_hidden and reason else reason
 
@@ -27,7 +27,7 @@ def junit(exercise: Exercise, grades: Grades) -> str:
         for case, reason in zip(exercise.cases, outcomes):
             test = ElementTree.SubElement(suite, "testcase", classname=_fit(f"{path}"), name=_fit(case.name))
             if reason:
-                ElementTree.SubElement(test, "failure", message=_fit(told(case, reason)))
+                ElementTree.SubElement(test, "failure", message=_fit(reason_shown(case, reason)))
     ElementTree.indent(top)
     text: str = ElementTree.tostring(top, "unicode")
     return f"<?xml version='1.0' encoding='utf-8'?>\n{text}\n"
@@ -41,7 +41,7 @@ def gradescope(exercise: Exercise, outcomes: list[str]) -> str:
             "score": int(not reason),
             "max_score": 1,
             "status": "failed" if reason else "passed",
-            "output": told(case, reason),
+            "output": reason_shown(case, reason),
             "visibility": "hidden" if case.is_hidden else "visible",
         }
         for case, reason in zip(exercise.cases, outcomes)

@@ -8,13 +8,13 @@ from dataclasses import dataclass
 
 from .. import LabError
 from ..assembler.commands import log_entries
-from ..compilers.compiled import memory_rows
+from ..compilers.compiled import variable_rows
 from ..guest.guest import Guest
 from ..guest.notebook import registers_html
-from ..machine.answers import Answer, ControlRegisters, Position, Refused, read, told
+from ..machine.answers import Answer, ControlRegisters, Position, Refused, by_whom, read
 from ..machine.lines import DIGITS, BadLine, is_look, words_of
 from ..machine.session import Session
-from ..page.state import ABSENT, RowChoice, State, Watch, look_at, with_rows
+from ..page.state import ABSENT, LookedAt, RowChoice, State, look_at, with_rows
 from .script import Script, Step, refused_statement
 
 MOST_NAMED = 40  # rows of memory that variables of a source in C have for certain
@@ -69,7 +69,7 @@ class _Maker:
 
     def __init__(self, script: Script, whole: Session, single: Session) -> None:
         self._script, self._whole, self._single = script, whole, single
-        self._watches: dict[str, Watch] = {}
+        self._looked_at: dict[str, LookedAt] = {}
         self._states: dict[str, State] = {}
         self._frames: list[Frame] = []
 
@@ -88,7 +88,7 @@ class _Maker:
                     self._single.do(line)
         self._look(step.lines, answers)
         before = self._frames[-1].user if self._frames else "1"
-        user = next((entry[1] for entry in log if entry[1:2] in self._watches), before)
+        user = next((entry[1] for entry in log if entry[1:2] in self._looked_at), before)
         self._add_frame(step, user, log, step.note)
 
     def _carry_out(self, line: str, log: list[str], answers: list[tuple[str, Answer]]) -> None:
@@ -103,17 +103,17 @@ class _Maker:
         if line in self._script.statements and isinstance(answer, Refused):
             raise refused_statement(self._script, line, answer)
         if line[0] in DIGITS:
-            watch = self._watches.setdefault(line[0], Watch())
+            looked_at = self._looked_at.setdefault(line[0], LookedAt())
             if not isinstance(answer, Refused):
-                watch.follow(line)
+                looked_at.follow(line)
         log += log_entries(line, parts)
-        answers += told(parts)
+        answers += by_whom(parts)
 
     def _step_singly(self, step: Step, number: int, log: list[str], answers: Sequence[tuple[str, Answer]]) -> None:
         """Steps as often as the line did: up to its number, a stop, or a breakpoint behind its first instruction."""
         line, user = step.lines[0], step.lines[0][0]
         for place in range(1, number + 1):
-            state, part = self._states[user], told(self._single.do(f"{user} step 1"))
+            state, part = self._states[user], by_whom(self._single.do(f"{user} step 1"))
             ends = not isinstance(part[0][1], Position) or place == number or f"{part[0][1].pc:x}" in state["breaks"]
             self._look([line], [*part, *answers] if ends else part, state["code"].get(state["pc"], "")[9:])
             own_log = ([] if place > 1 else log[:1]) + (log[1:] if ends else [])
@@ -129,10 +129,10 @@ class _Maker:
     def _look(self, lines: Sequence[str], answers: Sequence[tuple[str, Answer]], carried_out: str = "") -> None:
         """Looks at those users whom lines, or an instruction, may have changed: an operator's line may, all of them."""
         users = {line[:1] for line in lines if not is_look(line)}
-        for user, watch in self._watches.items():
+        for user, looked_at in self._looked_at.items():
             if user in users or "*" in users:
                 own, before = [answer for whom, answer in answers if whom == user], self._states.get(user, ABSENT)
-                self._states[user] = look_at(Guest(self._single, int(user)), watch, before, own, carried_out)
+                self._states[user] = look_at(Guest(self._single, int(user)), looked_at, before, own, carried_out)
 
     def _add_frame(self, step: Step, user: str, log: list[str], note: str) -> None:
         line, more = step.lines[0] if step.lines else "", sum(not is_look(line) for line in step.lines[1:])
@@ -140,13 +140,13 @@ class _Maker:
 
     def finish(self) -> list[Frame]:
         """The frames, with those rows of memory alone that tell most."""
-        for user, watch in self._watches.items():
+        for user, looked_at in self._looked_at.items():
             if self._script.variables:  # and not what else the image has
-                watch.named = set(memory_rows(self._script.variables)[:MOST_NAMED])
+                looked_at.named = set(variable_rows(self._script.variables)[:MOST_NAMED])
             choice = RowChoice()
             for frame in self._frames:
                 choice.add(frame.states.get(user, ABSENT))
-            rows = choice.rows(watch, 2 if self._script.variables else 1)
+            rows = choice.rows(looked_at, 2 if self._script.variables else 1)
             for frame in self._frames:
                 if user in frame.states:
                     frame.states[user] = with_rows(frame.states[user], rows)

@@ -11,9 +11,9 @@ from ..compilers.compiled import compile_c
 from ..compilers.compiler import CHOICES, choice_for, find_compiler
 from ..machine.program import find_program, images_of
 from .frames import make_frames
-from .listings import Listing, listing_of, listings_page
+from .listings import CompiledListing, listing_of, listings_page
 from .page import lesson_page
-from .script import read_compiled, read_script, read_source
+from .script import read_assembled, read_compiled, read_script
 
 SOURCE_SUFFIXES, C_SUFFIX = (".s", ".S"), ".c"
 
@@ -59,7 +59,7 @@ def _lesson(arguments: argparse.Namespace, images: Mapping[str, pathlib.Path]) -
         program = compile_c(text, find_compiler(arguments.cc), choice, path.parent)
         script = read_compiled(text, path.name, program, path.suffix == C_SUFFIX)
     else:
-        script = read_source(text, path.name) if path.suffix in SOURCE_SUFFIXES else read_script(text)
+        script = read_assembled(text, path.name) if path.suffix in SOURCE_SUFFIXES else read_script(text)
     frames = make_frames(script, find_program(), images, arguments.quantum)
     title = arguments.title or script.title or path.name
     return lesson_page(title, frames, script)
@@ -68,7 +68,7 @@ def _lesson(arguments: argparse.Namespace, images: Mapping[str, pathlib.Path]) -
 def _listings(arguments: argparse.Namespace) -> str:
     """The page of two listings side by side. Raises LabError as `_lesson` does."""
     path: pathlib.Path = arguments.script
-    text, machine, listings = path.read_text("utf-8", "replace"), find_program(), list[Listing]()
+    text, machine, listings = path.read_text("utf-8", "replace"), find_program(), list[CompiledListing]()
     if path.suffix != C_SUFFIX:
         raise LabError(f"--against is for a source in C, and {path} is none")
     name, _, options = arguments.against.rpartition(":")

@@ -9,12 +9,12 @@ from collections.abc import Sequence
 from dataclasses import dataclass
 from itertools import islice, pairwise
 
-from ..compilers.compiled import CompiledProgram, read_answer
+from ..compilers.compiled import CompiledProgram, read_compiled_program
 from ..guest.guest import Guest
 from ..machine.session import Session
 from ..page.pages import lone_page
 from ..runs.beginning import beginning_at
-from ..runs.counts import Place
+from ..runs.counts import CountedWord
 from ..runs.profile import summary_of
 from ..runs.recorder import record
 from .script import send
@@ -23,7 +23,7 @@ MOST_TICKS, MOST_WORDS = 50_000, 4000
 
 
 @dataclass(frozen=True)
-class Listing:
+class CompiledListing:
     """What a compiler made of a source.
 
     name: of the compiler with its options; summary: what was carried out, in sentences
@@ -36,7 +36,7 @@ class Listing:
     rows: Sequence[Sequence[int | str]]
 
 
-def listing_of(program: CompiledProgram, name: str, machine: pathlib.Path) -> Listing:
+def listing_of(program: CompiledProgram, name: str, machine: pathlib.Path) -> CompiledListing:
     """The listing of a program, which runs on a machine of its own to its end, or until MOST_TICKS have run out.
 
     Raises LabError where the machine refuses it.
@@ -51,14 +51,14 @@ def listing_of(program: CompiledProgram, name: str, machine: pathlib.Path) -> Li
         counts, stop = record(beginning_at(guest), MOST_TICKS), guest.go(MOST_TICKS)
         end = f"status {stop.number}" if stop and stop.kind == "exit" else guest.tell(stop)
     by_address = {place.address: place for place in counts.places}
-    places = [(word, by_address.get(word.address, Place(word.address, word.word))) for word in words]
+    places = [(word, by_address.get(word.address, CountedWord(word.address, word.word))) for word in words]
     rows: list[Sequence[int | str]] = [
         (f"{word.address:x}", *lines[word.address], word.text, it.times, *it.elements) for word, it in places
     ]
-    return Listing(name, [*summary_of(counts, end)], rows)
+    return CompiledListing(name, [*summary_of(counts, end)], rows)
 
 
-def listings_page(title: str, text: str, listings: Sequence[Listing]) -> str:
+def listings_page(title: str, text: str, listings: Sequence[CompiledListing]) -> str:
     """The page of some listings of a source that has this text, in HTML."""
     return lone_page("listings", title, {"lines": text.split("\n"), "listings": [vars(each) for each in listings]})
 
@@ -66,5 +66,7 @@ def listings_page(title: str, text: str, listings: Sequence[Listing]) -> str:
 if __name__ == "__main__":
     os.nice(10)
     source, made = json.load(sys.stdin)
-    sides = [listing_of(read_answer(told.encode("utf-8")), name, pathlib.Path(sys.argv[1])) for name, told in made]
+    sides = [
+        listing_of(read_compiled_program(told.encode("utf-8")), name, pathlib.Path(sys.argv[1])) for name, told in made
+    ]
     sys.stdout.write(listings_page("Side by side", source, sides))

@@ -74,7 +74,7 @@ def add_line(steps: list[Step], line: str, note: str = "") -> None:
         steps.append(Step([line], note))
 
 
-def read_source(text: str, name: str) -> Script:
+def read_assembled(text: str, name: str) -> Script:
     """The lesson of an assembler source, for user 1. Raises LabError where it doesn't assemble."""
     try:
         program = assemble(text)

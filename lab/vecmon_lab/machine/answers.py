@@ -142,7 +142,7 @@ class Addresses:
 
 
 @dataclass(frozen=True)
-class Place:
+class Standing:
     """Where a program is, and why.
 
     number: how often it has stepped, or the status of an exit
@@ -166,7 +166,7 @@ class Place:
         return f"{self.what}{number} pc={self.pc:016x}{value}"
 
 
-class Position(Place):
+class Position(Standing):
     """It has `stepped` so often, is `running` or `stopped` now, or is shown: `state running` or `state stopped`."""
 
     @property
@@ -175,7 +175,7 @@ class Position(Place):
         return "running" if self.kind.endswith("running") else "stopped"
 
 
-class Stop(Place):
+class Stop(Standing):
     """It has stopped by itself: an `exit`, a `fault`, a `break`, an `ebreak`, or a full output buffer, `outfull`."""
 
 
@@ -264,7 +264,7 @@ def read(answer: Sequence[str]) -> Answer:
     return Listing(listed) if listed[0].text else listed[0]
 
 
-def told(answer: Sequence[str]) -> list[tuple[str, Answer]]:
+def by_whom(answer: Sequence[str]) -> list[tuple[str, Answer]]:
     """A whole answer, by whom it tells: those whose programs stopped, and who is answered."""
     said = read(answer)
     return [*(said.stops if isinstance(said, Granted) else ()), (answer[-1][0], said)]

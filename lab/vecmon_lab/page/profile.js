@@ -36,14 +36,14 @@ function show(rows, id) {
   for (const button of Object.keys(ORDERS)) byId(button).setAttribute("aria-pressed", button === id);
 }
 
-/** A table of a part: loops, functions, calls or source lines. */
-function partSection(part) {
-  const cells = (row) => row.map((cell, place) => (place < part.texts ? make("td", "", cell) : number(cell)));
-  const heads = part.head.map((text, place) => make("th", place < part.texts ? "" : "number", text));
+/** A table: loops, functions, calls or source lines. */
+function tableSection({ name, texts, head, rows }) {
+  const cells = (row) => row.map((cell, place) => (place < texts ? make("td", "", cell) : number(cell)));
+  const heads = head.map((text, place) => make("th", place < texts ? "" : "number", text));
   const table = make("table", "");
-  table.append(make("thead", "", make("tr", "", ...heads)), make("tbody", "", ...part.rows.map((row) => make("tr", "", ...cells(row)))));
-  const section = make("section", "", make("h2", "", part.name), make("div", "scroll", table));
-  section.setAttribute("aria-label", part.name);
+  table.append(make("thead", "", make("tr", "", ...heads)), make("tbody", "", ...rows.map((row) => make("tr", "", ...cells(row)))));
+  const section = make("section", "", make("h2", "", name), make("div", "scroll", table));
+  section.setAttribute("aria-label", name);
   return section;
 }
 
@@ -56,7 +56,7 @@ document.querySelector("header").append(legend());
 byId("summary").append(...data.summary.map((text) => make("p", "", text)));
 byId("calls").hidden = data.frames.every((frame) => frame.callees.length === 0);
 byId("flame").append(flameGraph(data.frames));
-byId("parts").append(...data.parts.map(partSection));
+byId("tables").append(...data.tables.map(tableSection));
 byId("lengths").append(...data.lengths.map(([kind, vl, times]) =>
   make("tr", "", make("td", "", kind), number(`vl=${vl}`), number(times), bar("", [["ticks", times / most]]))));
 for (const id of Object.keys(ORDERS)) byId(id).addEventListener("click", () => show(rows, id));

@@ -11,7 +11,7 @@ from ..instructions.table import Row, instruction_table
 from ..instructions.words import LOAD, OP_V, STORE, STORE_FP, SUPPORTED, SYSTEM, VECTOR_ACCESSES, Operand, decode
 from ..machine.answers import ControlRegisters
 from ..vectors.cases import PLACES, reads_two_widths
-from .registers import Registers, operands_of
+from .registers import DrawnRegisters, operands_of
 
 FIRST = ControlRegisters(vl=32, vtype=0)
 """The vector state before a program: e8, m1, tu, mu."""
@@ -53,7 +53,7 @@ class _Generator:
 
     def __init__(self, seed: str, has_choices: bool) -> None:
         self._draws, self._has_choices = random.Random(seed), has_choices
-        self._registers, self._control = Registers(self._draws, has_choices), FIRST
+        self._registers, self._control = DrawnRegisters(self._draws, has_choices), FIRST
         self._drawn, self._times, self._since, self._is_atomic = Drawn(), 1, 0, False
         self._counters = set[int]()  # the scalar register that counts the turns of a loop
         rows = [row for row in instruction_table().values() if row.name not in _LEFT_OUT]

@@ -13,9 +13,9 @@ from ..guest.guest import started
 from ..guest.symbols import Symbols
 from ..instructions.accesses import REGISTER_BYTES, vector_instruction
 from ..machine.answers import elements_in
-from ..runs.dataflow import Place, bits_of_registers
+from ..runs.dataflow import Cell, bits_of_registers
 from .logs import Commit, commits
-from .origins import LOOKS_BACK, Step, origin
+from .origins import LOOKS_BACK, LoggedStep, origin
 
 _NUMBER = re.compile(r"\b([xv])(\d+)\b")
 
@@ -29,7 +29,7 @@ def add_arguments(parser: argparse.ArgumentParser) -> None:
 
 def run(arguments: argparse.Namespace) -> int:
     """Prints the first difference, with status 1; or how many instructions agree. Raises LabError and OSError."""
-    image, symbols, steps = arguments.image, Symbols.read(arguments.image), deque[Step](maxlen=LOOKS_BACK)
+    image, symbols, steps = arguments.image, Symbols.read(arguments.image), deque[LoggedStep](maxlen=LOOKS_BACK)
     number = shift = 0
     with arguments.log.open(errors="replace") as log, started(image, policy=arguments.policy) as guest:
         stepper = Stepper(guest)
@@ -41,7 +41,7 @@ def run(arguments: argparse.Namespace) -> int:
             before, number = stepper.registers.copy(), number + 1
             if number == 1 and commit.stack is not None:
                 shift = commit.stack - before.x[2]
-            step = Step(_carried(stepper, commit), before, number, commit)
+            step = LoggedStep(_carried(stepper, commit), before, number, commit)
             steps.append(step)
             trap = _trap(step, following, guest.pc)
             if lines := {trap: {("vstart", 0)}} if trap else dict(differences(step, stepper.registers, shift)):
@@ -65,7 +65,7 @@ def _carried(stepper: Stepper, commit: Commit) -> Carried:
     return carried
 
 
-def _trap(step: Step, following: Commit | None, pc: int) -> str | None:
+def _trap(step: LoggedStep, following: Commit | None, pc: int) -> str | None:
     """How one device refused what the other carried out, if it did: by what the log tells next, and where the machine is then."""
     commit, stop = step.commit, step.carried.stop
     if stop:
@@ -76,7 +76,7 @@ def _trap(step: Step, following: Commit | None, pc: int) -> str | None:
     return f"carried out here, {f'and the log goes on at {following.pc:x}' if following else 'the end of the log'}"
 
 
-def differences(step: Step, after: Registers, shift: int) -> Iterator[tuple[str, set[Place]]]:
+def differences(step: LoggedStep, after: Registers, shift: int) -> Iterator[tuple[str, set[Cell]]]:
     """What the log tells otherwise than the machine, a line each, and where it is: by the machine's registers after it.
 
     shift: how far the log's stack lies off
@@ -100,11 +100,11 @@ def differences(step: Step, after: Registers, shift: int) -> Iterator[tuple[str,
                 yield line, bits_of_registers(8 * at + width * element, width)
 
 
-def _report(steps: Sequence[Step], lines: dict[str, set[Place]], is_trap: bool, symbols: Symbols) -> Iterator[str]:
+def _report(steps: Sequence[LoggedStep], lines: dict[str, set[Cell]], is_trap: bool, symbols: Symbols) -> Iterator[str]:
     """The lines of a difference: the instruction, what differs, and where the standard leaves it open, there or before."""
     yield from _shown(steps[-1], symbols)
     yield from lines
-    places = set[Place]().union(*lines.values())
+    places = set[Cell]().union(*lines.values())
     found = origin(steps, places, is_trap) or origin(steps, places, is_trap, is_part=True)
     if found and found[0] is not steps[-1]:
         yield "it was left otherwise before:"
@@ -112,7 +112,7 @@ def _report(steps: Sequence[Step], lines: dict[str, set[Place]], is_trap: bool, 
     yield found[1] if found else "not allowed: the standard leaves nothing open here"
 
 
-def _shown(step: Step, symbols: Symbols) -> Iterator[str]:
+def _shown(step: LoggedStep, symbols: Symbols) -> Iterator[str]:
     """An instruction, and before it the control registers and the registers that it names."""
     pc, control, told = step.carried.pc, step.before.control, []
     yield f"instruction {step.number:,}: {f'{pc:x} {symbols.place(pc)}'.rstrip()}: {step.carried.text}"

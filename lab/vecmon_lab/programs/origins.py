@@ -5,7 +5,7 @@ from collections.abc import Sequence
 from dataclasses import dataclass
 
 from ..machine.answers import CONTROL
-from ..runs.dataflow import Executed, Part, Place, parts
+from ..runs.dataflow import Cell, Executed, Part, parts
 from ..tables.table import read_table
 from .logs import Commit
 
@@ -13,14 +13,16 @@ LOOKS_BACK = 20_000  # so many instructions before a difference are looked at
 
 
 @dataclass(frozen=True)
-class Step(Executed):
+class LoggedStep(Executed):
     """An instruction of the log, and its number there."""
 
     number: int
     commit: Commit
 
 
-def origin(steps: Sequence[Step], places: set[Place], is_trap: bool, is_part: bool = False) -> tuple[Step, str] | None:
+def origin(
+    steps: Sequence[LoggedStep], places: set[Cell], is_trap: bool, is_part: bool = False
+) -> tuple[LoggedStep, str] | None:
     """The last instruction that left open what differs after the last of some, and what it left open; None where none did.
 
     places: where it differs; is_trap: whether one device carried out the last instruction and the other one didn't
@@ -39,7 +41,7 @@ def origin(steps: Sequence[Step], places: set[Place], is_trap: bool, is_part: bo
     return None
 
 
-def _left_open(step: Step, met: Sequence[Part], is_trap: bool, is_part: bool, last: Step) -> str | None:
+def _left_open(step: LoggedStep, met: Sequence[Part], is_trap: bool, is_part: bool, last: LoggedStep) -> str | None:
     """What the standard leaves open where an instruction wrote some parts, or is refused."""
     text, kinds = step.carried.text, {kind for _, _, kind in met} - {""}
     agnostic = sorted(kinds - {"active"})

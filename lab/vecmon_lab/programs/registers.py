@@ -25,7 +25,7 @@ def operands_of(name: str, vtype: int) -> dict[str, Operand] | None:
     return {_TEMPLATE[each.registers.start]: each for each in instruction.operands} if instruction else None
 
 
-class Registers:
+class DrawnRegisters:
     """Scalar and vector registers.
 
     fixed: how many of the lowest bits of each vector register the standard fixes

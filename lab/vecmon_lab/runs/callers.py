@@ -8,7 +8,7 @@ LEAST_SHARE, MOST_FRAMES = 0.001, 100  # of all ticks, which a frame has; and on
 
 
 @dataclass(frozen=True)
-class Frame:
+class CallFrame:
     """A function where those above it have called it.
 
     own: its ticks there; total: with those of what it calls; callees: these, those first that took most
@@ -17,7 +17,7 @@ class Frame:
     name: str
     own: int
     total: int
-    callees: tuple["Frame", ...]
+    callees: tuple["CallFrame", ...]
 
 
 class Callers:
@@ -51,7 +51,7 @@ class Callers:
             share = self._callees[caller].get(callee, 0) / max(1, self._called[callee])
             yield caller, callee, times, round(self.total[callee] * share)
 
-    def frames(self) -> tuple[Frame, ...]:
+    def frames(self) -> tuple[CallFrame, ...]:
         """The functions that none has called, with all that they have called: together, they have all ticks."""
         tops = {name: 1.0 for name in self._callees if not self._called[name]}
         return self._frames(tops, LEAST_SHARE * sum(self._own.values()))
@@ -70,13 +70,13 @@ class Callers:
                 if callee not in self._callees:
                     above[callee] = iter(self._known[callee])
 
-    def _frames(self, shares: Mapping[str, float], least: float, room: int = MOST_FRAMES) -> tuple[Frame, ...]:
+    def _frames(self, shares: Mapping[str, float], least: float, room: int = MOST_FRAMES) -> tuple[CallFrame, ...]:
         """The frames of functions of which such shares are there, but for those that have less than so many ticks."""
         shown = [name for name, share in shares.items() if room and self.total[name] * share >= least]
         frames = (self._frame(name, shares[name], least, room - 1) for name in shown)
         return tuple(sorted(frames, key=lambda frame: -frame.total))
 
-    def _frame(self, name: str, share: float, least: float, room: int) -> Frame:
+    def _frame(self, name: str, share: float, least: float, room: int) -> CallFrame:
         callees = {callee: share * times / self._called[callee] for callee, times in self._callees[name].items()}
         own = round(self._own.get(name, 0) * share)
-        return Frame(name, own, round(self.total[name] * share), self._frames(callees, least, room))
+        return CallFrame(name, own, round(self.total[name] * share), self._frames(callees, least, room))

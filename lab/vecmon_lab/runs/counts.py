@@ -16,7 +16,7 @@ from ..tables.table import html_table
 
 
 @dataclass(frozen=True)
-class Place:
+class CountedWord:
     """What was carried out at an address: the word, how often, in how many ticks, and with how many elements.
 
     elements: those that were active, that were masked off, and of the tail
@@ -40,10 +40,10 @@ class Counts:
     short_writes: how many calls wrote some bytes, but less than they were asked to
     """
 
-    places: Sequence[Place]
+    places: Sequence[CountedWord]
     lengths: Counter[tuple[str, int]]
     calls: Mapping[tuple[int, int], int]
-    end: answers.Place
+    end: answers.Standing
     instructions: int
     ticks: int
     short_writes: int = 0
@@ -82,14 +82,14 @@ class Counts:
 
 def read_counts(text: str) -> Counts:
     """What stands in a file of counts. Raises LabError where it is none."""
-    places, lengths, calls = list[Place](), Counter[tuple[str, int]](), dict[tuple[int, int], int]()
+    places, lengths, calls = list[CountedWord](), Counter[tuple[str, int]](), dict[tuple[int, int], int]()
     try:
         *rows, last = text.splitlines()
         for row in rows:
             match row.split(" "):
                 case ["at", pc, word, times, ticks, active, masked, tail]:
                     elements = (int(active), int(masked), int(tail))
-                    places.append(Place(int(pc, 16), int(word, 16), int(times), int(ticks), elements))
+                    places.append(CountedWord(int(pc, 16), int(word, 16), int(times), int(ticks), elements))
                 case ["vl", vtype, vl, times]:
                     lengths[vtype_text(int(vtype, 16)), int(vl)] = int(times)
                 case ["call", pc, target, times]:
@@ -98,7 +98,7 @@ def read_counts(text: str) -> Counts:
                     raise ValueError(row)
         stop, instructions, ticks = last.rsplit(" ", 2)
         end = answers.read([f"1 {stop}"])
-        if not isinstance(end, answers.Place):
+        if not isinstance(end, answers.Standing):
             raise ValueError(last)
     except ValueError as error:
         raise LabError(f"{RECORDER} tells no counts: {str(error)[:60]!r}") from error

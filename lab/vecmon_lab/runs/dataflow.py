@@ -20,11 +20,11 @@ from ..instructions.accesses import (
 from ..instructions.words import LOAD, OP_V, STORE, SYSTEM, VECTOR_ACCESSES, VectorInstruction
 from ..machine.answers import CONTROL
 
-Place = tuple[str, int]
+Cell = tuple[str, int]
 """A bit of the vector registers (`v`, 0 to 8,191) or of the scalar ones (`x`, 0 to 2,047), a byte of memory (`memory`),
 or a control register and 0."""
 
-Part = tuple[set[Place], set[Place], str]
+Part = tuple[set[Cell], set[Cell], str]
 """What an instruction wrote, or told of, together: the places, what they are made of, and of elements their kind."""
 
 _VSTART = {("vstart", 0)}
@@ -43,12 +43,12 @@ class Executed:
     before: Registers
 
 
-def bits_of_registers(first: int, width: int) -> set[Place]:
+def bits_of_registers(first: int, width: int) -> set[Cell]:
     """Bits of the vector registers, from one on."""
     return {("v", bit) for bit in range(first, first + width)}
 
 
-def bits_of_scalar(number: int, first: int = 0, width: int = 64) -> set[Place]:
+def bits_of_scalar(number: int, first: int = 0, width: int = 64) -> set[Cell]:
     """Bits of a scalar register, from one on."""
     return {("x", 64 * number + bit) for bit in range(first, first + width)}
 
@@ -73,12 +73,12 @@ def scalars_read(word: int, call: int = 0) -> Iterator[int]:
         yield from [rs1, rs2] if opcode in _TWO_SOURCES else [rs1]
 
 
-def conditions(step: Executed) -> set[Place]:
+def conditions(step: Executed) -> set[Cell]:
     """What an instruction depends on beside the elements and bytes that it works on: scalar registers, its vector type
     and length, its mask, and of an access the indices."""
     control = step.before.control
     scalars = scalars_read(step.carried.word, step.before.x[17])
-    places = set[Place]().union(*map(bits_of_scalar, scalars))
+    places = set[Cell]().union(*map(bits_of_scalar, scalars))
     instruction = vector_instruction(step.carried.word, control.vtype)
     if instruction:
         places |= {("vl", 0), ("vtype", 0)} | (bits_of_registers(0, control.vl) if instruction.is_masked else set())
@@ -102,7 +102,7 @@ def parts(step: Executed) -> Iterator[Part]:
             yield bits_of_scalar(rd, 8 * length, 64 - 8 * length), {("memory", address + length - 1)}, ""
     if opcode in _ARITHMETIC or opcode in _OF_NOTHING:
         sources = scalars_read(word) if opcode in _ARITHMETIC else ()
-        yield bits_of_scalar(rd), set[Place]().union(*map(bits_of_scalar, sources)), ""
+        yield bits_of_scalar(rd), set[Cell]().union(*map(bits_of_scalar, sources)), ""
     told = bits_of_scalar(rd)
     yield from (({(name, 0)} | told, {(name, 0)}, "") for name in CONTROL if re.match(f"csr.* {name}", text))
     if text.startswith("vset"):

@@ -16,7 +16,7 @@ from ..instructions.words import listed
 from ..machine.answers import CONTROL, Memory
 from .beginning import Beginning
 from .counts import Counts
-from .dataflow import Executed, Place, conditions, parts
+from .dataflow import Cell, Executed, conditions, parts
 from .recorder import record
 
 STEPPED = 1000  # so many instructions are stepped at once, back from one that is looked for
@@ -33,13 +33,13 @@ Made = TypeVar("Made")
 
 
 @dataclass(frozen=True)
-class Step:
+class CommonStep:
     """An instruction that two runs carry out, its number from 1 on, and what it is in each of them."""
 
     number: int
     runs: Sequence[Executed]
 
-    def differs(self, place: Place) -> bool:
+    def differs(self, place: Cell) -> bool:
         """Whether a place isn't the same in both runs before it. Memory is taken to differ."""
         return place[0] == "memory" or len({_value_at(place, run.before) for run in self.runs}) > 1
 
@@ -88,7 +88,7 @@ def explain(pair: Pair, number: int, names: Sequence[str], symbols: Symbols) -> 
     yield f"the runs part at {last.told(symbols)}"
     for name in list(values[0])[:SHOWN]:
         yield f"  {name}: {', '.join(f'{value[name]:x} {run}' for value, run in zip(values, names))}"
-    chain = list[Step]()
+    chain = list[CommonStep]()
     source = _source(pair, first, steps, places, chain, symbols)
     if chain:
         yield f"  first read at {chain[-1].told(symbols)}"
@@ -97,7 +97,7 @@ def explain(pair: Pair, number: int, names: Sequence[str], symbols: Symbols) -> 
 
 
 def _source(
-    pair: Pair, first: int, steps: Sequence[Step], places: set[Place], chain: list[Step], symbols: Symbols
+    pair: Pair, first: int, steps: Sequence[CommonStep], places: set[Cell], chain: list[CommonStep], symbols: Symbols
 ) -> str:
     """What left open what differs behind some instructions, in words; "" where it isn't found.
 
@@ -121,8 +121,8 @@ def _source(
 
 
 def _followed(
-    steps: Sequence[Step], places: set[Place], chain: list[Step]
-) -> tuple[tuple[Step, str] | None, set[Place]]:
+    steps: Sequence[CommonStep], places: set[Cell], chain: list[CommonStep]
+) -> tuple[tuple[CommonStep, str] | None, set[Cell]]:
     """The instruction that left places open that differ behind some, and as what; or where it differed before them."""
     for step in reversed(steps):
         met = [part for part in parts(step.runs[0]) if not places.isdisjoint(part[0])]
@@ -139,7 +139,7 @@ def _followed(
     return None, places
 
 
-def _last_change(pair: Pair, number: int, places: set[Place], is_exact: bool) -> int:
+def _last_change(pair: Pair, number: int, places: set[Cell], is_exact: bool) -> int:
     """The number of the instruction that gave places what they hold behind so many; 0 where it is none.
 
     It is looked for in leaps, between which nothing else is taken to stand there. is_exact: else only that they differ
@@ -160,7 +160,7 @@ def _last_change(pair: Pair, number: int, places: set[Place], is_exact: bool) ->
     return least + bisect.bisect_left(range(least, most), True, key=holds)
 
 
-def _never_written(pair: Pair, number: int, places: set[Place]) -> set[Place]:
+def _never_written(pair: Pair, number: int, places: set[Cell]) -> set[Cell]:
     """Those of places that hold behind so many instructions what they began with, and differ."""
     begin, now = (_contents(pair, count, places) for count in (0, number))
     names = {name for name, value in begin[0].items() if value != begin[1][name]}
@@ -168,13 +168,13 @@ def _never_written(pair: Pair, number: int, places: set[Place]) -> set[Place]:
     return {place for place in places if _name(place) in names}
 
 
-def _contents(pair: Pair, number: int, places: set[Place]) -> Sequence[dict[str, int]]:
+def _contents(pair: Pair, number: int, places: set[Cell]) -> Sequence[dict[str, int]]:
     """What stands in places in both runs behind so many instructions."""
     with _guests_at(pair, number) as guests:
         return _side_by_side(lambda guest: _values(places, guest, Stepper(guest).registers), guests)
 
 
-def _value_at(place: Place, registers: Registers) -> int:
+def _value_at(place: Cell, registers: Registers) -> int:
     """A bit of a register, or a control register."""
     kind, at = place
     if kind in "xv":
@@ -182,7 +182,7 @@ def _value_at(place: Place, registers: Registers) -> int:
     return registers.values()[NAMES.index(kind)]
 
 
-def _name(place: Place) -> str:
+def _name(place: Cell) -> str:
     """The name of what a place is in: a scalar or control register, or a byte of a vector register or of memory."""
     kind, at = place
     if kind == "v":
@@ -190,7 +190,7 @@ def _name(place: Place) -> str:
     return f"[{at:x}]" if kind == "memory" else f"x{at // 64}" if kind == "x" else kind
 
 
-def _values(places: set[Place], guest: Guest, registers: Registers) -> dict[str, int]:
+def _values(places: set[Cell], guest: Guest, registers: Registers) -> dict[str, int]:
     """What stands where places are, by name. A page that isn't there has zeros."""
     values = dict[str, int]()
     for kind, at in sorted(places):
@@ -204,14 +204,14 @@ def _values(places: set[Place], guest: Guest, registers: Registers) -> dict[str,
     return values
 
 
-def _listed(places: set[Place]) -> str:
+def _listed(places: set[Cell]) -> str:
     """The registers of places, and where their memory begins."""
     registers = dict.fromkeys(_name(place).partition(".")[0] for place in sorted(places) if place[0] != "memory")
     memory = [f"memory from {at:x} on" for kind, at in sorted(places) if kind == "memory"]
     return listed([*registers, *memory[:1]])
 
 
-def _put_out_otherwise(guests: Sequence[Guest], before: Registers) -> Iterator[Place]:
+def _put_out_otherwise(guests: Sequence[Guest], before: Registers) -> Iterator[Cell]:
     """The bytes of what a call puts out that differ."""
     address, length = before.x[11], min(before.x[12], MOST_WRITTEN)
     for at, pair in enumerate(zip(*(guest.peek(address, length) for guest in guests))):
@@ -248,12 +248,12 @@ def _writes(line: str, guest: Guest) -> Iterator[str]:
         yield f"{'vset' if name[0] == 'v' else 'set'} {line}"
 
 
-def _stepped(guests: Sequence[Guest], first: int, last: int) -> list[Step]:
+def _stepped(guests: Sequence[Guest], first: int, last: int) -> list[CommonStep]:
     """The instructions behind the first ones up to the last one, which both guests are stepped through."""
-    steppers, steps = [Stepper(guest) for guest in guests], list[Step]()
+    steppers, steps = [Stepper(guest) for guest in guests], list[CommonStep]()
     for number in range(first + 1, last + 1):
         before = [stepper.registers.copy() for stepper in steppers]
-        steps.append(Step(number, [Executed(stepper.step(), each) for stepper, each in zip(steppers, before)]))
+        steps.append(CommonStep(number, [Executed(stepper.step(), each) for stepper, each in zip(steppers, before)]))
     return steps
 
 

@@ -13,11 +13,11 @@ from ..guest.symbols import Symbols
 from ..page.pages import lone_page
 from ..tables.table import table_lines
 from .counts import Counts
-from .parts import ELEMENTS, Part, Row, Spent, compared, elements_row, share
-from .run import counted, status_of, told
+from .spent import ELEMENTS, Spent, Table, TableRow, compared, elements_row, share
+from .run import counted, ending, status_of
 
 HEAD = ("address", "place", "source", "instruction", "times", "ticks", *ELEMENTS)
-SHOWN_ROWS = 10  # of a part, in a terminal
+SHOWN_ROWS = 10  # of a table, in a terminal
 
 
 def add_arguments(parser: argparse.ArgumentParser) -> None:
@@ -39,18 +39,18 @@ def run(arguments: argparse.Namespace) -> int:
     for output in (page, page and page.with_suffix(".csv")):
         check_output(output, image, *filter(None, [arguments.input, other]))
     counts, symbols, spent, summary = _profiled(arguments, image)
-    parts = [part for part in spent.parts() if part.rows]
+    tables = [table for table in spent.tables() if table.rows]
     if other:
         _, _, theirs, more = _profiled(arguments, other)
-        parts = [*compared(spent, theirs), *parts]
+        tables = [*compared(spent, theirs), *tables]
         summary += [f"against {other.name}: {line}" for line in more]
     rows = [*_rows(counts, symbols)]
-    tables = [line for part in parts for line in (*_shown(part), "")]
-    print("\n".join([*tables, *table_lines([HEAD, *rows], 4), "", *_histogram(counts), "", *summary]))
+    lines = [line for table in tables for line in (*_shown(table), "")]
+    print("\n".join([*lines, *table_lines([HEAD, *rows], 4), "", *_histogram(counts), "", *summary]))
     if page:
         with page.with_suffix(".csv").open("w", newline="", encoding="utf-8") as file:
             csv.writer(file).writerows([HEAD, *rows])
-        data = {"summary": summary, "parts": [vars(part) for part in parts], "rows": rows}
+        data = {"summary": summary, "tables": [vars(table) for table in tables], "rows": rows}
         lengths = [(kind, vl, times) for (kind, vl), times in sorted(counts.lengths.items())]
         data |= {"lengths": lengths, "frames": [asdict(frame) for frame in spent.callers.frames()]}
         page.write_text(lone_page("profile", f"Profile of {image.name}", data), "utf-8")
@@ -64,21 +64,21 @@ def _profiled(arguments: argparse.Namespace, image: pathlib.Path) -> tuple[Count
     if symbols.trouble:
         print(f"vecmon-lab: {symbols.trouble}", file=sys.stderr)
     entry = int.from_bytes(image.read_bytes()[24:32], "little")  # e_entry
-    return counts, symbols, Spent(counts, symbols, entry), [*summary_of(counts, told(words, counts, symbols))]
+    return counts, symbols, Spent(counts, symbols, entry), [*summary_of(counts, ending(words, counts, symbols))]
 
 
-def _rows(counts: Counts, symbols: Symbols) -> Iterator[Row]:
+def _rows(counts: Counts, symbols: Symbols) -> Iterator[TableRow]:
     """A row for each instruction that was carried out, by addresses in rising order."""
     for place in counts.places:
         where = (f"{place.address:x}", symbols.place(place.address), symbols.line(place.address))
         yield [*where, counts.texts[place.word], place.times, place.ticks, *elements_row(place.elements)]
 
 
-def _shown(part: Part) -> Iterator[str]:
-    """The first rows of a part."""
-    yield from table_lines([part.head, *part.rows[:SHOWN_ROWS]], part.texts)
-    if len(part.rows) > SHOWN_ROWS:
-        yield f"and {len(part.rows) - SHOWN_ROWS:,} more, which -o FILE.html shows"
+def _shown(table: Table) -> Iterator[str]:
+    """The first rows of a table."""
+    yield from table_lines([table.head, *table.rows[:SHOWN_ROWS]], table.texts)
+    if len(table.rows) > SHOWN_ROWS:
+        yield f"and {len(table.rows) - SHOWN_ROWS:,} more, which -o FILE.html shows"
 
 
 def summary_of(counts: Counts, end: str) -> Iterator[str]:

@@ -50,7 +50,7 @@ def run(arguments: argparse.Namespace) -> int:
         lines = [*stats(counts)] if arguments.stats else [total(counts)] if arguments.count else []
         is_exit = counts.stop is not None and counts.stop.kind == "exit"
         if not is_exit:
-            lines.append(f"vecmon-lab: {named}: {told(arguments, counts, symbols)}")
+            lines.append(f"vecmon-lab: {named}: {ending(arguments, counts, symbols)}")
         if counts.short_writes:
             with _begun(arguments) as guest:
                 short = short_write(guest, counts, symbols)
@@ -77,7 +77,7 @@ def counted(
     return record(beginning, arguments.ticks, write, more)
 
 
-def told(arguments: argparse.Namespace, counts: Counts, symbols: Symbols) -> str:
+def ending(arguments: argparse.Namespace, counts: Counts, symbols: Symbols) -> str:
     """How a run that was counted ended, in a line; of a stop why, by the registers of a machine that comes there."""
     stop, place = counts.stop, f"{counts.end.pc:x} {symbols.place(counts.end.pc)}".rstrip()
     if stop is None:

@@ -8,25 +8,25 @@ from dataclasses import dataclass
 from ..guest.symbols import Symbols
 from ..tables.table import html_table
 from .callers import Callers
-from .counts import Counts, Place
+from .counts import CountedWord, Counts
 
 BRANCH, JAL, JALR = 0x63, 0x6F, 0x67  # opcodes
 LINKS = (1, 5)  # registers that a call leaves its return address in
-Row = Sequence[str | int]
+TableRow = Sequence[str | int]
 
 ELEMENTS = ("active", "masked off", "tail", "work")
 """Columns of elements. Work is the share of the elements of groups that were active; all are "" without any."""
 
 
 @dataclass(frozen=True)
-class Part:
+class Table:
     """A table of a profile: what it is of, its columns, of which so many are texts, and its rows, those first that took
     most."""
 
     name: str
     head: Sequence[str]
     texts: int
-    rows: Sequence[Row]
+    rows: Sequence[TableRow]
 
     def _repr_html_(self) -> str:
         return html_table([self.head, *self.rows], self.texts)
@@ -54,20 +54,20 @@ class Spent:
         name = self._symbols.place(start)
         return name if name and "+" not in name else f"{start:x}"
 
-    def parts(self) -> Iterator[Part]:
+    def tables(self) -> Iterator[Table]:
         """The loops, functions, calls and source lines, as far as there are any."""
         spent = ("instructions", "ticks", "share", *ELEMENTS)
-        yield Part("Loops", ("loop", "to", "place", "source", "rounds", *spent), 4, _sorted(self._loops(), -6))
+        yield Table("Loops", ("loop", "to", "place", "source", "rounds", *spent), 4, _sorted(self._loops(), -6))
         functions = self._summed((self.function(place.address), place) for place in self._counts.places)
         called = Counter[str]()
         for (_, callee), times in self._calls.items():
             called[callee] += times
         rows = [(name, called[f"{name}"], round(self.callers.total[f"{name}"]), *row) for name, *row in functions]
-        yield Part("Functions", ("function", "called", "with callees", *spent), 1, _sorted(rows, -6))
-        yield Part("Calls", ("caller", "callee", "calls", "ticks"), 2, _sorted(self.callers.edges(), -1))
+        yield Table("Functions", ("function", "called", "with callees", *spent), 1, _sorted(rows, -6))
+        yield Table("Calls", ("caller", "callee", "calls", "ticks"), 2, _sorted(self.callers.edges(), -1))
         lines = [(self._symbols.line(place.address), place) for place in self._counts.places]
         of_lines = self._summed((line, place) for line, place in lines if line)
-        yield Part("Source lines", ("source", *spent), 1, _sorted(of_lines, -6))
+        yield Table("Source lines", ("source", *spent), 1, _sorted(of_lines, -6))
 
     def ticks(self, by_line: bool) -> Counter[str]:
         """The ticks of each source line, or of each function; those of no line are of the function."""
@@ -82,7 +82,7 @@ class Spent:
         """Whether some instruction that was carried out has a source line."""
         return any(self._symbols.line(place.address) for place in self._counts.places)
 
-    def _loops(self) -> Iterator[Row]:
+    def _loops(self) -> Iterator[TableRow]:
         """A row for each address that a jump leads back to in its function; a loop ends with the last such jump."""
         places = self._counts.places
         addresses, ends = [place.address for place in places], dict[int, int]()
@@ -98,7 +98,7 @@ class Spent:
             where = (f"{head:x}", f"{last:x}", self._symbols.place(head), self._lines(body))
             yield (*where, rounds, *self._spent(body))
 
-    def _lines(self, places: Sequence[Place]) -> str:
+    def _lines(self, places: Sequence[CountedWord]) -> str:
         """The source lines of places, as `sum.c:20-24`; of several files, that of the first one."""
         lines = [line.rpartition(":") for place in places if (line := self._symbols.line(place.address))]
         numbers = sorted(int(number) for file, _, number in lines if file == lines[0][0])
@@ -106,15 +106,15 @@ class Spent:
             return ""
         return f"{lines[0][0]}:{numbers[0]}" + (f"-{numbers[-1]}" if numbers[-1] > numbers[0] else "")
 
-    def _summed(self, named: Iterable[tuple[str, Place]]) -> Iterator[Row]:
+    def _summed(self, named: Iterable[tuple[str, CountedWord]]) -> Iterator[TableRow]:
         """A row for each name, with what its places spent."""
-        groups = defaultdict[str, list[Place]](list)
+        groups = defaultdict[str, list[CountedWord]](list)
         for name, place in named:
             groups[name].append(place)
         for name, places in groups.items():
             yield (name, *self._spent(places))
 
-    def _spent(self, places: Sequence[Place]) -> Iterator[str | int]:
+    def _spent(self, places: Sequence[CountedWord]) -> Iterator[str | int]:
         """Instructions, ticks, their share of all, and the columns of elements."""
         ticks = sum(place.ticks for place in places)
         yield sum(place.times for place in places)
@@ -123,7 +123,7 @@ class Spent:
         yield from elements_row([sum(numbers) for numbers in zip(*(place.elements for place in places))])
 
 
-def elements_row(elements: Sequence[int]) -> Row:
+def elements_row(elements: Sequence[int]) -> TableRow:
     """The columns of elements."""
     return [*elements, share(elements[0], sum(elements))] if sum(elements) else [""] * len(ELEMENTS)
 
@@ -133,17 +133,17 @@ def share(number: int, whole: int) -> str:
     return f"{100 * number / max(1, whole):.0f} %"
 
 
-def compared(ours: Spent, theirs: Spent) -> Iterator[Part]:
+def compared(ours: Spent, theirs: Spent) -> Iterator[Table]:
     """The ticks of two runs side by side, what got cheaper first: by source lines, where both have some, and functions."""
     for by_line in (True, False) if ours.has_lines and theirs.has_lines else (False,):
         mine, others = ours.ticks(by_line), theirs.ticks(by_line)
         rows = [(name, mine[name], others[name], mine[name] - others[name]) for name in dict.fromkeys([*mine, *others])]
         what, title = ("source", "Source lines") if by_line else ("function", "Functions")
         head = (what, "ticks", "against", "change")
-        yield Part(f"{title} against the other image", head, 1, sorted(rows, key=lambda row: row[3]))
+        yield Table(f"{title} against the other image", head, 1, sorted(rows, key=lambda row: row[3]))
 
 
-def _sorted(rows: Iterable[Row], column: int) -> list[Row]:
+def _sorted(rows: Iterable[TableRow], column: int) -> list[TableRow]:
     """Rows, those first that have most in a column."""
     return sorted(rows, key=lambda row: -int(row[column]))
 
