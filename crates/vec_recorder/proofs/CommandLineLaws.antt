@@ -1,5 +1,5 @@
 -- What the program reads of clap's matches.
-use Rattle.std.proofs.Common.{◌≡◌, ◌∙◌, ap, sym, subst, true, List, [], Option, Some, None, inl, inr}
+use Rattle.std.proofs.Common.{◌≡◌, ◌∙◌, ap, refl, sym, subst, true, List, [], Option, Some, None, inl, inr}
 use Rattle.std.specs.Prelude.{Result, Ok, Err, IfErr, IsErrAnd, unwrap_or, option_map}
 use Rattle.std.specs.Borrow.{Bor}
 use Rattle.std.specs.Option.{UnwrapsOrElse}
@@ -10,7 +10,7 @@ use Rattle.clap.proofs.WalkLemmas.{first_value-rows, raw_values-rows}
 use Rattle.clap.specs.declared.builder.command.Command.{Command}
 use Rattle.clap.specs.declared.error.Error.{Error}
 use Rattle.clap.specs.declared.parser.matches.ArgMatches.{ArgMatches}
-use Rattle.vec_recorder.specs.CommandLine.{command_line, word_of, words_fault, IsFaultOf, IsRefusedFor}
+use Rattle.vec_recorder.specs.CommandLine.{RunWords, command_line, word_of, words_fault, IsFaultOf, IsRefusedFor}
 use Rattle.vec_recorder.specs.declared.command_line.UsageFault.{UsageFault}
 use Rattle.vec_recorder.specs.declared.command_line.UsageFault.TheVariants.{Help, Usage, NoMemory}
 
@@ -50,3 +50,11 @@ pub refused_by : {T : Type 0} (c : Command) (words : List Text) (e : Error) (r :
 refused_by c words e (Ok _) is fails given = tt
 refused_by c words e (Err fault) is fails given =
     fault_among (words_fault words) e fault given (subst (λ a. HasKind (fault_of a words) e) is (fails (ap is_simple_and_free is)))
+
+-- words that are alike one by one
+pub words_alike : (w : RunWords) (policy ticks : Option Text) (memory : List Text) (registers counts : Option Text) (watch : List Text) (changes log from to image : Option Text)
+    → policy ≡ w.policy → ticks ≡ w.ticks → memory ≡ w.memory → registers ≡ w.registers → counts ≡ w.counts → watch ≡ w.watch → changes ≡ w.changes
+    → log ≡ w.log → from ≡ w.from → to ≡ w.to → image ≡ w.image
+    → record { policy = policy; ticks = ticks; memory = memory; registers = registers; counts = counts; watch = watch; changes = changes; log = log; from = from; to = to; image = image } ≡ w
+words_alike w policy ticks memory registers counts watch changes log from to image p t m r n v c l f u i =
+    rw p (rw t (rw m (rw r (rw n (rw v (rw c (rw l (rw f (rw u (rw i refl))))))))))

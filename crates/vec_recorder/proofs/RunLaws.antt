@@ -1,5 +1,5 @@
 -- The counts of a run that began with rows of nothing, and the files that it began with.
-use Rattle.std.proofs.Common.{◌≡◌, ◌∙◌, ◌<◌, ◌+◌, ◌++◌, [], ◌∷◌, ℕ, Bool, true, false, List, ap, ap₂, append-nil, arith, codes, drop, length, refl, subst, sym, take, Option, flat_map}
+use Rattle.std.proofs.Common.{◌≡◌, ◌∙◌, ◌<◌, ◌+◌, ◌++◌, [], ◌∷◌, ℕ, Bool, true, false, List, ap, ap₂, append-nil, arith, drop, length, refl, subst, sym, take, Option, flat_map}
 use Rattle.std.specs.Prelude.{IsPermutation, ◌%◌, ◌^◌, if◌then◌else◌}
 use Rattle.std.specs.List.{slice_index_or, sum_by}
 use Rattle.std.proofs.lemmas.List.Sums.{sum_by-cons}
@@ -31,8 +31,7 @@ use Rattle.rv_model.specs.step.Step.{step}
 use Rattle.rv_model.specs.vector.Groups.{Configuration}
 use Rattle.vec_recorder.specs.Beginning.{ArePlaced}
 use Rattle.vec_recorder.specs.RecordLines.{last_line, row_line}
-use Rattle.vec_recorder.specs.CommandLine.{memory_words, watch_words, word_of, words_fault}
-use Rattle.vec_recorder.specs.Recorded.{AreCountsOf, Recorded, RecordedBy, end_of}
+use Rattle.vec_recorder.specs.Recorded.{AreCountsOf, end_of}
 use Rattle.vec_recorder.specs.declared.memory_words.MemoryPath.{MemoryPath}
 
 -- ---- lines
@@ -177,35 +176,3 @@ next_placed file_bytes memories i d before next after lt one rest =
 pub none_left : (file_bytes : Text → Option (List ℕ)) (memories : List MemoryPath) (m : Memory) → ArePlaced file_bytes (drop (length memories) memories) m m
 unfolding ArePlaced
 none_left file_bytes memories m = rw (drop_all (length memories) memories (omega arith)) refl
-
--- ---- from the options to the words
-
-pub recorded_by_words : {F : Type 0} (file_bytes : Text → Option (List ℕ)) (is_made : Text → F → Type 0) (took : F → List ℕ → F → Type 0) (put : List ℕ → Type 0) (words : List Text) (policy ticks : Option Text) (memory : List Text) (registers counts : Option Text) (watch : List Text) (changes log from to image : Option Text)
-    → words_fault words ≡ [] → policy ≡ word_of (codes "policy") words → ticks ≡ word_of (codes "ticks") words → memory ≡ memory_words words
-    → registers ≡ word_of (codes "registers") words → counts ≡ word_of (codes "counts") words → watch ≡ watch_words words → changes ≡ word_of (codes "changes") words
-    → log ≡ word_of (codes "log") words → from ≡ word_of (codes "from") words → to ≡ word_of (codes "to") words
-    → image ≡ word_of (codes "image") words
-    → RecordedBy file_bytes is_made took put policy ticks memory registers counts watch changes log from to image → Recorded file_bytes is_made took words put
-recorded_by_words file_bytes is_made took put words policy ticks memory registers counts watch changes log from to image accepted policy_is ticks_are memory_is registers_are counts_are watch_is changes_are log_is from_is to_is image_is run =
-    let by = RecordedBy file_bytes is_made took put in
-    let p = word_of (codes "policy") words in
-    let t = word_of (codes "ticks") words in
-    let r = word_of (codes "registers") words in
-    let n = word_of (codes "counts") words in
-    let c = word_of (codes "changes") words in
-    let l = word_of (codes "log") words in
-    let f = word_of (codes "from") words in
-    let one = subst (λ it. by it ticks memory registers counts watch changes log from to image) policy_is run in
-    let two = subst (λ it. by p it memory registers counts watch changes log from to image) ticks_are one in
-    let three = subst (λ it. by p t it registers counts watch changes log from to image) memory_is two in
-    let four = subst (λ it. by p t (memory_words words) it counts watch changes log from to image) registers_are three in
-    let five = subst (λ it. by p t (memory_words words) r it watch changes log from to image) counts_are four in
-    let six = subst (λ it. by p t (memory_words words) r n it changes log from to image) watch_is five in
-    let seven = subst (λ it. by p t (memory_words words) r n (watch_words words) it log from to image) changes_are six in
-    let eight = subst (λ it. by p t (memory_words words) r n (watch_words words) c it from to image) log_is seven in
-    let nine = subst (λ it. by p t (memory_words words) r n (watch_words words) c l it to image) from_is eight in
-    let ten = subst (λ it. by p t (memory_words words) r n (watch_words words) c l f it image) to_is nine in
-    record {
-      accepted = accepted;
-      run = subst (λ it. by p t (memory_words words) r n (watch_words words) c l f (word_of (codes "to") words) it) image_is ten;
-    }

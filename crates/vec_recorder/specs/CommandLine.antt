@@ -1,5 +1,7 @@
 -- The words of the command line, as clap's own definitions take them, and what they ask for.
-use Rattle.std.specs.Prelude.{◌≡◌, ◌≢◌, ◌^◌, ⊤, ℕ, List, [], Option, Some, None, codes, unwrap_or}
+use Rattle.std.specs.Prelude.{◌≡◌, ◌≢◌, ◌^◌, ⊤, ℕ, List, [], Option, Some, None, codes, option_map, unwrap_or}
+use Rattle.std.specs.Borrow.{Bor}
+use Rattle.clap.specs.Walk.{texts}
 use Rattle.clap.specs.Words.{App, IsAmong, Kinds, Rule, Text, all_of, fault_of, first_of, kind_of, matches_of, new_app, new_rule, with_rule}
 use Rattle.clap.specs.declared.builder.ArgAction.TheVariants.{Append}
 use Rattle.clap.specs.declared.error.kind.ErrorKind.{ErrorKind}
@@ -7,6 +9,7 @@ use Rattle.clap.specs.declared.error.kind.ErrorKind.TheVariants.{DisplayHelp, Ou
 use Rattle.rv_model.specs.commands.Arguments.{number_between, policy_word as policy_of}
 use Rattle.rv_model.specs.declared.vector.policy.Policy.{Policy}
 use Rattle.rv_model.specs.declared.vector.policy.Policy.TheVariants.{Keep}
+use Rattle.vec_recorder.specs.declared.command_line.Options.{Options}
 use Rattle.vec_recorder.specs.declared.command_line.UsageFault.{UsageFault}
 use Rattle.vec_recorder.specs.declared.command_line.UsageFault.TheVariants.{Help, Usage, NoMemory}
 
@@ -36,13 +39,35 @@ command_line =
 abbrev pub word_of : Text → List Text → Option Text
 word_of name words = first_of name (matches_of command_line words)
 
--- the words that clap gives to `--memory`
-abbrev pub memory_words : List Text → List Text
-memory_words words = unwrap_or (all_of (codes "memory") (matches_of command_line words)) []
+-- all words that clap gives to an option that may stand more than once
+abbrev pub words_of : Text → List Text → List Text
+words_of name words = unwrap_or (all_of name (matches_of command_line words)) []
 
--- the words that clap gives to `--watch`
-abbrev pub watch_words : List Text → List Text
-watch_words words = unwrap_or (all_of (codes "watch") (matches_of command_line words)) []
+-- What the words of a command line say of a run.
+pub record RunWords : Type 0 where
+  pub policy : Option Text
+  pub ticks : Option Text
+  pub memory : List Text
+  pub registers : Option Text
+  pub counts : Option Text
+  pub watch : List Text
+  pub changes : Option Text
+  pub log : Option Text
+  pub from : Option Text
+  pub to : Option Text
+  pub image : Option Text
+
+-- what clap reads in words, the program's name first
+abbrev pub run_words : List Text → RunWords
+run_words words =
+    let one : Text → Option Text = λ name. word_of name words in
+    record { policy = one (codes "policy"); ticks = one (codes "ticks"); memory = words_of (codes "memory") words; registers = one (codes "registers"); counts = one (codes "counts"); watch = words_of (codes "watch") words; changes = one (codes "changes"); log = one (codes "log"); from = one (codes "from"); to = one (codes "to"); image = one (codes "image") }
+
+-- what options have
+abbrev pub option_words : Options → RunWords
+option_words options =
+    let text : Bor Text → Text = λ word. word.now in
+    record { policy = option_map text options.policy; ticks = option_map text options.ticks; memory = texts options.memory.items; registers = option_map text options.registers; counts = option_map text options.counts; watch = texts options.watch.items; changes = option_map text options.changes; log = option_map text options.log; from = option_map text options.from; to = option_map text options.to; image = option_map text options.image }
 
 -- the policy that a word asks for, if it is one; without a word agnostic elements keep what they have
 abbrev pub asked_policy : Option Text → Option Policy

@@ -1,5 +1,5 @@
 -- What the program did with its words: the machine that a run began with, what it put out, and what was recorded of it.
-use Rattle.std.specs.Prelude.{◌≡◌, ◌%◌, ◌^◌, ◌++◌, ⊤, ℕ, Bool, List, [], Option, None, Some, codes, flat_map}
+use Rattle.std.specs.Prelude.{◌≡◌, ◌%◌, ◌^◌, ◌++◌, ⊤, ℕ, Bool, List, [], Option, None, Some, flat_map}
 use Rattle.std.specs.List.{AllZip}
 use Rattle.clap.specs.Walk.{Text}
 use Rattle.commit_log.specs.Logged.{logged_from}
@@ -13,7 +13,7 @@ use Rattle.recording.specs.declared.row.Row.{Row}
 use Rattle.rv_model.specs.declared.vector.policy.Policy.{Policy}
 use Rattle.rv_model.specs.step.Hart.{HartState}
 use Rattle.vec_recorder.specs.Beginning.{Begins}
-use Rattle.vec_recorder.specs.CommandLine.{asked_number, asked_policy, memory_words, watch_words, word_of, words_fault}
+use Rattle.vec_recorder.specs.CommandLine.{RunWords, asked_number, asked_policy, run_words, words_fault}
 use Rattle.vec_recorder.specs.MemoryWords.{IsMemoryOf}
 use Rattle.vec_recorder.specs.RecordLines.{last_line, row_line}
 use Rattle.vec_recorder.specs.WatchWords.{IsPlaceOf}
@@ -56,29 +56,26 @@ AreKept is_made took None Says = ⊤
 AreKept is_made took (Some path) Says = IsWritten is_made took path Says
 
 -- The run that words ask for was carried out: it put this out, and its records were kept.
-pub record RecordedBy {F : Type 0} (file_bytes : Text → Option (List ℕ)) (is_made : Text → F → Type 0) (took : F → List ℕ → F → Type 0) (put : List ℕ → Type 0) (policy_word ticks_word : Option Text) (memory : List Text) (registers counts : Option Text) (watch : List Text) (changes log from to image : Option Text) : Type 0 where
+pub record RecordedBy {F : Type 0} (file_bytes : Text → Option (List ℕ)) (is_made : Text → F → Type 0) (took : F → List ℕ → F → Type 0) (put : List ℕ → Type 0) (words : RunWords) : Type 0 where
   pub policy : Policy
-  pub policy_is : asked_policy policy_word ≡ Some policy
+  pub policy_is : asked_policy words.policy ≡ Some policy
   pub ticks : ℕ
-  pub ticks_are : asked_number (2 ^ 63) ticks_word ≡ Some ticks
+  pub ticks_are : asked_number (2 ^ 63) words.ticks ≡ Some ticks
   pub memories : List MemoryPath
-  pub memories_are : AllZip IsMemoryOf memory memories
+  pub memories_are : AllZip IsMemoryOf words.memory memories
   pub places : List Place
-  pub places_are : AllZip IsPlaceOf watch places
+  pub places_are : AllZip IsPlaceOf words.watch places
   pub window : Window
-  pub first_is : asked_number 1 from ≡ Some window.from
-  pub last_is : asked_number (2 ^ 63) to ≡ Some window.to
+  pub first_is : asked_number 1 words.from ≡ Some window.from
+  pub last_is : asked_number (2 ^ 63) words.to ≡ Some window.to
   pub state : HartState
-  pub begins : Begins file_bytes policy image memories registers state
+  pub begins : Begins file_bytes policy words.image memories words.registers state
   pub output : put (flat_map put_out (ran ticks state).found)
-  pub counted : AreKept is_made took counts (λ told. AreCounted told ticks state)
-  pub changed : AreKept is_made took changes (λ told. AreChanged told places ticks state)
-  pub logged : AreKept is_made took log (λ told. AreLogged told window ticks state)
+  pub counted : AreKept is_made took words.counts (λ told. AreCounted told ticks state)
+  pub changed : AreKept is_made took words.changes (λ told. AreChanged told places ticks state)
+  pub logged : AreKept is_made took words.log (λ told. AreLogged told window ticks state)
 
 -- clap took the words, and the run that they ask for was carried out
 pub record Recorded {F : Type 0} (file_bytes : Text → Option (List ℕ)) (is_made : Text → F → Type 0) (took : F → List ℕ → F → Type 0) (words : List Text) (put : List ℕ → Type 0) : Type 0 where
   pub accepted : words_fault words ≡ []
-  pub run : RecordedBy file_bytes is_made took put (word_of (codes "policy") words) (word_of (codes "ticks") words) (memory_words words)
-      (word_of (codes "registers") words) (word_of (codes "counts") words) (watch_words words) (word_of (codes "changes") words)
-      (word_of (codes "log") words) (word_of (codes "from") words) (word_of (codes "to") words)
-      (word_of (codes "image") words)
+  pub run : RecordedBy file_bytes is_made took put (run_words words)

@@ -1,9 +1,9 @@
 //! The program: a run of one user alone, its output to an output, its records to files.
-ghost use Rattle.std.specs.Prelude.{◌≡◌, ◌⊎◌, OnOk, option_map, ⊤};
+ghost use Rattle.std.specs.Prelude.{◌≡◌, ◌⊎◌, OnOk, ⊤};
 ghost use Rattle.clap.specs.Walk.{texts};
 ghost use Rattle.clap.specs.Words.{IsAmong};
 ghost use Rattle.clap.specs.declared.error.kind.ErrorKind.TheVariants.{DisplayHelp};
-ghost use Rattle.vec_recorder.specs.CommandLine.{words_fault};
+ghost use Rattle.vec_recorder.specs.CommandLine.{option_words, words_fault};
 ghost use Rattle.vec_recorder.specs.Recorded.{Recorded, RecordedBy};
 ghost use Rattle.vec_recorder.specs.Statuses.{program_status};
 
@@ -45,13 +45,7 @@ fn record_options<'a, R: Inputs + Outputs, K: Sink>(
     output: &mut K,
 ) -> Result<u64, ProgramFault<'a>>
     ensures { OnOk result (RecordedBy (R.file_bytes rt.now) (R.is_made rt.now) R.Made.took
-        (λ told. K.took output.old told output.new)
-        (option_map (λ word. word.now) options.now.policy) (option_map (λ word. word.now) options.now.ticks)
-        (texts options.now.memory.items) (option_map (λ path. path.now) options.now.registers)
-        (option_map (λ path. path.now) options.now.counts) (texts options.now.watch.items)
-        (option_map (λ path. path.now) options.now.changes) (option_map (λ path. path.now) options.now.log)
-        (option_map (λ word. word.now) options.now.from) (option_map (λ word. word.now) options.now.to)
-        (option_map (λ path. path.now) options.now.image)) }
+        (λ told. K.took output.old told output.new) (option_words options.now)) }
 {
     let policy = policy(options.policy)?;
     let ticks = ticks(options.ticks)?;

@@ -33,15 +33,15 @@ fn perform_irregular(
     match *operation {
         VectorInstr::SetVli { rd, rs1, vtype } => {
             let length = requested_length(rd, rs1, scalar);
-            configure(rd, u64::from(vtype.value()), length, state, scalar)
+            configure(rd, u64::from(vtype.value()), length, state, scalar);
         }
         VectorInstr::SetIvli { rd, avl, vtype } => {
             let length = RequestedLength::Elements(u64::from(avl.value()));
-            configure(rd, u64::from(vtype.value()), length, state, scalar)
+            configure(rd, u64::from(vtype.value()), length, state, scalar);
         }
         VectorInstr::SetVl { rd, rs1, rs2 } => {
             let length = requested_length(rd, rs1, scalar);
-            configure(rd, scalar.read(rs2), length, state, scalar)
+            configure(rd, scalar.read(rs2), length, state, scalar);
         }
         _ => {
             let Some(vtype) = state.conf.vtype() else {
@@ -49,9 +49,9 @@ fn perform_irregular(
             };
             perform_typed(operation, vtype, policy, state, scalar);
             state.vstart = 0;
-            VEnd::Done
         }
     }
+    VEnd::Done
 }
 
 /// Carries out a vector operation of a user that has a line of its own in the manual's table, by its operands: the same

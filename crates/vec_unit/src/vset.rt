@@ -4,7 +4,7 @@ ghost use Rattle.rv_model.specs.scalar.Registers.{with_register};
 ghost use Rattle.rv_model.specs.step.Step.{requested_length};
 ghost use Rattle.rv_model.specs.vector.TypeRules.{requested};
 
-use rv_model::{Reg, RequestedLength, Scalar, VEnd, VState, VectorRequest};
+use rv_model::{Reg, RequestedLength, Scalar, VState, VectorRequest};
 
 /// The length that the registers ask for: that of `rs1`, unless it is x0.
 pub(crate) fn requested_length(rd: Reg, rs1: Reg, scalar: &Scalar) -> RequestedLength
@@ -20,15 +20,14 @@ pub(crate) fn requested_length(rd: Reg, rs1: Reg, scalar: &Scalar) -> RequestedL
 }
 
 /// Takes the length and type that a request leaves, and answers the length in `rd`. The next vector
-/// instruction begins with the first element. It is never illegal.
+/// instruction begins with the first element.
 pub(crate) fn configure(
     rd: Reg,
     vtype: u64,
     length: RequestedLength,
     state: &mut VState,
     scalar: &mut Scalar,
-) -> VEnd
-    ensures end { result ≡ VEnd.Done }
+)
     ensures state { state.new ≡ record state.old {
       conf = requested state.old.conf (record { vtype = vtype; length = length });
       vstart = 0;
@@ -40,5 +39,4 @@ pub(crate) fn configure(
     scalar.write(rd, u64::from(conf.vl()));
     state.conf = conf;
     state.vstart = 0;
-    VEnd::Done
 }

@@ -3,15 +3,17 @@ use Rattle.std.proofs.lemmas.Result.{on_ok_weaker}
 use Rattle.clap.specs.Walk.{texts}
 use Rattle.clap.specs.Words.{IsAmong}
 use Rattle.vec_recorder.specs.CommandLine.{words_fault, IsRefusedFor}
-use Rattle.vec_recorder.proofs.RunLaws.{recorded_by_words}
+use Rattle.vec_recorder.specs.Recorded.{RecordedBy}
 use Rattle.vec_recorder.proofs.program.record_words.Goals as goal
 
 pub returns-in-Ok : goal.returns-in-Ok
 returns-in-Ok g c =
     let asked = c.in-Ok.ensures in
     on_ok_weaker c.record_options.result
-    (λ ran. inr (recorded_by_words (g.R.Inputs.file_bytes c.args.rt.now) (g.R.Outputs.is_made c.args.rt.now) g.R.Made.Sink.took _ (texts c.args.words.now) _ _ _ _ _ _ _ _ _ _ _
-    (asked.taken refl) asked.policy asked.ticks asked.memory asked.registers asked.counts asked.watch asked.changes asked.log asked.from asked.to asked.image ran))
+    (λ ran. inr (record {
+      accepted = asked.taken refl;
+      run = subst (RecordedBy (g.R.Inputs.file_bytes c.args.rt.now) (g.R.Outputs.is_made c.args.rt.now) g.R.Made.Sink.took _) asked.words ran;
+    }))
     c.record_options.ensures
 
 pub returns-in-Ok-print : goal.returns-in-Ok-print

@@ -1,6 +1,7 @@
 use Rattle.std.proofs.Common.{◌∙◌, ◌++◌, ap}
 use Rattle.clap.specs.Walk.{texts}
-use Rattle.vec_recorder.proofs.CommandLineLaws.{refused_by, rows_by, taken_by, texts_in, word_read, words_read}
+use Rattle.vec_recorder.specs.CommandLine.{run_words}
+use Rattle.vec_recorder.proofs.CommandLineLaws.{refused_by, rows_by, taken_by, texts_in, word_read, words_alike, words_read}
 use Rattle.vec_recorder.proofs.words.options.Goals as goal
 
 pub returns : goal.returns
@@ -10,19 +11,20 @@ returns c =
     let matches = c.in_ok-matches.matches in
     let rows = rows_by command matches words c.in_ok-command.ensures c.in_ok-matches.ensures.matches in
     record {
-      policy = c.get_str.ensures ∙ word_read matches words _ rows;
-      ticks = c.get_str-2.ensures ∙ word_read matches words _ rows;
-      memory = ap texts (c.in_ok-extend_from_slice.ensures.items ∙ ap (λ items. items ++ c.unwrap_or_default.result.now) c.new-memory.ensures.items)
-          ∙ texts_in _ c.get_strs.result c.unwrap_or_default.result _ (c.get_strs.ensures ∙ words_read matches words _ rows) c.unwrap_or_default.ensures (λ none is. is);
-      registers = c.get_str-3.ensures ∙ word_read matches words _ rows;
-      counts = c.get_str-4.ensures ∙ word_read matches words _ rows;
-      watch = ap texts (c.in_ok-extend_from_slice-2.ensures.items ∙ ap (λ items. items ++ c.unwrap_or_default-2.result.now) c.new-watch.ensures.items)
-          ∙ texts_in _ c.get_strs-2.result c.unwrap_or_default-2.result _ (c.get_strs-2.ensures ∙ words_read matches words _ rows) c.unwrap_or_default-2.ensures (λ none is. is);
-      changes = c.get_str-5.ensures ∙ word_read matches words _ rows;
-      log = c.get_str-6.ensures ∙ word_read matches words _ rows;
-      from = c.get_str-7.ensures ∙ word_read matches words _ rows;
-      to = c.get_str-8.ensures ∙ word_read matches words _ rows;
-      image = c.get_str-9.ensures ∙ word_read matches words _ rows;
+      words = words_alike (run_words words) _ _ _ _ _ _ _ _ _ _ _
+          (c.get_str.ensures ∙ word_read matches words _ rows)
+          (c.get_str-2.ensures ∙ word_read matches words _ rows)
+          (ap texts (c.in_ok-extend_from_slice.ensures.items ∙ ap (λ items. items ++ c.unwrap_or_default.result.now) c.new-memory.ensures.items)
+          ∙ texts_in _ c.get_strs.result c.unwrap_or_default.result _ (c.get_strs.ensures ∙ words_read matches words _ rows) c.unwrap_or_default.ensures (λ none is. is))
+          (c.get_str-3.ensures ∙ word_read matches words _ rows)
+          (c.get_str-4.ensures ∙ word_read matches words _ rows)
+          (ap texts (c.in_ok-extend_from_slice-2.ensures.items ∙ ap (λ items. items ++ c.unwrap_or_default-2.result.now) c.new-watch.ensures.items)
+          ∙ texts_in _ c.get_strs-2.result c.unwrap_or_default-2.result _ (c.get_strs-2.ensures ∙ words_read matches words _ rows) c.unwrap_or_default-2.ensures (λ none is. is))
+          (c.get_str-5.ensures ∙ word_read matches words _ rows)
+          (c.get_str-6.ensures ∙ word_read matches words _ rows)
+          (c.get_str-7.ensures ∙ word_read matches words _ rows)
+          (c.get_str-8.ensures ∙ word_read matches words _ rows)
+          (c.get_str-9.ensures ∙ word_read matches words _ rows);
       taken = λ taken. taken_by command words c.in_ok-command.ensures c.in_ok-matches.ensures.kinds;
       refused = tt;
     }
