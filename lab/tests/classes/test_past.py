@@ -33,7 +33,7 @@ def test_what_seats_know_by_lines_in_blocks(session: Session, size: int) -> None
     assert list(one.log) == (LOG_ENTRIES // 4) * [entry for pair in pairs for entry in pair]
     assert list(two.log)[-5:-1] == [">2 break 10004", "<2 ok", ">2 go", "<2 running pc=0000000000010000"]
     assert two.log[-1].startswith("<2 break pc=0000000000010004") and two.stop == "break pc=0000000000010004"
-    assert (one.looked_at.breaks, two.looked_at.breaks) == (set(), {0x10004})
+    assert (one.sight.breaks, two.sight.breaks) == (set(), {0x10004})
     assert one.used == sum(len(line) + 1 for line in lines if line[0] == "1" and line != "1 out ")
     assert two.used == sum(len(line) + 1 for line in lines if line[0] == "2") + len("* run 2\n")
 
@@ -42,5 +42,5 @@ def test_lines_that_set_a_machine_up(session: Session) -> None:
     """They are told to nobody, and no share is charged for them; what is watched is known by them."""
     seats = told(session, [SCRIPT], set_up=len(SCRIPT) - 3)
     two = seats.users["2"]
-    assert list(two.log)[:2] == [">2 go", "<2 running pc=0000000000010000"] and two.looked_at.breaks == {0x10004}
+    assert list(two.log)[:2] == [">2 go", "<2 running pc=0000000000010000"] and two.sight.breaks == {0x10004}
     assert two.used == len("2 go\n") + len("* run 2\n") and seats.users["1"].used == 0

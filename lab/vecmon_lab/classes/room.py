@@ -170,7 +170,7 @@ class Room:
         breaks: Sequence[int] = []
         async with seat.turn:
             if source is None:
-                source, program, breaks = seat.written, seat.program, sorted(seat.looked_at.breaks)
+                source, program, breaks = seat.written, seat.program, sorted(seat.sight.breaks)
             if program is None:
                 raise BadRequest("no source stands in this machine, so none can be written again")
             warnings = program.warnings if isinstance(program, CompiledProgram) else []
@@ -238,7 +238,7 @@ class Room:
                 if not isinstance(answer, Position):
                     return
                 pc = answer.pc
-                if program.line_at(pc) not in (0, begun) or pc in seat.looked_at.breaks:
+                if program.line_at(pc) not in (0, begun) or pc in seat.sight.breaks:
                     return
 
         async with seat.turn, self._lock:
@@ -254,11 +254,7 @@ class Room:
         number = 0
         for number, word in enumerate(words, 1):
             after = word.address + 4
-            if (
-                word.text[0] in LEAVES
-                or program.line_at(after) != program.line_at(pc)
-                or after in seat.looked_at.breaks
-            ):
+            if word.text[0] in LEAVES or program.line_at(after) != program.line_at(pc) or after in seat.sight.breaks:
                 break
         return max(number, 1)
 
@@ -459,7 +455,7 @@ class Room:
         """Looks at a running program, which stops for that, and may go on; at no breakpoint, since `go` passes one."""
         work.is_last = False
         place = read(self.session.look(f"{seat.digit} state"))
-        if not isinstance(place, Position) or place.run != "running" or place.pc in seat.looked_at.breaks:
+        if not isinstance(place, Position) or place.run != "running" or place.pc in seat.sight.breaks:
             return
         self._do(work, f"{seat.digit} {STOP}", f"{seat.digit} {OUT}")
         self._look(work)

@@ -18,7 +18,7 @@ from ..machine.lines import DIGITS, is_look, words_of
 from ..machine.session import Session
 from .languages import SourceText
 from .live import is_servers
-from ..page.state import ABSENT, LookedAt, RowChoice, State, look_at, with_rows
+from ..page.state import ABSENT, RowChoice, Sight, State, look_at, with_rows
 
 LOG_ENTRIES = 500
 UNNAMED: State = {"labels": {}, "lines": {}}
@@ -53,7 +53,7 @@ class Seat:
     number: int = 0
     state: State = field(default_factory=ABSENT.copy)
     shown: State = field(default_factory=ABSENT.copy)
-    looked_at: LookedAt = field(default_factory=LookedAt)
+    sight: Sight = field(default_factory=Sight)
     rows: RowChoice = field(default_factory=RowChoice)
     named: State = field(default_factory=UNNAMED.copy)
     written: SourceText = SourceText()
@@ -98,7 +98,7 @@ class Seat:
     def list_program(self, program: Program) -> None:
         """Has instructions and variables of a program shown that a compiler made, in place of all that lines name."""
         if isinstance(program, CompiledProgram):
-            self.looked_at.take_compiled(program.text(), variable_rows(program.variables)[:MOST_NAMED])
+            self.sight.take_compiled(program.text(), variable_rows(program.variables)[:MOST_NAMED])
 
     def put_out(self, digits: str) -> None:
         """Takes up what the program has put out. Full blocks stay as they are, so that pages aren't told them again."""
@@ -133,7 +133,7 @@ class Seats:
         """Takes up what a user's line says of the user's memory."""
         if line[0] in self.users and not is_refusal(answer):
             seat = self.users[line[0]]
-            seat.looked_at.follow(line)
+            seat.sight.follow(line)
             if _begins_anew(line, answer):
                 seat.rows = RowChoice()
 
@@ -154,10 +154,10 @@ class Seats:
             single = lines == [f"{digit} step 1"] and before["run"] == "stopped"
             carried_out = before["code"].get(before["pc"], "")[9:] if single else ""
             is_done = not all(map(is_look, lines))
-            state = look_at(Guest(session, int(digit)), seat.looked_at, before, own, carried_out, is_done)
+            state = look_at(Guest(session, int(digit)), seat.sight, before, own, carried_out, is_done)
             state.pop("output", None)  # which the seat has
             seat.rows.add(state)
-            states[digit] = state, with_rows(state, seat.rows.rows(seat.looked_at, 1 + seat.looked_at.is_compiled))
+            states[digit] = state, with_rows(state, seat.rows.rows(seat.sight, 1 + seat.sight.is_compiled))
         return states
 
     def take(self, states: dict[str, tuple[State, State]]) -> None:

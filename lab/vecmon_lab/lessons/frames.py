@@ -14,7 +14,7 @@ from ..guest.notebook import registers_html
 from ..machine.answers import Answer, ControlRegisters, Position, Refused, by_whom, read
 from ..machine.lines import DIGITS, BadLine, is_look, words_of
 from ..machine.session import Session
-from ..page.state import ABSENT, LookedAt, RowChoice, State, look_at, with_rows
+from ..page.state import ABSENT, RowChoice, Sight, State, look_at, with_rows
 from .script import Script, Step, refused_statement
 
 MOST_NAMED = 40  # rows of memory that variables of a source in C have for certain
@@ -69,7 +69,7 @@ class _Maker:
 
     def __init__(self, script: Script, whole: Session, single: Session) -> None:
         self._script, self._whole, self._single = script, whole, single
-        self._looked_at: dict[str, LookedAt] = {}
+        self._sights: dict[str, Sight] = {}
         self._states: dict[str, State] = {}
         self._frames: list[Frame] = []
 
@@ -88,7 +88,7 @@ class _Maker:
                     self._single.do(line)
         self._look(step.lines, answers)
         before = self._frames[-1].user if self._frames else "1"
-        user = next((entry[1] for entry in log if entry[1:2] in self._looked_at), before)
+        user = next((entry[1] for entry in log if entry[1:2] in self._sights), before)
         self._add_frame(step, user, log, step.note)
 
     def _carry_out(self, line: str, log: list[str], answers: list[tuple[str, Answer]]) -> None:
@@ -103,9 +103,9 @@ class _Maker:
         if line in self._script.statements and isinstance(answer, Refused):
             raise refused_statement(self._script, line, answer)
         if line[0] in DIGITS:
-            looked_at = self._looked_at.setdefault(line[0], LookedAt())
+            sight = self._sights.setdefault(line[0], Sight())
             if not isinstance(answer, Refused):
-                looked_at.follow(line)
+                sight.follow(line)
         log += log_entries(line, parts)
         answers += by_whom(parts)
 
@@ -129,10 +129,10 @@ class _Maker:
     def _look(self, lines: Sequence[str], answers: Sequence[tuple[str, Answer]], carried_out: str = "") -> None:
         """Looks at those users whom lines, or an instruction, may have changed: an operator's line may, all of them."""
         users = {line[:1] for line in lines if not is_look(line)}
-        for user, looked_at in self._looked_at.items():
+        for user, sight in self._sights.items():
             if user in users or "*" in users:
                 own, before = [answer for whom, answer in answers if whom == user], self._states.get(user, ABSENT)
-                self._states[user] = look_at(Guest(self._single, int(user)), looked_at, before, own, carried_out)
+                self._states[user] = look_at(Guest(self._single, int(user)), sight, before, own, carried_out)
 
     def _add_frame(self, step: Step, user: str, log: list[str], note: str) -> None:
         line, more = step.lines[0] if step.lines else "", sum(not is_look(line) for line in step.lines[1:])
@@ -140,13 +140,13 @@ class _Maker:
 
     def finish(self) -> list[Frame]:
         """The frames, with those rows of memory alone that tell most."""
-        for user, looked_at in self._looked_at.items():
+        for user, sight in self._sights.items():
             if self._script.variables:  # and not what else the image has
-                looked_at.named = set(variable_rows(self._script.variables)[:MOST_NAMED])
+                sight.named = set(variable_rows(self._script.variables)[:MOST_NAMED])
             choice = RowChoice()
             for frame in self._frames:
                 choice.add(frame.states.get(user, ABSENT))
-            rows = choice.rows(looked_at, 2 if self._script.variables else 1)
+            rows = choice.rows(sight, 2 if self._script.variables else 1)
             for frame in self._frames:
                 if user in frame.states:
                     frame.states[user] = with_rows(frame.states[user], rows)

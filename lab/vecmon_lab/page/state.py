@@ -74,7 +74,7 @@ _ADDRESS = re.compile(r"(-?\d+)?\(x(\d+)\)")
 _STORE = re.compile(r"(s[bhwd]|vs\S+) .*\(x\d+\)")
 
 
-class LookedAt:
+class Sight:
     """The places of one user's memory that are looked at: words of the program, and pages of data; and breakpoints."""
 
     def __init__(self) -> None:
@@ -126,12 +126,7 @@ class LookedAt:
 
 
 def look_at(
-    guest: Guest,
-    looked_at: LookedAt,
-    before: State,
-    answers: Sequence[Answer],
-    carried_out: str = "",
-    is_done: bool = True,
+    guest: Guest, sight: Sight, before: State, answers: Sequence[Answer], carried_out: str = "", is_done: bool = True
 ) -> State:
     """The user's state after lines that were answered to the user so; before them the state was `before`.
 
@@ -160,23 +155,23 @@ def look_at(
     trace = guest.told("trace", Addresses).addresses
     stepped = any(isinstance(answer, Position) and answer.kind == "stepped" for answer in answers)
     may_store = not carried_out or _STORE.match(carried_out) is not None
-    code = _code(guest, looked_at, place.pc, trace, {} if may_store else state["code"])
+    code = _code(guest, sight, place.pc, trace, {} if may_store else state["code"])
     if code != state.get("code"):
         state["code"] = code
         state["operands"] = {address: shown_operands(int(line[:8], 16)) for address, line in code.items()}
     text = state["code"].get(state["pc"], "")
-    pages = len(looked_at.pages)
-    looked_at.add_accessed(text[9:], state["x"])
-    if may_store or len(looked_at.pages) > pages:
-        state["memory"] = _memory(guest, looked_at)
-    if trace and (stepped or trace != looked_at.trace):
+    pages = len(sight.pages)
+    sight.add_accessed(text[9:], state["x"])
+    if may_store or len(sight.pages) > pages:
+        state["memory"] = _memory(guest, sight)
+    if trace and (stepped or trace != sight.trace):
         state["instruction"] = f"{trace[-1]:x}"
     stop = next((answer for answer in reversed(answers) if isinstance(answer, Stop)), None)
     if stop:
         state["stop"] = describe_stop(stop, int(text[:8], 16) if text else None, control, text[9:])
     if stop and stop.kind == "fault":
         state.update({"instruction": state["pc"], "faulted": True})
-    looked_at.trace = trace
+    sight.trace = trace
     return state
 
 
@@ -199,11 +194,11 @@ class RowChoice:
             self._weights[row] = max(self._weights[row], 2 if has_changed else int(digits.strip("0") != ""))
         self._last = state["memory"]
 
-    def rows(self, looked_at: LookedAt, least: int = 1) -> set[str]:
+    def rows(self, sight: Sight, least: int = 1) -> set[str]:
         """The addresses of the rows that tell most; 2 is the least for those that have changed alone."""
-        listing = {f"{address // ROW_BYTES * ROW_BYTES:x}" for address in looked_at.code}
+        listing = {f"{address // ROW_BYTES * ROW_BYTES:x}" for address in sight.code}
         weights = Counter({row: it for row, it in self._weights.items() if it >= least and row not in listing})
-        weights.update({f"{row:x}": 3 for row in looked_at.named if f"{row:x}" in self._weights})
+        weights.update({f"{row:x}": 3 for row in sight.named if f"{row:x}" in self._weights})
         return {row for row, _ in weights.most_common(MOST_ROWS)}
 
 
@@ -228,15 +223,15 @@ def _take_registers(guest: Guest, state: State) -> ControlRegisters:
     return control
 
 
-def _code(guest: Guest, looked_at: LookedAt, pc: int, trace: Sequence[int], known: dict[str, str]) -> dict[str, str]:
+def _code(guest: Guest, sight: Sight, pc: int, trace: Sequence[int], known: dict[str, str]) -> dict[str, str]:
     """The listing: words that lines wrote, words that were carried out, and some from the program counter on.
 
     What is known of it is as it was.
     """
-    if len(looked_at.code) < MOST_WORDS:
-        looked_at.code.update(trace)
-        looked_at.code.update(_ahead(guest, pc))
-    new = {address for address in looked_at.code if f"{address:x}" not in known}
+    if len(sight.code) < MOST_WORDS:
+        sight.code.update(trace)
+        sight.code.update(_ahead(guest, pc))
+    new = {address for address in sight.code if f"{address:x}" not in known}
     return known | {f"{it.address:x}": f"{it.word:08x} {it.text}" for it in guest.words(new)}
 
 
@@ -249,10 +244,10 @@ def _ahead(guest: Guest, pc: int) -> Iterator[int]:
         yield word.address
 
 
-def _memory(guest: Guest, looked_at: LookedAt) -> dict[str, str]:
+def _memory(guest: Guest, sight: Sight) -> dict[str, str]:
     """The rows of all pages that are watched and mapped."""
     rows = dict[str, str]()
-    for page in sorted(looked_at.pages):
+    for page in sorted(sight.pages):
         data = guest.peek(page, PAGE_BYTES)
         rows |= {f"{page + at:x}": data[at : at + ROW_BYTES].hex() for at in range(0, len(data), ROW_BYTES)}
     return rows
