@@ -20,5 +20,5 @@ mod write_call;
 pub use ending::Ending;
 pub use instruction_cycle::{cycle, step};
 pub use rv_model::StepEnd;
-pub use vectors::Vectors;
+pub use vectors::{OneSeat, Vectors};
 pub use view::{StepTerms, View};

@@ -30,3 +30,29 @@ pub trait Vectors {
     // What came back is what is lent the next time.
     ghost lent_again: { (v : Self) (s : Seat) → ready v → lent (back v s) ≡ s };
 }
+
+/// A vector state that is lent to each instruction.
+#[derive(Drop)]
+pub struct OneSeat {
+    pub seat: Seat,
+}
+
+impl Vectors for OneSeat {
+    ghost use Rattle.std.specs.Prelude.{⊤};
+    ghost use Rattle.std.proofs.Common.{refl};
+
+    ghost ready = { λ _. ⊤ };
+
+    ghost lent = { λ v. v.seat };
+
+    ghost back = { λ v s. record v { seat = s } };
+
+    ghost ready_again = { λ _ _ is _. is };
+
+    ghost lent_again = { λ _ _ _. refl };
+
+    #[inline(always)]
+    fn seat(&mut self) -> &mut Seat {
+        &mut self.seat
+    }
+}

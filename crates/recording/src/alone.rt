@@ -2,38 +2,12 @@
 ghost use Rattle.std.specs.Prelude.{◌≡◌};
 
 use arrayvec::ArrayVec;
-use hart::{Vectors, View, step};
-use rv_model::{OUTPUT_SIZE, Policy, Scalar, Seat, StepEnd};
+use hart::{OneSeat, View, step};
+use rv_model::{OUTPUT_SIZE, Policy, Scalar, StepEnd};
 use vector_memory::UserBytes;
 
 /// More ticks than an instruction takes: no memory instruction has more elements.
 const MAX_TICKS: usize = 256;
-
-/// A vector state that is lent to each instruction.
-#[derive(Drop)]
-pub struct OneSeat {
-    pub seat: Seat,
-}
-
-impl Vectors for OneSeat {
-    ghost use Rattle.std.specs.Prelude.{⊤};
-    ghost use Rattle.std.proofs.Common.{refl};
-
-    ghost ready = { λ _. ⊤ };
-
-    ghost lent = { λ v. v.seat };
-
-    ghost back = { λ v s. record v { seat = s } };
-
-    ghost ready_again = { λ _ _ is _. is };
-
-    ghost lent_again = { λ _ _ _. refl };
-
-    #[inline(always)]
-    fn seat(&mut self) -> &mut Seat {
-        &mut self.seat
-    }
-}
 
 /// The registers, bytes, vector state and output buffer of one user, and what becomes of agnostic elements.
 #[derive(Drop)]

@@ -20,13 +20,14 @@ mod short_writes;
 mod sums;
 mod table;
 
-pub use alone::{Alone, OneSeat};
+pub use alone::Alone;
 pub use both::Both;
 pub use carried::Carried;
 pub use class::Class;
 pub use counting::{is_counted, word_at};
 pub use counts::Counts;
 pub use fault::RecordFault;
+pub use hart::OneSeat;
 pub use key::Key;
 pub use laws::recording_laws;
 pub use recorder::Recorder;

@@ -1,10 +1,11 @@
 //! One access in parts, against the same access as a whole.
 ghost use Rattle.std.specs.Prelude.{◌≤◌};
 
-use crate::lending::{OneSeat, UserMemory};
+use crate::lending::UserMemory;
 use crate::pages::{Pages, are_same};
 use crate::registers::Registers;
 use crate::ways::{Case, Way};
+use hart::OneSeat;
 use rv_decode::encode;
 use rv_model::{AccessInstr, FILE_BYTES, GROUP_BYTES, Instr, MemEnd, Scalar, User, VState};
 use user_mem::Pool;

@@ -3,8 +3,8 @@ ghost use Rattle.std.specs.Prelude.{◌≤◌};
 
 use crate::access::{Form, Kind, bytes_of};
 use crate::generator::Generator;
-use crate::lending::OneSeat;
 use crate::pages::{CODE, GAP};
+use hart::OneSeat;
 use rv_model::instructions::operations::Eew;
 use rv_model::{FILE_BYTES, Lmul, Policy, Scalar, Seat, Sew, VConf, VState, VType};
 

@@ -1,10 +1,10 @@
 //! The ways in which an access is carried out.
 ghost use Rattle.std.specs.Prelude.{◌≤◌};
 
-use crate::lending::{OneSeat, UserMemory};
+use crate::lending::UserMemory;
 use crate::registers::Registers;
 use arrayvec::ArrayVec;
-use hart::{Vectors, View, step};
+use hart::{OneSeat, Vectors, View, step};
 use reg_groups::legal;
 use rv_model::{AccessInstr, Cause, Instr, MemEnd, OUTPUT_SIZE, Policy, Scalar, StepEnd, VState};
 use vector_memory::{UserBytes, run};

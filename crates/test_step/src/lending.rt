@@ -1,8 +1,5 @@
-//! What instructions are lent: the bytes of one user, and a vector state.
-ghost use Rattle.std.proofs.Common.{refl};
-
-use hart::Vectors;
-use rv_model::{Access, Fault, PAGE_SIZE, Permissions, Seat, USER_COUNT, User};
+//! The bytes that instructions are lent: those of one user.
+use rv_model::{Access, Fault, PAGE_SIZE, Permissions, USER_COUNT, User};
 use std::alloc::Global;
 use user_mem::Pool;
 use vector_memory::UserBytes;
@@ -70,29 +67,5 @@ impl UserBytes for UserMemory {
         // Each user has a memory in the pool.
         prove!(self.user.index() < USER_COUNT);
         self.pool.write(self.user, addr, access, bytes)
-    }
-}
-
-/// A vector state, which is lent to each instruction.
-#[derive(Drop)]
-pub(crate) struct OneSeat {
-    pub seat: Seat,
-}
-
-impl Vectors for OneSeat {
-    ghost use Rattle.std.specs.Prelude.{⊤};
-
-    ghost ready = { λ _. ⊤ };
-
-    ghost lent = { λ v. v.seat };
-
-    ghost back = { λ v s. record v { seat = s } };
-
-    ghost ready_again = { λ _ _ is _. is };
-
-    ghost lent_again = { λ _ _ _. refl };
-
-    fn seat(&mut self) -> &mut Seat {
-        &mut self.seat
     }
 }

@@ -1,10 +1,11 @@
 //! Instructions carried out where no byte may be loaded or stored and registers hold ones, beside the ends that the
 //! rules say.
 use crate::ends::{Ending, Found, ending_of};
-use crate::lending::{CODE, OneSeat, UserMemory};
+use crate::lending::{CODE, UserMemory};
 use crate::rules::{greatest_length, is_legal, type_read};
 use crate::shapes::Shape;
 use crate::ways::{Case, LIMIT, Way};
+use hart::OneSeat;
 use rv_asm::assemble;
 use rv_model::{
     FILE_BYTES, Policy, RequestedLength, Scalar, Seat, VConf, VEnd, VLENB, VState, VectorRequest,

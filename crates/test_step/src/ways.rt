@@ -3,10 +3,10 @@ ghost use Rattle.std.specs.Prelude.{◌≡◌};
 ghost use Rattle.rv_model.specs.step.Step.{is_vector};
 
 use crate::ends::Ending;
-use crate::lending::{CODE, OneSeat, UserMemory};
+use crate::lending::{CODE, UserMemory};
 use crate::shapes::Shape;
 use arrayvec::ArrayVec;
-use hart::{Vectors, View, step};
+use hart::{OneSeat, Vectors, View, step};
 use rv_decode::decode;
 use rv_model::{Cause, Instr, OUTPUT_SIZE, Policy, Scalar, StepEnd, VEnd, VState};
 use vec_unit::exec;
