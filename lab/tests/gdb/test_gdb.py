@@ -114,6 +114,14 @@ def text(packet: str) -> str:
     return bytes.fromhex(packet[1:]).decode()
 
 
+def is_end(packets: Packets, packet: str, status: int) -> bool:
+    """Whether a packet brings the program to where it exits with a status, and another one ends it."""
+    packets.send(packet)
+    assert packets.read(1) == b"+"
+    told = text(packets.packet()).startswith(f"vecmon: it exits here with status {status}; ")
+    return told and packets.packet() == "T05replaylog:end;" and packets.ask("c") == f"W{status:02x}"
+
+
 def typed_in(page: str, image: str) -> list[str]:
     """What is typed in a page's session with an image, once gdb is connected."""
     begin = page.index(f"(gdb) target remote | vecmon-lab gdb {image}\n")
@@ -162,7 +170,7 @@ def test_a_fault_and_how_to_go_on(squares: Packets) -> None:
     assert squares.ask("m12000,1") == "E11"
     assert squares.ask("M11000,2:e803") == squares.ask(f"P20={little(0x10174)}") == "OK"
     assert squares.ask(f"P2={little(0x7FFFEFC0)}") == "OK"
-    assert squares.ask("C0b") == "W00"
+    assert is_end(squares, "C0b", 0)
 
 
 def test_breakpoints_steps_and_output() -> None:
@@ -174,7 +182,22 @@ def test_breakpoints_steps_and_output() -> None:
         packets.send("c")
         assert packets.read(1) == b"+" and text(packets.packet()) == "328350\n" and packets.packet() == "S05"
         assert packets.ask("z0,112dc,4") == "OK"
-        assert (packets.ask("p2e")[:8], packets.ask("c")) == (little(328350, 4), "W00")  # the sum is in v8
+        assert packets.ask("p2e")[:8] == little(328350, 4) and is_end(packets, "c", 0)  # the sum is in v8
+
+
+def test_back_from_the_end(tmp_path: pathlib.Path, program: pathlib.Path) -> None:
+    """Where the program exits gdb stops once; from there it goes back, or writes what makes another end of it."""
+    make_image(program, tmp_path / "image", "li a7, 93\nli a0, 3\necall")
+    with Packets(tmp_path / "image") as packets:
+        for packet in ("c", "s"):
+            packets.send(packet)
+            assert packets.read(1) == b"+" and "with status 3;" in text(packets.packet())
+            assert (packets.packet(), packets.ask("?")) == ("T05replaylog:end;",) * 2
+            assert packets.ask("p20") == little(0x10008)
+            assert (packets.ask("bs"), packets.ask("p20")) == ("S05", little(0x10004))
+            assert (packets.ask("s"), packets.ask("p20")) == ("S05", little(0x10008))
+        assert packets.ask(f"Pa={little(5)}") == "OK"
+        assert is_end(packets, "c", 5)
 
 
 def test_watched_forth_and_back(tmp_path: pathlib.Path, program: pathlib.Path) -> None:
@@ -270,7 +293,7 @@ def test_arguments(tmp_path: pathlib.Path, program: pathlib.Path) -> None:
     with Packets(tmp_path / "image", "--help", "two") as packets:
         packets.send("c")
         assert packets.read(1) == b"+" and text(packets.packet()) == "image\n--help\ntwo\n"
-        assert packets.packet() == "W03"
+        assert "with status 3;" in text(packets.packet()) and packets.packet() == "T05replaylog:end;"
 
 
 def test_an_interrupt(tmp_path: pathlib.Path, program: pathlib.Path) -> None:
@@ -366,8 +389,8 @@ def gdb() -> Callable[..., str]:
 
 @pytest.mark.parametrize("image", [SUM_DWARF4, SUM_DWARF5])
 def test_gdb_with_source_lines(gdb: Callable[..., str], image: pathlib.Path) -> None:
-    commands = ["break 22", "continue", "next", "print $v10.w", "print $vl", "print/x $vtype", "delete", "continue"]
-    told = gdb(image, *commands)
+    commands = ["break 22", "continue", "next", "print $v10.w", "print $vl", "print/x $vtype", "delete"]
+    told = gdb(image, *commands, "continue", "continue")
     assert "Breakpoint 1, sum (" in told and "sum.c:22" in told
     assert "22\t        vuint32m2_t next = __riscv_vle32_v_u32m2(elements, length);" in told
     squares = ", ".join(str(number * number) for number in range(8))
@@ -427,10 +450,9 @@ def test_gdb_steps_back(gdb: Callable[..., str], program: pathlib.Path, tmp_path
 
 def test_gdb_begins_anew(gdb: Callable[..., str]) -> None:
     again = f"target remote | exec {sys.executable} -m vecmon_lab gdb {SUM}"
-    told = gdb(SUM, "stepi", "stepi", again, "print $pc", "continue")
-    assert "$1 = (void (*)()) 0x11190 <_start>" in told and told.endswith(
-        "328350\n[Inferior 1 (Remote target) exited normally]\n"
-    )
+    told = gdb(SUM, "stepi", "stepi", again, "print $pc", "continue", "continue")
+    assert "$1 = (void (*)()) 0x11190 <_start>" in told and "328350\nvecmon: it exits here with status 0; " in told
+    assert told.endswith("[Inferior 1 (Remote target) exited normally]\n")
 
 
 def test_gdb_begins_anew_after_a_signal(gdb: Callable[..., str]) -> None:
@@ -449,7 +471,9 @@ def test_gdb_shows_vcsr(gdb: Callable[..., str], tmp_path: pathlib.Path, program
 
 def test_gdb_with_a_fault(gdb: Callable[..., str]) -> None:
     commands = ["continue", "print $vstart", "print $v8.w[0]", "set var *(int *) 0x11000 = 1000", "set $pc = 0x10174"]
-    told = gdb(SQUARES, *commands, "set $sp = 0x7fffefc0", "set $v31.l[1] = 77", "print $v31.l", "stepi", "continue")
+    told = gdb(
+        SQUARES, *commands, "set $sp = 0x7fffefc0", "set $v31.l[1] = 77", "print $v31.l", "stepi", *["continue"] * 2
+    )
     assert "vecmon: The store at 0x10198 may not write" in told and "SIGSEGV" in told
     assert "$1 = 14" in told and f"$2 = {1008 * 1008}" in told and "$3 = {0, 77, 0, 0}" in told
     assert told.endswith("exited normally]\n")

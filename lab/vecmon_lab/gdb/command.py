@@ -3,7 +3,7 @@
 gdb begins the command and speaks with it over a pipe, so that nothing listens. Packets and their answers are those of gdb's manual, "gdb
 Remote Serial Protocol": a stop is `S` and a signal's number, an exit `W` and the status, output `O` and its bytes, an error `E` and a
 number, which is that of the machine's refusal; an empty answer says that such a packet isn't taken here. `T05` tells of a place that is
-watched, or that there is nothing before the first instant.
+watched, that there is nothing before the first instant, or that the next one is the program's end: there gdb can still go back.
 """
 
 import argparse
@@ -39,7 +39,7 @@ INTERRUPTED, ILLEGAL, TRAPPED, MISALIGNED, UNMAPPED = "S02", "S04", "S05", "S0a"
 FAULTS = {0: MISALIGNED, 1: UNMAPPED, 2: ILLEGAL, 5: UNMAPPED, 7: UNMAPPED}  # by cause
 REFUSED, TOO_MANY, THERE_ALREADY = "E04", "E12", Refused("E13")
 FEATURES = "qXfer:features:read+;QStartNoAckMode+;ReverseStep+;ReverseContinue+;qXfer:exec-file:read+"
-FIRST_INSTANT = "T05replaylog:begin;"
+FIRST_INSTANT, LAST_INSTANT = "T05replaylog:begin;", "T05replaylog:end;"
 WATCHES = {"2": "watch", "3": "rwatch", "4": "awatch"}  # by the number in a packet
 PACKET_BYTES = 512  # so that what gdb writes at once, in two digits a byte, isn't too much for `poke`
 DESCRIPTION = pathlib.Path(__file__).with_name("registers.xml").read_text("ascii")
@@ -73,6 +73,7 @@ class Target:
         self.is_attached, self._image = True, image
         self._guest, self._link, self._timeline = guest, link, Timeline(guest)
         self._last = BEGUN  # the last stop
+        self._exit = ""  # what gdb is told if it goes on from where the program exits
 
     def answer(self, packet: str) -> str:
         """The answer to a packet; output comes before it, by itself. Raises EOFError where gdb ends the program."""
@@ -82,6 +83,8 @@ class Target:
             return REFUSED
 
     def _answer(self, letter: str, words: list[str]) -> str:
+        if letter in "bMP":  # it goes back, or what is written may keep it from exiting
+            self._exit = ""
         match letter, words:
             case "q", ["Supported", *_]:
                 return f"PacketSize={PACKET_BYTES:x};{FEATURES}"
@@ -95,6 +98,8 @@ class Target:
                 return "OK"
             case "?", _:
                 return self._last
+            case ("c" | "C" | "s" | "S"), _ if self._exit:
+                return self._exit
             case ("c" | "C"), _:
                 return self._stopped(self._timeline.go(self._link.is_interrupted), INTERRUPTED)
             case ("s" | "S"), _:
@@ -126,10 +131,11 @@ class Target:
         return ""
 
     def _stopped(self, stop: Stop | None, signal: str) -> str:
-        """A stop by its signal, or the program's end; without one the signal. Why it faulted is put out in words."""
+        """A stop by its signal, or the last instant; without one the signal. Why it stopped for good is put out in words."""
         self._last = self._trapped() if stop else signal
         if stop and stop.kind == "exit":
-            self._last = f"W{stop.number:02x}"
+            self._tell(f"it exits here with status {stop.number}; continue ends it, reverse-continue goes back")
+            self._exit, self._last = f"W{stop.number:02x}", LAST_INSTANT
         if stop and stop.kind == "fault":
             self._tell(self._guest.explain(stop))
             self._last = FAULTS[stop.cause]
