@@ -2,6 +2,8 @@
 
 import argparse
 import pathlib
+import re
+import sys
 from collections.abc import Callable, Sequence
 from typing import Any
 
@@ -19,13 +21,26 @@ def image_path(word: str) -> pathlib.Path:
 
 
 class _Program(argparse.Action):
-    """Divides an image from the words behind it, which are `words` then; `named` is what the image was named by."""
+    """Divides an image from the words behind it, which are `words` then; `named` is what the image was named by.
+
+    Of words there that are options of the command it is said that they are the program's, unless `--` has said so.
+    """
 
     def __call__(
-        self, parser: object, namespace: argparse.Namespace, values: str | Sequence[Any] | None, option: object = None
+        self,
+        parser: argparse.ArgumentParser,
+        namespace: argparse.Namespace,
+        values: str | Sequence[Any] | None,
+        option: object = None,
     ) -> None:
         words = list(values or ())
-        path, *namespace.words = words[1:] if words[0] == "--" else words
+        is_said = words[0] == "--"
+        path, *namespace.words = words[1:] if is_said else words
+        options = re.findall(r"(?<![\w-])-[\w-]+", parser.format_usage())
+        for word in [] if is_said else namespace.words:
+            if word.partition("=")[0] in options:
+                told = f"{word} behind {path} is the program's own; options of {parser.prog} stand before {path}"
+                print(f"vecmon-lab: {told}", file=sys.stderr)
         namespace.named, namespace.image = pathlib.Path(path), image_path(path)
 
 

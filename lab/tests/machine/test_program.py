@@ -100,6 +100,15 @@ def test_words_behind_an_image_are_the_program_s(command: str, words: list[str],
         assert arguments.input == (pathlib.Path("file") if before else None)
 
 
+@pytest.mark.parametrize("word", ["--against", "--in=file", "-o"])
+def test_an_option_behind_an_image_is_told(capsys: pytest.CaptureFixture[str], word: str) -> None:
+    start.arguments_of(["profile", "image", "--tick", word, "--against-it"])
+    told = f"vecmon-lab: {word} behind image is the program's own; "
+    assert capsys.readouterr() == ("", f"{told}options of vecmon-lab profile stand before image\n")
+    start.arguments_of(["profile", "--", "image", word])
+    assert capsys.readouterr() == ("", "")
+
+
 @pytest.mark.parametrize("words", [["run", "--trace"], ["lesson", "-o"], ["profile", "-o"]])
 def test_an_output_that_is_an_input(
     monkeypatch: pytest.MonkeyPatch, capsys: pytest.CaptureFixture[str], tmp_path: pathlib.Path, words: list[str]

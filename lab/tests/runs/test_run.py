@@ -121,7 +121,7 @@ def test_a_run_that_is_long(lab: Lab, program: pathlib.Path, tmp_path: pathlib.P
 def test_arguments(lab: Lab, program: pathlib.Path, tmp_path: pathlib.Path) -> None:
     make_image(program, tmp_path / "arguments", ARGUMENTS)
     assert lab("run", tmp_path / "arguments") == (1, b"arguments\n", "")
-    assert lab("run", tmp_path / "arguments", "one", "--stats", "--") == (4, b"arguments\none\n--stats\n--\n", "")
+    assert lab("run", "--", tmp_path / "arguments", "one", "--stats", "--") == (4, b"arguments\none\n--stats\n--\n", "")
     assert lab("compare", tmp_path / "arguments", "-2")[1].startswith(b"keep, slices of 1,000:  exit 2 ")
     assert lab("profile", tmp_path / "arguments", "-2")[1].endswith(b"ticks; status 2\n")
 
