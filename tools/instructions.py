@@ -30,8 +30,8 @@ STEPS = (
     ("step.ScalarStep", "scalar_step"),
     ("step.ScalarStep", "csr_executed"),
     ("step.Step", "operation_step"),
-    ("step.Step", "typed_step"),
-    ("step.Step", "arith_step"),  # behind `typed_step`, which has one line for all of these
+    ("step.Step", "typed_over"),
+    ("step.Step", "arith_over"),  # behind `typed_over`, which has one line for all of these
     ("accesses.VectorAccess", "access_of"),
 )
 # The names that these definitions of `InstructionTexts` may give

@@ -3,7 +3,7 @@ ghost use Rattle.std.specs.Prelude.{◌≡◌, ◌*◌, false, true};
 ghost use Rattle.rv_model.specs.elements.Arithmetic.{group_element, with_results};
 ghost use Rattle.rv_model.specs.vector.Groups.{register_count, whole_type, register_of};
 ghost use Rattle.rv_model.specs.lending.GroupBounds.{HoldsBody, IsInside};
-ghost use Rattle.rv_model.specs.step.Step.{whole_body};
+ghost use Rattle.rv_model.specs.elements.Bodies.{whole_body};
 
 use crate::destination::{Destination, write_group};
 use lane_arith::{Body, Copies, Lane};

@@ -25,7 +25,8 @@ use Rattle.rv_model.specs.step.Hart.{Cause, HartState, Scalar, Stepped, VState, 
 use Rattle.rv_model.specs.legality.Legality.{is_legal}
 use Rattle.rv_model.specs.scalar.Registers.{advanced, read_register, with_register}
 use Rattle.rv_model.specs.elements.Arithmetic.{binary_result, body_of, carry_out_result, carry_result, clip_result, clip_saturates_at, compare_result, extend_result, fills_masked_off, fills_tail, fixed_point_result, index_result, iota_result, mask_logic_result, multiply_add_result, narrow_shift_result, reduce_result, saturates_at, second_element, wide_source_result, widen_multiply_add_result, widen_reduce_result, widen_result, with_first_result, with_mask_results, with_results, group_element}
-use Rattle.rv_model.specs.vector.Groups.{GroupType, group_type, sew_bits, element_count, register_of, part_type, wide_type, whole_type}
+use Rattle.rv_model.specs.vector.Groups.{GroupType, group_type, sew_bits, register_of, part_type, wide_type, whole_type}
+use Rattle.rv_model.specs.elements.Bodies.{is_arith_unmasked, operation_body}
 use Rattle.rv_model.specs.elements.Elements.{some_active, Body}
 use Rattle.rv_model.specs.elements.PermutationResults.{moved_to_scalar, permute_body, permute_result, with_packed, packed}
 use Rattle.rv_model.specs.elements.Masks.{first_set, mask_scan_formula, mask_to_scalar_formula}
@@ -45,29 +46,23 @@ use Rattle.rv_model.specs.vector.Control.{is_write, csr_form}
 pub use Rattle.rv_model.specs.step.Hart.{HartState, Stepped, ends, faults, retires, gives}
 
 -- slides and gathers. The tail is filled as of any instruction, also where a slide's offset is past the body.
-abbrev pub permuted : VType → PermuteOp → Source → ℕ → ℕ → Bool → HartState → List ℕ
-permuted t op source vd vs2 unmasked s =
-    let body = body_of unmasked s.vector in
+abbrev pub permuted : VType → PermuteOp → Source → ℕ → ℕ → Body → HartState → List ℕ
+permuted t op source vd vs2 body s =
     with_results (group_type t) vd (permute_body op source s.scalar body) (fills_masked_off s.policy t body)
     (fills_tail s.policy t body) (permute_result (group_type t) op body.end vs2 source s.vector.file s.scalar) s.vector.file
 
 -- vcompress; the bits of vs1 say which elements are packed
-abbrev pub compressed : VType → ℕ → ℕ → ℕ → HartState → List ℕ
-compressed t vd vs1 vs2 s =
-    let body = body_of true s.vector in
+abbrev pub compressed : VType → ℕ → ℕ → ℕ → Body → HartState → List ℕ
+compressed t vd vs1 vs2 body s =
     let file = s.vector.file in
     with_packed (group_type t) vd body.end (fills_tail s.policy t body)
     (packed (register_of file vs1) (group_element (group_type t) file vs2) body.end) file
 
--- the elements of whole registers from vstart on, whatever vl is
-abbrev pub whole_body : GroupType → VState → Body
-whole_body g v = record (body_of true v) { end = element_count g }
-
 -- vmv1r.v and the like, which have no tail (section 16.6)
-abbrev pub whole_moved : VType → RegisterCount → ℕ → ℕ → HartState → List ℕ
-whole_moved t count vd vs2 s =
+abbrev pub whole_moved : VType → RegisterCount → ℕ → ℕ → Body → HartState → List ℕ
+whole_moved t count vd vs2 body s =
     let g = whole_type t count in
-    with_results g vd (whole_body g s.vector) false false (group_element g s.vector.file vs2) s.vector.file
+    with_results g vd body false false (group_element g s.vector.file vs2) s.vector.file
 
 -- whether an instruction is one of the vector extension; those of control registers are not
 abbrev pub is_vector : Instr → Bool
@@ -110,74 +105,79 @@ abbrev pub writes_registers : List ℕ → HartState → VectorStepped
 writes_registers file s = leaves s.scalar (record s.vector { file = file }) s
 
 -- an instruction whose results, by the registers that it finds, stand in a group of elements
-abbrev pub element_wise : VType → GroupType → ℕ → Bool → (List ℕ → Scalar → ℕ → ℕ) → HartState → VectorStepped
-element_wise t g vd unmasked result s =
-    let body = body_of unmasked s.vector in
+abbrev pub element_wise : VType → GroupType → ℕ → Body → (List ℕ → Scalar → ℕ → ℕ) → HartState → VectorStepped
+element_wise t g vd body result s =
     let numbers = result s.vector.file s.scalar in
     writes_registers (with_results g vd body (fills_masked_off s.policy t body) (fills_tail s.policy t body) numbers s.vector.file) s
 
 -- the same, of an instruction that sets vxsat where one of the results isn't the exact number; it never clears it
-abbrev pub saturating : VType → GroupType → ℕ → Bool → (List ℕ → Scalar → ℕ → ℕ) → (List ℕ → Scalar → ℕ → Bool) → HartState → VectorStepped
-saturating t g vd unmasked result saturates s =
-    let v = (element_wise t g vd unmasked result s).state.vector in
-    let saturated = some_active (body_of unmasked s.vector) (saturates s.vector.file s.scalar) in
+abbrev pub saturating : VType → GroupType → ℕ → Body → (List ℕ → Scalar → ℕ → ℕ) → (List ℕ → Scalar → ℕ → Bool) → HartState → VectorStepped
+saturating t g vd body result saturates s =
+    let v = (element_wise t g vd body result s).state.vector in
+    let saturated = some_active body (saturates s.vector.file s.scalar) in
     leaves s.scalar (record v { vxsat = v.vxsat || saturated }) s
 
 -- an instruction whose results stand in a mask; whatever the policy is, no other bit of it changes
-abbrev pub mask_wise : ℕ → Bool → (List ℕ → Scalar → ℕ → Bool) → HartState → VectorStepped
-mask_wise vd unmasked bit s =
-    writes_registers (with_mask_results vd (body_of unmasked s.vector) (bit s.vector.file s.scalar) s.vector.file) s
+abbrev pub mask_wise : ℕ → Body → (List ℕ → Scalar → ℕ → Bool) → HartState → VectorStepped
+mask_wise vd body bit s =
+    writes_registers (with_mask_results vd body (bit s.vector.file s.scalar) s.vector.file) s
 
 -- an instruction whose one result stands in element 0 of a register, whatever LMUL is; the tail begins with element 1, and no
 -- element is masked off
-abbrev pub writes_first : VType → GroupType → ℕ → Bool → (List ℕ → Scalar → ℕ) → HartState → VectorStepped
-writes_first t g vd unmasked result s =
-    let body = body_of unmasked s.vector in
+abbrev pub writes_first : VType → GroupType → ℕ → Body → (List ℕ → Scalar → ℕ) → HartState → VectorStepped
+writes_first t g vd body result s =
     writes_registers (with_first_result g.width vd body (fills_tail s.policy t body) (result s.vector.file s.scalar) s.vector.file) s
 
 -- ---- each instruction
 
--- an operation with a line of its own in the manual's table: g is the type of the groups, w that of groups of twice the width.
--- Carries and borrows are written for the whole body. A reduction's result is of the active elements.
-abbrev pub arith_step : VType → GroupType → GroupType → VectorOp → Source → ℕ → ℕ → Bool → HartState → VectorStepped
-arith_step t g w (Binary op) source vd vs2 vm s = element_wise t g vd vm (binary_result g op vs2 source) s
-arith_step t g w (MultiplyAdd op) source vd vs2 vm s = element_wise t g vd vm (multiply_add_result g op vd vs2 source) s
-arith_step t g w (Compare op) source vd vs2 vm s = mask_wise vd vm (compare_result g op vs2 source) s
-arith_step t g w (CarryOut op) source vd vs2 vm s = mask_wise vd true (carry_out_result g op vm vs2 source) s
-arith_step t g w (Widen op) source vd vs2 vm s = element_wise t w vd vm (widen_result g w op vs2 source) s
-arith_step t g w (WideSource op) source vd vs2 vm s = element_wise t w vd vm (wide_source_result g w op vs2 source) s
-arith_step t g w (WidenMultiplyAdd op) source vd vs2 vm s = element_wise t w vd vm (widen_multiply_add_result g w op vd vs2 source) s
-arith_step t g w (NarrowShift op) source vd vs2 vm s = element_wise t g vd vm (narrow_shift_result g w op vs2 source) s
-arith_step t g w (FixedPoint op) source vd vs2 vm s =
-    saturating t g vd vm (fixed_point_result g s.vector.vxrm op vs2 source) (saturates_at g s.vector.vxrm op vs2 source) s
-arith_step t g w (Clip op) source vd vs2 vm s =
-    saturating t g vd vm (clip_result g w s.vector.vxrm op vs2 source) (clip_saturates_at g w s.vector.vxrm op vs2 source) s
-arith_step t g w (Reduce op) source vd vs2 vm s = writes_first t g vd vm (reduce_result g op (body_of vm s.vector) vs2 source) s
-arith_step t g w (WidenReduce op) source vd vs2 vm s =
-    writes_first t w vd vm (widen_reduce_result g w op (body_of vm s.vector) vs2 source) s
-arith_step t g w (Permute op) source vd vs2 vm s = writes_registers (permuted t op source vd vs2 vm s) s
+-- an operation with a line of its own in the manual's table, applied to a body: g is the type of the groups, w that of groups of twice the
+-- width. A reduction's result is of the active elements.
+abbrev pub arith_over : VType → GroupType → GroupType → VectorOp → Source → ℕ → ℕ → Bool → Body → HartState → VectorStepped
+arith_over t g w (Binary op) source vd vs2 vm body s = element_wise t g vd body (binary_result g op vs2 source) s
+arith_over t g w (MultiplyAdd op) source vd vs2 vm body s = element_wise t g vd body (multiply_add_result g op vd vs2 source) s
+arith_over t g w (Compare op) source vd vs2 vm body s = mask_wise vd body (compare_result g op vs2 source) s
+arith_over t g w (CarryOut op) source vd vs2 vm body s = mask_wise vd body (carry_out_result g op vm vs2 source) s
+arith_over t g w (Widen op) source vd vs2 vm body s = element_wise t w vd body (widen_result g w op vs2 source) s
+arith_over t g w (WideSource op) source vd vs2 vm body s = element_wise t w vd body (wide_source_result g w op vs2 source) s
+arith_over t g w (WidenMultiplyAdd op) source vd vs2 vm body s = element_wise t w vd body (widen_multiply_add_result g w op vd vs2 source) s
+arith_over t g w (NarrowShift op) source vd vs2 vm body s = element_wise t g vd body (narrow_shift_result g w op vs2 source) s
+arith_over t g w (FixedPoint op) source vd vs2 vm body s =
+    saturating t g vd body (fixed_point_result g s.vector.vxrm op vs2 source) (saturates_at g s.vector.vxrm op vs2 source) s
+arith_over t g w (Clip op) source vd vs2 vm body s =
+    saturating t g vd body (clip_result g w s.vector.vxrm op vs2 source) (clip_saturates_at g w s.vector.vxrm op vs2 source) s
+arith_over t g w (Reduce op) source vd vs2 vm body s = writes_first t g vd body (reduce_result g op body vs2 source) s
+arith_over t g w (WidenReduce op) source vd vs2 vm body s =
+    writes_first t w vd body (widen_reduce_result g w op body vs2 source) s
+arith_over t g w (Permute op) source vd vs2 vm body s = writes_registers (permuted t op source vd vs2 body s) s
 
--- a legal instruction that needs a vector type and neither loads nor stores. Operations with v0 as an operand are of the whole
--- body. Excluded: the others.
+-- the same, applied to the operation's own body
+abbrev pub arith_step : VType → GroupType → GroupType → VectorOp → Source → ℕ → ℕ → Bool → HartState → VectorStepped
+arith_step t g w op source vd vs2 vm s = arith_over t g w op source vd vs2 vm (body_of (is_arith_unmasked op vm) s.vector) s
+
+-- a legal instruction that needs a vector type and neither loads nor stores, applied to a body. Excluded: the others.
+abbrev pub typed_over : VectorInstr → Body → VType → HartState → VectorStepped
+typed_over (Arith arith vd vs2 vm) body t s = arith_over t (group_type t) (wide_type t) arith.0 arith.1 vd vs2 vm body s
+typed_over (Carry carry vd vs2) body t s = element_wise t (group_type t) vd body (carry_result (group_type t) carry.0 vs2 carry.1) s
+typed_over (Move source vd) body t s = element_wise t (group_type t) vd body (second_element (group_type t) false source) s
+typed_over (Extend op vd vs2 vm) body t s =
+    element_wise t (group_type t) vd body (λ file x. extend_result (part_type op t) (group_type t) op vs2 file) s
+typed_over (MaskLogic op vd vs1 vs2) body t s = mask_wise vd body (λ file x. mask_logic_result op vs1 vs2 file) s
+typed_over (MaskToScalar op rd vs2 vm) body t s =
+    writes_scalar rd (mask_to_scalar_formula op body (register_of s.vector.file vs2)) s
+typed_over (MaskUnary (Scan op) vd vs2 vm) body t s =
+    mask_wise vd body (λ file x. mask_scan_formula op (first_set body (register_of file vs2))) s
+typed_over (MaskUnary Viota vd vs2 vm) body t s =
+    element_wise t (group_type t) vd body (λ file x. iota_result (group_type t) body vs2 file) s
+typed_over (ElementIndex vd vm) body t s = element_wise t (group_type t) vd body (λ file x. index_result (group_type t)) s
+typed_over (Compress vd vs1 vs2) body t s = writes_registers (compressed t vd vs1 vs2 body s) s
+typed_over (MoveToScalar rd vs2) body t s = writes_scalar rd (moved_to_scalar t vs2 s.vector.file) s
+typed_over (MoveToVector vd rs1) body t s = writes_first t (group_type t) vd body (λ file x. read_register x rs1 % 2 ^ sew_bits t.sew) s
+typed_over (WholeMove count vd vs2) body t s = writes_registers (whole_moved t count vd vs2 body s) s
+typed_over _ body t s = vector_ends vector_end.Illegal s
+
+-- the same, applied to the instruction's own body
 abbrev pub typed_step : VectorInstr → VType → HartState → VectorStepped
-typed_step (Arith arith vd vs2 vm) t s = arith_step t (group_type t) (wide_type t) arith.0 arith.1 vd vs2 vm s
-typed_step (Carry carry vd vs2) t s = element_wise t (group_type t) vd true (carry_result (group_type t) carry.0 vs2 carry.1) s
-typed_step (Move source vd) t s = element_wise t (group_type t) vd true (second_element (group_type t) false source) s
-typed_step (Extend op vd vs2 vm) t s =
-    element_wise t (group_type t) vd vm (λ file x. extend_result (part_type op t) (group_type t) op vs2 file) s
-typed_step (MaskLogic op vd vs1 vs2) t s = mask_wise vd true (λ file x. mask_logic_result op vs1 vs2 file) s
-typed_step (MaskToScalar op rd vs2 vm) t s =
-    writes_scalar rd (mask_to_scalar_formula op (body_of vm s.vector) (register_of s.vector.file vs2)) s
-typed_step (MaskUnary (Scan op) vd vs2 vm) t s =
-    mask_wise vd vm (λ file x. mask_scan_formula op (first_set (body_of vm s.vector) (register_of file vs2))) s
-typed_step (MaskUnary Viota vd vs2 vm) t s =
-    element_wise t (group_type t) vd vm (λ file x. iota_result (group_type t) (body_of vm s.vector) vs2 file) s
-typed_step (ElementIndex vd vm) t s = element_wise t (group_type t) vd vm (λ file x. index_result (group_type t)) s
-typed_step (Compress vd vs1 vs2) t s = writes_registers (compressed t vd vs1 vs2 s) s
-typed_step (MoveToScalar rd vs2) t s = writes_scalar rd (moved_to_scalar t vs2 s.vector.file) s
-typed_step (MoveToVector vd rs1) t s = writes_first t (group_type t) vd true (λ file x. read_register x rs1 % 2 ^ sew_bits t.sew) s
-typed_step (WholeMove count vd vs2) t s = writes_registers (whole_moved t count vd vs2 s) s
-typed_step _ t s = vector_ends vector_end.Illegal s
+typed_step i t s = typed_over i (operation_body i t s.vector) t s
 
 -- an instruction that needs a vector type. Excluded by legality: there is none.
 abbrev pub typed : Option VType → (VType → HartState → VectorStepped) → HartState → VectorStepped
