@@ -8,5 +8,6 @@ pub mod StepCases
 pub mod StepTicks
 pub mod StepsResume
 pub mod StoredWords
+pub mod Targets
 pub mod Ticks
 pub mod TicksTaken

@@ -8,5 +8,6 @@ pub mod MemoryStep
 pub mod Resumes
 pub mod ScalarStep
 pub mod Step
+pub mod Targets
 pub mod Ticks
 pub mod WriteCall

@@ -122,11 +122,11 @@ access_stays limit i s (Some a) e =
     }
 
 operation_stays : (i : VectorInstr) (s : HartState) → Stays s (operation_step i s).state
-operation_stays i s = operation_is s (λ (r : VectorStepped). Stays s r.state) (record {
-  sets = λ rd vtype length. vset_stays rd vtype length s;
+operation_stays i s = operation_is s (λ (r : VectorStepped). Stays s r.state) i (record {
+  sets = λ vtype length. vset_stays _ vtype length s;
   leaves = λ scalar first file saturated. still s _ refl refl;
   illegal = still s s refl refl;
-}) i
+})
 
 performed_stays : (limit : ℕ) (i : Instr) (s : HartState) → Stays s (performed limit i s).state
 unfolding performed
@@ -161,12 +161,12 @@ step_stays limit s = of_step limit s (λ (r : Stepped). Stays s r.state) (record
   fault = λ cause value. still s s refl refl;
   runs = λ scalar first. still s _ refl refl;
   stores = λ addr bytes. record { configured = λ is. is; allowed = λ access x. is_allowed-put_bytes access s.memory addr bytes x };
-  controls = λ register n rd value. still s _ (control_stays register n s.vector) refl;
+  controls = λ register n value. still s _ (control_stays register n s.vector) refl;
   puts = λ addr asked. still s _ refl refl;
   exits = λ status. still s s refl refl;
   breaks = still s s refl refl;
   full = still s s refl refl;
-}) (λ i word. vector_step_stays limit i word s)
+}) (λ i word is. vector_step_stays limit i word s)
 
 pub step_keeps_configuration : StepKeepsConfiguration
 step_keeps_configuration limit s is = (step_stays limit s).configured is

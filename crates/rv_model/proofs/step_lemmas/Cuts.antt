@@ -42,11 +42,11 @@ AtOnce (vector_end.Cut index) = ⊥
 AtOnce _ = ⊤
 
 operation_once : (i : VectorInstr) (s : HartState) → AtOnce (operation_step i s).end
-operation_once i s = operation_is s (λ (r : VectorStepped). AtOnce r.end) (record {
-  sets = λ rd vtype length. tt;
+operation_once i s = operation_is s (λ (r : VectorStepped). AtOnce r.end) i (record {
+  sets = λ vtype length. tt;
   leaves = λ scalar first file saturated. tt;
   illegal = tt;
-}) i
+})
 
 once_whole : (end : VEnd) → AtOnce end → StopsShort end → ⊥
 once_whole vector_end.Done h stops = stops.undone refl

@@ -20,7 +20,8 @@ use Rattle.rv_model.specs.accesses.VectorAccess.{VectorAccess, access_of}
 use Rattle.rv_model.specs.step.MemoryStep.{access_end}
 use Rattle.rv_model.specs.step.WriteCall.{write_count}
 use Rattle.rv_model.proofs.memory_lemmas.Memory.{length-bytes_at}
-use Rattle.rv_model.proofs.step_lemmas.StepCases.{SameFirst, first-with_register, of_step, operation_is}
+use Rattle.rv_model.proofs.step_lemmas.StepCases.{SameFirst, first-with_register, of_step, operation_is, wrote-first}
+use Rattle.rv_model.specs.step.Targets.{target_at, target_of_vector}
 use Rattle.rv_model.proofs.Choices.{of_either}
 
 -- a fact where an instruction faults
@@ -75,12 +76,12 @@ access_keeps limit i (Some a) s =
     }
 
 operation_keeps : (i : VectorInstr) (s : HartState) → VectorKeeps s (operation_step i s)
-operation_keeps i s = operation_is s (VectorKeeps s) (record {
-  sets = λ rd vtype length.
-      record { refused = tt; first = first-with_register rd (vset_step rd vtype length s).state.vector.conf.vl s.scalar; output = refl; illegal = tt };
-  leaves = λ scalar first file saturated. record { refused = tt; first = first; output = refl; illegal = tt };
+operation_keeps i s = operation_is s (VectorKeeps s) i (record {
+  sets = λ vtype length.
+      record { refused = tt; first = first-with_register (target_of_vector i) (vset_step (target_of_vector i) vtype length s).state.vector.conf.vl s.scalar; output = refl; illegal = tt };
+  leaves = λ scalar w file saturated. record { refused = tt; first = wrote-first (target_of_vector i) s.scalar scalar w; output = refl; illegal = tt };
   illegal = record { refused = refl; first = refl; output = refl; illegal = refl };
-}) i
+})
 
 performed_keeps : (limit : ℕ) (i : Instr) (s : HartState) → VectorKeeps s (performed limit i s)
 unfolding performed
@@ -112,20 +113,20 @@ vector_step_keeps limit i word s =
 step_keeps : (limit : ℕ) (s : HartState) → Keeps s (step limit s)
 step_keeps limit s = of_step limit s (Keeps s) (record {
   fault = λ cause value. record { fault = refl; first = refl; output = nothing s.output };
-  runs = λ scalar first. record { fault = tt; first = first; output = nothing s.output };
+  runs = λ scalar w. record { fault = tt; first = wrote-first (target_at s) s.scalar scalar w; output = nothing s.output };
   stores = λ addr bytes. record { fault = tt; first = refl; output = nothing s.output };
-  controls = λ register n rd value. record { fault = tt; first = first-with_register rd value s.scalar; output = nothing s.output };
+  controls = λ register n value. record { fault = tt; first = first-with_register (target_at s) value s.scalar; output = nothing s.output };
   puts = λ addr asked.
       let count : ℕ = write_count asked s.output in
       record {
         fault = tt;
-        first = first-with_register 10 count s.scalar;
+        first = first-with_register (target_at s) count s.scalar;
         output = record { more = bytes_at s.memory addr count; added = refl; fits = omega (arith, length-bytes_at s.memory addr count) };
       };
   exits = λ status. record { fault = tt; first = refl; output = nothing s.output };
   breaks = record { fault = tt; first = refl; output = nothing s.output };
   full = record { fault = tt; first = refl; output = nothing s.output };
-}) (λ i word. vector_step_keeps limit i word s)
+}) (λ i word is. vector_step_keeps limit i word s)
 
 pub faults_write_no_register : FaultsWriteNoRegister
 faults_write_no_register limit s cause pc value is = subst (λ (end : StepEnd). OnFault end ((step limit s).state.scalar ≡ s.scalar)) is (step_keeps limit s).fault

@@ -38,8 +38,9 @@ use Rattle.rv_model.specs.scalar.ControlTransfer.{is_taken}
 use Rattle.rv_model.specs.scalar.LoadsAndStores.{load_width, store_width}
 use Rattle.rv_model.specs.scalar.Registers.{advanced, read_register, with_register}
 use Rattle.rv_model.specs.step.Hart.{HartState, Stepped, ends, faults, gives, retires}
-use Rattle.rv_model.specs.step.ScalarStep.{csr_executed, csr_step, environment_call, jump_step, jumps, scalar_step}
+use Rattle.rv_model.specs.step.ScalarStep.{csr_executed, csr_step, environment_call, jumps, scalar_step}
 use Rattle.rv_model.specs.step.Step.{executed, fetched, step, touches, word_at, VectorStepped, arith_step, leaves, operation_step, requested_length, typed, typed_step, vector_ends, vector_step, vset_step}
+use Rattle.rv_model.specs.step.Targets.{Wrote, scalar_target, target_at, target_of, target_of_scalar, target_of_vector}
 use Rattle.rv_model.specs.step.Ticks.{is_scalar}
 use Rattle.rv_model.specs.step.WriteCall.{output_room, write_call, write_count}
 use Rattle.rv_model.specs.vector.Control.{control_value, csr_form, is_write, with_control, written_value}
@@ -55,70 +56,88 @@ first-with_register rd value s =
     of_test (SameFirst s) (rd == 0) s (record s { x = slice_set s.x rd value }) (λ e. refl)
     (λ e. let other : 0 ≢ rd = grind (arith, nat_tests, e) in get_or-set_other s.x rd 0 value 0 other)
 
-pub record Cases (s : HartState) (P : Stepped → Type 0) : Type 0 where
+-- a register has a new value
+pub wrote : (rd value pc : ℕ) (x : Scalar) → Wrote rd x (record (with_register rd value x) { pc = pc })
+wrote rd value pc x = record { value = value; pc = pc; is = refl }
+
+-- the same where the program counter is unchanged
+pub wrote_alone : (rd value : ℕ) (x : Scalar) → Wrote rd x (with_register rd value x)
+wrote_alone rd value x = record {
+  value = value;
+  pc = x.pc;
+  is = of_bool (rd == 0) (λ b. cond b x (record x { x = slice_set x.x rd value }) ≡ record (cond b x (record x { x = slice_set x.x rd value })) { pc = x.pc })
+      (λ e. refl) (λ e. refl);
+}
+
+pub wrote-first : (rd : ℕ) (old new : Scalar) → Wrote rd old new → SameFirst old new
+wrote-first rd old new w = subst (SameFirst old) (sym w.is) (first-with_register rd w.value old)
+
+-- rd is the target of the instruction
+pub record Cases (s : HartState) (rd : ℕ) (P : Stepped → Type 0) : Type 0 where
   pub fault : (cause : Cause) (value : ℕ) → P (faults cause value s)
-  pub runs : (scalar : Scalar) → SameFirst s.scalar scalar → P (ends Ran (record s { scalar = scalar }))
+  pub runs : (scalar : Scalar) → Wrote rd s.scalar scalar → P (ends Ran (record s { scalar = scalar }))
   pub stores : (addr : ℕ) (bytes : List ℕ) → P (retires s.scalar (record s { memory = put_bytes s.memory addr bytes }))
-  pub controls : (register : ControlRegister) (n rd value : ℕ) → P (gives rd value (record s { vector = with_control register n s.vector }))
+  pub controls : (register : ControlRegister) (n value : ℕ) → P (gives rd value (record s { vector = with_control register n s.vector }))
   pub puts : (addr asked : ℕ)
-      → P (gives 10 (write_count asked s.output) (record s { output = s.output ++ bytes_at s.memory addr (write_count asked s.output) }))
+      → P (gives rd (write_count asked s.output) (record s { output = s.output ++ bytes_at s.memory addr (write_count asked s.output) }))
   pub exits : (status : ℕ) → P (ends (Exit status) s)
   pub breaks : P (ends Ebreak s)
   pub full : P (ends OutputFull s)
 
-module _ (s : HartState) (P : Stepped → Type 0) (c : Cases s P) where
-  gives_is : (rd value : ℕ) → P (gives rd value s)
-  gives_is rd value = c.runs (advanced (with_register rd value s.scalar)) (first-with_register rd value s.scalar)
+module _ (s : HartState) (P : Stepped → Type 0) where
+  gives_is : (rd value : ℕ) → Cases s rd P → P (gives rd value s)
+  gives_is rd value c = c.runs (advanced (with_register rd value s.scalar)) (wrote rd value _ s.scalar)
 
-  jumps_is : (target : ℕ) (scalar : Scalar) → SameFirst s.scalar scalar → P (jumps target scalar s)
-  jumps_is target scalar h = of_either P (target % 4 == 0) _ _ (c.runs (record scalar { pc = target }) h) (c.fault MisalignedTarget target)
+  goes_is : Cases s 0 P → P (retires s.scalar s)
+  goes_is c = c.runs (advanced s.scalar) (wrote 0 0 _ s.scalar)
 
-  jump_is : (rd target : ℕ) → P (jump_step rd target s)
-  jump_is rd target = jumps_is target (with_register rd (sum w64 s.scalar.pc 4) s.scalar) (first-with_register rd (sum w64 s.scalar.pc 4) s.scalar)
+  jumps_is : (target rd value : ℕ) → Cases s rd P → P (jumps target (with_register rd value s.scalar) s)
+  jumps_is target rd value c =
+      of_either P (target % 4 == 0) _ _ (c.runs (record (with_register rd value s.scalar) { pc = target }) (wrote rd value target s.scalar)) (c.fault MisalignedTarget target)
 
-  csr_is : (register : Option ControlRegister) (op : CsrOp) (rd source operand word : ℕ) → P (csr_step register op rd source operand word s)
-  csr_is None op rd source operand word = c.fault IllegalInstruction word
-  csr_is (Some register) op rd source operand word =
+  csr_is : (register : Option ControlRegister) (op : CsrOp) (rd source operand word : ℕ) → Cases s rd P → P (csr_step register op rd source operand word s)
+  csr_is None op rd source operand word c = c.fault IllegalInstruction word
+  csr_is (Some register) op rd source operand word c =
       of_either P (is_write op source && is_read_only register) _ _ (c.fault IllegalInstruction word)
       (of_either P (is_write op source) _ _
-      (c.controls register (written_value op (control_value register s.vector) operand) rd (control_value register s.vector))
-      (gives_is rd (control_value register s.vector)))
+      (c.controls register (written_value op (control_value register s.vector) operand) (control_value register s.vector))
+      (gives_is rd (control_value register s.vector) c))
 
-  write_is : P (write_call s)
+  write_is : Cases s 10 P → P (write_call s)
   unfolding write_call
-  write_is =
+  write_is c =
       let asked : ℕ = read_register s.scalar 12 in
       let addr : ℕ = read_register s.scalar 11 in
-      of_either P (not (read_register s.scalar 10 == 1)) _ _ (gives_is 10 (2 ^ 64 - 9))
-      (of_either P (asked == 0) _ _ (gives_is 10 0)
+      of_either P (not (read_register s.scalar 10 == 1)) _ _ (gives_is 10 (2 ^ 64 - 9) c)
+      (of_either P (asked == 0) _ _ (gives_is 10 0 c)
       (of_either P (output_room s.output == 0) _ _ c.full
-      (of_either P (can_access access.Load s.memory addr (write_count asked s.output)) _ _ (c.puts addr asked) (gives_is 10 (2 ^ 64 - 14)))))
+      (of_either P (can_access access.Load s.memory addr (write_count asked s.output)) _ _ (c.puts addr asked) (gives_is 10 (2 ^ 64 - 14) c))))
 
-  scalar_is : (i : ScalarInstr) → P (scalar_step i s)
+  scalar_is : (i : ScalarInstr) → Cases s (target_of_scalar i) P → P (scalar_step i s)
   unfolding environment_call
-  scalar_is (Upper op rd imm) = gives_is rd _
-  scalar_is (Jump rd imm) = jump_is rd _
-  scalar_is (JumpRegister rd rs1 imm) = jump_is rd _
-  scalar_is (Branch op rs1 rs2 imm) =
-      of_either P (is_taken op (read_register s.scalar rs1) (read_register s.scalar rs2)) _ _ (jumps_is _ s.scalar refl) (c.runs (advanced s.scalar) refl)
-  scalar_is (Load op rd rs1 imm) =
+  scalar_is (Upper op rd imm) c = gives_is rd _ c
+  scalar_is (Jump rd imm) c = jumps_is _ rd (sum w64 s.scalar.pc 4) c
+  scalar_is (JumpRegister rd rs1 imm) c = jumps_is _ rd (sum w64 s.scalar.pc 4) c
+  scalar_is (Branch op rs1 rs2 imm) c =
+      of_either P (is_taken op (read_register s.scalar rs1) (read_register s.scalar rs2)) _ _ (jumps_is _ 0 0 c) (goes_is c)
+  scalar_is (Load op rd rs1 imm) c =
       let addr : ℕ = sum w64 (read_register s.scalar rs1) (i_immediate imm) in
-      of_either P (can_access access.Load s.memory addr (byte_len (load_width op))) _ _ (gives_is rd _) (c.fault LoadAccess addr)
-  scalar_is (Store op rs1 rs2 imm) =
+      of_either P (can_access access.Load s.memory addr (byte_len (load_width op))) _ _ (gives_is rd _ c) (c.fault LoadAccess addr)
+  scalar_is (Store op rs1 rs2 imm) c =
       let addr : ℕ = sum w64 (read_register s.scalar rs1) (s_immediate imm) in
       of_either P (can_access access.Store s.memory addr (byte_len (store_width op))) _ _
       (c.stores addr (to_le_bytes (store_width op) (read_register s.scalar rs2))) (c.fault StoreAccess addr)
-  scalar_is (Fence rd rs1 ordering) = c.runs (advanced s.scalar) refl
-  scalar_is (System system.Ecall) =
+  scalar_is (Fence rd rs1 ordering) c = goes_is c
+  scalar_is (System system.Ecall) c =
       of_either P (read_register s.scalar 17 == 93 || read_register s.scalar 17 == 94) _ _ (c.exits (read_register s.scalar 10 % 256))
-      (of_either P (read_register s.scalar 17 == 64) _ _ write_is (gives_is 10 (2 ^ 64 - 38)))
-  scalar_is (System system.Ebreak) = c.breaks
-  scalar_is (RegisterImmediate op rd rs1 imm) = gives_is rd _
-  scalar_is (ShiftImmediate op rd rs1 shamt) = gives_is rd _
-  scalar_is (ShiftImmediateWord op rd rs1 shamt) = gives_is rd _
-  scalar_is (RegisterRegister op rd rs1 rs2) = gives_is rd _
+      (of_either P (read_register s.scalar 17 == 64) _ _ (write_is c) (gives_is 10 (2 ^ 64 - 38) c))
+  scalar_is (System system.Ebreak) c = c.breaks
+  scalar_is (RegisterImmediate op rd rs1 imm) c = gives_is rd _ c
+  scalar_is (ShiftImmediate op rd rs1 shamt) c = gives_is rd _ c
+  scalar_is (ShiftImmediateWord op rd rs1 shamt) c = gives_is rd _ c
+  scalar_is (RegisterRegister op rd rs1 rs2) c = gives_is rd _ c
 
-  controls_is : (i : CsrInstr) (word : ℕ) → P (csr_executed i word s)
+  controls_is : (i : CsrInstr) (word : ℕ) → Cases s (scalar_target (instr.Csr i)) P → P (csr_executed i word s)
   controls_is (Register op rd rs1 csr) word = csr_is (control_register csr) op rd rs1 (read_register s.scalar rs1) word
   controls_is (Immediate op rd imm csr) word = csr_is (control_register csr) (csr_form op) rd imm imm word
 
@@ -139,13 +158,13 @@ pub record IsScalarStep (P : Stepped → Type 0) (told_scalar : Bool) (of : ℕ 
   pub holds : P result
   pub scalar : told_scalar ≡ true
 
-executed_is : (s : HartState) (P : Stepped → Type 0) → Cases s P → (o : Option Instr) (word : ℕ)
+executed_is : (s : HartState) (P : Stepped → Type 0) (o : Option Instr) (word : ℕ) → Cases s (target_of o) P
     → IsScalarStep P (is_scalar o) (λ n. executed n o word s) ⊎ IsVectorStep o word
 unfolding executed
-executed_is s P c None word = inl (record { result = _; same = λ n. refl; holds = c.fault IllegalInstruction word; scalar = refl })
-executed_is s P c (Some (instr.Scalar i)) word = inl (record { result = _; same = λ n. refl; holds = scalar_is s P c i; scalar = refl })
-executed_is s P c (Some (instr.Csr i)) word = inl (record { result = _; same = λ n. refl; holds = controls_is s P c i word; scalar = refl })
-executed_is s P c (Some i) word = inr (record { instr = i; is = refl; touching = refl; vector = refl; same = λ n w. refl })
+executed_is s P None word c = inl (record { result = _; same = λ n. refl; holds = c.fault IllegalInstruction word; scalar = refl })
+executed_is s P (Some (instr.Scalar i)) word c = inl (record { result = _; same = λ n. refl; holds = scalar_is s P i c; scalar = refl })
+executed_is s P (Some (instr.Csr i)) word c = inl (record { result = _; same = λ n. refl; holds = controls_is s P i word c; scalar = refl })
+executed_is s P (Some i) word c = inr (record { instr = i; is = refl; touching = refl; vector = refl; same = λ n w. refl })
 
 -- a state from which this word is fetched makes the step of its instruction
 pub record Fetches (word : ℕ) (s : HartState) : Type 0 where
@@ -165,7 +184,7 @@ pub record IsVector (s : HartState) : Type 0 where
   pub same : (n : ℕ) → step n s ≡ vector_step n vector.instr (word_at s.memory s.scalar.pc) s
 
 -- a step is as its case says, or that of a vector instruction
-pub told : (s : HartState) (P : Stepped → Type 0) → Cases s P
+pub told : (s : HartState) (P : Stepped → Type 0) → Cases s (target_at s) P
     → IsScalarStep P (is_scalar (fetched s.memory s.scalar.pc)) (λ n. step n s) ⊎ IsVector s
 unfolding step
 told s P c =
@@ -173,7 +192,7 @@ told s P c =
     let at : Bool → Option Instr = λ b. cond b (scan table word) None in
     let makes : Bool → ℕ → Stepped = λ b n. cond b (executed n (scan table word) word s) (faults FetchAccess s.scalar.pc s) in
     of_bool (can_access access.Fetch s.memory s.scalar.pc 4) (λ b. IsScalarStep P (is_scalar (at b)) (makes b) ⊎ IsVector s)
-    (λ e. elim (executed_is s P c (scan table word) word) [
+    (λ e. elim (executed_is s P (scan table word) word c) [
       | inl t ↦ inl t
       | inr v ↦
           let f : Fetches word s = record { allowed = e; reads = refl } in
@@ -181,43 +200,48 @@ told s P c =
     ])
     (λ e. inl (record { result = _; same = λ n. refl; holds = c.fault FetchAccess s.scalar.pc; scalar = refl }))
 
-pub of_step : (limit : ℕ) (s : HartState) (P : Stepped → Type 0) → Cases s P → ((i : Instr) (word : ℕ) → P (vector_step limit i word s)) → P (step limit s)
+pub of_step : (limit : ℕ) (s : HartState) (P : Stepped → Type 0) → Cases s (target_at s) P
+    → ((i : Instr) (word : ℕ) → target_at s ≡ scalar_target i → P (vector_step limit i word s)) → P (step limit s)
 of_step limit s P c vector = elim (told s P c) [
   | inl t ↦ subst P (sym (t.same limit)) t.holds
-  | inr v ↦ subst P (sym (v.same limit)) (vector v.vector.instr (word_at s.memory s.scalar.pc))
+  | inr v ↦ subst P (sym (v.same limit)) (vector v.vector.instr (word_at s.memory s.scalar.pc) (ap target_of v.vector.is))
 ]
 
 -- ---- vector instructions that neither load nor store
 
 -- one sets the vector length, leaves registers and whether something saturated, or is illegal
-pub record Operations (s : HartState) (P : VectorStepped → Type 0) : Type 0 where
-  pub sets : (rd vtype : ℕ) (length : RequestedLength) → P (vset_step rd vtype length s)
-  pub leaves : (scalar : Scalar) → SameFirst s.scalar scalar → (file : List ℕ) (saturated : Bool)
+pub record Operations (s : HartState) (rd : ℕ) (P : VectorStepped → Type 0) : Type 0 where
+  pub sets : (vtype : ℕ) (length : RequestedLength) → P (vset_step rd vtype length s)
+  pub leaves : (scalar : Scalar) → Wrote rd s.scalar scalar → (file : List ℕ) (saturated : Bool)
       → P (leaves scalar (record s.vector { file = file; vxsat = saturated }) s)
   pub illegal : P (vector_ends Illegal s)
 
-module _ (s : HartState) (P : VectorStepped → Type 0) (c : Operations s P) where
-  typed_is : (o : Option VType) (done : VType → HartState → VectorStepped) → ((t : VType) → P (done t s)) → P (typed o done s)
-  typed_is None done each = c.illegal
-  typed_is (Some t) done each = each t
+module _ (s : HartState) (P : VectorStepped → Type 0) where
+  -- no scalar register is written
+  none_wrote : Wrote 0 s.scalar s.scalar
+  none_wrote = wrote 0 0 s.scalar.pc s.scalar
 
-  arith_is : (t : VType) (g w : GroupType) (op : VectorOp) (source : Source) (vd vs2 : ℕ) (vm : Bool) → P (arith_step t g w op source vd vs2 vm s)
-  arith_is t g w (Binary op) source vd vs2 vm = c.leaves s.scalar refl _ s.vector.vxsat
-  arith_is t g w (FixedPoint op) source vd vs2 vm = c.leaves s.scalar refl _ _
-  arith_is t g w (Clip op) source vd vs2 vm = c.leaves s.scalar refl _ _
-  arith_is t g w _ source vd vs2 vm = c.leaves s.scalar refl _ s.vector.vxsat
+  typed_is : (rd : ℕ) → Operations s rd P → (o : Option VType) (done : VType → HartState → VectorStepped) → ((t : VType) → P (done t s)) → P (typed o done s)
+  typed_is rd c None done each = c.illegal
+  typed_is rd c (Some t) done each = each t
 
-  mask_unary_is : (t : VType) (op : MaskUnaryOp) (vd vs2 : ℕ) (vm : Bool) → P (typed_step (MaskUnary op vd vs2 vm) t s)
-  mask_unary_is t (Scan op) vd vs2 vm = c.leaves s.scalar refl _ s.vector.vxsat
-  mask_unary_is t Viota vd vs2 vm = c.leaves s.scalar refl _ s.vector.vxsat
+  arith_is : (t : VType) (g w : GroupType) (op : VectorOp) (source : Source) (vd vs2 : ℕ) (vm : Bool) → Operations s 0 P → P (arith_step t g w op source vd vs2 vm s)
+  arith_is t g w (Binary op) source vd vs2 vm c = c.leaves s.scalar none_wrote _ s.vector.vxsat
+  arith_is t g w (FixedPoint op) source vd vs2 vm c = c.leaves s.scalar none_wrote _ _
+  arith_is t g w (Clip op) source vd vs2 vm c = c.leaves s.scalar none_wrote _ _
+  arith_is t g w _ source vd vs2 vm c = c.leaves s.scalar none_wrote _ s.vector.vxsat
 
-  pub operation_is : (i : VectorInstr) → P (operation_step i s)
+  mask_unary_is : (t : VType) (op : MaskUnaryOp) (vd vs2 : ℕ) (vm : Bool) → Operations s 0 P → P (typed_step (MaskUnary op vd vs2 vm) t s)
+  mask_unary_is t (Scan op) vd vs2 vm c = c.leaves s.scalar none_wrote _ s.vector.vxsat
+  mask_unary_is t Viota vd vs2 vm c = c.leaves s.scalar none_wrote _ s.vector.vxsat
+
+  pub operation_is : (i : VectorInstr) → Operations s (target_of_vector i) P → P (operation_step i s)
   unfolding operation_step
-  operation_is (SetVli rd rs1 vtype) = c.sets rd vtype (requested_length rd rs1 s.scalar)
-  operation_is (SetIvli rd avl vtype) = c.sets rd vtype (Elements avl)
-  operation_is (SetVl rd rs1 rs2) = c.sets rd (read_register s.scalar rs2) (requested_length rd rs1 s.scalar)
-  operation_is (Arith arith vd vs2 vm) = typed_is s.vector.conf.vtype _ (λ t. arith_is t (group_type t) (wide_type t) arith.0 arith.1 vd vs2 vm)
-  operation_is (MaskUnary op vd vs2 vm) = typed_is s.vector.conf.vtype _ (λ t. mask_unary_is t op vd vs2 vm)
-  operation_is (MaskToScalar op rd vs2 vm) = typed_is s.vector.conf.vtype _ (λ t. c.leaves _ (first-with_register rd _ s.scalar) s.vector.file s.vector.vxsat)
-  operation_is (MoveToScalar rd vs2) = typed_is s.vector.conf.vtype _ (λ t. c.leaves _ (first-with_register rd _ s.scalar) s.vector.file s.vector.vxsat)
-  operation_is _ = typed_is s.vector.conf.vtype _ (λ t. c.leaves s.scalar refl _ s.vector.vxsat)
+  operation_is (SetVli rd rs1 vtype) c = c.sets vtype (requested_length rd rs1 s.scalar)
+  operation_is (SetIvli rd avl vtype) c = c.sets vtype (Elements avl)
+  operation_is (SetVl rd rs1 rs2) c = c.sets (read_register s.scalar rs2) (requested_length rd rs1 s.scalar)
+  operation_is (Arith a vd vs2 vm) c = typed_is 0 c s.vector.conf.vtype _ (λ t. arith_is t (group_type t) (wide_type t) a.0 a.1 vd vs2 vm c)
+  operation_is (MaskUnary op vd vs2 vm) c = typed_is 0 c s.vector.conf.vtype _ (λ t. mask_unary_is t op vd vs2 vm c)
+  operation_is (MaskToScalar op rd vs2 vm) c = typed_is rd c s.vector.conf.vtype _ (λ t. c.leaves _ (wrote_alone rd _ s.scalar) s.vector.file s.vector.vxsat)
+  operation_is (MoveToScalar rd vs2) c = typed_is rd c s.vector.conf.vtype _ (λ t. c.leaves _ (wrote_alone rd _ s.scalar) s.vector.file s.vector.vxsat)
+  operation_is _ c = typed_is 0 c s.vector.conf.vtype _ (λ t. c.leaves s.scalar none_wrote _ s.vector.vxsat)

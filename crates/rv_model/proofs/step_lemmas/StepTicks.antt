@@ -19,7 +19,7 @@ timed s = told s AtOnce (record {
   fault = λ cause value. record { ticks = refl; uncut = λ e. cc };
   runs = λ scalar first. record { ticks = refl; uncut = λ e. cc };
   stores = λ addr bytes. record { ticks = refl; uncut = λ e. cc };
-  controls = λ register n rd value. record { ticks = refl; uncut = λ e. cc };
+  controls = λ register n value. record { ticks = refl; uncut = λ e. cc };
   puts = λ addr asked. record { ticks = refl; uncut = λ e. cc };
   exits = λ status. record { ticks = refl; uncut = λ e. cc };
   breaks = record { ticks = refl; uncut = λ e. cc };

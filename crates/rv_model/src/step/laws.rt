@@ -8,6 +8,7 @@ ghost use Rattle.rv_model.specs.accesses.Restarts.{AccessLeavesOff, AccessesGoOn
 ghost use Rattle.rv_model.specs.accesses.Restarts.{OverlayIsEither, OverlayOfGrown, access_from};
 ghost use Rattle.rv_model.specs.step.Resumes.{InstructionsGoOn, StepsGoOn};
 ghost use Rattle.rv_model.specs.step.Step.{fetched, step, vector_step};
+ghost use Rattle.rv_model.specs.step.Targets.{WritesTarget};
 ghost use Rattle.rv_model.specs.step.Ticks.{ScalarStepsTakeOneTick, TakesTicks};
 
 /// A legal vector load or store that is cut or faults, and is run again, any number of times, while
@@ -46,4 +47,9 @@ pub fn ticks_and_cuts()
 pub fn steps_take_ticks()
     ensures ticks { TakesTicks step }
     ensures scalar { ScalarStepsTakeOneTick }
+{}
+
+/// A step writes no scalar register but the one that its instruction names, and the program counter.
+pub fn steps_write_one_register()
+    ensures { WritesTarget }
 {}
