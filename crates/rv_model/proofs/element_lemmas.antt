@@ -1,8 +1,9 @@
--- Laws of elements: `Widths` and `Writes` first, then `Reads`, `Sets`, `Bits`, `Actives`, `Packed`, `Arithmetic` and `Tails`; `Numbers`
+-- Laws of elements: `Widths` and `Writes` first, then `Reads`, `Sets`, `Bits`, `Actives`, `Packed`, `Arithmetic`, `Tails` and `KeptBits`; `Numbers`
 -- stands by itself, with `Rounding` upon it, and so does `Ranges`.
 pub mod Actives
 pub mod Arithmetic
 pub mod Bits
+pub mod KeptBits
 pub mod Numbers
 pub mod Packed
 pub mod Ranges

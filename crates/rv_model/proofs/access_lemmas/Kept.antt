@@ -35,7 +35,7 @@ length-bytes_loaded m size (Moved address) = length-bytes_at m address size
 length-bytes_loaded m size Ones = length-replicate {A = ℕ} size 255
 
 module _ (m : Memory) (place : Transfer → ℕ) where
-  missed : (b : ℕ) (ts : List Transfer) (file : List ℕ) → AllByRecursion (Misses place b) ts → get_or (registers_loaded m place file ts) b 0 ≡ get_or file b 0
+  pub missed : (b : ℕ) (ts : List Transfer) (file : List ℕ) → AllByRecursion (Misses place b) ts → get_or (registers_loaded m place file ts) b 0 ≡ get_or file b 0
   unfolding registers_loaded
   missed b [] file h = refl
   missed b (t ∷ ts) file h =

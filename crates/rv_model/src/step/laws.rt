@@ -6,6 +6,8 @@ ghost use Rattle.rv_model.specs.declared.scalar.Scalar.{Scalar};
 ghost use Rattle.rv_model.specs.declared.vector.state.VState.{VState};
 ghost use Rattle.rv_model.specs.accesses.Restarts.{AccessLeavesOff, AccessesGoOn, LargerLimitIsSame, LaterIndicesStay};
 ghost use Rattle.rv_model.specs.accesses.Restarts.{OverlayIsEither, OverlayOfGrown, access_from};
+ghost use Rattle.rv_model.specs.step.AccessChanges.{AccessesKeepOthers};
+ghost use Rattle.rv_model.specs.step.Changes.{StepsKeepOthers};
 ghost use Rattle.rv_model.specs.step.Resumes.{InstructionsGoOn, StepsGoOn};
 ghost use Rattle.rv_model.specs.step.Step.{fetched, step, vector_step};
 ghost use Rattle.rv_model.specs.step.Targets.{WritesTarget};
@@ -52,4 +54,13 @@ pub fn steps_take_ticks()
 /// A step writes no scalar register but the one that its instruction names, and the program counter.
 pub fn steps_write_one_register()
     ensures { WritesTarget }
+{}
+
+/// A step of a vector operation changes no byte of the vector registers outside its destination, and
+/// no element of that outside `changes`. A step of a vector load or store changes no byte of the
+/// vector registers or of memory outside its transfers and the tails that it fills. Both also hold
+/// where the instruction is illegal, faults or is cut.
+pub fn steps_keep_others()
+    ensures operations { StepsKeepOthers }
+    ensures accesses { AccessesKeepOthers }
 {}

@@ -1,0 +1,153 @@
+-- Bits of the register file that a write of elements, or of bits, doesn't change.
+use Rattle.std.proofs.Common.{◌≡◌, ◌∙◌, ◌⊎◌, inl, inr, ap, refl, sym, ℕ, zero, suc, ◌+◌, ◌-◌, ◌*◌, ◌/◌, ◌%◌, ◌^◌, ◌==◌, ◌<◌, ◌≤◌, Bool, true, false, cond, List, length, get_or, drop, arith, length-drop, zero-add}
+use Rattle.std.specs.Int.{from_bool}
+use Rattle.std.proofs.lemmas.Bool.{cases_lt}
+use Rattle.std.proofs.lemmas.List.{length-take}
+use Rattle.std.proofs.lemmas.List.FromFn.{get_or-map-range_with_len, length-map-range_with_len}
+use Rattle.std.proofs.lemmas.Simd.{get_or-chunk, get_or-put_chunk_above, get_or-put_chunk_at, get_or-put_chunk_below}
+use Rattle.std.proofs.Math.Nat.{div-add-mod, div-div-eq-div-mul, mod-lt}
+use mir.Val.{bits}
+use Rattle.std.specs.Simd.Lanes.{put_chunk}
+use Rattle.rv_model.specs.elements.Elements.{bit_or, byte_of_bits, byte_or, byte_with_bits, mask_bit, written, written_bits}
+use Rattle.rv_model.specs.lending.Writes.{Writes}
+use Rattle.rv_model.specs.vector.Groups.{GroupType, group_of, registers, width_bytes, with_group}
+use Rattle.rv_model.proofs.element_lemmas.Widths.{bytes_positive, whole_bytes}
+use Rattle.rv_model.proofs.element_lemmas.Writes.{written_are}
+
+-- the bits of one byte
+same_bit : (xs ys : List ℕ) (n : ℕ) → get_or xs (n / 8) 0 ≡ get_or ys (n / 8) 0 → mask_bit xs n ≡ mask_bit ys n
+same_bit xs ys n e = ap (λ (b : ℕ). b / 2 ^ (n % 8) % 2 == 1) e
+
+-- ---- the bytes of a written group
+
+pub group_length : (file : List ℕ) (vd emul : ℕ) → length file ≡ 1024 → (length (group_of file vd emul) ≤ 32 * registers emul) × (length (group_of file vd emul) ≤ 1024 - 32 * vd)
+group_length file vd emul long =
+    let rest : length (drop (32 * vd) file) ≡ 1024 - 32 * vd = length-drop (32 * vd) file ∙ ap (λ (m : ℕ). m - 32 * vd) long in
+    let whole = length-take (32 * registers emul) (drop (32 * vd) file) in
+    (omega (arith, whole), omega (arith, whole, rest))
+
+module _ (file bytes : List ℕ) (vd emul : ℕ) (long : length file ≡ 1024) (size : length bytes ≡ length (group_of file vd emul)) where
+  by_bytes : (byte : ℕ) → (32 * vd ≤ byte → byte - 32 * vd < length (group_of file vd emul) → get_or bytes (byte - 32 * vd) 0 ≡ get_or (group_of file vd emul) (byte - 32 * vd) 0)
+      → get_or (with_group file vd bytes) byte 0 ≡ get_or file byte 0
+  by_bytes byte kept = let place : ℕ = byte - 32 * vd in elim (cases_lt byte (32 * vd)) [
+    | inl below ↦ get_or-put_chunk_below (32 * vd) file bytes byte 0 below
+    | inr from ↦ elim (cases_lt place (length (group_of file vd emul))) [
+      | inr past ↦ get_or-put_chunk_above (32 * vd) file bytes byte 0 (omega (arith, from, past, size))
+      | inl inside ↦
+          let lengths = group_length file vd emul long in
+          let at : 32 * vd + place ≡ byte = omega (arith, from) in
+          let small : place < 32 * registers emul = omega (arith, inside, lengths.0) in
+          let put : get_or (put_chunk (32 * vd) file bytes) (32 * vd + place) 0 ≡ get_or bytes place 0 =
+          get_or-put_chunk_at (32 * vd) file bytes place 0 (omega (arith, inside, size)) (omega (arith, inside, size, lengths.1, long)) in
+          ap (λ (m : ℕ). get_or (put_chunk (32 * vd) file bytes) m 0) (sym at) ∙ put ∙ kept from inside
+          ∙ get_or-chunk (32 * vd) (32 * registers emul) file place 0 small ∙ ap (λ (m : ℕ). get_or file m 0) at
+    ]
+  ]
+
+  pub beside : (count : ℕ) → registers emul ≤ count → (k : ℕ) → (k < 32 * vd) ⊎ (32 * (vd + count) ≤ k) → get_or (with_group file vd bytes) k 0 ≡ get_or file k 0
+  beside count fits k out =
+      let lengths = group_length file vd emul long in
+      elim out [
+        | inl below ↦ get_or-put_chunk_below (32 * vd) file bytes k 0 below
+        | inr past ↦ get_or-put_chunk_above (32 * vd) file bytes k 0 (omega (arith, past, fits, size, lengths.0))
+      ]
+
+-- ---- elements
+
+-- a bit of the group belongs to an element that doesn't change
+abbrev pub Unchanged : ℕ → ℕ → ℕ → (ℕ → Bool) → ℕ → Type 0
+Unchanged vd count eew changed n = 256 * vd ≤ n → n < 256 * (vd + count) → changed ((n - 256 * vd) / eew) ≡ false
+
+element_of_byte : (k n vd b : ℕ) → b ≡ 8 * k → 32 * vd ≤ n / 8 → (n - 256 * vd) / b ≡ (n / 8 - 32 * vd) / k
+element_of_byte k n vd b is from =
+    let byte : (n - 256 * vd) / 8 ≡ n / 8 - 32 * vd = omega (arith, from) in
+    ap (λ (m : ℕ). (n - 256 * vd) / m) is ∙ sym (div-div-eq-div-mul (n - 256 * vd) 8 k) ∙ ap (λ (m : ℕ). m / k) byte
+
+-- the bytes of such elements
+pub bytes_kept : (file : List ℕ) (g : GroupType) (vd : ℕ) (changed : ℕ → Bool) (number : ℕ → ℕ) (byte : ℕ) → length file ≡ 1024
+    → (32 * vd ≤ byte → byte - 32 * vd < length (group_of file vd g.emul) → changed ((byte - 32 * vd) / width_bytes g.width) ≡ false)
+    → get_or (with_group file vd (written (width_bytes g.width) changed number (group_of file vd g.emul))) byte 0 ≡ get_or file byte 0
+bytes_kept file g vd changed number byte long unchanged =
+    let k : ℕ = width_bytes g.width in
+    let group : List ℕ = group_of file vd g.emul in
+    let w : Writes k changed number group (written k changed number group) = written_are k changed number group (bytes_positive g.width) in
+    by_bytes file (written k changed number group) vd g.emul long w.same_length byte (λ from inside.
+    let j : ℕ = byte - 32 * vd in
+    let e : k * (j / k) + j % k ≡ j = div-add-mod j k in
+    sym (ap (λ (m : ℕ). get_or (written k changed number group) m 0) e) ∙ w.bytes (j / k) (j % k) (mod-lt j (bytes_positive g.width)) (omega (arith, e, inside))
+    ∙ (ap (λ (b : Bool). byte_or (λ (x : ℕ). b) number group k (j / k) (j % k)) (unchanged from inside) ∙ ap (λ (m : ℕ). get_or group m 0) e))
+
+pub elements_kept : (file : List ℕ) (g : GroupType) (vd count : ℕ) (changed : ℕ → Bool) (number : ℕ → ℕ) (n : ℕ) → length file ≡ 1024 → registers g.emul ≤ count
+    → Unchanged vd count (bits g.width) changed n
+    → mask_bit (with_group file vd (written (width_bytes g.width) changed number (group_of file vd g.emul))) n ≡ mask_bit file n
+elements_kept file g vd count changed number n long fits unchanged =
+    let lengths = group_length file vd g.emul long in
+    same_bit _ file n (bytes_kept file g vd changed number (n / 8) long (λ from inside.
+    sym (ap changed (element_of_byte (width_bytes g.width) n vd (bits g.width) (whole_bytes g.width) from))
+    ∙ unchanged (omega (arith, from)) (omega (arith, from, inside, lengths.0, fits))))
+
+-- ---- bits
+
+one : (b : Bool) → from_bool b ≤ 1
+one true = omega arith
+one false = omega arith
+
+is_one : (b : Bool) → (from_bool b == 1) ≡ b
+is_one true = refl
+is_one false = refl
+
+-- bit r of the byte with these bits
+module _ (f : ℕ → Bool) where
+  bit_by : from_bool (f 0) ≤ 1 → from_bool (f 1) ≤ 1 → from_bool (f 2) ≤ 1 → from_bool (f 3) ≤ 1 → from_bool (f 4) ≤ 1 → from_bool (f 5) ≤ 1
+      → from_bool (f 6) ≤ 1 → from_bool (f 7) ≤ 1 → (r : ℕ) → r < 8 → byte_of_bits f / 2 ^ r % 2 ≡ from_bool (f r)
+  bit_by h0 h1 h2 h3 h4 h5 h6 h7 zero h = omega (arith, h0, h1, h2, h3, h4, h5, h6, h7)
+  bit_by h0 h1 h2 h3 h4 h5 h6 h7 (suc zero) h = omega (arith, h0, h1, h2, h3, h4, h5, h6, h7)
+  bit_by h0 h1 h2 h3 h4 h5 h6 h7 (suc (suc zero)) h = omega (arith, h0, h1, h2, h3, h4, h5, h6, h7)
+  bit_by h0 h1 h2 h3 h4 h5 h6 h7 (suc (suc (suc zero))) h = omega (arith, h0, h1, h2, h3, h4, h5, h6, h7)
+  bit_by h0 h1 h2 h3 h4 h5 h6 h7 (suc (suc (suc (suc zero)))) h = omega (arith, h0, h1, h2, h3, h4, h5, h6, h7)
+  bit_by h0 h1 h2 h3 h4 h5 h6 h7 (suc (suc (suc (suc (suc zero))))) h = omega (arith, h0, h1, h2, h3, h4, h5, h6, h7)
+  bit_by h0 h1 h2 h3 h4 h5 h6 h7 (suc (suc (suc (suc (suc (suc zero)))))) h = omega (arith, h0, h1, h2, h3, h4, h5, h6, h7)
+  bit_by h0 h1 h2 h3 h4 h5 h6 h7 (suc (suc (suc (suc (suc (suc (suc zero))))))) h = omega (arith, h0, h1, h2, h3, h4, h5, h6, h7)
+  bit_by h0 h1 h2 h3 h4 h5 h6 h7 (suc (suc (suc (suc (suc (suc (suc (suc r)))))))) h = absurd (omega (arith, h))
+
+  bit_is : (r : ℕ) → r < 8 → (byte_of_bits f / 2 ^ r % 2 == 1) ≡ f r
+  bit_is r h =
+      ap (λ (m : ℕ). m == 1) (bit_by (one (f 0)) (one (f 1)) (one (f 2)) (one (f 3)) (one (f 4)) (one (f 5)) (one (f 6)) (one (f 7)) r h) ∙ is_one (f r)
+
+pub bits_kept : (file : List ℕ) (vd count : ℕ) (changed bit : ℕ → Bool) (n : ℕ) → length file ≡ 1024 → 1 ≤ count → Unchanged vd count 1 changed n
+    → mask_bit (with_group file vd (written_bits changed bit (group_of file vd 8))) n ≡ mask_bit file n
+unfolding written_bits
+bits_kept file vd count changed bit n long fits unchanged =
+    let group : List ℕ = group_of file vd 8 in
+    let new : List ℕ = written_bits changed bit group in
+    let f : ℕ → ℕ = byte_with_bits changed bit group in
+    let size : length new ≡ length group = length-map-range_with_len f 0 (length group) in
+    let lengths = group_length file vd 8 long in
+    let q : ℕ = n / 8 in
+    let r : ℕ = n % 8 in
+    elim (cases_lt q (32 * vd)) [
+      | inl below ↦ same_bit (with_group file vd new) file n (get_or-put_chunk_below (32 * vd) file new q 0 below)
+      | inr from ↦ elim (cases_lt (q - 32 * vd) (length group)) [
+        | inr past ↦ same_bit (with_group file vd new) file n (get_or-put_chunk_above (32 * vd) file new q 0 (omega (arith, from, past, size)))
+        | inl inside ↦
+            let j : ℕ = q - 32 * vd in
+            let at : 32 * vd + j ≡ q = omega (arith, from) in
+            let small : j < 32 = omega (arith, inside, lengths.0) in
+            let low : r < 8 = omega arith in
+            let place : (n - 256 * vd) / 1 ≡ 8 * j + r = omega (arith, from) in
+            let here : changed (8 * j + r) ≡ false =
+            sym (ap changed place) ∙ unchanged (omega (arith, from)) (omega (arith, from, inside, lengths.0, fits)) in
+            let put : get_or (with_group file vd new) q 0 ≡ f j =
+            ap (λ (m : ℕ). get_or (put_chunk (32 * vd) file new) m 0) (sym at)
+            ∙ get_or-put_chunk_at (32 * vd) file new j 0 (omega (arith, inside, size)) (omega (arith, inside, size, lengths.1, long))
+            ∙ get_or-map-range_with_len f 0 (length group) j j 0 inside (zero-add j) in
+            let old : get_or group j 0 ≡ get_or file q 0 = get_or-chunk (32 * vd) 32 file j 0 small ∙ ap (λ (m : ℕ). get_or file m 0) at in
+            let quotient : (8 * j + r) / 8 ≡ j = omega (arith, low) in
+            let rest : (8 * j + r) % 8 ≡ r = omega (arith, low) in
+            ap (λ (b : ℕ). b / 2 ^ r % 2 == 1) put ∙ bit_is (λ i. bit_or changed bit group (8 * j + i)) r low
+            ∙ ap (λ (b : Bool). cond b (bit (8 * j + r)) (mask_bit group (8 * j + r))) here
+            ∙ ap (λ (k : ℕ). get_or group k 0 / 2 ^ ((8 * j + r) % 8) % 2 == 1) quotient
+            ∙ ap (λ (k : ℕ). get_or group j 0 / 2 ^ k % 2 == 1) rest
+            ∙ ap (λ (b : ℕ). b / 2 ^ r % 2 == 1) old
+      ]
+    ]
