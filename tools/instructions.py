@@ -1,21 +1,27 @@
 #!/usr/bin/env python3
-"""Sees what docs/INSTRUCTIONS.md says of definitions: `tools/instructions.py [write]`, at the top of the repository.
+"""Compares docs/INSTRUCTIONS.md and the lab with the definitions: `tools/instructions.py [write]`, in the top folder.
 
 The page is the list that `test_assembler` prints, with which its stored output begins, and three columns more: the
 formula and the section of the manual, which docs/instructions.csv has by names, and the legality, which is read from
-the definitions. That a formula is one that the instruction's own line of a step rests on is seen too. It prints what
-isn't so, and then the status is 1. With `write` it writes the page.
+the definitions. That a formula is one that the instruction's own line of a step rests on is seen too. The elements that
+the lab has for each vector operation (`body_of`, `elements_of`) are compared with `elements/Bodies` of the definitions.
+It prints what isn't so, and then the status is 1. With `write` it writes the page.
 """
 
 import csv
 import re
 import sys
-from collections.abc import Iterator
+from collections.abc import Callable, Iterator
 from dataclasses import dataclass
 from functools import cache
 from pathlib import Path
 
 import definitions as counted
+
+sys.path[:0] = ["lab"]
+from support.elements import elements_of
+from vecmon_lab.instructions.accesses import REGISTER_BITS, body_of, vector_instruction
+from vecmon_lab.machine.answers import ControlRegisters
 
 PAGE, RULES, PRINTED = Path("docs/INSTRUCTIONS.md"), Path("docs/instructions.csv"), Path("crates/test_assembler/stdout")
 ROW = re.compile(r"^(\| `(\S+)[^`]*` \| `[01 -]+`) \|$", re.MULTILINE)
@@ -44,6 +50,18 @@ WORDS = {
     "hex_digit": r"\d",
     "unit_name": r"v[ls](?:seg\d)?e\d+(?:ff)?\.v",
 }
+# The texts of a body in `elements.Bodies`, each with its elements by the control registers and the elements of whole
+# registers
+BODIES: dict[str, Callable[[ControlRegisters, int], range]] = {
+    "body_of (is_unmasked i) v": lambda control, whole: range(control.vstart, control.vl),
+    "whole_body (whole_type t count) v": lambda control, whole: range(control.vstart, whole),
+    "record (body_of true v) { start = 0; end = 1 }": lambda control, whole: range(1),
+    "record (body_of true v) { start = 0; end = from_bool (nat_lt v.vstart v.conf.vl) }": (
+        lambda control, whole: range(control.vstart < control.vl)
+    ),
+}
+SEW, VTYPE, V0 = 32, 0x11, bytes([0x16, 0x80]) + bytes(30)  # e32, m2: VLMAX is 16
+LENGTHS = [(vl, vstart) for vl in (0, 1, 5, 16) for vstart in (0, 1, 2)]
 PIECE = re.compile(rf'then \[\] else codes "(\S+)"|codes "(\S+)"|\b({"|".join(WORDS)})\b')
 
 
@@ -173,6 +191,53 @@ def with_rules(printed: str) -> str:
     return ROW.sub(lambda row: f"{row[1]} |{''.join(f' {it} |' if it else ' |' for it in cells_of(row[2]))}", page)
 
 
+def body_text(name: str, variants: frozenset[str]) -> str:
+    """The right side of the line for these variants in a definition of `elements.Bodies`."""
+    if line := first("elements.Bodies", name, variants):
+        return " ".join(line.says.text.partition("\n--")[0].split())
+    sys.exit(f"{name} has no line for {', '.join(sorted(variants))}")
+
+
+def is_masked(word: int, variants: frozenset[str]) -> bool:
+    """Whether v0 masks the operation that a word is, by the definitions."""
+    text = body_text("is_unmasked", variants)
+    if text.startswith("is_arith_unmasked"):
+        text = body_text("is_arith_unmasked", variants)
+    return {"true": False, "vm": not word >> 25 & 1}[text]
+
+
+def words_of(encoding: str) -> list[int]:
+    """The words with the bits of an encoding and zeros in its operands, with both values of vm where that is one."""
+    bits = encoding.replace(" ", "")
+    return sorted({int(f"{bits[:6]}{vm if bits[6] == '-' else bits[6]}{bits[7:]}".replace("-", "0"), 2) for vm in "01"})
+
+
+def differing(name: str, word: int) -> Iterator[str]:
+    """The differences between the elements that the lab has for a vector operation and the definition."""
+    variants = variants_of(name)
+    text = body_text("counted_body", variants)
+    is_own = text == "operation_body i t v"  # whether the elements to count are those that the operation works on
+    elements = BODIES[body_text("operation_body", variants) if is_own else text]
+    whole = int(digits[0]) * REGISTER_BITS // SEW if (digits := re.findall(r"^vmv(\d)r", name)) else 0
+    for vl, vstart in LENGTHS:
+        control = ControlRegisters(vl, VTYPE, vstart)
+        body = elements(control, whole)
+        active = [it for it in body if not is_masked(word, variants) or V0[it // 8] >> it % 8 & 1]
+        instruction, found = vector_instruction(word, VTYPE), elements_of(word, control, V0)
+        assert instruction and found
+        wanted, has = (active, len(body) - len(active)), (list(found.active), found.masked)
+        if has != wanted:
+            yield f"{name} {word:08x}, vl {vl}, vstart {vstart}: elements_of has {has}, the definition {wanted}"
+        if is_own and (has_body := body_of(word, instruction, control)) != body:
+            yield f"{name} {word:08x}, vl {vl}, vstart {vstart}: body_of has {has_body}, the definition {body}"
+
+
+def elements_differ(printed: str) -> list[str]:
+    """The differences for each vector operation of the list; a vset instruction, whose funct3 is 111, has no elements."""
+    rows = re.findall(r"^\| `(\S+)[^`]*` \| `((?:\S+ ){3}(?!111)\S+ \S+ 1010111)` \|", printed, re.MULTILINE)
+    return [line for name, encoding in rows for word in words_of(encoding) for line in differing(name, word)]
+
+
 def list_in(output: str) -> str:
     """The list of instructions that an output of `test_assembler` begins with, before its words and texts."""
     return re.split("^[0-9a-f]{8} ", output, maxsplit=1, flags=re.MULTILINE)[0]
@@ -190,7 +255,10 @@ def main() -> int:
         print(f"{RULES}: no instruction has the name {it}")
     for line in sorted({*page.splitlines()} ^ {*is_so.splitlines()}):
         print(f"{PAGE} {'lacks' if line in is_so else 'has wrongly'}: {line}")
-    return 1 if unused or page != is_so else 0
+    different = elements_differ(printed)
+    for line in different:
+        print(line)
+    return 1 if unused or different or page != is_so else 0
 
 
 if __name__ == "__main__":
