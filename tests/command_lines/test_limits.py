@@ -1,0 +1,111 @@
+"""Images and scripts of the greatest lengths and a byte more, input without an end, and lines that are answered before more is read."""
+
+import os
+import pathlib
+import pty
+import resource
+import subprocess
+import threading
+
+import pytest
+
+from tests.program import built
+
+MOST_IMAGE = 4_194_304  # bytes
+MOST_SCRIPT = 16_777_216  # bytes
+MOST_MEMORY = 64 << 20  # bytes of a process: its users' 8 MiB, an image and more
+SECONDS = 20
+LOADS = b"1 enter\n1 load a\n1 load b"
+LOADED = b"1 entered\n1 E09 Magic\n1 E08\n"
+
+
+def run_program(*words: str | bytes, script: bytes = b"") -> tuple[int, bytes, bytes]:
+    """The status, the output and the errors of a run in `MOST_MEMORY`."""
+
+    def limit() -> None:
+        resource.setrlimit(resource.RLIMIT_AS, (MOST_MEMORY, MOST_MEMORY))
+
+    ran = subprocess.run(
+        [built(), *words], input=script, capture_output=True, preexec_fn=limit, timeout=SECONDS, check=False
+    )
+    return ran.returncode, ran.stdout, ran.stderr
+
+
+def write_zeros(folder: pathlib.Path, length: int) -> str:
+    """The path of a file of zeros."""
+    with open(folder / "zeros", "wb") as it:
+        it.truncate(length)
+    return str(folder / "zeros")
+
+
+def test_an_image_of_the_greatest_length(tmp_path: pathlib.Path) -> None:
+    image = write_zeros(tmp_path, MOST_IMAGE)
+    assert run_program("/dev/stdin", f"a={image}", script=LOADS) == (0, LOADED, b"")
+
+
+def test_an_image_of_a_byte_more(tmp_path: pathlib.Path) -> None:
+    image = write_zeros(tmp_path, MOST_IMAGE + 1)
+    assert run_program("/dev/stdin", f"a={image}", script=LOADS) == (4, b"", b"vecmon: bad image list\n")
+
+
+def test_an_image_without_an_end() -> None:
+    assert run_program("/dev/stdin", "a=/dev/zero", script=LOADS) == (4, b"", b"vecmon: bad image list\n")
+
+
+@pytest.mark.parametrize(
+    "length, text, output",
+    [
+        (MOST_SCRIPT, b"", b""),
+        (MOST_SCRIPT, b"1 enter", b"1 entered\n"),
+        (MOST_SCRIPT + 1, b"", b""),
+        (MOST_SCRIPT + 1, b"1 enter\n", b""),  # the newline that would end the line is one byte too far
+        (MOST_SCRIPT + 1, b"1 enter\n ", b"1 entered\n"),
+    ],
+)
+def test_scripts_of_newlines_and_a_text(tmp_path: pathlib.Path, length: int, text: bytes, output: bytes) -> None:
+    script = tmp_path / "script"
+    script.write_bytes(b"\n" * (length - len(text)) + text)
+    told = (0, output, b"") if length == MOST_SCRIPT else (3, output, b"vecmon: script too long\n")
+    assert run_program(str(script)) == told
+
+
+def test_a_script_without_an_end() -> None:
+    assert run_program("/dev/zero") == (3, b"", b"vecmon: script too long\n")
+
+
+def test_an_argument_that_is_no_text() -> None:
+    message = b"error: invalid UTF-8 was detected in one or more arguments\n"
+    assert run_program("missing", b"\xff") == (2, b"", message)
+
+
+def start(stdin: int) -> tuple[subprocess.Popen[bytes], threading.Timer]:
+    """A run whose input stays open, and the timer that kills it if it doesn't end in time."""
+    running = subprocess.Popen([built()], stdin=stdin, stdout=subprocess.PIPE)
+    timer = threading.Timer(SECONDS, running.kill)
+    timer.start()
+    return running, timer
+
+
+def test_nothing_is_read_after_the_end() -> None:
+    """A terminal gives one end of file and then waits for more, so a second read never ends."""
+    terminal, end = pty.openpty()
+    running, timer = start(end)
+    os.write(terminal, b"1 enter\n\x04")
+    output, _ = running.communicate()
+    timer.cancel()
+    os.close(terminal)
+    os.close(end)
+    assert (running.returncode, output) == (0, b"1 entered\n")
+
+
+def test_each_line_is_answered_before_more_is_read() -> None:
+    running, timer = start(subprocess.PIPE)
+    assert running.stdin and running.stdout
+    lines = [(b"1 enter\n", b"1 entered\n"), (b"2 enter\n1 le", b"2 entered\n"), (b"ave\n", b"1 left\n")]
+    for line, answer in lines:
+        running.stdin.write(line)
+        running.stdin.flush()
+        assert running.stdout.readline() == answer
+    rest, _ = running.communicate()
+    timer.cancel()
+    assert (running.returncode, rest) == (0, b"")
