@@ -1,0 +1,172 @@
+#!/usr/bin/env python3
+"""Lists the must-fail edits that can break each clause of a public call: `tools/edit_clauses.py [CRATE..]`, at the top of the repository.
+
+A public call is a function that a crate exports and whose contract has clauses `ensures`, or a method of another crate's trait that the
+crate implements. For each call the tool prints its clauses (`-` for one without a name), the edits of the function itself, and, behind
+`below:`, the edits of what it uses: a function that it calls, directly or through others of the crate, or a constant. Then come the edits
+that no public call uses, and the number of calls without an edit. Without names the tool reads all crates that have edits.
+
+It reads the text and proves nothing. An edit that isn't listed for a call can't break its clauses. The check refuses an edit at the
+function that it changes, by the clauses of that function, so an edit below a call tries the call's own clauses only where the function
+that it changes has none. Which clause is broken is in the output of `rt must-fail CRATE`, which names the goals that stay open. A method
+counts as called wherever a method of its name is called, so the tool may list too much. It doesn't list edits of a definition alone.
+"""
+
+import re
+import sys
+from collections import defaultdict
+from collections.abc import Iterator
+from dataclasses import dataclass, field
+from functools import cache
+from pathlib import Path
+
+from definitions import CLAUSE, CRATES, blocks_of, contracts, exported, head_of
+
+BLOCK = re.compile(r"(?:pub(?:\(\w+\))? )?(?P<kind>impl|trait)\b(?:<.*?>)? (?:(?P<trait>[\w:]+)(?:<.*>)? for )?(?P<owner>\w+)")
+CALL = re.compile(r"(?:(?P<qualifier>\w+)(?:::<[^<>]*>)?::|(?P<dot>\.))?\b(?P<name>[A-Za-z_]\w*)\b")
+NO_CODE = re.compile(r"//[^\n]*|^\s*ghost [^;]*;", re.MULTILINE)
+
+
+@dataclass(eq=False)
+class Item:
+    """A function or a constant, with the type or trait that it belongs to and the trait that it implements, empty if none."""
+
+    name: str
+    owner: str
+    trait: str
+    path: Path
+    text: str
+    body: str
+    uses: "set[Item]" = field(default_factory=set)
+
+    @property
+    def title(self) -> str:
+        return f"{self.owner}::{self.name}" if self.owner else self.name
+
+    @property
+    def clauses(self) -> list[str]:
+        lines = (CLAUSE.match(it) for it in self.text.split("\n") if re.match(r"\s*ensures", it))
+        return [it[1] or "-" for it in lines if it]
+
+
+def item_of(head: re.Match[str], owner: str, trait: str, path: Path, lines: list[str], indent: str) -> Item:
+    """A function, whose contract isn't in its body, or a constant."""
+    text = "\n".join(lines)
+    return Item(head[2], owner, trait, path, text, text.removeprefix(head_of(lines, indent)) if head[1] == "fn" else text)
+
+
+@cache
+def items(crate: str) -> list[Item]:
+    """The functions and constants of a crate, each with those of the crate that it uses."""
+    found: list[Item] = []
+    for path in sorted((CRATES / crate / "src").rglob("*.rt")):
+        for head, lines in blocks_of(path.read_text(encoding="utf-8"), ""):
+            if block := BLOCK.match(lines[0]):
+                trait = (block["trait"] or "").rpartition("::")[2] if block["kind"] == "impl" else block["owner"]
+                inner = blocks_of("\n".join(lines[1:]), "    ")
+                found += [item_of(it, block["owner"], trait, path, body, "    ") for it, body in inner]
+            elif head[1] in ("fn", "const", "static"):
+                found.append(item_of(head, "", "", path, lines, ""))
+    link(found)
+    return found
+
+
+def link(found: list[Item]) -> None:
+    """Finds what each item uses. A method of a trait uses the functions that implement it."""
+    named: dict[str, list[Item]] = defaultdict(list)
+    for item in found:
+        named[item.name].append(item)
+    owners = {it.owner for it in found}
+    for item in found:
+        for call in CALL.finditer(NO_CODE.sub("", item.body)):
+            item.uses.update(it for it in named.get(call["name"], ()) if may_call(item, call, it, owners))
+        item.uses.update(it for it in named[item.name] if item.owner == item.trait == it.trait != "")
+        item.uses.discard(item)
+
+
+def may_call(caller: Item, call: re.Match[str], item: Item, owners: set[str]) -> bool:
+    """Whether a name in a function's text can mean this item: `.name`, `Type::name`, `module::name` or `name`."""
+    qualifier = call["qualifier"] or ""
+    if call["dot"]:
+        return bool(item.owner)
+    if not qualifier[:1].isupper():
+        return not item.owner
+    type_of = caller.owner if qualifier == "Self" else qualifier
+    return item.owner == type_of or bool(item.trait) and (type_of not in owners or type_of == item.trait)
+
+
+def reached(start: Item) -> set[Item]:
+    """The item with all that it uses, directly or through others."""
+    todo, found = [start], set[Item]()
+    while todo:
+        item = todo.pop()
+        if item not in found:
+            found.add(item)
+            todo += item.uses
+    return found
+
+
+def public_calls(crate: str) -> Iterator[tuple[str, list[str], Item]]:
+    """The title, the clauses and the function of each public call whose contract promises something."""
+    in_library = [it for it in contracts(crate) if it.is_public and it.text.path.name == "lib.rt"]
+    names = {(it.name, it.text.path) for it in [*exported(crate), *in_library] if not it.ghost}
+    own_traits = {it.trait for it in items(crate) if it.owner == it.trait}
+    for item in items(crate):
+        if (item.title, item.path) in names and item.clauses:
+            yield item.title, item.clauses, item
+        elif item.trait and item.trait not in own_traits and (promised := clauses_of_trait(item)):
+            yield f"{item.trait} for {item.title}", promised, item
+
+
+def clauses_of_trait(item: Item) -> list[str]:
+    """The clauses of the method that a function implements, of a trait of any crate of the repository."""
+    crates = (it.name for it in CRATES.iterdir() if (it / "src").is_dir())
+    methods = (it for crate in crates for it in items(crate) if it.owner == it.trait == item.trait)
+    return next((it.clauses for it in methods if it.name == item.name), [])
+
+
+def changed(crate: str, edit: Path) -> set[Item]:
+    """The functions and constants that an edit changes."""
+    found: set[Item] = set()
+    path = Path()
+    for line in edit.read_text(encoding="utf-8").splitlines():
+        if line.startswith("file: "):
+            path = CRATES / crate / line.removeprefix("file: ").strip()
+        elif line.startswith("old: "):
+            found.update(it for it in items(crate) if it.path == path and line.removeprefix("old: ") in it.text)
+    return found
+
+
+def edits_of(item: Item, edits: dict[str, set[Item]]) -> str:
+    """The edits of a function, and those of what it uses."""
+    below = reached(item) - {item}
+    own = [name for name, those in edits.items() if item in those]
+    others = [name for name, those in edits.items() if item not in those and those & below]
+    return ", ".join(own) + (f" below: {', '.join(others)}" if others else "") or "no edit"
+
+
+def print_crate(crate: str) -> None:
+    edits = {it.stem: changed(crate, it) for it in sorted((CRATES / crate / "must-fail").glob("*.edit"))}
+    calls = list(public_calls(crate))
+    print(f"{crate}: {len(edits)} edits, {len(calls)} public calls with clauses")
+    for title, clauses, item in calls:
+        print(f"  {title}: {', '.join(clauses)}: {edits_of(item, edits).strip()}")
+    used = {it for _, _, item in calls for it in reached(item)}
+    if apart := [name for name, those in edits.items() if not those & used]:
+        print(f"  of no public call: {', '.join(apart)}")
+    print(f"  {sum(edits_of(item, edits) == 'no edit' for _, _, item in calls)} calls without an edit")
+
+
+def main(names: list[str]) -> int:
+    if any(it.startswith("-") for it in names):
+        sys.exit(__doc__)
+    crates = names or sorted(it.parent.name for it in CRATES.glob("*/must-fail"))
+    for crate in crates:
+        if not (CRATES / crate / "src").is_dir():
+            sys.exit(f"tools/edit_clauses.py: no crate {crate}; write a name of crates.txt")
+        print_crate(crate)
+    return 0
+
+
+if __name__ == "__main__":
+    sys.exit(main(sys.argv[1:]))
