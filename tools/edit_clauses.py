@@ -6,10 +6,11 @@ crate implements. For each call the tool prints its clauses (`-` for one without
 `below:`, the edits of what it uses: a function that it calls, directly or through others of the crate, or a constant. Then come the edits
 that no public call uses, and the number of calls without an edit. Without names the tool reads all crates that have edits.
 
-It reads the text and proves nothing. An edit that isn't listed for a call can't break its clauses. The check refuses an edit at the
-function that it changes, by the clauses of that function, so an edit below a call tries the call's own clauses only where the function
-that it changes has none. Which clause is broken is in the output of `rt must-fail CRATE`, which names the goals that stay open. A method
-counts as called wherever a method of its name is called, so the tool may list too much. It doesn't list edits of a definition alone.
+It reads the text and proves nothing. An edit that isn't listed for a call changes nothing that the call uses, so it can't break the call's
+clauses. The check refuses an edit at the function that it changes, by the clauses of that function, so an edit below a call tries the
+call's own clauses only where the function that it changes has none. Which clause is broken is in the output of `rt must-fail CRATE`, which
+names the goals that stay open. A method counts as called wherever a method of its name is called, so the tool may list too much. It
+doesn't list edits of a definition alone.
 """
 
 import re
