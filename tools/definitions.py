@@ -411,7 +411,7 @@ def module_files() -> dict[str, dict[str, int]]:
 def others(left_out: Container[str] = OWN) -> dict[Name, Text]:
     """What exported contracts of all crates cite, with what it rests on. A type's invariant, which its crate is proved to keep, and how
     its values are stored are left out, as the type's own: no contract says more or less by them."""
-    crates = sorted(it.name for it in CRATES.iterdir() if not re.match("test_|bench_|draws", it.name))
+    crates = sorted(it.name for it in CRATES.iterdir() if not re.match("test_|draws", it.name))
     handed = (it for crate in crates for it in exported(crate) if it.ghost not in left_out)
     return closure({name for it in handed for name in met(it.text)})
 

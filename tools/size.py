@@ -1,7 +1,7 @@
 #!/usr/bin/env python3
 """Counts lines of the crates and of the lab: `tools/size.py`, at the top of the repository.
 
-It prints a table of the product's crates, one of those that are tests or benches, and one of the lab. A line of a crate is
+It prints a table of the product's crates, one of those that are tests, and one of the lab. A line of a crate is
 
 - one of code: in `src`, where it is none of the others;
 - of contracts: `requires`, `ensures` and other `ghost` items, in `src`;
@@ -21,7 +21,7 @@ from collections.abc import Callable, Iterable, Iterator
 from pathlib import Path
 
 KINDS = ("code", "contracts", "definitions", "proofs")
-TEST_CRATES = re.compile("test_|bench_|draws$")
+TEST_CRATES = re.compile("test_|draws$")
 BEGINS = {
     "use": re.compile(r"(pub(\(\w+\))? |ghost )?use "),
     "contracts": re.compile(r"(requires|ensures\*?|ghost) "),
@@ -111,7 +111,7 @@ def lab_table() -> Iterator[str]:
 def main() -> None:
     crates = {it.parent.name: lines_of(it.parent) for it in sorted(Path("crates").glob("*/src"))}
     tests = {name: crates.pop(name) for name in list(crates) if TEST_CRATES.match(name)}
-    print(*crate_table("product", crates), "", *crate_table("tests and benches", tests), "", sep="\n")
+    print(*crate_table("product", crates), "", *crate_table("tests", tests), "", sep="\n")
     print(*lab_table(), sep="\n")
 
 

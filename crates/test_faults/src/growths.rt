@@ -4,12 +4,14 @@
 //! the frames.
 
 use crate::tally::Tally;
-use crate::transcript::QUANTUM;
 use anyhow::{Result, ensure};
 use bumpalo::Bump;
 use std::alloc::Global;
 use user_mem::{NoMemory, Pool};
 use vec_monitor::{Machine, NewFault};
+
+/// The ticks of a slice.
+const QUANTUM: usize = 100;
 
 /// Fewer bytes than the frames of a pool take, and more than the lists.
 const SMALL: usize = 2048;

@@ -1,0 +1,103 @@
+//! Reads of a file of which one fails, once: it isn't tried again, whether it was interrupted or failed for another
+//! reason.
+ghost use Rattle.std.specs.Prelude.{None};
+
+use crate::tally::Tally;
+use program_files::{Inputs, ReadFault, read_file};
+use std::alloc::{AllocError, Global};
+use std::io;
+use std::io::{ErrorKind, Read};
+use vec_monitor::DeviceFault;
+
+/// The bytes of the file. Reading them takes `READS` reads: of 4,096 bytes, of 904, and of none at the end.
+const LENGTH: usize = 5000;
+
+const READS: u64 = 3;
+
+/// What a read fails of: an interruption, and something else.
+const KINDS: [ErrorKind; 2] = [ErrorKind::Interrupted, ErrorKind::Other];
+
+/// An open file, by the bytes that are left. Of its reads the one with the number `failing` fails.
+#[derive(Drop)]
+struct FailingFile<'a> {
+    left: &'a [u8],
+    reads: u64,
+    failing: u64,
+    kind: ErrorKind,
+}
+
+impl Read for FailingFile<'_> {
+    fn read(&mut self, buffer: &mut [u8]) -> io::Result<usize> {
+        self.reads = self.reads.saturating_add(1);
+        if self.reads == self.failing {
+            return Err(io::Error::from(self.kind));
+        }
+        let count = self.left.len().min(buffer.len());
+        let (front, rest) = self.left.split_at(count);
+        buffer[..count].copy_from_slice(front);
+        self.left = rest;
+        Ok(count)
+    }
+}
+
+/// Inputs whose every path leads to that file.
+#[derive(Drop)]
+struct FailingInputs<'a> {
+    bytes: &'a [u8],
+    failing: u64,
+    kind: ErrorKind,
+}
+
+impl<'a> Inputs for FailingInputs<'a> {
+    type File = FailingFile<'a>;
+
+    type StandardInput = &'static [u8];
+
+    ghost file_bytes = { λ _ _. None };
+
+    ghost input_bytes = { λ _. None };
+
+    fn open(&self, _path: &str) -> Result<FailingFile<'a>, DeviceFault> {
+        Ok(FailingFile {
+            left: self.bytes,
+            reads: 0,
+            failing: self.failing,
+            kind: self.kind,
+        })
+    }
+
+    fn standard_input(&self) -> &'static [u8] {
+        b"".as_slice()
+    }
+}
+
+/// Whether a file is refused where one of its reads fails, and read whole where none does.
+fn is_read_so(alloc: Global, inputs: &FailingInputs<'_>) -> bool {
+    match read_file(inputs, alloc, "image", usize::MAX) {
+        Ok(bytes) => inputs.failing > READS && bytes.as_slice() == inputs.bytes,
+        Err(ReadFault::Unreadable) => inputs.failing <= READS,
+        Err(ReadFault::NoMemory) => false,
+    }
+}
+
+/// Each read of the file fails in turn, for one reason; and one more, which isn't reached.
+fn add_reads(alloc: Global, bytes: &[u8], kind: ErrorKind, tally: &mut Tally) {
+    for failing in 1..=READS + 1 {
+        let inputs = FailingInputs {
+            bytes,
+            failing,
+            kind,
+        };
+        tally.add(is_read_so(alloc, &inputs));
+    }
+}
+
+/// Each read fails in turn, for each reason.
+pub(crate) fn failed_reads(alloc: Global) -> Result<Tally, AllocError> {
+    let bytes = vec![in alloc; 7; LENGTH]?;
+    let mut tally = Tally::new();
+    for kind in KINDS {
+        add_reads(alloc, bytes.as_slice(), kind, &mut tally);
+    }
+    Ok(tally)
+}
