@@ -2,10 +2,12 @@ pub mod Blends
 pub mod BlockMoves
 pub mod FieldSteps
 pub mod MovedRuns
+pub mod Offsets
 pub mod OneField
 pub mod Outcomes
 pub mod Room
 pub mod SameSpans
+pub mod ShownElements
 pub mod SpanMoves
 pub mod Strides
 pub mod Transferred

@@ -8,21 +8,13 @@ use Rattle.rv_model.specs.declared.vector.sizes.TheConstants.{VECTOR_REGISTERS, 
 use Rattle.rv_model.specs.declared.vector.types.Sew.{Sew}
 use Rattle.rv_model.specs.declared.vector.types.Sew.TheVariants.{E8}
 use Rattle.rv_model.specs.accesses.VectorAccess.{whole_length}
-use Rattle.rv_model.specs.vector.Groups.{GroupType, element_width, sew_width, width_bytes, registers, register_count}
-use Rattle.rv_model.specs.lending.GroupBounds.{SegmentsInside}
+use Rattle.rv_model.specs.vector.Groups.{element_width, sew_width, width_bytes, register_count}
 use Rattle.vector_memory.specs.SegmentRoom.{HasRoom}
 use Rattle.vector_memory.specs.declared.segments.Segments.{Segments}
 
 pub element_most : (s : Sew) → width_bytes (sew_width s) ≤ 8
 element_most E8 = omega arith
 element_most _ = omega arith
-
--- in groups of a vector type
-pub segments_room : (s : Segments) (g : GroupType) (vd nf vl : ℕ) → SegmentsInside g vd nf vl → nf + 1 ≤ 8 → width_bytes g.width ≤ 8
-    → s ≡ record { fields = nf + 1; size = width_bytes g.width; register = vd; field_registers = registers g.emul }
-    → HasRoom s vl
-segments_room s g vd nf vl inside fields size is =
-    rw is (record { fields = fields; size = size; inside = inside.inside; room = inside.holds.room })
 
 whole_fits : (count : RegisterCount) (w : Eew) → width_bytes (sew_width (element_width w)) * whole_length count w ≤ VLENB * register_count count
 whole_fits One width.E8 = omega arith

@@ -19,7 +19,7 @@ use Rattle.rv_model.specs.declared.vector.sizes.TheConstants.{GROUP_BYTES, VECTO
 use Rattle.rv_model.specs.declared.vector.state.VState.{VState}
 use Rattle.rv_model.specs.declared.vector.types.VType.{VType}
 use Rattle.rv_model.specs.accesses.AccessRuns.{access_run, run_or_nothing, runs_to}
-use Rattle.rv_model.specs.accesses.VectorAccess.{VectorAccess, is_first_only, mask_length, segments, unit_direction, unmasked_access, whole_length}
+use Rattle.rv_model.specs.accesses.VectorAccess.{VectorAccess, access_of, is_first_only, mask_length, segments, unit_direction, unmasked_access, whole_length}
 use Rattle.rv_model.specs.vector.Groups.{access_type, register_count, IsConfiguration, element_width}
 use Rattle.rv_model.specs.lending.GroupBounds.{SegmentsInside}
 use Rattle.rv_model.specs.legality.Legality.{is_legal, operands}
@@ -29,7 +29,7 @@ use Rattle.rv_model.proofs.vector_lemmas.Lengths.{IsLength}
 use Rattle.rv_model.proofs.legality_lemmas.Accesses.{mask_memory_inside, strided_inside, unit_inside, whole_load_inside, whole_store_inside}
 use Rattle.rv_model.proofs.legality_lemmas.Bounds.{configuration_below, fewer}
 use Rattle.vector_memory.specs.AccessKinds.{is_offset_access}
-use Rattle.vector_memory.specs.Distances.{Fits, grouped, operation, transfer_of, transfer_run}
+use Rattle.vector_memory.specs.Distances.{Fits, grouped, moved_by, operation, transfer_of, transfer_run}
 use Rattle.vector_memory.specs.declared.addresses.Strided.{Strided as StridedAddresses}
 use Rattle.vector_memory.specs.declared.transfers.Transfer.{Transfer}
 use Rattle.vector_memory.proofs.Room.{element_most, whole_room}
@@ -45,7 +45,7 @@ pub directed : (d : Direction) (a : VectorAccess)
 directed direction.Load a = refl
 directed direction.Store a = refl
 
-not_first_only : (d : Direction) {P : Type 0} → operation d ≡ unit.FaultOnlyFirst → P
+pub not_first_only : (d : Direction) {P : Type 0} → operation d ≡ unit.FaultOnlyFirst → P
 not_first_only direction.Load h = absurd (cc)
 not_first_only direction.Store h = absurd (cc)
 
@@ -77,18 +77,16 @@ module _ (op : UnitOp) (width : Eew) (nf vd : ℕ) (addresses : StridedAddresses
         first_only = is_first_only op;
       }
 
-  grouped_runs : (u : Option VType) (limit : ℕ) (fill : Bool) (m : Memory) (each : VType → VectorAccess)
+  grouped_is : (u : Option VType) (each : VType → VectorAccess)
       → grouped op width nf vd addresses unmasked v u ≡ Some t → ((k : VType) → each k ≡ grouped_access k)
-      → run_or_nothing limit fill (option_map each u) v m ≡ transfer_run limit fill t v m
-  grouped_runs None limit fill m each is h = absurd (cc)
-  grouped_runs (Some k) limit fill m each is h =
-      ap (λ a. run_or_nothing limit fill (Some a) v m) (h k) ∙ ap (λ y. transfer_run limit fill y v m) (same_transfer _ t is)
+      → option_map each u ≡ Some (moved_by t v)
+  grouped_is None each is h = absurd (cc)
+  grouped_is (Some k) each is h = ap Some (h k) ∙ ap (λ y. Some (moved_by y v)) (same_transfer _ t is)
 
 grouped_none : (op : UnitOp) (width : Eew) (nf vd : ℕ) (addresses : StridedAddresses) (unmasked : Bool) (v : VState) (u : Option VType)
-    (limit : ℕ) (fill : Bool) (m : Memory) (each : VType → VectorAccess) → grouped op width nf vd addresses unmasked v u ≡ None
-    → run_or_nothing limit fill (option_map each u) v m ≡ runs_to Done (v.vstart + 1) v m
-grouped_none op width nf vd addresses unmasked v None limit fill m each is = refl
-grouped_none op width nf vd addresses unmasked v (Some k) limit fill m each is = absurd (cc)
+    (each : VType → VectorAccess) → grouped op width nf vd addresses unmasked v u ≡ None → option_map each u ≡ None
+grouped_none op width nf vd addresses unmasked v None each is = refl
+grouped_none op width nf vd addresses unmasked v (Some k) each is = absurd (cc)
 
 -- under any vector type
 under_type : (u : Option VType) (vl : ℕ) (k : VType) → IsLength u vl → u ≡ Some k → IsLength (Some k) vl
@@ -161,30 +159,35 @@ module _ (v : VState) (x : Scalar) (t : Transfer) where
         length = λ h. not_first_only d h;
       })
 
+  pub access_is : (i : AccessInstr) → transfer_of i v x ≡ Some t
+      → is_legal (instr.Access i) v.conf.vtype v.vstart ≡ true → t.addresses.stride < 2 ^ 64 → access_of i v x ≡ Some (moved_by t v)
+  access_is (UnitStride op width nf vd rs1 vm) is legal h = grouped_is op width nf vd _ vm v t v.conf.vtype _ is (λ k. refl)
+  access_is (Strided d width nf vd rs1 rs2 vm) is legal h =
+      grouped_is (operation d) width nf vd _ vm v t v.conf.vtype _ is (λ k.
+      ap (λ f. segments d (access_type k width) nf vd vm f v)
+      (sym (strides (read_register x rs1) (read_register x rs2) (strided_below (operation d) width nf vd _ vm v t v.conf.vtype is h)))
+      ∙ directed d (segments d (access_type k width) nf vd vm (λ i. (read_register x rs1 + i * read_register x rs2) % 2 ^ 64) v))
+  access_is (Indexed d order width nf vd rs1 vs2 vm) is legal h = absurd (cc)
+  access_is (WholeLoad count width vd rs1) is legal h = ap (λ y. Some (moved_by y v)) (same_transfer _ t is)
+  access_is (WholeStore count vd rs1) is legal h =
+      ap (λ n. Some (unmasked_access direction.Store n 1 (register_count count) vd rs1 v x)) (sym (store_length count))
+      ∙ ap (λ y. Some (moved_by y v)) (same_transfer _ t is)
+  access_is (MaskAccess d vd rs1) is legal h =
+      let a = unmasked_access d (mask_length v.conf.vl) 1 1 vd rs1 v x in
+      mask_some d vd rs1 v.conf.vtype v.vstart a legal ∙ ap Some (directed d a) ∙ ap (λ y. Some (moved_by y v)) (same_transfer _ t is)
+
   pub runs : (i : AccessInstr) (limit : ℕ) (fill : Bool) (m : Memory) → transfer_of i v x ≡ Some t
       → is_legal (instr.Access i) v.conf.vtype v.vstart ≡ true → t.addresses.stride < 2 ^ 64
       → access_run limit fill i v x m ≡ transfer_run limit fill t v m
   unfolding access_run
-  runs (UnitStride op width nf vd rs1 vm) limit fill m is legal h =
-      grouped_runs op width nf vd _ vm v t v.conf.vtype limit fill m _ is (λ k. refl)
-  runs (Strided d width nf vd rs1 rs2 vm) limit fill m is legal h =
-      grouped_runs (operation d) width nf vd _ vm v t v.conf.vtype limit fill m _ is (λ k.
-      ap (λ f. segments d (access_type k width) nf vd vm f v)
-      (sym (strides (read_register x rs1) (read_register x rs2) (strided_below (operation d) width nf vd _ vm v t v.conf.vtype is h)))
-      ∙ directed d (segments d (access_type k width) nf vd vm (λ i. (read_register x rs1 + i * read_register x rs2) % 2 ^ 64) v))
-  runs (Indexed d order width nf vd rs1 vs2 vm) limit fill m is legal h = absurd (cc)
-  runs (WholeLoad count width vd rs1) limit fill m is legal h = ap (λ y. transfer_run limit fill y v m) (same_transfer _ t is)
-  runs (WholeStore count vd rs1) limit fill m is legal h =
-      ap (λ n. run_or_nothing limit fill (Some (unmasked_access direction.Store n 1 (register_count count) vd rs1 v x)) v m) (sym (store_length count))
-      ∙ ap (λ y. transfer_run limit fill y v m) (same_transfer _ t is)
-  runs (MaskAccess d vd rs1) limit fill m is legal h =
-      let a = unmasked_access d (mask_length v.conf.vl) 1 1 vd rs1 v x in
-      ap (λ o. run_or_nothing limit fill o v m) (mask_some d vd rs1 v.conf.vtype v.vstart a legal)
-      ∙ ap (λ a. run_or_nothing limit fill (Some a) v m) (directed d a) ∙ ap (λ y. transfer_run limit fill y v m) (same_transfer _ t is)
+  runs i limit fill m is legal h = ap (λ o. run_or_nothing limit fill o v m) (access_is i is legal h)
+
+pub access_none : (v : VState) (x : Scalar) (i : AccessInstr) → transfer_of i v x ≡ None → is_offset_access i ≡ false → access_of i v x ≡ None
+access_none v x (UnitStride op width nf vd rs1 vm) is h = grouped_none op width nf vd _ vm v v.conf.vtype _ is
+access_none v x (Strided d width nf vd rs1 rs2 vm) is h = grouped_none (operation d) width nf vd _ vm v v.conf.vtype _ is
+access_none v x _ is h = absurd (cc)
 
 pub transfers_nothing : (v : VState) (x : Scalar) (i : AccessInstr) (limit : ℕ) (fill : Bool) (m : Memory) → transfer_of i v x ≡ None
     → is_offset_access i ≡ false → access_run limit fill i v x m ≡ runs_to Done (v.vstart + 1) v m
 unfolding access_run
-transfers_nothing v x (UnitStride op width nf vd rs1 vm) limit fill m is h = grouped_none op width nf vd _ vm v v.conf.vtype limit fill m _ is
-transfers_nothing v x (Strided d width nf vd rs1 rs2 vm) limit fill m is h = grouped_none (operation d) width nf vd _ vm v v.conf.vtype limit fill m _ is
-transfers_nothing v x _ limit fill m is h = absurd (cc)
+transfers_nothing v x i limit fill m is h = ap (λ o. run_or_nothing limit fill o v m) (access_none v x i is h)

@@ -2,7 +2,9 @@ pub mod AccessKinds
 pub mod Blocks
 pub mod Distances
 pub mod FieldOrder
+pub mod MovedElements
 pub mod Moves
+pub mod Offsets
 pub mod Runs
 pub mod SegmentRoom
 pub mod SpanAccess

@@ -1,8 +1,11 @@
 //! Loads and stores of segments at offsets ("V" Vector Extension 1.0, sections 7.6 and 7.8).
-ghost use Rattle.std.specs.Prelude.{◌≡◌, ◌+◌, ◌%◌, ◌^◌};
+ghost use Rattle.std.specs.Prelude.{◌≡◌, ◌+◌, ◌*◌, ◌%◌, ◌^◌, ℕ};
+ghost use Rattle.rv_model.specs.accesses.VectorAccess.{unit_direction};
 ghost use Rattle.rv_model.specs.elements.Arithmetic.{body_of, group_element};
 ghost use Rattle.rv_model.specs.lending.GroupBounds.{HasRoom as GroupHasRoom, IsInside};
 ghost use Rattle.rv_model.specs.vector.Groups.{element_width, sew_width};
+ghost use Rattle.vector_memory.specs.MovedElements.{elements_before};
+ghost use Rattle.vector_memory.specs.Offsets.{offset_addresses};
 ghost use Rattle.vector_memory.specs.Runs.{RunLeaves, segments_run};
 ghost use Rattle.vector_memory.specs.SegmentRoom.{HasRoom};
 
@@ -10,6 +13,7 @@ use crate::addresses::Indexed;
 use crate::moves::Moves;
 use crate::runs::Extent;
 use crate::segments::Segments;
+use crate::shown::Viewer;
 use crate::user_bytes::UserBytes;
 use lane_arith::Body;
 use reg_groups::{group_copy, mask_register};
@@ -45,9 +49,7 @@ impl IndexedTransfer {
         requires offsets { GroupHasRoom (sew_width (element_width self.now.width)) self.now.emul state.old.conf.vl }
         ensures run { RunLeaves (segments_run self.now.op extent.limit extent.fill_masked_off self.now.segments
             (body_of self.now.unmasked state.old)
-            (λ i. (self.now.base
-            + group_element (record { width = sew_width (element_width self.now.width); emul = self.now.emul })
-            state.old.file self.now.first i) % 2 ^ 64)
+            (offset_addresses self.now state.old)
             state.old (M.memory memory.old)) result state.new (M.memory memory.new) }
         ensures others { memory.new ≡ M.with_memory memory.old (M.memory memory.new) }
     {
@@ -64,5 +66,31 @@ impl IndexedTransfer {
             body: Body::new(self.unmasked, &mask, start, usize::from(state.conf.vl())),
         };
         moves.run(self.op, extent, memory, state)
+    }
+    /// Shows each element that it moves.
+    #[inline(always)]
+    pub(crate) fn show<V: Viewer>(&self, state: &VState, viewer: &mut V)
+        requires room { HasRoom self.now.segments state.now.conf.vl }
+        requires inside { IsInside self.now.first self.now.emul }
+        requires offsets { GroupHasRoom (sew_width (element_width self.now.width)) self.now.emul state.now.conf.vl }
+        requires viewer { V.has_room viewer.old (8 * GROUP_BYTES) }
+        ensures seen { V.saw viewer.old (elements_before (unit_direction self.now.op) self.now.segments
+            (body_of self.now.unmasked state.now) (offset_addresses self.now state.now) state.now.file state.now.conf.vl)
+            viewer.new }
+        ensures room { (count : ℕ) → V.has_room viewer.old (count + 8 * GROUP_BYTES) → V.has_room viewer.new count }
+    {
+        let mask = mask_register(&state.file);
+        let start = usize::from(state.vstart);
+        let mut copy = [0; GROUP_BYTES];
+        let moves = Moves {
+            segments: self.segments,
+            addresses: Indexed {
+                base: self.base,
+                offsets: group_copy(&state.file, self.first, self.emul, &mut copy),
+                width: self.width,
+            },
+            body: Body::new(self.unmasked, &mask, start, usize::from(state.conf.vl())),
+        };
+        moves.show(self.op, &state.file, viewer);
     }
 }

@@ -1,12 +1,16 @@
 //! Each vector load and store ("V" Vector Extension 1.0, chapter 7).
-ghost use Rattle.std.specs.Prelude.{◌≡◌, ◌+◌, ◌≤◌, IfSome, IsTrue, Some, false, true};
+ghost use Rattle.std.specs.Prelude.{◌≡◌, ◌+◌, ◌*◌, ◌≤◌, [], ℕ, IfSome, IsTrue, Some, false, true};
+ghost use Rattle.std.specs.Option.{option_map_or};
 ghost use Rattle.rv_model.specs.accesses.AccessRuns.{access_run};
 ghost use Rattle.rv_model.specs.accesses.Restarts.{AccessGoesOn};
+ghost use Rattle.rv_model.specs.accesses.VectorAccess.{access_of};
 ghost use Rattle.rv_model.specs.lending.GroupBounds.{emul};
 ghost use Rattle.rv_model.specs.legality.Legality.{is_legal};
 ghost use Rattle.rv_model.specs.vector.Groups.{IsConfiguration, element_width, sew_bits, vlmax, registers};
 ghost use Rattle.vector_memory.specs.AccessKinds.{is_offset_access, is_segment_access};
 ghost use Rattle.vector_memory.specs.Distances.{grouped, operation, transfer_of, whole};
+ghost use Rattle.vector_memory.specs.MovedElements.{moved_elements};
+ghost use Rattle.vector_memory.specs.Offsets.{indexed_of};
 ghost use Rattle.vector_memory.specs.Runs.{RunLeaves};
 
 use crate::addresses::Strided;
@@ -14,11 +18,12 @@ use crate::indexed::IndexedTransfer;
 use crate::length::{element_bytes, mask_length, whole_length};
 use crate::runs::Extent;
 use crate::segments::Segments;
+use crate::shown::Viewer;
 use crate::transfers::Transfer;
 use crate::user_bytes::UserBytes;
 use reg_groups::{emul, register_count, registers};
 use rv_model::instructions::operations::{Direction, Eew, UnitOp};
-use rv_model::{AccessInstr, Field, Instr, MemEnd, Scalar, Sew, VReg, VState, VType};
+use rv_model::{AccessInstr, Field, GROUP_BYTES, Instr, MemEnd, Scalar, Sew, VReg, VState, VType};
 
 /// The same direction, of an operation that may be a fault-only-first load.
 #[inline(always)]
@@ -196,8 +201,39 @@ fn is_indexed(access: &AccessInstr) -> bool
     }
 }
 
-/// A load or store at offsets, under a vector type; its elements have the width that the type has.
-#[tactic(auto, unfolding(rv_model::specs::accesses::AccessRuns::access_run))]
+/// The transfer that a load or store at offsets is, under a vector type; its elements have the width that the type has.
+#[inline(always)]
+fn indexed_of(access: &AccessInstr, vtype: VType, scalar: &Scalar) -> Option<IndexedTransfer>
+    ensures value { result ≡ indexed_of access.now vtype scalar.now }
+    ensures fields { IfSome result (λ t. t.segments.fields ≤ 8) }
+{
+    match *access {
+        AccessInstr::Indexed {
+            direction,
+            width,
+            nf,
+            vd,
+            rs1,
+            vs2,
+            vm,
+            ..
+        } => {
+            let size = usize::from(vtype.sew.bits() / 8);
+            Some(IndexedTransfer {
+                op: operation(direction),
+                unmasked: vm,
+                segments: grouped_segments(nf, size, u32::from(vtype.lmul.eighths()), vd),
+                base: scalar.read(rs1),
+                first: vs2,
+                width,
+                emul: emul_of(width, vtype),
+            })
+        }
+        _ => None,
+    }
+}
+
+/// A load or store at offsets, under a vector type.
 #[inline(always)]
 fn run_offsets<M: UserBytes>(
     access: &AccessInstr,
@@ -216,32 +252,10 @@ fn run_offsets<M: UserBytes>(
         result state.new (M.memory memory.new) }
     ensures others { memory.new ≡ M.with_memory memory.old (M.memory memory.new) }
 {
-    match *access {
-        AccessInstr::Indexed {
-            direction,
-            width,
-            nf,
-            vd,
-            rs1,
-            vs2,
-            vm,
-            ..
-        } => {
-            let size = usize::from(vtype.sew.bits() / 8);
-            let segments = grouped_segments(nf, size, u32::from(vtype.lmul.eighths()), vd);
-            let transfer = IndexedTransfer {
-                op: operation(direction),
-                unmasked: vm,
-                segments,
-                base: scalar.read(rs1),
-                first: vs2,
-                width,
-                emul: emul_of(width, vtype),
-            };
-            transfer.run_segments(extent, memory, state)
-        }
-        _ => MemEnd::Done,
-    }
+    let Some(transfer) = indexed_of(access, vtype, scalar) else {
+        return MemEnd::Done;
+    };
+    transfer.run_segments(extent, memory, state)
 }
 
 /// Carries out a load or store at a distance at once, if it can be. Answers whether it is done. One that is strided by
@@ -335,4 +349,60 @@ pub fn run<M: UserBytes>(
     // A copy of its own for the other function, so that the operands need no place in memory before.
     let copy = *access;
     run_in_turn(&copy, extent, scalar, memory, state)
+}
+
+/// Shows each element that a load or store at offsets moves, under a vector type.
+#[inline(always)]
+fn show_offsets<V: Viewer>(
+    access: &AccessInstr,
+    vtype: VType,
+    state: &VState,
+    scalar: &Scalar,
+    left: u16,
+    viewer: &mut V,
+)
+    requires access { IsTrue (is_offset_access access.now) }
+    requires vtype { state.now.conf.vtype ≡ Some vtype }
+    requires length { state.now.conf.vl ≤ vlmax vtype }
+    requires legal { IsTrue (is_legal (Instr.Access access.now) (Some vtype) state.now.vstart) }
+    requires viewer { V.has_room viewer.old (8 * GROUP_BYTES) }
+    ensures seen { V.saw viewer.old
+        (option_map_or (moved_elements state.now left) (access_of access.now state.now scalar.now) []) viewer.new }
+    ensures room { (count : ℕ) → V.has_room viewer.old (count + 8 * GROUP_BYTES) → V.has_room viewer.new count }
+{
+    let Some(transfer) = indexed_of(access, vtype, scalar) else {
+        return;
+    };
+    transfer.show(state, viewer);
+}
+
+/// Shows each element that a vector load or store moves, by index and field: of a legal one that finds this state, isn't
+/// cut and doesn't fault, and leaves a length of `left`, which a fault-only-first load may have shortened.
+pub fn show_moves<V: Viewer>(
+    access: &AccessInstr,
+    state: &VState,
+    scalar: &Scalar,
+    left: u16,
+    viewer: &mut V,
+)
+    requires legal { IsTrue (is_legal (Instr.Access access.now) state.now.conf.vtype state.now.vstart) }
+    requires left { left ≤ state.now.conf.vl }
+    requires viewer { V.has_room viewer.old (8 * GROUP_BYTES) }
+
+    // The elements of the definition's transfers.
+    ensures seen { V.saw viewer.old
+        (option_map_or (moved_elements state.now left) (access_of access.now state.now scalar.now) []) viewer.new }
+    ensures room { (count : ℕ) → V.has_room viewer.old (count + 8 * GROUP_BYTES) → V.has_room viewer.new count }
+{
+    state.conf.length_law();
+    if is_indexed(access) {
+        let Some(vtype) = state.conf.vtype() else {
+            return;
+        };
+        return show_offsets(access, vtype, state, scalar, left, viewer);
+    }
+    let Some(transfer) = transfer_of(access, state, scalar) else {
+        return;
+    };
+    transfer.show(state, left, viewer);
 }

@@ -12,6 +12,7 @@ mod loads;
 mod moves;
 mod runs;
 mod segments;
+mod shown;
 mod span_blends;
 mod span_elements;
 mod spans;
@@ -19,7 +20,8 @@ mod stores;
 mod transfers;
 mod user_bytes;
 
-pub use instructions::run;
+pub use instructions::{run, show_moves};
 pub use length::index_count;
 pub use rv_model::MemEnd;
+pub use shown::{Viewer, unit_direction};
 pub use user_bytes::UserBytes;

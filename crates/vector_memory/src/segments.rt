@@ -34,7 +34,7 @@ impl Segments {
     }
 
     /// The address of a field, by that of its segment.
-    fn field_address(&self, address: u64, field: usize) -> u64
+    pub(crate) fn field_address(&self, address: u64, field: usize) -> u64
         requires size { self.now.size ≤ 8 }
         requires field { field < 8 }
         ensures { result ≡ (address + field * self.now.size) % 2 ^ 64 }

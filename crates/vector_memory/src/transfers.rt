@@ -3,7 +3,8 @@
 ghost use Rattle.std.specs.Prelude.{◌≡◌, ◌+◌, ◌*◌, ◌%◌, ◌^◌, ◌≤◌, Bool, IfSome, List, false, true, ℕ};
 ghost use Rattle.rv_model.specs.declared.step.memory_end.MemEnd.TheVariants.{Done};
 ghost use Rattle.vector_memory.specs.Blocks.{IsBlock};
-ghost use Rattle.vector_memory.specs.Distances.{Fits, transfer_run};
+ghost use Rattle.vector_memory.specs.Distances.{Fits, moved_by, transfer_run};
+ghost use Rattle.vector_memory.specs.MovedElements.{moved_elements, moved_end};
 ghost use Rattle.vector_memory.specs.Runs.{RunLeaves};
 ghost use Rattle.vector_memory.specs.SegmentRoom.{HasRoom};
 
@@ -12,6 +13,7 @@ use crate::blocks::Block;
 use crate::moves::Moves;
 use crate::runs::Extent;
 use crate::segments::Segments;
+use crate::shown::Viewer;
 use crate::user_bytes::UserBytes;
 use lane_arith::Body;
 use reg_groups::mask_register;
@@ -107,5 +109,38 @@ impl Transfer {
             body: Body::new(self.unmasked, &mask, start, self.count),
         };
         moves.run(self.op, extent, memory, state)
+    }
+    /// The index after the last one that it moves, where it leaves a length of `left`.
+    #[inline(always)]
+    fn end(&self, state: &VState, left: u16) -> usize
+        requires fits { Fits state.now self.now }
+        requires left { left ≤ state.now.conf.vl }
+        ensures value { result ≡ moved_end (moved_by self.now state.now) left }
+        ensures room { HasRoom self.now.segments result }
+        ensures most { result ≤ GROUP_BYTES }
+    {
+        match self.op {
+            UnitOp::FaultOnlyFirst => usize::from(left),
+            UnitOp::Load | UnitOp::Store => self.count,
+        }
+    }
+
+    /// Shows each element that it moves, where it leaves a length of `left`.
+    #[inline(always)]
+    pub(crate) fn show<V: Viewer>(&self, state: &VState, left: u16, viewer: &mut V)
+        requires fits { Fits state.now self.now }
+        requires left { left ≤ state.now.conf.vl }
+        requires viewer { V.has_room viewer.old (8 * GROUP_BYTES) }
+        ensures seen { V.saw viewer.old (moved_elements state.now left (moved_by self.now state.now)) viewer.new }
+        ensures room { (count : ℕ) → V.has_room viewer.old (count + 8 * GROUP_BYTES) → V.has_room viewer.new count }
+    {
+        let mask = mask_register(&state.file);
+        let start = usize::from(state.vstart);
+        let moves = Moves {
+            segments: self.segments,
+            addresses: self.addresses,
+            body: Body::new(self.unmasked, &mask, start, self.end(state, left)),
+        };
+        moves.show(self.op, &state.file, viewer);
     }
 }
