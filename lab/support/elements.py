@@ -26,7 +26,9 @@ def elements_of(word: int, control: ControlRegisters, v0: bytes) -> Elements | N
         return None
     body = body_of(word, instruction, control)
     active = active_of(instruction, body, v0)
-    return Elements(active, len(body) - len(active), _most(word, instruction, control.vlmax) - body.stop)
+    has_tail = instruction.name not in ("vmv.x.s", "vmv.s.x")  # whose tail isn't counted
+    tail = _most(word, instruction, control.vlmax) - body.stop if has_tail else 0
+    return Elements(active, len(body) - len(active), tail)
 
 
 def _most(word: int, instruction: VectorInstruction, vlmax: int) -> int:
@@ -42,4 +44,4 @@ def _most(word: int, instruction: VectorInstruction, vlmax: int) -> int:
         return len(data.registers) * REGISTER_BITS // data.eew
     if is_access and word >> 26 & 3 == UNIT_STRIDE and word >> 20 & 31 == MASK:
         return -(-vlmax // 8)
-    return 1 if instruction.name in ("vmv.x.s", "vmv.s.x") else vlmax
+    return vlmax

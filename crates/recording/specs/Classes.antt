@@ -1,6 +1,7 @@
 -- How an instruction is counted: by the elements of its operation ("V" Vector Extension 1.0, sections 5.4, 7.4, 7.9, 16.1 and 16.6),
 -- or as a jump (Unprivileged ISA 20191213, section 2.5).
-use Rattle.std.specs.Prelude.{ℕ, ◌*◌, ◌==◌, ◌||◌, Bool, true, false, Option, Some, List, length, if◌then◌else◌}
+use Rattle.std.specs.Int.{from_bool}
+use Rattle.std.specs.Prelude.{ℕ, nat_lt, ◌*◌, ◌==◌, ◌||◌, Bool, true, false, Option, Some, List, length, if◌then◌else◌}
 use Rattle.std.specs.List.{filter, range_with_len}
 use Rattle.std.specs.Option.{option_map_or}
 use Rattle.rv_model.specs.accesses.VectorAccess.{mask_length, whole_length}
@@ -13,11 +14,14 @@ use Rattle.rv_model.specs.declared.instructions.scalar.ScalarInstr.TheVariants a
 use Rattle.rv_model.specs.declared.instructions.vector.VectorInstr.{VectorInstr}
 use Rattle.rv_model.specs.declared.instructions.vector.VectorInstr.TheVariants.{SetVli, SetIvli, SetVl, Arith, WholeMove, MaskToScalar, Extend, MaskUnary, ElementIndex, MoveToScalar, MoveToVector}
 use Rattle.rv_model.specs.declared.instructions.operations.RegisterCount.{RegisterCount}
+use Rattle.rv_model.specs.elements.Bodies.{is_arith_unmasked}
 use Rattle.rv_model.specs.elements.Elements.{Body, is_active}
 use Rattle.rv_model.specs.vector.Groups.{Configuration, element_count, vlmax, register_count, whole_type}
 use Rattle.rv_model.specs.declared.vector.sizes.TheConstants.{VLENB}
 pub use Rattle.recording.specs.declared.class.Class.{Class}
 use Rattle.recording.specs.declared.class.Class.TheVariants as class
+pub use Rattle.recording.specs.declared.class.Extent.{Extent}
+use Rattle.recording.specs.declared.class.Extent.TheVariants as extent
 
 -- ---- classes
 
@@ -31,19 +35,19 @@ links (scalar.Jump rd imm) = is_link rd
 links (scalar.JumpRegister rd rs1 imm) = is_link rd || is_link rs1
 links _ = false
 
--- which elements an operation has that neither loads nor stores; carries and merges are of the whole body
+-- which elements an operation has that neither loads nor stores
 abbrev pub operation_class : VectorInstr → Class
 operation_class (SetVli rd rs1 vtype) = class.Plain
 operation_class (SetIvli rd avl vtype) = class.Plain
 operation_class (SetVl rd rs1 rs2) = class.Plain
-operation_class (Arith arith vd vs2 vm) = class.Length vm
+operation_class (Arith arith vd vs2 vm) = class.Length (is_arith_unmasked arith.0 vm)
 operation_class (MaskToScalar op rd vs2 vm) = class.Length vm
 operation_class (Extend op vd vs2 vm) = class.Length vm
 operation_class (MaskUnary op vd vs2 vm) = class.Length vm
 operation_class (ElementIndex vd vm) = class.Length vm
-operation_class (WholeMove count vd vs2) = class.Registers count
-operation_class (MoveToScalar rd vs2) = class.Elements 1
-operation_class (MoveToVector vd rs1) = class.Elements 1
+operation_class (WholeMove count vd vs2) = class.Other (extent.Registers count)
+operation_class (MoveToScalar rd vs2) = class.Other extent.One
+operation_class (MoveToVector vd rs1) = class.Other extent.First
 operation_class _ = class.Length true
 
 -- which segments a load or store has
@@ -51,9 +55,9 @@ abbrev pub access_class : AccessInstr → Class
 access_class (UnitStride op width nf vd rs1 vm) = class.Length vm
 access_class (Strided direction width nf vd rs1 rs2 vm) = class.Length vm
 access_class (Indexed direction order width nf vd rs1 vs2 vm) = class.Length vm
-access_class (WholeLoad count width vd rs1) = class.Elements (whole_length count width)
-access_class (WholeStore count vd rs1) = class.Elements (register_count count * VLENB)
-access_class (MaskAccess direction vd rs1) = class.MaskBytes
+access_class (WholeLoad count width vd rs1) = class.Other (extent.Elements (whole_length count width))
+access_class (WholeStore count vd rs1) = class.Other (extent.Elements (register_count count * VLENB))
+access_class (MaskAccess direction vd rs1) = class.Other extent.MaskBytes
 
 -- of any word
 abbrev pub class_of : Option Instr → Class
@@ -82,24 +86,38 @@ most c = option_map_or vlmax c.vtype 0
 abbrev pub moved : RegisterCount → Configuration → ℕ
 moved count c = option_map_or (λ t. element_count (whole_type t count)) c.vtype 0
 
--- where the body ends, by vl and the vector type
-abbrev pub body_end : Class → Configuration → ℕ
-body_end class.Plain c = 0
-body_end class.Link c = 0
-body_end (class.Length unmasked) c = c.vl
-body_end class.MaskBytes c = mask_length c.vl
-body_end (class.Elements count) c = count
-body_end (class.Registers count) c = moved count c
+-- where the elements of an extent end for a vector length: at vl the body ends, at VLMAX the tail
+abbrev pub extent_end : Extent → ℕ → Configuration → ℕ → ℕ
+extent_end extent.MaskBytes start c length = mask_length length
+extent_end (extent.Elements count) start c length = count
+extent_end (extent.Registers count) start c length = moved count c
+extent_end extent.One start c length = 1
+extent_end extent.First start c length = from_bool (nat_lt start c.vl)
+
+-- where the body of an extent begins
+abbrev pub extent_start : Extent → ℕ → ℕ
+extent_start extent.One start = 0
+extent_start extent.First start = 0
+extent_start e start = start
+
+-- where the elements of a class end for a vector length
+abbrev pub end_of : Class → ℕ → Configuration → ℕ → ℕ
+end_of (class.Length unmasked) start c length = length
+end_of (class.Other e) start c length = extent_end e start c length
+end_of k start c length = 0
+
+-- where the body begins
+abbrev pub start_of : Class → ℕ → ℕ
+start_of (class.Other e) start = extent_start e start
+start_of k start = start
 
 -- where the tail ends
-abbrev pub tail_end : Class → Configuration → ℕ
-tail_end (class.Length unmasked) c = most c
-tail_end class.MaskBytes c = mask_length (most c)
-tail_end k c = body_end k c
+abbrev pub tail_end : Class → ℕ → Configuration → ℕ
+tail_end k start c = end_of k start c (most c)
 
 -- the body, by the mask and vstart that the instruction found and the length and type that it leaves
 abbrev pub body : Class → List ℕ → ℕ → Configuration → Body
-body k mask start c = record { unmasked = is_unmasked k; mask = mask; start = start; end = body_end k c }
+body k mask start c = record { unmasked = is_unmasked k; mask = mask; start = start_of k start; end = end_of k start c c.vl }
 
 -- how many elements of a body are active
 abbrev pub active_count : Body → ℕ

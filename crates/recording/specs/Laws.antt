@@ -1,13 +1,16 @@
 -- Laws of what is counted.
-use Rattle.std.specs.Prelude.{ℕ, ◌≡◌, ◌+◌, ◌≤◌, ◌++◌, Bool, [], Some, flat_map, length}
+use Rattle.std.specs.Prelude.{ℕ, ◌≡◌, ◌+◌, ◌≤◌, ◌++◌, Bool, false, [], Some, flat_map, length}
 use Rattle.rv_model.specs.accesses.VectorAccess.{VectorAccess, access_of}
 use Rattle.rv_model.specs.declared.instructions.access.AccessInstr.{AccessInstr}
+use Rattle.rv_model.specs.declared.instructions.vector.VectorInstr.{VectorInstr}
 use Rattle.rv_model.specs.declared.scalar.Scalar.{Scalar}
 use Rattle.rv_model.specs.declared.vector.state.VState.{VState}
+use Rattle.rv_model.specs.declared.vector.types.VType.{VType}
+use Rattle.rv_model.specs.elements.Bodies.{counted_body}
 use Rattle.rv_model.specs.machine.UserMachine.{steps, Present}
 use Rattle.rv_model.specs.step.WriteCall.{output_size, write_size}
 use Rattle.rv_model.specs.vector.Groups.{register_of}
-use Rattle.recording.specs.Classes.{access_class, body}
+use Rattle.recording.specs.Classes.{access_class, body, is_plain, operation_class}
 use Rattle.recording.specs.Machines.{taken}
 use Rattle.recording.specs.Runs.{put_out, ran}
 
@@ -23,3 +26,9 @@ RunsAsSteps = (ticks : ℕ) (exempt : Bool) (p : Present) → p.breakpoints ≡ 
 abbrev pub AccessBody : Type 0
 AccessBody = (i : AccessInstr) (v : VState) (x : Scalar) (a : VectorAccess) → access_of i v x ≡ Some a
     → a.body ≡ body (access_class i) (register_of v.file 0) v.vstart v.conf
+
+-- The body that is counted of any other vector instruction is the definition's: that on which its step works, and of vmv.x.s and vmv.s.x
+-- element 0, where the step reads or writes it.
+abbrev pub OperationBody : Type 0
+OperationBody = (i : VectorInstr) (t : VType) (v : VState) → v.conf.vtype ≡ Some t → is_plain (operation_class i) ≡ false
+    → body (operation_class i) (register_of v.file 0) v.vstart v.conf ≡ counted_body i t v

@@ -104,7 +104,7 @@ share s =
     let one = step 256 s in
     let k = class_of (scan table (word_of s)) in
     let c = one.state.vector.conf in
-    counted one.end (Word s.scalar.pc (word_of s)) (carried_out one.ticks (body k (register_of s.vector.file 0) s.vector.vstart c) (tail_end k c))
+    counted one.end (Word s.scalar.pc (word_of s)) (carried_out one.ticks (body k (register_of s.vector.file 0) s.vector.vstart c) (tail_end k s.vector.vstart c))
     (key_beside k s.vector.conf s.scalar.pc one.state.scalar.pc)
 
 -- so much of each that found one of these

@@ -2,12 +2,13 @@
 ghost use Rattle.std.specs.Prelude.{◌≡◌};
 ghost use Rattle.rv_model.specs.instructions.Table.{scan, table};
 ghost use Rattle.rv_model.specs.accesses.VectorAccess.{whole_length};
+ghost use Rattle.rv_model.specs.elements.Bodies.{is_arith_unmasked};
 ghost use Rattle.recording.specs.Classes.{access_class, class_of, is_link, links, operation_class};
 
 use reg_groups::register_count;
 use rv_decode::decode;
-use rv_model::instructions::operations::{Eew, RegisterCount};
-use rv_model::{AccessInstr, Instr, Reg, ScalarInstr, Sew, VLENB, VectorInstr};
+use rv_model::instructions::operations::{Eew, RegisterCount, VectorOp};
+use rv_model::{AccessInstr, Arith, Instr, Reg, ScalarInstr, Sew, VLENB, VectorInstr};
 
 /// How an instruction is counted: by its elements, or as a jump.
 #[derive(Clone, Copy)]
@@ -18,12 +19,23 @@ pub enum Class {
     Link,
     /// It has as many elements as vl says, of a group of VLMAX; all are active if it is unmasked.
     Length { unmasked: bool },
-    /// It has as many bytes as hold a bit for each of vl elements.
+    /// Its body isn't the elements from vstart to vl; all of it are active.
+    Other { extent: Extent },
+}
+
+/// The body of an instruction whose elements don't end at vl ("V" Vector Extension 1.0, sections 7.4, 7.9, 16.1 and 16.6).
+#[derive(Clone, Copy)]
+pub enum Extent {
+    /// The bytes from vstart on that hold a bit for each of vl elements.
     MaskBytes,
-    /// It has so many elements, whatever vl is.
+    /// The elements from vstart to `count`, whatever vl is.
     Elements { count: u16 },
-    /// It has all elements of SEW in so many registers.
+    /// The elements of SEW in `count` registers, from vstart on, whatever vl is.
     Registers { count: RegisterCount },
+    /// Element 0, whatever vl and vstart are (vmv.x.s).
+    One,
+    /// Element 0 if vstart is less than vl, else none (vmv.s.x).
+    First,
 }
 
 /// Whether a register holds where a call returns to: x1 and x5 do (Unprivileged ISA 20191213, section 2.5).
@@ -44,6 +56,16 @@ fn links(instr: &ScalarInstr) -> bool
     }
 }
 
+/// Whether all body elements of an arithmetic operation are active. Those of a carry out are: vm selects v0 as an operand there.
+fn is_arith_unmasked(arith: Arith, vm: bool) -> bool
+    ensures { result ≡ is_arith_unmasked arith.0 vm }
+{
+    match arith.parts() {
+        (VectorOp::CarryOut(_), _) => true,
+        _ => vm,
+    }
+}
+
 /// Which elements an operation has that neither loads nor stores.
 fn operation_class(instr: &VectorInstr) -> Class
     ensures { result ≡ operation_class instr.now }
@@ -52,15 +74,22 @@ fn operation_class(instr: &VectorInstr) -> Class
         VectorInstr::SetVli { .. } | VectorInstr::SetIvli { .. } | VectorInstr::SetVl { .. } => {
             Class::Plain
         }
-        VectorInstr::Arith { vm, .. }
-        | VectorInstr::MaskToScalar { vm, .. }
+        VectorInstr::Arith { arith, vm, .. } => Class::Length {
+            unmasked: is_arith_unmasked(*arith, *vm),
+        },
+        VectorInstr::MaskToScalar { vm, .. }
         | VectorInstr::Extend { vm, .. }
         | VectorInstr::MaskUnary { vm, .. }
         | VectorInstr::ElementIndex { vm, .. } => Class::Length { unmasked: *vm },
-        VectorInstr::WholeMove { count, .. } => Class::Registers { count: *count },
-        VectorInstr::MoveToScalar { .. } | VectorInstr::MoveToVector { .. } => {
-            Class::Elements { count: 1 }
-        }
+        VectorInstr::WholeMove { count, .. } => Class::Other {
+            extent: Extent::Registers { count: *count },
+        },
+        VectorInstr::MoveToScalar { .. } => Class::Other {
+            extent: Extent::One,
+        },
+        VectorInstr::MoveToVector { .. } => Class::Other {
+            extent: Extent::First,
+        },
         VectorInstr::Carry { .. }
         | VectorInstr::Move { .. }
         | VectorInstr::MaskLogic { .. }
@@ -83,13 +112,19 @@ fn access_class(instr: &AccessInstr) -> Class
         AccessInstr::UnitStride { vm, .. }
         | AccessInstr::Strided { vm, .. }
         | AccessInstr::Indexed { vm, .. } => Class::Length { unmasked: *vm },
-        AccessInstr::WholeLoad { count, width, .. } => Class::Elements {
-            count: whole_length(*count, *width),
+        AccessInstr::WholeLoad { count, width, .. } => Class::Other {
+            extent: Extent::Elements {
+                count: whole_length(*count, *width),
+            },
         },
-        AccessInstr::WholeStore { count, .. } => Class::Elements {
-            count: u16::from(register_count(*count)) * VLENB as u16,
+        AccessInstr::WholeStore { count, .. } => Class::Other {
+            extent: Extent::Elements {
+                count: u16::from(register_count(*count)) * VLENB as u16,
+            },
         },
-        AccessInstr::MaskAccess { .. } => Class::MaskBytes,
+        AccessInstr::MaskAccess { .. } => Class::Other {
+            extent: Extent::MaskBytes,
+        },
     }
 }
 

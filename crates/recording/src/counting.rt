@@ -59,10 +59,7 @@ pub(crate) fn count_beside<A: Allocator>(
     match class {
         Class::Plain => Ok(()),
         Class::Link => table.count_jump(found.pc, target),
-        Class::Length { unmasked: _ }
-        | Class::MaskBytes
-        | Class::Elements { count: _ }
-        | Class::Registers { count: _ } => {
+        Class::Length { unmasked: _ } | Class::Other { extent: _ } => {
             table.count_length(vtype_number(found.conf.vtype()), found.conf.vl())
         }
     }

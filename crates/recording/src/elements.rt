@@ -1,9 +1,10 @@
 //! How many elements an instruction has of each kind.
-ghost use Rattle.std.specs.Prelude.{◌≡◌, ◌≤◌, ◌-◌, false, true};
-ghost use Rattle.recording.specs.Classes.{active_count, body, body_end, moved, most, tail_end};
+ghost use Rattle.std.specs.Prelude.{◌≡◌, ◌≤◌, ◌-◌, ℕ, List, false, true};
+ghost use Rattle.recording.specs.Classes.{active_count, body, extent_end, extent_start, moved, most, tail_end};
 ghost use Rattle.recording.specs.Runs.{carried_out};
+ghost use Rattle.recording.specs.declared.class.Class.TheVariants.{Length, Other};
 
-use crate::class::Class;
+use crate::class::{Class, Extent};
 use crate::found::Found;
 use crate::sums::Sums;
 use lane_arith::Body;
@@ -33,31 +34,43 @@ fn moved(count: RegisterCount, conf: VConf) -> usize
     }
 }
 
-/// Where the body ends.
-fn body_end(class: Class, conf: VConf) -> usize
-    ensures { result ≡ body_end class conf }
+/// Where the elements of an extent end for a vector length: at vl the body ends, at VLMAX the tail.
+#[inline(always)]
+fn extent_end(extent: Extent, start: usize, conf: VConf, length: usize) -> usize
+    ensures { result ≡ extent_end extent start conf length }
 {
-    match class {
-        Class::Plain | Class::Link => 0,
-        Class::Length { unmasked: _ } => usize::from(conf.vl()),
-        Class::MaskBytes => (usize::from(conf.vl()) + 7) / 8,
-        Class::Elements { count } => usize::from(count),
-        Class::Registers { count } => moved(count, conf),
+    match extent {
+        Extent::MaskBytes => length.div_ceil(8),
+        Extent::Elements { count } => usize::from(count),
+        Extent::Registers { count } => moved(count, conf),
+        Extent::One => 1,
+        Extent::First => usize::from(start < usize::from(conf.vl())),
     }
 }
 
-/// Where the tail ends.
-fn tail_end(class: Class, conf: VConf) -> usize
-    ensures { result ≡ tail_end class conf }
+/// Where the body of an extent and its tail end. Only that of a mask's bytes has a tail.
+#[inline(always)]
+fn extent_ends(extent: Extent, start: usize, conf: VConf) -> (usize, usize)
+    ensures { result ≡ (extent_end extent start conf conf.vl, extent_end extent start conf (most conf)) }
 {
-    match class {
-        Class::Length { unmasked: _ } => most(conf),
-        Class::MaskBytes => (most(conf) + 7) / 8,
-        _ => body_end(class, conf),
+    let end = extent_end(extent, start, conf, usize::from(conf.vl()));
+    match extent {
+        Extent::MaskBytes => (end, most(conf).div_ceil(8)),
+        _ => (end, end),
     }
 }
 
-/// How many elements of a body are active, under the mask.
+/// Where the body of an extent begins.
+fn extent_start(extent: Extent, start: usize) -> usize
+    ensures { result ≡ extent_start extent start }
+{
+    match extent {
+        Extent::One | Extent::First => 0,
+        _ => start,
+    }
+}
+
+/// How many elements of a body are active under the mask.
 #[tactic(auto, using(crate::proofs::Actives::set_are_active))]
 fn active_under(found: &Found, end: usize) -> usize
     requires { end ≤ GROUP_BYTES }
@@ -70,43 +83,75 @@ fn active_under(found: &Found, end: usize) -> usize
     )
 }
 
-/// The same without a mask.
+/// How many elements of a body are active without a mask.
 #[tactic(auto, using(crate::proofs::Actives::all_are_active))]
-fn active_of_all(found: &Found, end: usize) -> usize
-    ensures { result
-        ≡ active_count (record { unmasked = true; mask = found.now.mask; start = found.now.start; end = end }) }
+fn active_of_all(start: usize, end: usize) -> usize
+    ensures { (mask : List ℕ) → result ≡ active_count (record { unmasked = true; mask = mask; start = start; end = end }) }
 {
-    end.saturating_sub(found.start)
+    end.saturating_sub(start)
 }
 
-/// How many elements are active, under this length and type.
-fn active(class: Class, found: &Found, conf: VConf) -> usize
-    ensures { result ≡ active_count (body class found.now.mask found.now.start conf) }
+/// How many elements of a body from vstart on are active.
+#[inline(always)]
+fn active(unmasked: bool, found: &Found, end: usize) -> usize
+    requires { end ≤ GROUP_BYTES }
+    ensures { result
+        ≡ active_count (record { unmasked = unmasked; mask = found.now.mask; start = found.now.start; end = end }) }
 {
-    match class {
-        Class::Length { unmasked: false } => active_under(found, usize::from(conf.vl())),
-        Class::Length { unmasked: true }
-        | Class::Plain
-        | Class::Link
-        | Class::MaskBytes
-        | Class::Elements { count: _ }
-        | Class::Registers { count: _ } => active_of_all(found, body_end(class, conf)),
+    if unmasked {
+        active_of_all(found.start, end)
+    } else {
+        active_under(found, end)
     }
 }
 
-/// What is counted of an instruction of so many ticks that found this and left this length and type.
+/// Counts an instruction once: its ticks, its body elements from `start` to `end`, of which `active` are active, and its tail elements up
+/// to `tail_end`.
 #[inline(always)]
-pub(crate) fn with_elements(class: Class, found: &Found, conf: VConf, ticks: usize) -> Sums
-    ensures { result ≡ carried_out ticks (body class found.now.mask found.now.start conf)
-        (tail_end class conf) }
+fn counted_once(ticks: usize, start: usize, end: usize, active: usize, tail_end: usize) -> Sums
+    ensures { result ≡ record { times = 1; ticks = ticks; active = active; masked = end - start - active; tail = tail_end - end } }
 {
-    let end = body_end(class, conf);
-    let active = active(class, found, conf);
     Sums {
         times: 1,
         ticks: ticks as u64,
         active: active as u64,
-        masked: end.saturating_sub(found.start).saturating_sub(active) as u64,
-        tail: tail_end(class, conf).saturating_sub(end) as u64,
+        masked: end.saturating_sub(start).saturating_sub(active) as u64,
+        tail: tail_end.saturating_sub(end) as u64,
+    }
+}
+
+/// Counts an instruction whose body goes from vstart to vl.
+#[inline(always)]
+fn with_length(unmasked: bool, found: &Found, conf: VConf, ticks: usize) -> Sums
+    ensures { result ≡ carried_out ticks (body (Length unmasked) found.now.mask found.now.start conf) (most conf) }
+{
+    let end = usize::from(conf.vl());
+    let active = active(unmasked, found, end);
+    counted_once(ticks, found.start, end, active, most(conf))
+}
+
+/// Counts an instruction with another body.
+#[inline(never)]
+fn with_extent(extent: Extent, found: &Found, conf: VConf, ticks: usize) -> Sums
+    ensures { result ≡ carried_out ticks (body (Other extent) found.now.mask found.now.start conf)
+        (tail_end (Other extent) found.now.start conf) }
+{
+    let start = extent_start(extent, found.start);
+    let (end, tail_end) = extent_ends(extent, found.start, conf);
+    let active = active_of_all(start, end);
+    counted_once(ticks, start, end, active, tail_end)
+}
+
+/// What is counted of an instruction of so many ticks that found this and left this length and type.
+#[inline(always)]
+#[tactic(auto, using(crate::proofs::Actives::no_elements))]
+pub(crate) fn with_elements(class: Class, found: &Found, conf: VConf, ticks: usize) -> Sums
+    ensures { result ≡ carried_out ticks (body class found.now.mask found.now.start conf)
+        (tail_end class found.now.start conf) }
+{
+    match class {
+        Class::Plain | Class::Link => Sums::plain(ticks),
+        Class::Length { unmasked } => with_length(unmasked, found, conf, ticks),
+        Class::Other { extent } => with_extent(extent, found, conf, ticks),
     }
 }

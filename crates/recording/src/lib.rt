@@ -23,7 +23,7 @@ mod table;
 pub use alone::Alone;
 pub use both::Both;
 pub use carried::Carried;
-pub use class::Class;
+pub use class::{Class, Extent};
 pub use counting::{is_counted, word_at};
 pub use counts::Counts;
 pub use fault::RecordFault;

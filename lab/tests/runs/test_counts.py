@@ -27,6 +27,11 @@ TYPES = {"e8 m1": 0, "e8 mf2": 7, "e16 m1": 8, "e32 m1": 16, "e32 m2": 17, "e64 
         ("vadd.vv v2, v4, v6, v0.t", "e32 m2", 16, 2, [2, 4, 15], 11, 0),
         ("vmerge.vvm v2, v4, v6, v0", "e32 m1", 2, 0, [0, 1], 0, 6),
         ("vmadc.vvm v2, v4, v6, v0", "e32 m1", 2, 0, [0, 1], 0, 6),
+        ("vmadc.vxm v2, v4, x6, v0", "e32 m1", 5, 1, [1, 2, 3, 4], 0, 3),
+        ("vmadc.vim v2, v4, 3, v0", "e32 m1", 5, 0, [0, 1, 2, 3, 4], 0, 3),
+        ("vmsbc.vvm v2, v4, v6, v0", "e32 m1", 5, 0, [0, 1, 2, 3, 4], 0, 3),
+        ("vmsbc.vxm v2, v4, x6, v0", "e32 m1", 5, 1, [1, 2, 3, 4], 0, 3),
+        ("vadc.vvm v2, v4, v6, v0", "e32 m1", 5, 0, [0, 1, 2, 3, 4], 0, 3),
         ("vadd.vv v2, v4, v6", "e32 m1", 0, 0, [], 0, 8),
         ("vwadd.vv v2, v4, v6", "e8 mf2", 3, 0, [0, 1, 2], 0, 13),
         ("vle8.v v2, (x10)", "e32 m2", 16, 0, list(range(16)), 0, 0),
@@ -39,7 +44,12 @@ TYPES = {"e8 m1": 0, "e8 mf2": 7, "e16 m1": 8, "e32 m1": 16, "e32 m2": 17, "e64 
         ("vs2r.v v4, (x10)", "e32 m1", 1, 0, list(range(64)), 0, 0),
         ("vmv4r.v v4, v8", "e16 m1", 1, 0, list(range(64)), 0, 0),
         ("vmv.x.s x5, v8", "e16 m1", 7, 0, [0], 0, 0),
+        ("vmv.x.s x5, v8", "e16 m1", 0, 0, [0], 0, 0),
+        ("vmv.x.s x5, v8", "e16 m1", 7, 1, [0], 0, 0),
         ("vmv.s.x v8, x5", "e16 m1", 7, 0, [0], 0, 0),
+        ("vmv.s.x v8, x5", "e16 m1", 7, 1, [0], 0, 0),
+        ("vmv.s.x v8, x5", "e16 m1", 0, 0, [], 0, 0),
+        ("vmv.s.x v8, x5", "e16 m1", 1, 1, [], 0, 0),
         ("vredsum.vs v8, v16, v9", "e64 m8", 10, 0, list(range(10)), 0, 22),
         ("vcpop.m x5, v8", "e8 m1", 10, 0, list(range(10)), 0, 22),
     ],
@@ -47,7 +57,11 @@ TYPES = {"e8 m1": 0, "e8 mf2": 7, "e16 m1": 8, "e32 m1": 16, "e32 m2": 17, "e64 
 def test_elements(
     session: Session, text: str, vtype: str, vl: int, vstart: int, active: list[int], masked: int, tail: int
 ) -> None:
-    """Bits 1, 2, 4 and 15 of v0 are set."""
+    """Bits 1, 2, 4 and 15 of v0 are set.
+
+    By the manual, v0 is an operand of a carry, which works on all of the body (11.4); vmv.x.s reads element 0 whatever
+    vl and vstart are, and vmv.s.x writes it where vstart is less than vl (16.1).
+    """
     word = _word(session, text)
     control = ControlRegisters(vl, TYPES[vtype], vstart)
     elements = elements_of(word, control, bytes([0x16, 0x80]) + bytes(30))

@@ -49,15 +49,20 @@ def scalar_span(word: int, x: Sequence[int]) -> Span:
 
 
 def body_of(word: int, instruction: VectorInstruction, control: ControlRegisters) -> range:
-    """The elements of an instruction's body, from vstart on. Of a mask that is loaded or stored they are its bytes."""
+    """The elements of an instruction's body, from vstart on. Of a mask that is loaded or stored they are its bytes.
+
+    vmv.x.s reads element 0 whatever vl and vstart are; vmv.s.x writes it where vstart is less than vl (section 16.1).
+    """
+    if instruction.name == "vmv.x.s":
+        return range(1)
+    if instruction.name == "vmv.s.x":
+        return range(control.vstart < control.vl)
     is_unit_stride = word & 0x7F in VECTOR_ACCESSES and word >> 26 & 3 == UNIT_STRIDE
     mode, count = word >> 20 & 31 if is_unit_stride else None, control.vl
     if mode == WHOLE_REGISTERS or re.fullmatch("vmv[1248]r.v", instruction.name):
         count = len(instruction.operands[0].registers) * REGISTER_BITS // instruction.operands[0].eew
     elif mode == MASK:
         count = -(-control.vl // 8)
-    elif instruction.name in ("vmv.x.s", "vmv.s.x"):
-        count = 1
     return range(control.vstart, count)
 
 

@@ -1,5 +1,5 @@
 use Rattle.recording.proofs.AsSteps.{runs_as_steps}
-use Rattle.recording.proofs.Bodies.{access_body}
+use Rattle.recording.proofs.Bodies.{access_body, operation_body}
 use Rattle.recording.proofs.laws.recording_laws.Goals as goal
 
 pub returns-clause-steps : goal.returns-clause-steps
@@ -7,3 +7,6 @@ returns-clause-steps c = runs_as_steps
 
 pub returns-clause-accesses : goal.returns-clause-accesses
 returns-clause-accesses c = access_body
+
+pub returns-clause-operations : goal.returns-clause-operations
+returns-clause-operations c = operation_body
