@@ -61,6 +61,30 @@ def test_a_masked_vector_store(tmp_path: pathlib.Path) -> None:
     ]
 
 
+@pytest.mark.parametrize(
+    "store, address, stored, numbers",
+    [
+        (0x0205E227, "3ff8", "0000000000000000" + "0101010102020202", "2 4"),  # vse32.v v4, (x11): element 2 faults
+        (0x2205E227, "3ff4", "0000000001010101" + "1111111100000000", "2 3"),  # vsseg2e32.v v4, (x11): segment 1 faults
+    ],
+)
+def test_a_store_that_faults(tmp_path: pathlib.Path, store: int, address: str, stored: str, numbers: str) -> None:
+    """Its changes have a line, by the number after the last instruction that ran and with a tick for each index up to the fault.
+
+    No record has the store itself: the last line, the same in all three, is that of the vsetivli before it. Of the segment that
+    faults no field is stored.
+    """
+    groups = ["".join(f"{first + index:02x}" * 4 for index in range(8)) for first in (1, 0x11)]
+    registers = f"x11 {address}\nv4 {groups[0]}\nv5 {groups[1]}\n"
+    program = lay(tmp_path, (0xCD047057, store), registers)  # vsetivli x0, 8, e32, m1, ta, ma
+    ran, lines = watched(tmp_path, ["3ff0:16"], "--log", "log", "--to", 9, *program)
+    end = "fault cause=7 pc=0000000000001004 value=0000000000004000 1 1"
+    assert ran.status == 0
+    assert lines == [f"{numbers} 0000000000001004 0000000000003ff0 {'00' * 16} {stored}", end]
+    log, counts = (tmp_path / "log").read_text("ascii").splitlines(), ran.counts.splitlines()
+    assert (len(log), log[-1], len(counts), counts[-1]) == (2, end, 2, end)
+
+
 def test_changes_without_counts(tmp_path: pathlib.Path) -> None:
     """The last line has the same numbers, also where the last instruction isn't counted."""
     program = lay(tmp_path, (0x00A5A023, 0x00100073), "x10 1\nx11 2000\n")
