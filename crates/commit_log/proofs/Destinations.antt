@@ -16,7 +16,7 @@ use Rattle.rv_model.specs.declared.vector.types.Sew.{Sew}
 use Rattle.rv_model.specs.declared.vector.types.Sew.TheVariants.{E8, E16, E32}
 use Rattle.rv_model.specs.declared.vector.types.VType.{VType}
 use Rattle.rv_model.specs.legality.OperandShapes.{destination, first_source, second_source, shape_of, shape_operands, v0}
-use Rattle.rv_model.specs.vector.Groups.{doubled, group_type, lmul_eighths, registers, sew_width, wide_type, with_width}
+use Rattle.rv_model.specs.vector.Groups.{doubled, lmul_eighths, registers, sew_width, wide_type}
 use Rattle.rv_model.specs.declared.instructions.operations.CarryOp.{CarryOp}
 use Rattle.rv_model.specs.declared.instructions.vector.VectorInstr.TheVariants.{Arith, Carry}
 use Rattle.rv_model.specs.legality.Legality.{operands}
@@ -29,16 +29,6 @@ twice E8 e = omega arith
 twice E16 e = omega arith
 twice E32 e = omega arith
 twice _ e = omega arith
-
-own : (s : Sew) (e : ℕ) → bits (sew_width s) * e / bits (sew_width s) ≡ e
-own E8 e = omega arith
-own E16 e = omega arith
-own E32 e = omega arith
-own _ e = omega arith
-
--- elements of the vector type's own width have its multiplier
-pub own_type : (t : VType) → with_width (sew_width t.sew) (group_type t) ≡ group_type t
-own_type t = ap (λ (n : ℕ). record { width = sew_width t.sew; emul = n }) (own t.sew (lmul_eighths t.lmul))
 
 pub wide_emul : (t : VType) → (wide_type t).emul ≡ 2 * lmul_eighths t.lmul
 wide_emul t = twice t.sew (lmul_eighths t.lmul)

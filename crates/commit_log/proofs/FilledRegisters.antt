@@ -1,5 +1,5 @@
 -- The registers that a load or store writes are those that its segments fill.
-use Rattle.std.proofs.Common.{◌≡◌, refl, ℕ, ◌+◌, ◌*◌, ◌==◌, Bool, List, [], ◌∷◌, append-nil, Option, Some, None}
+use Rattle.std.proofs.Common.{◌≡◌, refl, sym, ℕ, ◌+◌, ◌*◌, ◌==◌, Bool, List, [], ◌∷◌, append-nil, if◌then◌else◌, Option, Some, None}
 use Rattle.std.specs.Option.{option_map, option_map_or}
 use Rattle.rv_model.specs.accesses.VectorAccess.{VectorAccess, access_of, indexed_access, mask_length, strided_access, unit_access, unmasked_access}
 use Rattle.rv_model.specs.declared.instructions.access.AccessInstr.{AccessInstr}
@@ -20,31 +20,31 @@ use Rattle.rv_model.specs.declared.vector.state.VState.{VState}
 use Rattle.rv_model.specs.declared.vector.types.VType.{VType}
 use Rattle.rv_model.specs.legality.Legality.{operands}
 use Rattle.rv_model.specs.legality.OperandShapes.{field_groups, group, v0}
+use Rattle.rv_model.specs.step.MemoryStep.{reads_memory}
 use Rattle.rv_model.specs.vector.Groups.{access_type, group_type, register_count, registers}
 use Rattle.rv_model.proofs.Choices.{of_either}
-use Rattle.commit_log.specs.Segments.{filled_by, segments_of}
 use Rattle.commit_log.specs.Targets.{registers_from, vector_targets}
 use Rattle.commit_log.proofs.Destinations.{alone_written, mask_written, written as written_of}
 
--- the registers that an access fills
+-- the registers that an access fills; none, where they are stored
 abbrev pub filled : VectorAccess → List ℕ
-filled a = filled_by (segments_of a)
+filled a = if reads_memory a.direction then registers_from a.register (a.fields * a.field_registers) else []
 
 module _ (v : VState) (x : Scalar) where
-  unit_filled : (op : UnitOp) (w : Eew) (nf vd rs1 : ℕ) (vm : Bool) (t : VType)
+  pub unit_filled : (op : UnitOp) (w : Eew) (nf vd rs1 : ℕ) (vm : Bool) (t : VType)
       → vector_targets (instr.Access (UnitStride op w nf vd rs1 vm)) (Some t) ≡ filled (unit_access op (access_type t w) nf vd rs1 vm v x)
   unfolding operands
   unit_filled unit.Store w nf vd rs1 vm t = mask_written vm
   unit_filled unit.Load w nf vd rs1 vm t = alone_written _ _ (mask_written vm)
   unit_filled unit.FaultOnlyFirst w nf vd rs1 vm t = alone_written _ _ (mask_written vm)
 
-  strided_filled : (d : Direction) (w : Eew) (nf vd rs1 rs2 : ℕ) (vm : Bool) (t : VType)
+  pub strided_filled : (d : Direction) (w : Eew) (nf vd rs1 rs2 : ℕ) (vm : Bool) (t : VType)
       → vector_targets (instr.Access (Strided d w nf vd rs1 rs2 vm)) (Some t) ≡ filled (strided_access d (access_type t w) nf vd rs1 rs2 vm v x)
   unfolding operands
   strided_filled direction.Store w nf vd rs1 rs2 vm t = mask_written vm
   strided_filled direction.Load w nf vd rs1 rs2 vm t = alone_written _ _ (mask_written vm)
 
-  indexed_filled : (d : Direction) (order : Order) (w : Eew) (nf vd rs1 vs2 : ℕ) (vm : Bool) (t : VType)
+  pub indexed_filled : (d : Direction) (order : Order) (w : Eew) (nf vd rs1 vs2 : ℕ) (vm : Bool) (t : VType)
       → vector_targets (instr.Access (Indexed d order w nf vd rs1 vs2 vm)) (Some t) ≡ filled (indexed_access d (group_type t) (access_type t w) nf vd rs1 vs2 vm v x)
   unfolding operands
   indexed_filled direction.Store order w nf vd rs1 vs2 vm t = mask_written vm
@@ -60,7 +60,12 @@ module _ (v : VState) (x : Scalar) where
   whole_filled Four w vd rs1 o = append-nil _
   whole_filled Eight w vd rs1 o = append-nil _
 
-  mask_filled : (d : Direction) (vd rs1 : ℕ) (t : VType)
+  pub whole_group : (count : RegisterCount) (w : Eew) (vd rs1 : ℕ) (o : Option VType)
+      → registers_from vd (1 * registers (8 * register_count count)) ≡ vector_targets (instr.Access (WholeLoad count w vd rs1)) o
+  unfolding operands
+  whole_group count w vd rs1 o = sym (append-nil _)
+
+  pub mask_filled : (d : Direction) (vd rs1 : ℕ) (t : VType)
       → vector_targets (instr.Access (MaskAccess d vd rs1)) (Some t) ≡ filled (unmasked_access d (mask_length v.conf.vl) 1 1 vd rs1 v x)
   unfolding operands
   mask_filled direction.Store vd rs1 t = refl

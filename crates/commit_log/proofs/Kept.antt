@@ -15,12 +15,13 @@ use Rattle.rv_model.specs.instructions.Table.{scan, table}
 use Rattle.rv_model.specs.memory.Memory.{can_access}
 use Rattle.rv_model.specs.step.Hart.{HartState, Stepped, ends_after, faults}
 use Rattle.rv_model.specs.step.Step.{executed, step}
-use Rattle.commit_log.specs.Finds.{Finds}
+use Rattle.commit_log.specs.Finds.{Finds, Retires}
 use Rattle.commit_log.specs.declared.found.Found.{Found}
 use Rattle.commit_log.specs.declared.log.Log.{Log}
 use Rattle.commit_log.specs.declared.log.Window.{Window}
 use Rattle.commit_log.specs.LineTexts.{line_text}
 use Rattle.commit_log.specs.Lines.{instruction_line}
+use Rattle.commit_log.proofs.Retired.{Retired, steps_retire}
 use Rattle.commit_log.specs.Logged.{Gathered, IsLogged, IsNoted, is_within, line_by, logged, logged_from, number_after, one_more}
 
 -- a line that was added to what was gathered
@@ -111,7 +112,7 @@ module _ {K : Type 0} (Took : K → List ℕ → K → Type 0) (before old : Log
       (none_of (is_within before.window (one_more before.number)) (is_counted (step 256 s).end) (line_by s (step 256 s)) (sym counts_are ∙ isnt))
 
   pub line_kept : (new : Log K) → (is_counted end && is_within old.window old.number) ≡ true → new.window ≡ old.window → new.number ≡ old.number
-      → ((i : Instr) (word : ℕ) (t : HartState) → Finds word (Some i) t.scalar t.vector old.found
+      → ((i : Instr) (word : ℕ) (t : HartState) → Finds word (Some i) t.scalar t.vector old.found → Retires i t.vector next.vector.conf.vl
       → Gathered Took old.sink old.text (line_text (instruction_line i word t next.scalar next.vector)) new.sink new.text)
       → IsLogged Took before (s ∷ []) new
   line_kept new holds window number gathered =
@@ -122,7 +123,8 @@ module _ {K : Type 0} (Took : K → List ℕ → K → Type 0) (before old : Log
       by : (o : Option Instr) → scan table (word_of s) ≡ o → Finds (word_of s) o s.scalar s.vector old.found → IsLogged Took before (s ∷ []) new
       by None e finds = absurd (was_instruction s next ticks end made (both_hold (is_counted end) (is_within old.window old.number) holds).0 e)
       by (Some i) e finds =
-          logged_by (line_text (instruction_line i (word_of s) s next.scalar next.vector)) new window number (gathered i (word_of s) s finds)
+          let retired = subst (λ (o : Stepped). Retired i s o) made (steps_retire s i e) (both_hold (is_counted end) (is_within old.window old.number) holds).0 in
+          logged_by (line_text (instruction_line i (word_of s) s next.scalar next.vector)) new window number (gathered i (word_of s) s finds retired)
           (some_of (is_within before.window (one_more before.number)) (is_counted (step 256 s).end) (line_by s (step 256 s)) (sym counts_are ∙ holds)
           ∙ (ap (λ (o : Stepped). line_by s o) made
           ∙ ap (λ (o : Option Instr). option_map_or (λ j. line_text (instruction_line j (word_of s) s next.scalar next.vector)) o []) e))

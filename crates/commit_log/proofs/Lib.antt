@@ -5,8 +5,7 @@ mod FilledRegisters
 mod Kept
 mod LoadsTold
 mod MemoryTold
-mod MovedElements
-mod PaddedBytes
+mod Retired
 mod ScalarsTold
 pub mod Steps
 mod VectorRegions

@@ -1,7 +1,7 @@
 -- That a line tells the vector registers of a load or store: a load changes none but those of its destination, a store none.
 use Rattle.std.proofs.Common.{◌≡◌, ◌∙◌, ◌⊎◌, inl, inr, ap, refl, sym, subst, ℕ, zero, suc, ◌+◌, ◌*◌, ◌/◌, ◌<◌, ◌≤◌, ◌&&◌, Bool, true, cond, List, [], length, get_or, Option, Some, None, arith}
 use Rattle.std.specs.Prelude.{IfSome, nat_le, nat_lt}
-use Rattle.std.specs.Option.{option_and_then, option_map_or}
+use Rattle.std.specs.Option.{option_and_then, option_map, option_map_or}
 use Rattle.std.proofs.Math.Nat.{mul-le-mul_right, mul-suc, mul_comm}
 use Rattle.std.proofs.lemmas.Nat.{row_fits}
 use Rattle.std.proofs.lemmas.Simd.{length-put_chunk}
@@ -41,7 +41,6 @@ use Rattle.commit_log.specs.Lines.{told_vectors}
 use Rattle.commit_log.specs.Targets.{registers_from, vector_targets}
 use Rattle.commit_log.specs.Told.{with_vectors}
 use Rattle.commit_log.proofs.FilledRegisters.{filled, filled_are}
-use Rattle.commit_log.proofs.MovedElements.{typed_fits}
 use Rattle.commit_log.proofs.VectorRegions.{region_told, same, written_short}
 
 -- ---- what a load leaves alone
@@ -121,6 +120,11 @@ filled_length (Some g) a (Fault index addr) file = refl
 filled_length None a end file = refl
 
 -- ---- each access
+
+-- what is made of a vector type, if there is one
+typed_fits : (o : Option VType) (make : VType → VectorAccess) (P : VectorAccess → Type 0) → ((t : VType) → o ≡ Some t → P (make t)) → IfSome (option_map make o) P
+typed_fits None make P each = tt
+typed_fits (Some t) make P each = each t refl
 
 -- what is asked of one
 record Fits (i : AccessInstr) (s : HartState) (a : VectorAccess) : Type 0 where

@@ -58,25 +58,26 @@ use Rattle.rv_model.proofs.access_lemmas.Resumes.{stop_most}
 use Rattle.rv_model.proofs.access_lemmas.Runs.{run_facts}
 use Rattle.rv_model.proofs.step_lemmas.StepCases.{operation_is}
 use Rattle.recording.specs.Runs.{is_counted, word_of}
-use Rattle.commit_log.specs.Lines.{Moved as Element, moved_end, told_access, told_moved, told_transfer}
+use Rattle.vector_memory.specs.MovedElements.{MovedElement, element_of, moved_elements, moved_end}
+use Rattle.commit_log.specs.Lines.{told_moved}
 use Rattle.commit_log.specs.Told.{MemoryIsTold, with_stored}
 
 -- ---- elements, one after another
 
-stored_then : (xs ys : List Element) (m : Memory) → with_stored (xs ++ ys) m ≡ with_stored ys (with_stored xs m)
+stored_then : (xs ys : List MovedElement) (m : Memory) → with_stored (xs ++ ys) m ≡ with_stored ys (with_stored xs m)
 stored_then [] ys m = refl
 stored_then (x ∷ xs) ys m = stored_then xs ys (option_map_or (put_bytes m x.address) x.stored m)
 
 -- those that were loaded
 loads_nothing : (d : Direction) (place : Transfer → ℕ) (file : List ℕ) (ts : List Transfer) (m : Memory) → d ≡ direction.Load
-    → with_stored (map (told_transfer d place file) ts) m ≡ m
+    → with_stored (map (element_of d place file) ts) m ≡ m
 loads_nothing direction.Load place file [] m is = refl
 loads_nothing direction.Load place file (t ∷ ts) m is = loads_nothing direction.Load place file ts m refl
 loads_nothing direction.Store place file ts m is = absurd (cc)
 
 -- those of a segment
 segment_stored : (i address size : ℕ) (place : Transfer → ℕ) (file fields : List ℕ) (m : Memory)
-    → with_stored (map (told_transfer direction.Store place file) (map (λ f. record { index = i; field = f; size = size; kind = Moved ((address + f * size) % 2 ^ 64) }) fields)) m
+    → with_stored (map (element_of direction.Store place file) (map (λ f. record { index = i; field = f; size = size; kind = Moved ((address + f * size) % 2 ^ 64) }) fields)) m
     ≡ memory_stored m place file (map (λ f. record { index = i; field = f; size = size; kind = Moved ((address + f * size) % 2 ^ 64) }) fields)
 unfolding memory_stored
 segment_stored i address size place file [] m = refl
@@ -85,30 +86,30 @@ segment_stored i address size place file (f ∷ fields) m =
     (put_bytes m ((address + f * size) % 2 ^ 64) (chunk (place (record { index = i; field = f; size = size; kind = Moved ((address + f * size) % 2 ^ 64) })) size file))
 
 plan_stored : (a : VectorAccess) (place : Transfer → ℕ) (file : List ℕ) (i : ℕ) (m : Memory)
-    → with_stored (map (told_transfer direction.Store place file) (plan a false i)) m ≡ memory_stored m place file (plan a false i)
+    → with_stored (map (element_of direction.Store place file) (plan a false i)) m ≡ memory_stored m place file (plan a false i)
 unfolding plan memory_stored
 plan_stored a place file i m =
     let moved : List Transfer = moved_segment i (a.address i) a.size a.fields in
     of_bool (is_enabled a.body i)
-    (λ b. with_stored (map (told_transfer direction.Store place file) (cond b moved [])) m ≡ memory_stored m place file (cond b moved []))
+    (λ b. with_stored (map (element_of direction.Store place file) (cond b moved [])) m ≡ memory_stored m place file (cond b moved []))
     (λ e. segment_stored i (a.address i) a.size place file (range_with_len 0 a.fields) m) (λ e. refl)
 
 transfers_stored : (a : VectorAccess) (place : Transfer → ℕ) (file : List ℕ) (i n : ℕ) (m : Memory)
-    → with_stored (map (told_transfer direction.Store place file) (transfers (plan a false) i n)) m ≡ memory_stored m place file (transfers (plan a false) i n)
+    → with_stored (map (element_of direction.Store place file) (transfers (plan a false) i n)) m ≡ memory_stored m place file (transfers (plan a false) i n)
 unfolding transfers memory_stored
 transfers_stored a place file i zero m = refl
 transfers_stored a place file i (suc n) m =
-    let told : Transfer → Element = told_transfer direction.Store place file in
+    let told : Transfer → MovedElement = element_of direction.Store place file in
     let here : List Transfer = plan a false i in
     let rest : List Transfer = transfers (plan a false) (i + 1) n in
-    ap (λ (es : List Element). with_stored es m) (map-append told here rest)
+    ap (λ (es : List MovedElement). with_stored es m) (map-append told here rest)
     ∙ stored_then (map told here) (map told rest) m
     ∙ ap (with_stored (map told rest)) (plan_stored a place file i m)
     ∙ transfers_stored a place file (i + 1) n (memory_stored m place file here)
     ∙ sym (stored-append m place file here rest)
 
 stores_all : (d : Direction) (a : VectorAccess) (place : Transfer → ℕ) (file : List ℕ) (i n : ℕ) (m : Memory) → d ≡ direction.Store
-    → with_stored (map (told_transfer d place file) (transfers (plan a false) i n)) m ≡ memory_stored m place file (transfers (plan a false) i n)
+    → with_stored (map (element_of d place file) (transfers (plan a false) i n)) m ≡ memory_stored m place file (transfers (plan a false) i n)
 stores_all direction.Load a place file i n m is = absurd (cc)
 stores_all direction.Store a place file i n m is = transfers_stored a place file i n m
 
@@ -233,32 +234,32 @@ module _ (s : HartState) where
 
   operation_tells : (i : VectorInstr) → VectorTells (instr.Vector i) s (operation_step i s)
   operation_tells i h =
-      operation_is s (λ d. s.memory ≡ d.state.memory) (record { sets = λ rd vtype length. refl; leaves = λ x first file saturated. refl; illegal = refl }) i
+      operation_is s (λ d. s.memory ≡ d.state.memory) i (record { sets = λ vtype length. refl; leaves = λ scalar w file saturated. refl; illegal = refl })
 
   loaded_tells : (limit : ℕ) (i : AccessInstr) (a : VectorAccess) → access_of i s.vector s.scalar ≡ Some a → a.direction ≡ direction.Load
-      → (vl : ℕ) → with_stored (told_access s.vector vl a) s.memory ≡ (access_step limit i (Some a) s).state.memory
+      → (vl : ℕ) → with_stored (moved_elements s.vector vl a) s.memory ≡ (access_step limit i (Some a) s).state.memory
   loaded_tells limit i a e is vl =
       loads_nothing a.direction (element_start a) s.vector.file (transfers (plan a false) a.body.start (moved_end a vl - a.body.start)) s.memory is
       ∙ sym ((run_facts limit (load_fills_masked_off a s) i s.vector s.scalar s.memory a e).memory is)
 
   stored_tells : (limit : ℕ) (i : AccessInstr) (a : VectorAccess) → access_of i s.vector s.scalar ≡ Some a → a.direction ≡ direction.Store
-      → (access_step limit i (Some a) s).end ≡ vector_end.Done → (vl : ℕ) → with_stored (told_access s.vector vl a) s.memory ≡ (access_step limit i (Some a) s).state.memory
+      → (access_step limit i (Some a) s).end ≡ vector_end.Done → (vl : ℕ) → with_stored (moved_elements s.vector vl a) s.memory ≡ (access_step limit i (Some a) s).state.memory
   stored_tells limit i a e is h vl =
-      ap (λ (b : Bool). with_stored (map (told_transfer a.direction (element_start a) s.vector.file) (transfers (plan a false) a.body.start (cond b vl a.body.end - a.body.start))) s.memory)
+      ap (λ (b : Bool). with_stored (map (element_of a.direction (element_start a) s.vector.file) (transfers (plan a false) a.body.start (cond b vl a.body.end - a.body.start))) s.memory)
       (whole_of i s.vector s.scalar a e is)
       ∙ stores_all a.direction a (element_start a) s.vector.file a.body.start (a.body.end - a.body.start) s.memory is
       ∙ sym (directed_stored a.direction limit (load_fills_masked_off a s) a s.vector s.memory is (done_is a.direction _ h))
 
   moved_tells : (limit : ℕ) (i : AccessInstr) (a : VectorAccess) → access_of i s.vector s.scalar ≡ Some a → (d : Direction) → a.direction ≡ d
       → (access_step limit i (Some a) s).end ≡ vector_end.Done
-      → with_stored (told_access s.vector (access_step limit i (Some a) s).state.vector.conf.vl a) s.memory ≡ (access_step limit i (Some a) s).state.memory
+      → with_stored (moved_elements s.vector (access_step limit i (Some a) s).state.vector.conf.vl a) s.memory ≡ (access_step limit i (Some a) s).state.memory
   moved_tells limit i a e direction.Load is h = loaded_tells limit i a e is _
   moved_tells limit i a e direction.Store is h = stored_tells limit i a e is h _
 
   access_tells : (limit : ℕ) (i : AccessInstr) → VectorTells (instr.Access i) s (access_step limit i (access_of i s.vector s.scalar) s)
   access_tells limit i =
       of_option (access_of i s.vector s.scalar) (λ o. (access_step limit i o s).end ≡ vector_end.Done
-      → with_stored (option_map_or (told_access s.vector (access_step limit i o s).state.vector.conf.vl) o []) s.memory ≡ (access_step limit i o s).state.memory)
+      → with_stored (option_map_or (moved_elements s.vector (access_step limit i o s).state.vector.conf.vl) o []) s.memory ≡ (access_step limit i o s).state.memory)
       (λ e. λ h. refl) (λ a e. moved_tells limit i a e a.direction refl)
 
   performed_tells : (limit : ℕ) (i : Instr) → VectorTells i s (performed limit i s)

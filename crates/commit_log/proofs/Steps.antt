@@ -1,14 +1,9 @@
--- One register, field or segment more of a line.
-use Rattle.std.proofs.Common.{◌≡◌, sym, ap, ◌∙◌, ℕ, suc, ◌+◌, ◌-◌, ◌<◌, List, ◌∷◌, ◌++◌, zero, flat_map, map, append-nil, append_assoc, arith}
+-- One register more of a line, and a whole line.
+use Rattle.std.proofs.Common.{◌≡◌, sym, ap, ◌∙◌, ℕ, suc, ◌+◌, ◌-◌, ◌<◌, List, ◌∷◌, ◌++◌, flat_map, append_assoc, arith}
 use Rattle.std.specs.List.{range_with_len}
-use Rattle.std.proofs.lemmas.List.Concat.{flat_map-append}
-use Rattle.rv_model.specs.elements.Elements.{Body}
 use Rattle.rv_model.specs.vector.Groups.{register_of}
-use Rattle.commit_log.specs.declared.segments.Addresses.{Addresses}
-use Rattle.commit_log.specs.declared.segments.Segments.{Segments}
-use Rattle.commit_log.specs.LineTexts.{moved_text, vector_text}
+use Rattle.commit_log.specs.LineTexts.{vector_text}
 use Rattle.commit_log.specs.Lines.{told_vectors}
-use Rattle.commit_log.specs.Segments.{moved_field, moved_fields, moved_segment, moved_segments}
 
 -- the first of some numbers, and the others
 range_more : (a i n : ℕ) → i < n → range_with_len (a + i) (n - i) ≡ (a + i) ∷ range_with_len (a + (i + 1)) (n - (i + 1))
@@ -16,11 +11,6 @@ range_more a i n h =
     let some : n - i ≡ suc (n - (i + 1)) = omega (arith, h) in
     let next : a + i + 1 ≡ a + (i + 1) = omega arith in
     ap (λ (k : ℕ). range_with_len (a + i) k) some ∙ ap (λ (b : ℕ). (a + i) ∷ range_with_len b (n - (i + 1))) next
-
-range_on : (i n : ℕ) → i < n → range_with_len i (n - i) ≡ i ∷ range_with_len (i + 1) (n - (i + 1))
-range_on i n h =
-    let some : n - i ≡ suc (n - (i + 1)) = omega (arith, h) in
-    ap (λ (k : ℕ). range_with_len i k) some
 
 -- what was put before the others
 joins : (text mid new first rest whole : List ℕ) → new ≡ text ++ first → mid ≡ first ++ rest → text ++ mid ≡ whole → new ++ rest ≡ whole
@@ -32,34 +22,6 @@ pub vectors_more : (file text new whole : List ℕ) (a i n : ℕ) → i < n → 
     → new ++ flat_map vector_text (told_vectors file (range_with_len (a + (i + 1)) (n - (i + 1)))) ≡ whole
 vectors_more file text new whole a i n h put all =
     joins text _ new _ _ whole put (ap (λ (rs : List ℕ). flat_map vector_text (told_vectors file rs)) (range_more a i n h)) all
-
-pub fields_more : (g : Segments) (file text new whole : List ℕ) (address j i n : ℕ) → i < n → new ≡ text ++ moved_text (moved_field g file address j i)
-    → text ++ flat_map moved_text (moved_fields g file address j i (n - i)) ≡ whole
-    → new ++ flat_map moved_text (moved_fields g file address j (i + 1) (n - (i + 1))) ≡ whole
-fields_more g file text new whole address j i n h put all =
-    joins text _ new _ _ whole put (ap (λ (fs : List ℕ). flat_map moved_text (map (moved_field g file address j) fs)) (range_on i n h)) all
-
-segments_on : (g : Segments) (a : Addresses) (b : Body) (file : List ℕ) (i n : ℕ) → i < n
-    → moved_segments g a b file i (n - i) ≡ moved_segment g a b file i ++ moved_segments g a b file (i + 1) (n - (i + 1))
-unfolding moved_segments
-segments_on g a b file i n h =
-    let some : n - i ≡ suc (n - (i + 1)) = omega (arith, h) in
-    ap (λ (k : ℕ). moved_segments g a b file i k) some
-
-pub segments_more : (g : Segments) (a : Addresses) (b : Body) (file text new whole : List ℕ) (i n : ℕ) → i < n → new ≡ text ++ flat_map moved_text (moved_segment g a b file i)
-    → text ++ flat_map moved_text (moved_segments g a b file i (n - i)) ≡ whole
-    → new ++ flat_map moved_text (moved_segments g a b file (i + 1) (n - (i + 1))) ≡ whole
-segments_more g a b file text new whole i n h put all =
-    joins text _ new _ _ whole put
-    (ap (flat_map moved_text) (segments_on g a b file i n h)
-    ∙ flat_map-append moved_text (moved_segment g a b file i) (moved_segments g a b file (i + 1) (n - (i + 1)))) all
-
--- no segment more
-pub segments_end : (g : Segments) (a : Addresses) (b : Body) (file text whole : List ℕ) (i n : ℕ) → n ≡ 0
-    → text ++ flat_map moved_text (moved_segments g a b file i n) ≡ whole → text ≡ whole
-unfolding moved_segments
-segments_end g a b file text whole i zero none all = sym (append-nil text) ∙ all
-segments_end g a b file text whole i (suc n) none all = absurd (omega (arith, none))
 
 -- ---- a whole line
 

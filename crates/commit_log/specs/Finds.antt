@@ -1,14 +1,14 @@
 -- What an instruction finds, as far as its line is made of it.
-use Rattle.std.specs.Prelude.{ℕ, ◌≡◌, Option, Some, ⊤, length}
+use Rattle.std.specs.Prelude.{ℕ, ◌≡◌, ◌≤◌, true, Option, Some, ⊤}
 use Rattle.rv_model.specs.declared.instructions.instruction.Instr.{Instr}
 use Rattle.rv_model.specs.declared.instructions.instruction.Instr.TheVariants as instr
 use Rattle.rv_model.specs.declared.instructions.scalar.ScalarInstr.{ScalarInstr}
 use Rattle.rv_model.specs.declared.instructions.scalar.ScalarInstr.TheVariants.{Load, Store}
 use Rattle.rv_model.specs.instructions.Immediates.{i_immediate, s_immediate}
+use Rattle.rv_model.specs.legality.Legality.{is_legal}
 use Rattle.rv_model.specs.scalar.Arithmetic.{sum}
 use Rattle.rv_model.specs.scalar.Registers.{read_register}
 use Rattle.rv_model.specs.declared.scalar.Scalar.{Scalar}
-use Rattle.rv_model.specs.declared.vector.sizes.TheConstants.{FILE_BYTES}
 use Rattle.rv_model.specs.declared.vector.state.VState.{VState}
 use Rattle.std.specs.Int.{w64}
 use Rattle.commit_log.specs.declared.found.Found.{Found}
@@ -19,10 +19,10 @@ Moves (Load op rd rs1 imm) x f = f.address ≡ sum w64 (read_register x rs1) (i_
 Moves (Store op rs1 rs2 imm) x f = (f.address ≡ sum w64 (read_register x rs1) (s_immediate imm)) × (f.value ≡ read_register x rs2)
 Moves _ x f = ⊤
 
--- what is noted of the instruction itself: of a scalar load or store what it moves, of a vector one all registers, whose file is whole
+-- what is noted of the instruction itself: of a scalar load or store what it moves, of a vector one all registers
 abbrev pub Notes : Option Instr → Scalar → VState → Found → Type 0
 Notes (Some (instr.Scalar i)) x v f = Moves i x f
-Notes (Some (instr.Access i)) x v f = (f.scalar ≡ x) × (f.vector ≡ v) × (length v.file ≡ FILE_BYTES)
+Notes (Some (instr.Access i)) x v f = (f.scalar ≡ x) × (f.vector ≡ v)
 Notes _ x v f = ⊤
 
 -- all else that was noted stays
@@ -43,3 +43,8 @@ pub record Finds (word : ℕ) (i : Option Instr) (x : Scalar) (v : VState) (f : 
   pub instr_is : f.instr ≡ i
   pub controls : KeepsControls v f
   pub notes : Notes i x v f
+
+-- what holds of a vector load or store that ran: it is legal, and leaves no greater length than it finds
+abbrev pub Retires : Instr → VState → ℕ → Type 0
+Retires (instr.Access i) v vl = (is_legal (instr.Access i) v.conf.vtype v.vstart ≡ true) × (vl ≤ v.conf.vl)
+Retires _ v vl = ⊤

@@ -3,6 +3,6 @@ pub mod LineTexts
 pub mod Lines
 pub mod LogLaws
 pub mod Logged
-pub mod Segments
+pub mod MovedLaws
 pub mod Targets
 pub mod Told

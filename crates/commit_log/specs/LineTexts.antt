@@ -6,7 +6,8 @@ use Rattle.rv_model.specs.declared.vector.control_register.ControlRegister.TheVa
 use Rattle.rv_model.specs.vector.TypeNames.{lmul_name, sew_name}
 use Rattle.rv_model.specs.declared.vector.control_register.ControlRegister.{ControlRegister}
 use Rattle.rv_model.specs.declared.vector.types.VType.{VType}
-use Rattle.commit_log.specs.Lines.{Line, Moved}
+use Rattle.vector_memory.specs.MovedElements.{MovedElement}
+use Rattle.commit_log.specs.Lines.{Line}
 
 -- the number of a register in two places: below 10 its digit and a space
 abbrev pub two_places : ℕ → List ℕ
@@ -48,7 +49,7 @@ stored_text None = []
 stored_text (Some bytes) = codes " 0x" ++ highest_first bytes
 
 -- an element that was moved: its address, and what was stored there
-abbrev pub moved_text : Moved → List ℕ
+abbrev pub moved_text : MovedElement → List ℕ
 moved_text moved = codes " mem 0x" ++ hex16 moved.address ++ stored_text moved.stored
 
 -- where an instruction stood, and its word

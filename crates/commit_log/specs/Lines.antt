@@ -1,14 +1,10 @@
 -- What the line of an instruction says: where it stood, and what it wrote, by the state that it found and the one that it left.
-use Rattle.std.specs.Prelude.{ℕ, ◌-◌, ◌==◌, false, List, [], ◌∷◌, map, flat_map, Option, Some, None, if◌then◌else◌}
+use Rattle.std.specs.Prelude.{ℕ, ◌==◌, List, [], ◌∷◌, map, flat_map, Some, None, if◌then◌else◌}
 use Rattle.std.specs.Int.{to_le_bytes, w64}
 use Rattle.std.specs.Option.{option_map_or}
-use Rattle.std.specs.Simd.Lanes.{chunk}
-use Rattle.rv_model.specs.accesses.Transfers.{Transfer, address_of, transfers}
-use Rattle.rv_model.specs.accesses.VectorAccess.{VectorAccess, access_of, element_start, plan}
+use Rattle.rv_model.specs.accesses.VectorAccess.{access_of}
 use Rattle.rv_model.specs.declared.instructions.instruction.Instr.{Instr}
 use Rattle.rv_model.specs.declared.instructions.instruction.Instr.TheVariants as instr
-use Rattle.rv_model.specs.declared.instructions.operations.Direction.{Direction}
-use Rattle.rv_model.specs.declared.instructions.operations.Direction.TheVariants as direction
 use Rattle.rv_model.specs.declared.instructions.scalar.ScalarInstr.TheVariants.{Load, Store}
 use Rattle.rv_model.specs.declared.vector.control_register.ControlRegister.TheVariants.{Vstart, Vxsat, Vxrm, Vl, Vtype}
 use Rattle.rv_model.specs.instructions.Immediates.{i_immediate, s_immediate}
@@ -19,16 +15,13 @@ use Rattle.rv_model.specs.declared.scalar.Scalar.{Scalar}
 use Rattle.rv_model.specs.declared.vector.state.VState.{VState}
 use Rattle.rv_model.specs.step.Hart.{HartState}
 use Rattle.rv_model.specs.step.Step.{is_vector}
+use Rattle.rv_model.specs.step.Targets.{scalar_target}
 use Rattle.rv_model.specs.vector.Control.{control_value}
 use Rattle.rv_model.specs.vector.Groups.{Configuration, register_of}
 use Rattle.rv_model.specs.declared.vector.control_register.ControlRegister.{ControlRegister}
 use Rattle.rv_model.specs.declared.vector.types.VType.{VType}
-use Rattle.commit_log.specs.Targets.{scalar_target, vector_targets}
-
--- an element that was moved between a register and memory: its address, and its bytes if they were stored there
-pub record Moved : Type 0 where
-  pub address : ℕ
-  pub stored : Option (List ℕ)
+use Rattle.vector_memory.specs.MovedElements.{MovedElement, moved_elements}
+use Rattle.commit_log.specs.Targets.{vector_targets}
 
 -- what a line says
 pub record Line : Type 0 where
@@ -43,7 +36,7 @@ pub record Line : Type 0 where
   -- each control register that changed, and its value
   pub controls : List (ControlRegister × ℕ)
   -- each element that was moved between registers and memory, in the order of the elements
-  pub moved : List Moved
+  pub moved : List MovedElement
 
 -- ---- registers
 
@@ -73,22 +66,8 @@ told_controls old new = flat_map (told_control old new) told_registers
 
 -- ---- memory
 
--- an element of a vector load or store, by the registers that it found
-abbrev pub told_transfer : Direction → (Transfer → ℕ) → List ℕ → Transfer → Moved
-told_transfer direction.Load place file t = record { address = address_of t.kind; stored = None }
-told_transfer direction.Store place file t = record { address = address_of t.kind; stored = Some (chunk (place t) t.size file) }
-
--- the index past the last one that was moved, of an access that left this length: a fault-only-first load may have shortened it
-abbrev pub moved_end : VectorAccess → ℕ → ℕ
-moved_end a vl = if a.first_only then vl else a.body.end
-
--- what a vector load or store moved: the transfers of the definition's access, from vstart on
-abbrev pub told_access : VState → ℕ → VectorAccess → List Moved
-told_access v vl a =
-    map (told_transfer a.direction (element_start a) v.file) (transfers (plan a false) a.body.start (moved_end a vl - a.body.start))
-
 -- what an instruction moved, by the state that it found and the length that it left
-abbrev pub told_moved : Instr → HartState → ℕ → List Moved
+abbrev pub told_moved : Instr → HartState → ℕ → List MovedElement
 told_moved (instr.Scalar (Load op rd rs1 imm)) s vl =
     record { address = sum w64 (read_register s.scalar rs1) (i_immediate imm); stored = None } ∷ []
 told_moved (instr.Scalar (Store op rs1 rs2 imm)) s vl =
@@ -96,7 +75,7 @@ told_moved (instr.Scalar (Store op rs1 rs2 imm)) s vl =
       address = sum w64 (read_register s.scalar rs1) (s_immediate imm);
       stored = Some (to_le_bytes (store_width op) (read_register s.scalar rs2));
     } ∷ []
-told_moved (instr.Access i) s vl = option_map_or (told_access s.vector vl) (access_of i s.vector s.scalar) []
+told_moved (instr.Access i) s vl = option_map_or (moved_elements s.vector vl) (access_of i s.vector s.scalar) []
 told_moved _ s vl = []
 
 -- ---- all of it

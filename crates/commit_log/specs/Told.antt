@@ -16,7 +16,8 @@ use Rattle.rv_model.specs.vector.Groups.{IsConfiguration, with_register_bytes}
 use Rattle.rv_model.specs.vector.RoundingModes.{rounding_mode}
 use Rattle.rv_model.specs.vector.TypeRules.{vector_type}
 use Rattle.recording.specs.Runs.{is_counted, word_of}
-use Rattle.commit_log.specs.Lines.{Line, Moved, instruction_line}
+use Rattle.vector_memory.specs.MovedElements.{MovedElement}
+use Rattle.commit_log.specs.Lines.{Line, instruction_line}
 
 -- scalar registers with these values
 abbrev pub with_scalars : List (ℕ × ℕ) → Scalar → Scalar
@@ -43,7 +44,7 @@ with_controls [] v = v
 with_controls (told ∷ rest) v = with_controls rest (with_read_control told.0 told.1 v)
 
 -- the bytes that were stored, one element after another
-abbrev pub with_stored : List Moved → Memory → Memory
+abbrev pub with_stored : List MovedElement → Memory → Memory
 with_stored [] m = m
 with_stored (moved ∷ rest) m = with_stored rest (option_map_or (put_bytes m moved.address) moved.stored m)
 

@@ -1,8 +1,8 @@
 //! What an instruction found.
-ghost use Rattle.std.specs.Prelude.{◌≡◌, ℕ, length};
+ghost use Rattle.std.specs.Prelude.{◌≡◌, ℕ};
 ghost use Rattle.commit_log.specs.Finds.{Finds, Moves, Notes, SameOtherwise};
 
-use rv_model::{FILE_BYTES, Instr, RoundingMode, Scalar, ScalarInstr, VConf, VFile, VState};
+use rv_model::{Instr, RoundingMode, Scalar, ScalarInstr, VConf, VState};
 use scalar_core::{i_immediate, s_immediate};
 
 /// What an instruction found, as far as its line says what it did: where it stood, its word and what it is, the control
@@ -23,15 +23,6 @@ pub struct Found {
     pub(crate) vector: VState,
 }
 
-/// Lends no byte of the register file, which tells that it has all of them.
-#[inline(always)]
-fn lend_nothing(file: &mut VFile)
-    ensures same { file.new ≡ file.old }
-    ensures whole { length file.old ≡ FILE_BYTES }
-{
-    let _part = file.part_mut(0, 0);
-}
-
 impl Found {
     /// Nothing yet.
     pub fn new() -> Found {
@@ -50,15 +41,13 @@ impl Found {
         }
     }
 
-    /// Notes the registers of a vector load or store. The file has all its bytes, as each loan of a part tells.
+    /// Notes the registers of a vector load or store.
     #[inline(never)]
     fn note_access(&mut self, scalar: &Scalar, vector: &VState)
-        ensures noted { self.new ≡ record self.old { scalar = scalar.now; vector = vector.now } }
-        ensures whole { length vector.now.file ≡ FILE_BYTES }
+        ensures { self.new ≡ record self.old { scalar = scalar.now; vector = vector.now } }
     {
         self.scalar = *scalar;
         self.vector.copy_from(vector);
-        lend_nothing(&mut self.vector.file);
     }
 
     /// Notes the address of a scalar load or store, and the number that a store has.

@@ -9,12 +9,10 @@ mod log;
 mod memory_words;
 mod moves;
 mod numbers;
-mod segments;
 mod targets;
 mod text;
 
 pub use found::Found;
 pub use laws::line_laws;
-pub use lines::push_line;
 pub use log::{Log, Window};
 pub use text::{LINE_SIZE, TEXT_SIZE, Text};

@@ -3,10 +3,11 @@ ghost use Rattle.std.specs.Prelude.{◌≡◌, ◌+◌, ◌*◌, ◌<◌, ◌≤
 ghost use Rattle.rv_model.specs.declared.instructions.instruction.Instr.{Instr};
 ghost use Rattle.rv_model.specs.step.Hart.{HartState};
 ghost use Rattle.rv_model.specs.step.Step.{is_vector};
-ghost use Rattle.commit_log.specs.Finds.{Finds};
+ghost use Rattle.commit_log.specs.Finds.{Finds, Retires};
 ghost use Rattle.commit_log.specs.Lines.{instruction_line, told_configuration, told_scalar, told_vectors};
 ghost use Rattle.commit_log.specs.LineTexts.{configuration_text, line_text, place_text, scalar_text, vector_text};
-ghost use Rattle.commit_log.specs.Targets.{registers_from, scalar_target, vector_targets};
+ghost use Rattle.commit_log.specs.Targets.{registers_from, vector_targets};
+ghost use Rattle.rv_model.specs.step.Targets.{scalar_target};
 ghost use Rattle.rv_model.specs.vector.Groups.{register_of};
 
 use crate::changes::push_changes;
@@ -126,7 +127,7 @@ fn push_registers(text: &mut Text, found: &Found, instr: &Instr, scalar: &Scalar
 fn push_instruction(text: &mut Text, found: &Found, instr: &Instr, scalar: &Scalar, vector: &VState)
     requires { length text.old + 90000 ≤ TEXT_SIZE }
     ensures text { (word : ℕ) (s : HartState) → Finds word (Some instr.now) s.scalar s.vector found.now
-        → text.new ≡ text.old ++ line_text (instruction_line instr.now word s scalar.now vector.now) }
+        → Retires instr.now s.vector vector.now.conf.vl → text.new ≡ text.old ++ line_text (instruction_line instr.now word s scalar.now vector.now) }
     ensures bound { length text.new ≤ length text.old + 90000 }
 {
     push_place(text, found.pc, found.word);
@@ -139,10 +140,10 @@ fn push_instruction(text: &mut Text, found: &Found, instr: &Instr, scalar: &Scal
 /// Adds the line of an instruction that ran, by what it found and by the registers that it left; none, if the word is no
 /// instruction.
 #[inline(always)]
-pub fn push_line(text: &mut Text, found: &Found, scalar: &Scalar, vector: &VState)
+pub(crate) fn push_line(text: &mut Text, found: &Found, scalar: &Scalar, vector: &VState)
     requires { length text.old + LINE_SIZE ≤ TEXT_SIZE }
     ensures text { (instr : Instr) (word : ℕ) (s : HartState) → Finds word (Some instr) s.scalar s.vector found.now
-        → text.new ≡ text.old ++ line_text (instruction_line instr word s scalar.now vector.now) }
+        → Retires instr s.vector vector.now.conf.vl → text.new ≡ text.old ++ line_text (instruction_line instr word s scalar.now vector.now) }
     ensures bound { length text.new ≤ length text.old + LINE_SIZE }
 {
     if let Some(instr) = &found.instr {

@@ -8,7 +8,7 @@ ghost use Rattle.rv_model.specs.memory.Memory.{can_access};
 ghost use Rattle.rv_model.specs.step.Hart.{HartState, ends_after};
 ghost use Rattle.rv_model.specs.step.Step.{step};
 ghost use Rattle.rv_model.specs.declared.instructions.instruction.Instr.{Instr};
-ghost use Rattle.commit_log.specs.Finds.{Finds};
+ghost use Rattle.commit_log.specs.Finds.{Finds, Retires};
 ghost use Rattle.commit_log.specs.LineTexts.{line_text};
 ghost use Rattle.commit_log.specs.Lines.{instruction_line};
 ghost use Rattle.commit_log.specs.Logged.{Gathered, IsLogged, IsNoted, is_within};
@@ -120,7 +120,8 @@ fn add_line<M: UserBytes, K: Sink>(
     alone: &Alone<M>,
 ) -> Result<(), RecordFault>
     ensures { OnOk result ((instr : Instr) (word : ℕ) (s : HartState)
-        → Finds word (Some instr) s.scalar s.vector found.now → Gathered K.took sink.old text.old
+        → Finds word (Some instr) s.scalar s.vector found.now
+        → Retires instr s.vector alone.now.vectors.seat.state.conf.vl → Gathered K.took sink.old text.old
         (line_text (instruction_line instr word s alone.now.scalar alone.now.vectors.seat.state)) sink.new text.new) }
 {
     make_room(sink, text)?;

@@ -3,7 +3,7 @@ ghost use Rattle.std.specs.Prelude.{◌≡◌, ◌+◌, ◌≤◌, ◌++◌, ℕ
 ghost use Rattle.std.specs.Int.{byte_len};
 ghost use Rattle.rv_model.specs.scalar.LoadsAndStores.{store_width};
 ghost use Rattle.rv_model.specs.step.Hart.{HartState};
-ghost use Rattle.commit_log.specs.Finds.{Finds};
+ghost use Rattle.commit_log.specs.Finds.{Finds, Retires};
 ghost use Rattle.commit_log.specs.Lines.{told_moved};
 ghost use Rattle.commit_log.specs.LineTexts.{moved_text};
 
@@ -12,7 +12,7 @@ use crate::moves::push_moves;
 use crate::numbers::{push_hex16, push_reversed};
 use crate::text::{TEXT_SIZE, Text};
 use rv_model::instructions::operations::StoreOp;
-use rv_model::{GROUP_BYTES, Instr, ScalarInstr};
+use rv_model::{Instr, ScalarInstr};
 
 /// How many bytes a store has.
 #[inline(always)]
@@ -31,11 +31,10 @@ fn store_bytes(op: StoreOp) -> usize
 /// Adds what an instruction moved, by what it found, and by the length that it left.
 #[inline(always)]
 pub(crate) fn push_memory(text: &mut Text, found: &Found, instr: &Instr, vl: u16)
-    requires vl { vl ≤ GROUP_BYTES }
-    requires room { length text.old + 86016 ≤ TEXT_SIZE }
+    requires room { length text.old + 86057 ≤ TEXT_SIZE }
     ensures text { (word : ℕ) (s : HartState) → Finds word (Some instr.now) s.scalar s.vector found.now
-        → text.new ≡ text.old ++ flat_map moved_text (told_moved instr.now s vl) }
-    ensures bound { length text.new ≤ length text.old + 86016 }
+        → Retires instr.now s.vector vl → text.new ≡ text.old ++ flat_map moved_text (told_moved instr.now s vl) }
+    ensures bound { length text.new ≤ length text.old + 86057 }
 {
     match instr {
         Instr::Scalar(ScalarInstr::Load { .. }) => {

@@ -1,16 +1,19 @@
 //! The registers that an instruction writes.
-ghost use Rattle.std.specs.Prelude.{◌≡◌, ◌*◌, ◌<◌, ℕ, Some};
+ghost use Rattle.std.specs.Prelude.{◌≡◌, ◌+◌, ◌*◌, ◌<◌, [], ℕ, None, Option, Some, if◌then◌else◌};
+ghost use Rattle.rv_model.specs.declared.instructions.operations.Eew.{Eew};
 ghost use Rattle.rv_model.specs.legality.Legality.{mask_result};
 ghost use Rattle.rv_model.specs.legality.OperandShapes.{destination, shape_of};
 ghost use Rattle.rv_model.specs.vector.Groups.{registers};
-ghost use Rattle.commit_log.specs.Segments.{IsNarrow, filled_by};
-ghost use Rattle.commit_log.specs.Targets.{registers_from, scalar_target};
-ghost use Rattle.commit_log.specs.Targets.{target_of_scalar, target_of_system, target_of_vector, vector_targets};
+ghost use Rattle.rv_model.specs.step.MemoryStep.{reads_memory};
+ghost use Rattle.rv_model.specs.step.Targets.{scalar_target, target_of_scalar, target_of_system, target_of_vector};
+ghost use Rattle.commit_log.specs.Targets.{registers_from, vector_targets};
 
-use crate::segments::{Segments, access_segments};
-use reg_groups::{register_count, registers};
-use rv_model::instructions::operations::{Direction, MaskUnaryOp, SystemOp, VectorOp};
-use rv_model::{AccessInstr, CsrInstr, Instr, ScalarInstr, VReg, VType, VectorInstr};
+use reg_groups::{emul, register_count, registers};
+use rv_model::instructions::operations::{
+    Direction, MaskUnaryOp, RegisterCount, SystemOp, VectorOp,
+};
+use rv_model::{AccessInstr, CsrInstr, Field, Instr, ScalarInstr, Sew, VReg, VType, VectorInstr};
+use vector_memory::unit_direction;
 
 /// The scalar register that ECALL answers in; EBREAK has none.
 #[inline(always)]
@@ -102,18 +105,28 @@ fn group(first: VReg, emul: u32) -> Registers
     }
 }
 
-/// The registers that segments of a load fill.
+/// The registers of `nf` + 1 groups of a multiplier in eighths of a register.
 #[inline(always)]
-fn filled(segments: &Segments) -> Registers
-    requires { IsNarrow segments.now }
-    ensures value { registers_from result.first result.count ≡ filled_by segments.now }
+fn groups(first: VReg, nf: Field<3>, emul: u32) -> Registers
+    ensures value { result ≡ record { first = first; count = (nf + 1) * registers emul } }
     ensures inside { result.first < 32 }
 {
-    match segments.direction {
-        Direction::Load => Registers {
-            first: segments.register as u32,
-            count: (segments.fields * segments.field_registers) as u64,
-        },
+    Registers {
+        first: first.number(),
+        count: (u64::from(nf.value()) + 1) * u64::from(registers(emul)),
+    }
+}
+
+/// The same registers, if they are loaded; a store writes none.
+#[inline(always)]
+fn loaded(direction: Direction, registers: Registers) -> Registers
+    requires { registers.first < 32 }
+    ensures value { registers_from result.first result.count
+        ≡ (if reads_memory direction then registers_from registers.first registers.count else []) }
+    ensures inside { result.first < 32 }
+{
+    match direction {
+        Direction::Load => registers,
         Direction::Store => none(),
     }
 }
@@ -183,16 +196,86 @@ fn typed_targets(instr: &VectorInstr, vtype: VType) -> Registers
     }
 }
 
+/// The registers of a load of whole registers, whatever the vector type is.
+#[inline(always)]
+fn whole(count: RegisterCount, vd: VReg) -> Registers
+    ensures value { (width : Eew) (rs1 : ℕ) (vtype : Option VType) → registers_from result.first result.count
+        ≡ vector_targets (Instr.Access (AccessInstr.WholeLoad count width vd rs1)) vtype }
+    ensures inside { result.first < 32 }
+{
+    group(vd, 8 * u32::from(register_count(count)))
+}
+
+/// The vector registers that a load writes without a vector type: only one of whole registers does.
+#[tactic(auto, unfolding(rv_model::specs::legality::Legality::operands))]
+#[inline(always)]
+fn untyped_targets(instr: &AccessInstr) -> Registers
+    ensures value { registers_from result.first result.count ≡ vector_targets (Instr.Access instr.now) None }
+    ensures inside { result.first < 32 }
+{
+    match instr {
+        AccessInstr::WholeLoad { count, vd, .. } => whole(*count, *vd),
+        AccessInstr::UnitStride { .. }
+        | AccessInstr::Strided { .. }
+        | AccessInstr::Indexed { .. }
+        | AccessInstr::WholeStore { .. }
+        | AccessInstr::MaskAccess { .. } => none(),
+    }
+}
+
+/// The vector registers that a load writes, under a vector type.
+#[tactic(auto, unfolding(rv_model::specs::legality::Legality::operands))]
+#[inline(always)]
+fn typed_access_targets(instr: &AccessInstr, vtype: VType) -> Registers
+    ensures value { registers_from result.first result.count ≡ vector_targets (Instr.Access instr.now) (Some vtype) }
+    ensures inside { result.first < 32 }
+{
+    match instr {
+        AccessInstr::UnitStride {
+            op,
+            width,
+            nf,
+            vd,
+            ..
+        } => {
+            let emul = emul(Sew::from_width(*width).bits(), vtype);
+            loaded(unit_direction(*op), groups(*vd, *nf, emul))
+        }
+        AccessInstr::Strided {
+            direction,
+            width,
+            nf,
+            vd,
+            ..
+        } => {
+            let emul = emul(Sew::from_width(*width).bits(), vtype);
+            loaded(*direction, groups(*vd, *nf, emul))
+        }
+        AccessInstr::Indexed {
+            direction,
+            nf,
+            vd,
+            ..
+        } => {
+            let emul = u32::from(vtype.lmul.eighths());
+            loaded(*direction, groups(*vd, *nf, emul))
+        }
+        AccessInstr::MaskAccess { direction, vd, .. } => loaded(*direction, group(*vd, 8)),
+        AccessInstr::WholeLoad { count, vd, .. } => whole(*count, *vd),
+        AccessInstr::WholeStore { .. } => none(),
+    }
+}
+
 /// The vector registers that a load writes, under the vector type that it finds, if there is one.
 #[inline(always)]
 fn access_targets(instr: &AccessInstr, vtype: Option<VType>) -> Registers
     ensures value { registers_from result.first result.count ≡ vector_targets (Instr.Access instr.now) vtype }
     ensures inside { result.first < 32 }
 {
-    let Some(segments) = access_segments(instr, vtype) else {
-        return none();
-    };
-    filled(&segments)
+    match vtype {
+        Some(vtype) => typed_access_targets(instr, vtype),
+        None => untyped_targets(instr),
+    }
 }
 
 /// The vector registers that an instruction writes, under the vector type that it finds, if there is one.

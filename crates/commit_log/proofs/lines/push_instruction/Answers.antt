@@ -1,14 +1,16 @@
-use Rattle.std.proofs.Common.{ap, ◌∙◌, ◌++◌, ◌∷◌, [], ℕ, flat_map, if◌then◌else◌}
+use Rattle.std.proofs.Common.{ap, sym, subst, ◌∙◌, ◌++◌, ◌∷◌, [], ℕ, flat_map, if◌then◌else◌}
 use Rattle.rv_model.specs.step.Step.{is_vector}
 use Rattle.rv_model.specs.vector.Groups.{Configuration}
 use Rattle.commit_log.specs.LineTexts.{configuration_text, control_text, moved_text, place_text, scalar_text, vector_text}
 use Rattle.commit_log.specs.Lines.{told_configuration, told_controls, told_moved, told_scalar, told_vectors}
-use Rattle.commit_log.specs.Targets.{scalar_target, vector_targets}
+use Rattle.rv_model.specs.step.Targets.{scalar_target}
+use Rattle.commit_log.specs.Finds.{Retires}
+use Rattle.commit_log.specs.Targets.{vector_targets}
 use Rattle.commit_log.proofs.Steps.{line_pushed}
 use Rattle.commit_log.proofs.lines.push_instruction.Goals as goal
 
 pub returns-clause-text : goal.returns-clause-text
-returns-clause-text c = λ word s finds.
+returns-clause-text c = λ word s finds retires.
     let a = c.args in
     let text = a.text.now in
     let i = a.instr.now in
@@ -28,6 +30,6 @@ returns-clause-text c = λ word s finds.
     (c.push_registers.ensures.text
     ∙ ap (λ (f : Configuration). ((t1 ++ scalars) ++ conf) ++ flat_map vector_text (told_vectors v.file (vector_targets i f.vtype))) finds.controls.conf_is)
     (c.push_changes.ensures.text s.vector finds.controls)
-    (c.push_memory.ensures.text word s finds
+    (c.push_memory.ensures.text word s finds (subst (λ (n : ℕ). Retires i s.vector n) (sym c.vl.ensures.value) retires)
     ∙ ap (λ (n : ℕ). t3 ++ flat_map moved_text (told_moved i s n)) c.vl.ensures.value)
     c.push.ensures
