@@ -20,7 +20,8 @@ use Rattle.rv_model.specs.vector.Groups.{doubled, lmul_eighths, registers, sew_w
 use Rattle.rv_model.specs.declared.instructions.operations.CarryOp.{CarryOp}
 use Rattle.rv_model.specs.declared.instructions.vector.VectorInstr.TheVariants.{Arith, Carry}
 use Rattle.rv_model.specs.legality.Legality.{operands}
-use Rattle.commit_log.specs.Targets.{is_destination, registers_from, registers_of, vector_targets}
+use Rattle.rv_model.specs.step.Changes.{is_destination}
+use Rattle.commit_log.specs.Targets.{registers_from, registers_of, vector_targets}
 
 -- ---- multipliers
 

@@ -8,7 +8,7 @@ use Rattle.std.proofs.lemmas.List.{get_or_past, length-map, length-take}
 use Rattle.std.proofs.lemmas.List.FromFn.{length-range_with_len}
 use Rattle.std.proofs.lemmas.Simd.{get_or-chunk, get_or-put_chunk_above, get_or-put_chunk_at, get_or-put_chunk_below, length-chunk, length-put_chunk}
 use Rattle.rv_model.specs.elements.Elements.{byte_or, written}
-use Rattle.rv_model.specs.vector.Groups.{GroupType, group_of, register_of, registers, with_group, with_register_bytes}
+use Rattle.rv_model.specs.vector.Groups.{GroupType, group_of, register_of, registers, with_register_bytes}
 use Rattle.commit_log.specs.Lines.{told_vectors}
 use Rattle.commit_log.specs.Targets.{registers_from}
 use Rattle.commit_log.specs.Told.{with_vectors}
@@ -89,15 +89,6 @@ region_told file new vd count long size kept =
         ]
       ];
     })
-
--- a group that is written
-pub group_told : (file bytes : List ℕ) (vd count : ℕ) → length file ≡ 1024 → length bytes ≤ 32 * count
-    → with_vectors (told_vectors (with_group file vd bytes) (registers_from vd count)) file ≡ with_group file vd bytes
-group_told file bytes vd count long short =
-    region_told file (put_chunk (32 * vd) file bytes) vd count long (length-put_chunk (32 * vd) file bytes) (λ k out. elim out [
-      | inl below ↦ get_or-put_chunk_below (32 * vd) file bytes k 0 below
-      | inr from ↦ get_or-put_chunk_above (32 * vd) file bytes k 0 (omega (arith, from, short))
-    ])
 
 pub group_short : (file : List ℕ) (vd emul : ℕ) → length (group_of file vd emul) ≤ 32 * registers emul
 group_short file vd emul = omega (arith, length-take (32 * registers emul) (drop (32 * vd) file))

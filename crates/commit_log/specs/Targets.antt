@@ -1,22 +1,14 @@
 -- Which vector registers an instruction writes ("V" Vector Extension 1.0, section 5.2).
-use Rattle.std.specs.Prelude.{ℕ, ◌*◌, ◌-◌, Bool, true, false, List, [], flat_map, min, Option}
+use Rattle.std.specs.Prelude.{ℕ, ◌*◌, ◌-◌, List, [], flat_map, min, Option}
 use Rattle.std.specs.List.{filter, range_with_len}
 use Rattle.std.specs.Option.{unwrap_or}
 use Rattle.rv_model.specs.declared.instructions.instruction.Instr.{Instr}
 use Rattle.rv_model.specs.legality.Legality.{operands}
 use Rattle.rv_model.specs.declared.legality.Operand.{Operand}
-use Rattle.rv_model.specs.declared.legality.Role.{Role}
-use Rattle.rv_model.specs.declared.legality.Role.TheVariants.{Write, Apart, Free}
+use Rattle.rv_model.specs.step.Changes.{is_destination}
 use Rattle.rv_model.specs.vector.Groups.{registers}
 use Rattle.rv_model.specs.declared.vector.sizes.TheConstants.{VECTOR_REGISTERS}
 use Rattle.rv_model.specs.declared.vector.types.VType.{VType}
-
--- whether the registers of an operand are written
-abbrev pub is_destination : Role → Bool
-is_destination Write = true
-is_destination Apart = true
-is_destination Free = true
-is_destination _ = false
 
 -- so many registers from one on, as far as there are any; the operands of a legal instruction end inside the file
 abbrev pub registers_from : ℕ → ℕ → List ℕ
