@@ -26,9 +26,9 @@ link = ln -s -f -n --relative
 page = umask 022; packaging/manual_page $(1) $(2) $(3) docs/$(4) > "$(DESTDIR)$(mandir)/man$(2)/$(1).$(2)"
 
 install:
-	@test -x "$(program)" || { echo 'make install: there is no $(program): `cd crates/vecmon && rt run < stdin` builds it, in a quarter of an hour or more' >&2; exit 2; }
-	@test -x "$(recorder)" || { echo 'make install: there is no $(recorder): `cd crates/vecmon_record && rt run < stdin` builds it' >&2; exit 2; }
-	@command -v lowdown > /dev/null || { echo 'make install: there is no lowdown, which makes the manual pages' >&2; exit 2; }
+	@test -x "$(program)" || { echo 'make install: $(program) not found: build it with `cd crates/vecmon && rt run < stdin` (docs/MEASUREMENTS.md has the times)' >&2; exit 2; }
+	@test -x "$(recorder)" || { echo 'make install: $(recorder) not found: build it with `cd crates/vecmon_record && rt run < stdin`' >&2; exit 2; }
+	@command -v lowdown > /dev/null || { echo 'make install: lowdown not found: it makes the manual pages; run tools/debian_packages packaging' >&2; exit 2; }
 	install -d "$(DESTDIR)$(mandir)/man1" "$(DESTDIR)$(mandir)/man5" "$(DESTDIR)$(docdir)/examples"
 	install -D -m 755 "$(program)" packaging/vecmon-lab -t "$(DESTDIR)$(bindir)"
 	install -m 755 "$(recorder)" "$(DESTDIR)$(bindir)/vecmon-record"

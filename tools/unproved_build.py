@@ -10,6 +10,7 @@ and then they differ much. Nothing else may be concluded from it: the program th
 import glob
 import os
 import re
+import shlex
 import shutil
 import subprocess
 import sys
@@ -48,7 +49,7 @@ def kit_with_stand_in(kit, room, kept):
         shutil.copy(f"{kit}/bin/{name}", f"{room}/bin/{name}")
     stand_in = f"{room}/toolchain/bin/clang"
     with open(stand_in, "w", encoding="utf-8") as it:
-        it.write(STAND_IN.format(kept=kept, clang=f"{kit}/toolchain/bin/clang"))
+        it.write(STAND_IN.format(kept=shlex.quote(kept), clang=shlex.quote(f"{kit}/toolchain/bin/clang")))
     os.chmod(stand_in, 0o755)
 
 

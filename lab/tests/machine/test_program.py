@@ -13,7 +13,7 @@ from support.places import SUM, TOP
 from vecmon_lab import LabError
 from vecmon_lab import __main__ as start
 from vecmon_lab.machine import program as places
-from vecmon_lab.machine.program import NoProgram, find_program
+from vecmon_lab.machine.program import NoProgram, find_program, find_recorder
 
 
 def executable(file: pathlib.Path) -> pathlib.Path:
@@ -24,8 +24,11 @@ def executable(file: pathlib.Path) -> pathlib.Path:
 
 
 def test_the_order_of_places(monkeypatch: pytest.MonkeyPatch, tmp_path: pathlib.Path) -> None:
-    named, built, found = (executable(tmp_path / folder / "vecmon") for folder in ("named", "built", "found"))
+    folders = ("named", "built", "unproved", "found")
+    named, built, unproved, found = (executable(tmp_path / folder / "vecmon") for folder in folders)
     monkeypatch.setattr(places, "BUILT", built)
+    monkeypatch.setattr(places, "UNPROVED", tmp_path)
+    (tmp_path / "current").write_text("unproved\n")
     monkeypatch.setenv("PATH", str(found.parent))
     monkeypatch.setenv("VECMON", str(named))
     assert find_program() == named
@@ -37,18 +40,34 @@ def test_the_order_of_places(monkeypatch: pytest.MonkeyPatch, tmp_path: pathlib.
     monkeypatch.delenv("VECMON")
     assert find_program() == built
     built.unlink()
+    assert find_program() == unproved
+    (tmp_path / "current").unlink()
+    assert find_program() == found
+    (tmp_path / "current").write_text("unproved\n")
+    unproved.unlink()
     assert find_program() == found
     found.chmod(0o644)
-    with pytest.raises(NoProgram, match="^there is no program vecmon; .*rt run < stdin.*tools/unproved_build.py"):
+    with pytest.raises(NoProgram, match="^there is no program vecmon; .*tools/run.*rt run < stdin"):
         find_program()
     monkeypatch.setenv("VECMON", str(built))
-    with pytest.raises(NoProgram, match=f"^VECMON={built} is no program; .*tools/unproved_build.py"):
+    with pytest.raises(NoProgram, match=f"^VECMON={built} is no program; .*tools/run"):
         find_program()
 
 
 def test_what_is_built_here_is_looked_for() -> None:
     assert places.BUILT == TOP / "crates" / "vecmon" / "out" / "vecmon"
-    assert (TOP / "crates" / "vecmon" / "stdin").is_file() and (TOP / "tools" / "unproved_build.py").is_file()
+    assert places.UNPROVED == TOP / "build" / "unproved"
+    assert (TOP / "crates" / "vecmon" / "stdin").is_file() and (TOP / "tools" / "run").is_file()
+
+
+def test_the_recorder_that_tools_run_built(monkeypatch: pytest.MonkeyPatch, tmp_path: pathlib.Path) -> None:
+    recorder = executable(tmp_path / "unproved" / "vecmon-record")
+    (tmp_path / "current").write_text("unproved\n")
+    monkeypatch.setattr(places, "UNPROVED", tmp_path)
+    monkeypatch.setattr(places, "BUILT_RECORDER", tmp_path / "none")
+    monkeypatch.delenv("VECMON", raising=False)
+    monkeypatch.delenv("VECMON_RECORD", raising=False)
+    assert find_recorder() == recorder
 
 
 def test_each_command_is_tried_with_the_proved_program() -> None:

@@ -13,6 +13,9 @@ from ..tables.table import read_table
 
 _CRATES = pathlib.Path(__file__).resolve().parents[3] / "crates"
 BUILT, BUILT_RECORDER = _CRATES / "vecmon" / "out" / "vecmon", _CRATES / "vecmon_record" / "out" / "vecmon_record"
+UNPROVED = (
+    _CRATES.parent / "build" / "unproved"
+)  # of tools/run: a folder for each state of the sources; `current` names one
 RECORDER = "vecmon-record"
 HOW_TO_BUILD = dict(read_table("how_to_build"))
 MARCH = "-march=rv64im_zicsr_zve64x_zvl256b"
@@ -28,9 +31,11 @@ class NoProgram(LabError):
 
 
 def find_program() -> pathlib.Path:
-    """The program that the variable VECMON names; else the one built in this checkout; else the one on the path."""
+    """Return the path of vecmon: `$VECMON`, else the first of crates/vecmon/out, build/unproved and PATH that has it.
+
+    Raises NoProgram."""
     named = os.environ.get("VECMON")
-    found = shutil.which(named) if named else shutil.which(str(BUILT)) or shutil.which("vecmon")
+    found = shutil.which(named) if named else _first_built(BUILT, "vecmon")
     if found is None:
         missing = f"VECMON={named} is no program" if named else "there is no program vecmon"
         raise NoProgram(f"{missing}; {HOW_TO_BUILD['vecmon']}")
@@ -38,17 +43,29 @@ def find_program() -> pathlib.Path:
 
 
 def find_recorder() -> pathlib.Path:
-    """The recorder that the variable VECMON_RECORD names; else the one beside the program that VECMON names; else the
-    one built in this checkout; else the one on the path."""
+    """Return the path of vecmon-record: `$VECMON_RECORD`, else the one next to `$VECMON`, else as in `find_program`.
+
+    Raises NoProgram."""
     named = os.environ.get("VECMON_RECORD")
     if not named and os.environ.get("VECMON"):
         named = str(find_program().with_name(RECORDER))
-    found = shutil.which(named) if named else shutil.which(str(BUILT_RECORDER)) or shutil.which(RECORDER)
+    found = shutil.which(named) if named else _first_built(BUILT_RECORDER, RECORDER)
     if found is None:
         if not os.environ.get("VECMON_RECORD"):
             check_is_vecmon(find_program())  # beside which it isn't
         raise NoProgram(f"there is no program {named or RECORDER}; {HOW_TO_BUILD[RECORDER]}")
     return pathlib.Path(found).absolute()
+
+
+def _first_built(built: pathlib.Path, name: str) -> str | None:
+    """Return the program that rt built, else the one of this name that tools/run built, else the one on PATH."""
+    return shutil.which(str(built)) or shutil.which(str(_unproved(name))) or shutil.which(name)
+
+
+def _unproved(name: str) -> pathlib.Path:
+    """Return where tools/run puts a program of the sources that it last saw. There may be no file."""
+    current = UNPROVED / "current"
+    return UNPROVED / (current.read_text("ascii").strip() if current.is_file() else "none") / name
 
 
 def check_is_vecmon(program: pathlib.Path) -> None:

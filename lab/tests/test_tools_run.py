@@ -1,0 +1,300 @@
+"""tools/run: which program it takes, when it builds, an interruption, and each refusal. The build is a stand-in that takes no time."""
+
+import os
+import pathlib
+import shutil
+import signal
+import subprocess
+import time
+from collections.abc import Callable
+
+import pytest
+
+from support.places import TOP
+from vecmon_lab import check
+
+BUILD = """\
+import pathlib, shutil, sys, time
+crate, out = sys.argv[1:]
+top = pathlib.Path(__file__).parents[1]
+with (top / "builds").open("a") as builds:
+    print(crate, file=builds)
+if (top / "fail").exists():
+    sys.exit("no module was made")
+while (top / "wait").exists():
+    time.sleep(0.02)
+shutil.copy("PROGRAM", out)
+"""
+SET_UP = """\
+#!/bin/sh
+cd "$(dirname "$0")/.." && echo set up >> builds
+mkdir -p .venv/bin && printf '#!/bin/sh\\n' > .venv/bin/python && chmod 755 .venv/bin/python
+echo "#!$PWD/.venv/bin/python" > .venv/bin/vecmon-lab && echo "ready: .venv/bin/vecmon-lab"
+"""
+Run = subprocess.CompletedProcess[str]
+
+
+class Clone:
+    """A folder with tools/run, small crates, and stand-ins for rt, lab/setup and the build."""
+
+    def __init__(self, top: pathlib.Path, program: pathlib.Path) -> None:
+        self.top, self.unproved, self.run_tool = top, top / "build" / "unproved", top / "tools" / "run"
+        self.environment = {**os.environ, "PATH": f"{top}/rattle:{os.environ['PATH']}"}
+        self.write("rattle/rt", "#!/bin/sh\necho kit logic 0123\n")
+        self.write("lab/setup", SET_UP)
+        self.write("tools/unproved_build.py", BUILD.replace("PROGRAM", str(program)))
+        for name in ("run", "source_digest"):
+            shutil.copy(TOP / "tools" / name, top / "tools" / name)
+        self.write("HANDLES", "Handles allowed: none.\n")
+        self.write("crates.txt", "low: arrayvec\nvecmon: low # a comment\nvecmon_record: low\nother: low\n")
+        for crate in ("low", "vecmon", "vecmon_record", "other"):
+            self.write(f"crates/{crate}/src/lib.rt", f"fn {crate}() {{}}\n")
+        shutil.copy(TOP / "crates" / "vecmon" / "first_vectors", top / "crates" / "vecmon")
+
+    def write(self, name: str, text: str) -> pathlib.Path:
+        """Writes an executable file."""
+        file = self.top / name
+        file.parent.mkdir(parents=True, exist_ok=True)
+        file.write_text(text)
+        file.chmod(0o755)
+        return file
+
+    def run(self, *words: object, path: str | None = None, cwd: pathlib.Path | None = None) -> Run:
+        """Runs tools/run to its end."""
+        environment = {**self.environment, "PATH": path or self.environment["PATH"]}
+        command = [str(self.run_tool), *map(str, words)]
+        return subprocess.run(command, env=environment, cwd=cwd or self.top.parent, capture_output=True, text=True)
+
+    def start(self) -> subprocess.Popen[str]:
+        """Starts tools/run with a build that waits, in a process group of its own, and returns once both builds wait."""
+        (self.top / "wait").touch()
+        process = subprocess.Popen(
+            [self.run_tool],
+            env=self.environment,
+            stdout=subprocess.PIPE,
+            stderr=subprocess.PIPE,
+            text=True,
+            start_new_session=True,
+        )
+        until(lambda: len(self.builds()) >= 2)
+        return process
+
+    def digest(self, *words: str) -> Run:
+        """Runs tools/source_digest."""
+        command = [str(self.top / "tools" / "source_digest"), *words]
+        return subprocess.run(command, env=self.environment, capture_output=True, text=True)
+
+    def builds(self) -> list[str]:
+        """The crates that were built so far."""
+        log = self.top / "builds"
+        return sorted(line for line in log.read_text().split("\n") if line.startswith("vecmon")) if log.exists() else []
+
+    def folders(self) -> list[str]:
+        """The folders of programs."""
+        return sorted(path.name for path in self.unproved.iterdir() if path.is_dir())
+
+
+@pytest.fixture
+def clone(tmp_path: pathlib.Path, program: pathlib.Path) -> Clone:
+    """A clone in a folder with a space in its name."""
+    return Clone(tmp_path / "a clone", program)
+
+
+def until(holds: Callable[[], object]) -> None:
+    """Waits until something holds, at most 20 seconds."""
+    end = time.monotonic() + 20
+    while not holds():
+        assert time.monotonic() < end
+        time.sleep(0.02)
+
+
+def waiting_builds(clone: Clone) -> list[str]:
+    """The command lines of builds of this clone that run."""
+    texts = []
+    for file in pathlib.Path("/proc").glob("[0-9]*/cmdline"):
+        try:
+            texts.append(file.read_bytes().replace(b"\0", b" ").decode("utf-8", "replace"))
+        except OSError:
+            pass  # it has ended
+    return [text for text in texts if "unproved_build.py" in text and str(clone.unproved) in text]
+
+
+def test_first_and_second_start(clone: Clone) -> None:
+    answers = check.first_script()[1]
+    first = clone.run()
+    assert (first.returncode, first.stdout) == (0, answers)
+    (folder,) = clone.folders()
+    assert (clone.unproved / "current").read_text() == f"{folder}\n" and clone.digest().stdout.startswith(folder)
+    built = f"tools/run: built without proofs: {clone.unproved}/{folder}/vecmon\n"
+    assert "ready: .venv/bin/vecmon-lab\ntools/run: building vecmon and vecmon-record" in first.stderr
+    assert first.stderr.endswith(built)
+    second = clone.run()
+    assert (second.returncode, second.stdout, second.stderr) == (0, answers, built)
+    assert (clone.top / "builds").read_text().count("\n") == 3  # one set-up and two programs, once
+
+
+def test_the_sources_choose_the_program(clone: Clone) -> None:
+    clone.run()
+    first = clone.folders()
+    clone.write("crates/other/src/lib.rt", "fn elsewhere() {}\n")  # neither program is built from it
+    clone.run()
+    assert clone.folders() == first and len(clone.builds()) == 2
+    source = clone.top / "crates" / "low" / "src" / "lib.rt"
+    before = source.read_text()
+    source.write_text("fn changed() {}\n")
+    clone.run()
+    assert len(clone.folders()) == 2 and len(clone.builds()) == 4
+    source.write_text(before)
+    clone.run()
+    assert len(clone.builds()) == 4 and [(clone.unproved / "current").read_text().strip()] == first
+
+
+@pytest.mark.parametrize(
+    "name, text",
+    [
+        ("rattle/rt", "#!/bin/sh\necho kit logic 4567\n"),
+        ("crates.txt", "low: hex\nvecmon: low\nvecmon_record: low\n"),
+        ("crates/vecmon/proofs/new.antt", "new\n"),
+        ("tools/unproved_build.py", "pass\n"),
+    ],
+)
+def test_the_digest_changes(clone: Clone, name: str, text: str) -> None:
+    before = clone.digest().stdout
+    assert len(before) == 65 and clone.digest().stdout == before
+    clone.write("crates/low/out/made", "made\n")
+    clone.write("crates/low/must-fail/wrong.edit", "file: src/lib.rt\n")
+    assert clone.digest().stdout == before
+    clone.write(name, text)
+    assert len(clone.digest().stdout) == 65 and clone.digest().stdout != before
+
+
+def prove(clone: Clone, program: pathlib.Path) -> None:
+    """Puts programs where rt puts proved ones."""
+    for crate in ("vecmon", "vecmon_record"):
+        clone.write(f"crates/{crate}/out/{crate}", f'#!/bin/sh\nexec "{program}" "$@"\n')
+
+
+def test_proved_programs(clone: Clone, program: pathlib.Path) -> None:
+    prove(clone, program)
+    proved = f"tools/run: built with proofs: {clone.top}/crates/vecmon/out/vecmon\n"
+    digest = clone.digest().stdout.strip()
+    assert clone.digest("proved", digest).returncode == 1
+    assert clone.digest("record", digest).returncode == 0 and clone.digest("proved", digest).returncode == 0
+    assert clone.run().stderr.endswith(f"ready: .venv/bin/vecmon-lab\n{proved}") and clone.builds() == []
+    source = clone.top / "crates" / "low" / "src" / "lib.rt"
+    before = source.read_text()
+    source.write_text("fn changed() {}\n")
+    told = clone.run().stderr
+    assert "tools/run: built without proofs: " in told and "isn't recorded as proved from these sources" in told
+    source.write_text(before)
+    assert clone.run().stderr == proved
+    (clone.top / "crates" / "vecmon_record" / "out" / "vecmon_record").write_text("another program")
+    assert "tools/run: built without proofs: " in clone.run().stderr
+
+
+def test_programs_without_a_record_are_not_taken(clone: Clone, program: pathlib.Path) -> None:
+    prove(clone, program)
+    assert "tools/run: built without proofs: " in clone.run().stderr
+    told = clone.digest("record", "0" * 64)
+    assert (told.returncode, told.stderr.count("\n")) == (1, 1) and "the sources have changed" in told.stderr
+    assert clone.digest("dance").returncode == 2
+
+
+@pytest.mark.parametrize("number, status", [(signal.SIGINT, 130), (signal.SIGTERM, 143)])
+def test_interrupted(clone: Clone, number: int, status: int) -> None:
+    process = clone.start()
+    os.killpg(process.pid, number)
+    process.communicate(timeout=20)
+    assert process.returncode == status and clone.folders() == []
+    until(lambda: not waiting_builds(clone))
+    (clone.top / "wait").unlink()
+    assert clone.run().returncode == 0 and len(clone.folders()) == 1
+
+
+def test_killed(clone: Clone) -> None:
+    process = clone.start()
+    process.kill()
+    process.communicate(timeout=20)
+    assert [name.split(".")[0] for name in clone.folders()] == ["new"]
+    (clone.top / "wait").unlink()
+    until(lambda: not waiting_builds(clone))
+    assert clone.run().returncode == 0
+    assert [name.split(".")[0] for name in clone.folders()] == [(clone.unproved / "current").read_text().strip()]
+
+
+def test_two_at_once(clone: Clone) -> None:
+    one, other = clone.start(), clone.start()
+    time.sleep(0.5)
+    (clone.top / "wait").unlink()
+    ended = [process.communicate(timeout=30) for process in (one, other)]
+    assert [process.returncode for process in (one, other)] == [0, 0]
+    assert [output for output, _ in ended] == [check.first_script()[1]] * 2
+    assert clone.builds() == ["vecmon", "vecmon_record"] and len(clone.folders()) == 1
+    assert "waiting for another tools/run" in ended[1][1]
+
+
+def test_another_script_and_images(clone: Clone, program: pathlib.Path, tmp_path: pathlib.Path) -> None:
+    (tmp_path / "script").write_text("1 enter\n1 list\n")
+    (tmp_path / "image").write_bytes(b"no image")
+    for words in (
+        ["script"],
+        ["script", "a=image"],
+        ["nowhere"],
+        ["script", "a=nowhere"],
+        ["--quantum", "0", "script"],
+    ):
+        direct = subprocess.run([program, *words], cwd=tmp_path, capture_output=True, text=True)
+        ran = clone.run(*words, cwd=tmp_path)
+        assert (ran.returncode, ran.stdout) == (direct.returncode, direct.stdout)
+        assert ran.stderr.endswith(f"/vecmon\n{direct.stderr}")
+    assert ran.returncode == 2
+
+
+def test_rt_is_missing(clone: Clone) -> None:
+    ran = clone.run(path="/usr/bin:/bin")
+    assert (ran.returncode, ran.stdout, ran.stderr.count("\n")) == (2, "", 1)
+    assert "rt not found: install the Rattle kit" in ran.stderr and "install the vecmon package instead" in ran.stderr
+    assert not clone.unproved.exists()
+
+
+def test_packages_are_missing_without_root(clone: Clone) -> None:
+    for name in ("lab/setup", "tools/debian_packages"):
+        shutil.copy(TOP / name, clone.top / name)
+    clone.write("rattle/id", "#!/bin/sh\necho 1000\n")
+    clone.write("rattle/sudo", "#!/bin/sh\nexit 1\n")
+    clone.write("rattle/dpkg-query", "#!/bin/sh\nprintf 'python3:ii \\npython3-pip:rc \\npython3-wheel:ii \\n'\n")
+    ran = clone.run()
+    packages = "python3-pip python3-setuptools python3-aiohttp python3-prompt-toolkit python3-pyelftools python3-segno"
+    command = f"sudo apt-get install --no-install-recommends {packages}"
+    told = f"tools/debian_packages: missing packages; to install them, run: {command}\n"
+    assert (ran.returncode, ran.stdout, ran.stderr) == (2, "", told)
+    assert clone.builds() == []
+
+
+def test_a_folder_that_is_not_writable(clone: Clone) -> None:
+    (clone.top / "build").write_text("a file")
+    ran = clone.run()
+    assert (ran.returncode, ran.stdout, ran.stderr.count("\n")) == (2, "", 1)
+    assert f"{clone.unproved} isn't writable" in ran.stderr
+
+
+def test_a_build_that_fails(clone: Clone) -> None:
+    (clone.top / "fail").touch()
+    ran = clone.run()
+    assert (ran.returncode, ran.stdout, clone.folders()) == (2, "", [])
+    assert ran.stderr.endswith("no module was made\ntools/run: the build failed: see the lines above\n")
+
+
+def test_sources_that_change_during_the_build(clone: Clone) -> None:
+    process = clone.start()
+    clone.write("crates/low/src/lib.rt", "fn changed() {}\n")
+    (clone.top / "wait").unlink()
+    _, told = process.communicate(timeout=20)
+    assert (process.returncode, clone.folders()) == (2, [])
+    assert told.endswith("tools/run: the sources changed during the build: run tools/run again\n")
+
+
+def test_help(clone: Clone) -> None:
+    ran = clone.run("--help", path="/usr/bin:/bin")
+    assert (ran.returncode, ran.stderr) == (0, "") and ran.stdout.startswith("Runs a script with vecmon")
+    assert ran.stdout.rstrip().endswith("that of vecmon.")
