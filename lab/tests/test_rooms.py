@@ -25,4 +25,9 @@ def test_each_room_stands_on_those_above_it() -> None:
 
 def test_the_version_is_that_of_the_changelog() -> None:
     changelog = (TOP / "CHANGELOG.md").read_text("utf-8")
-    assert re.findall(r"^## ([0-9.]+)$", changelog, re.MULTILINE)[0] == vecmon_lab.__version__
+    headings = re.findall(r"^## (.*)$", changelog, re.MULTILINE)
+    dated = [re.fullmatch(r"\[([0-9.]+)\] - (\d{4}-\d\d-\d\d)", it) for it in headings if it != "[Unreleased]"]
+    newest = dated[0]
+    assert all(dated) and newest and newest[1] == vecmon_lab.__version__
+    citation = (TOP / "CITATION.cff").read_text("utf-8")
+    assert f"\nversion: {newest[1]}\ndate-released: {newest[2]}\n" in citation
