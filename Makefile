@@ -16,7 +16,7 @@ recorder = crates/vecmon_record/out/vecmon_record
 lab_files = lab/vecmon_lab/py.typed $(filter-out %.pyc, $(wildcard lab/vecmon_lab/*.py lab/vecmon_lab/*.txt lab/vecmon_lab/*/*.* \
     lab/vecmon_lab/compilers/runtime/* lab/vecmon_lab/exercises/given/*/*.* lab/vecmon_lab/exercises/given/*/wrong/* \
     lab/vecmon_lab/lessons/tours/* lab/examples/*.* lab/examples/*/*.*))
-documents = README.md CHANGELOG.md CONTRIBUTING.md SECURITY.md LICENSE-MIT LICENSE-APACHE crates.txt crates/monitor_script/src/script.rt $(wildcard docs/*.md docs/*.csv docs/pictures/*)
+documents = README.md CHANGELOG.md CONTRIBUTING.md SECURITY.md CITATION.cff LICENSE-MIT LICENSE-APACHE crates.txt crates/monitor_script/src/script.rt $(wildcard docs/*.md docs/*.csv docs/pictures/*)
 # Outside of the folders that are vecmon's alone, $(lab) and $(docdir)
 others = $(bindir)/vecmon $(bindir)/vecmon-record $(bindir)/vecmon-lab $(mandir)/man1/vecmon.1 $(mandir)/man1/vecmon-record.1 \
     $(mandir)/man1/vecmon-lab.1 $(mandir)/man5/vecmon-commands.5 $(completions)/vecmon $(completions)/vecmon-record \

@@ -1,12 +1,14 @@
 """The pictures of the pages: `python lab/tools/pictures.py docs/pictures`, with VECMON as for the lab.
 
-Writes lesson.png, listings.png, student.png, teacher.png, wall.png, exercise.png, kernel.png and explore.png to the folder:
-Chromium's pictures of a lesson, of listings side by side and of classes, in light colours, 1280 pixels wide. In one class six students have each come to another
-place, and the teacher looks over the shoulder of the third, whose seat is on the wall as well. In another one a student's
-answer fails in a case, and in a third one, and on an own page, sources in C are stepped.
+Writes steps.gif, lesson.png, listings.png, student.png, teacher.png, wall.png, exercise.png, kernel.png and explore.png to
+the folder: Chromium's pictures of a lesson, of listings side by side and of classes, in light colours, 1280 pixels wide.
+steps.gif steps through six instructions of the lesson, with its masked one. In one class six students have each come to
+another place, and the teacher looks over the shoulder of the third, whose seat is on the wall as well. In another one a
+student's answer fails in a case, and in a third one, and on an own page, sources in C are stepped.
 """
 
 import base64
+import io
 import pathlib
 import subprocess
 import sys
@@ -25,6 +27,8 @@ if TYPE_CHECKING:
 WIDTH, HEIGHT, WALL_HEIGHT, EXERCISE_HEIGHT = 1280, 800, 720, 880
 EXAMPLE = EXAMPLES / "strip_mined.s"
 MASKED = 22  # of the example's instructions, the masked one in the loop's second round
+STEPS = range(MASKED - 3, MASKED + 3)  # frames of the lesson: from the round's vsetvli to its store
+STEP_TIME, MASKED_TIME = 1500, 4000  # of a frame of steps.gif, in milliseconds
 GREY = EXAMPLES / "kernels" / "grey.c"
 COUNT_UP = ["addi x5, x5, 1", "jal x0, -4"]
 EXERCISE, WRONG = "clamped_magnitude", OURS / "clamped_magnitude" / "wrong" / "without_the_mask.s"
@@ -37,12 +41,17 @@ def give_room(browser: "Chrome", height: int) -> None:
     browser.execute_cdp_cmd("Emulation.setDeviceMetricsOverride", size)
 
 
-def save(browser: "Chrome", path: pathlib.Path, height: int) -> None:
-    """A picture of the upper part of the page before all others."""
+def screenshot(browser: "Chrome", height: int) -> bytes:
+    """Return a PNG of the upper part of the foremost page, `height` pixels high."""
     browser.execute_script("document.activeElement.blur()")
     clip = {"x": 0, "y": 0, "width": WIDTH, "height": height, "scale": 1}
     told = browser.execute_cdp_cmd("Page.captureScreenshot", {"clip": clip})
-    path.write_bytes(base64.b64decode(told["data"]))
+    return base64.b64decode(told["data"])
+
+
+def save(browser: "Chrome", path: pathlib.Path, height: int) -> None:
+    """A picture of the upper part of the page before all others."""
+    path.write_bytes(screenshot(browser, height))
 
 
 def open_page(browser: "Chrome", folder: pathlib.Path, *words: str | pathlib.Path, place: str = "") -> None:
@@ -51,6 +60,20 @@ def open_page(browser: "Chrome", folder: pathlib.Path, *words: str | pathlib.Pat
     subprocess.run([sys.executable, "-m", "vecmon_lab", "lesson", *words, "-o", page], check=True, cwd=TOP)
     browser.get("about:blank")
     browser.get(f"{page.as_uri()}{place}")
+
+
+def picture_steps(browser: "Chrome", path: pathlib.Path) -> None:
+    """Write an animated GIF of the open lesson, which shows each frame of STEPS in turn."""
+    from PIL import Image
+
+    frames, page = [], browser.current_url.partition("#")[0]
+    for number in STEPS:
+        browser.get("about:blank")
+        browser.get(f"{page}#{number}")
+        frame = Image.open(io.BytesIO(screenshot(browser, HEIGHT))).convert("RGB")
+        frames.append(frame.quantize(256, dither=Image.Dither.NONE))
+    times = [MASKED_TIME if number == MASKED + 1 else STEP_TIME for number in STEPS]
+    frames[0].save(path, save_all=True, append_images=frames[1:], duration=times, loop=0, optimize=False)
 
 
 def seat_students(browser: "Chrome", served: Served) -> Tab:
@@ -139,6 +162,7 @@ def main(folder: pathlib.Path) -> None:
     with tempfile.TemporaryDirectory() as room:
         open_page(browser, pathlib.Path(room), EXAMPLE, place=f"#{MASKED + 1}")  # at its masked instruction
         save(browser, folder / "lesson.png", HEIGHT)
+        picture_steps(browser, folder / "steps.gif")
         open_page(browser, pathlib.Path(room), EXAMPLES / "kernels" / "plain_sum.c", "--against", "O2-scalar")
         save(browser, folder / "listings.png", HEIGHT)
         served = Served(pathlib.Path(room) / "class", find_program(), "--cc", "clang-19", takes_c=True)
