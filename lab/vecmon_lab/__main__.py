@@ -24,6 +24,8 @@ def main() -> int:
     """Carries out the command that the program's words name; its status is 2, after one line, for bad input."""
     try:
         arguments = arguments_of(sys.argv[1:])
+        if any(word.endswith(".c") for word in sys.argv[1:]):
+            importlib.import_module("vecmon_lab.compilers.compiler").install_compilers()
         return int(arguments.run(arguments))
     except KeyboardInterrupt:
         return 130

@@ -1,5 +1,6 @@
 """Sources in C: what their images become, what compilers say of them, and six kernels beside the same in Python."""
 
+import os
 import pathlib
 import re
 import struct
@@ -8,8 +9,10 @@ import sys
 
 import pytest
 
+from support.commands import Lab
 from support.places import EXAMPLES
 from vecmon_lab import LabError
+from vecmon_lab.compilers import compiler
 from vecmon_lab.compilers.compiled import compile_c, program_of
 from vecmon_lab.compilers.compiler import CHOICES, Compiler, choice_for, choice_of, find_compiler
 from vecmon_lab.compilers.inside import Diagnostic, read_messages
@@ -248,6 +251,33 @@ def test_options_fit_a_file() -> None:
 def test_a_compiler_that_is_none(name: str) -> None:
     with pytest.raises(LabError, match="no compiler"):
         find_compiler(name)
+
+
+@pytest.mark.parametrize("is_root", [True, False])
+def test_a_command_installs_the_compilers(
+    lab: Lab, monkeypatch: pytest.MonkeyPatch, tmp_path: pathlib.Path, is_root: bool
+) -> None:
+    log, installer, sudo = tmp_path / "log", tmp_path / "debian_packages", tmp_path / "sudo"
+    installer.write_text(f'#!/bin/sh\necho "$@" >> {log}\n')
+    sudo.write_text("#!/bin/sh\nexit 1\n")
+    for file in (installer, sudo):
+        file.chmod(0o755)
+    monkeypatch.setenv("PATH", f"{tmp_path}:/usr/bin:/bin")
+    monkeypatch.setattr(os, "geteuid", lambda: 0 if is_root else 1000)
+    monkeypatch.setattr(compiler, "INSTALLER", installer)
+    lab("lesson", "nowhere.c", "-o", tmp_path / "page.html")
+    if compiler.find_compilers():
+        assert not log.exists()
+    monkeypatch.setattr(compiler, "find_compilers", lambda: [])
+    lab("lesson", "nowhere.s", "-o", tmp_path / "page.html")
+    log.touch()
+    assert log.read_text() == ""
+    status, _, told = lab("lesson", KERNELS / "grey.c", "-o", tmp_path / "page.html")
+    assert (status, log.read_text()) == (2, "compilers\n" if is_root else "")
+    assert told == "vecmon-lab: there is no compiler for C: apt-get install clang-19 lld-19 bubblewrap\n"
+    monkeypatch.setattr(compiler, "INSTALLER", tmp_path / "none")
+    lab("lesson", KERNELS / "grey.c", "-o", tmp_path / "page.html")
+    assert log.read_text() == ("compilers\n" if is_root else "")
 
 
 def test_a_lesson_of_a_source_in_c(clang: Compiler, tmp_path: pathlib.Path) -> None:

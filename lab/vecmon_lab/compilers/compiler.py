@@ -1,8 +1,10 @@
 """The compilers that there are, and the words that they are called with: a closed list, of which a number chooses."""
 
+import os
 import pathlib
 import re
 import shutil
+import subprocess
 from collections.abc import Sequence
 from dataclasses import dataclass
 
@@ -18,6 +20,9 @@ FUNCTION = "answer"
 """The function that begins an image which is to answer an exercise; others begin with `main`."""
 
 LEAST_CLANG, LEAST_GCC = 17, 14  # which have the intrinsics of vectors by their present names
+
+INSTALLER = pathlib.Path(__file__).resolve().parents[3] / "tools" / "debian_packages"
+"""The tool of a clone that installs Debian packages. An installed vecmon has no such file."""
 
 _ALL = (MARCH, "-mabi=lp64", "-ffreestanding", "-fno-pic", "-nostdlib", "-static", "-Wl,--build-id=none")
 _TOLD = ("-g", "-gdwarf-4", "-Wall", "-fdiagnostics-color=never")
@@ -131,6 +136,14 @@ def find_compiler(name: str | None) -> Compiler:
             return compiler
     missing = "there is no compiler for C" if name is None else f"{name} is no compiler that is here"
     raise LabError(f"{missing}: apt-get install clang-19 lld-19 bubblewrap")
+
+
+def install_compilers() -> None:
+    """Install Debian's compilers if there are none, in a clone, as root or by a sudo that asks for no password."""
+    if find_compilers() or not INSTALLER.is_file():
+        return
+    if os.geteuid() == 0 or subprocess.run("sudo -n true", shell=True, capture_output=True).returncode == 0:
+        subprocess.run([INSTALLER, "compilers"], stdout=subprocess.DEVNULL)
 
 
 def _is_there(compiler: Compiler) -> bool:
