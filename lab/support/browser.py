@@ -43,7 +43,7 @@ def start_browser(*more: str, command: str = "chromium") -> "Chrome":
     from selenium.webdriver.chrome.service import Service
 
     path, driver = shutil.which(command), shutil.which("chromedriver")
-    assert path and driver
+    assert path and driver, f"{command} or chromedriver not found: run tools/debian_packages browser"
     options = ChromeOptions()
     options.binary_location = path
     size = f"window-size={WINDOWS[command]}"

@@ -5,6 +5,7 @@ import json
 import pathlib
 import shutil
 import subprocess
+import sys
 from typing import Any
 
 import pytest
@@ -68,6 +69,13 @@ def test_on_vecmon_no_case_differs(lab: Lab, tmp_path: pathlib.Path) -> None:
 
 
 @pytest.mark.usefixtures("qemu")
+def test_on_qemu_without_qemu(tmp_path: pathlib.Path) -> None:
+    command = [sys.executable, on_qemu.__file__, str(tmp_path / "golden.jsonl")]
+    run = subprocess.run(command, env={"PATH": str(tmp_path)}, capture_output=True, text=True)
+    assert (run.returncode, run.stdout) == (1, "")
+    assert run.stderr == "on_qemu.py: qemu-riscv64 not found: sudo apt install qemu-user\n"
+
+
 def test_on_qemu_those_cases_differ_that_differ_there(lab: Lab, tmp_path: pathlib.Path) -> None:
     assert lab("vectors", *NAMES, "--cases", "12", "--seed", "3", "--elf", tmp_path)[0] == 0
     for name in NAMES:

@@ -5,6 +5,7 @@ All cases go through one process. The program around them (on_qemu.txt) takes ea
 
 import json
 import pathlib
+import shutil
 import struct
 import subprocess
 import sys
@@ -92,6 +93,8 @@ def differences(cases: Sequence[Case]) -> list[dict[str, tuple[object, object]]]
 
 
 if __name__ == "__main__":
+    if not shutil.which(QEMU[0]):
+        sys.exit(f"on_qemu.py: {QEMU[0]} not found: sudo apt install qemu-user")
     shown = [case for line in pathlib.Path(sys.argv[1]).open() if can_run(case := json.loads(line))]
     for part in (shown[at : at + 1000] for at in range(0, len(shown), 1000)):
         for case, differing in zip(part, differences(part)):
