@@ -265,8 +265,8 @@ def test_packages_are_missing_without_root(clone: Clone) -> None:
     clone.write("rattle/dpkg-query", "#!/bin/sh\nprintf 'python3:ii \\npython3-pip:rc \\npython3-wheel:ii \\n'\n")
     ran = clone.run()
     packages = "python3-pip python3-setuptools python3-aiohttp python3-prompt-toolkit python3-pyelftools python3-segno"
-    command = f"sudo apt-get install --no-install-recommends {packages}"
-    told = f"tools/debian_packages: missing packages; to install them, run: {command}\n"
+    command = f"apt-get update && apt-get install --no-install-recommends {packages}"
+    told = f"tools/debian_packages: missing packages; as root, run: {command}\n"
     assert (ran.returncode, ran.stdout, ran.stderr) == (2, "", told)
     assert clone.builds() == []
 
