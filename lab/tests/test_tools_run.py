@@ -200,7 +200,7 @@ def test_programs_without_a_record_are_not_taken(clone: Clone, program: pathlib.
     assert clone.digest("dance").returncode == 2
 
 
-@pytest.mark.parametrize("number, status", [(signal.SIGINT, 130), (signal.SIGTERM, 143)])
+@pytest.mark.parametrize("number, status", [(signal.SIGHUP, 129), (signal.SIGINT, 130), (signal.SIGTERM, 143)])
 def test_interrupted(clone: Clone, number: int, status: int) -> None:
     process = clone.start()
     os.killpg(process.pid, number)
