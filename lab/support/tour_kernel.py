@@ -7,7 +7,8 @@ import json
 import textwrap
 from collections.abc import Iterator
 
-from vecmon_lab.compilers.compiled import CompiledProgram, compile_c
+from vecmon_lab.compilers.compiled import CompiledProgram
+from vecmon_lab.compilers.compiling import compile_c
 from vecmon_lab.compilers.compiler import Compiler, choice_of
 from vecmon_lab.lessons.tour import TOURS
 

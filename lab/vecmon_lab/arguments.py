@@ -15,7 +15,7 @@ def image_path(word: str) -> pathlib.Path:
     path = pathlib.Path(word)
     if path.suffix != ".c":
         return path
-    from .compilers.compiled import compiled_image  # which an image doesn't need
+    from .compilers.compiling import compiled_image  # which an image doesn't need
 
     return compiled_image(path)
 

@@ -13,7 +13,8 @@ from support.commands import Lab
 from support.places import EXAMPLES
 from vecmon_lab import LabError
 from vecmon_lab.compilers import compiler
-from vecmon_lab.compilers.compiled import compile_c, program_of
+from vecmon_lab.compilers.compiled import program_of
+from vecmon_lab.compilers.compiling import compile_c
 from vecmon_lab.compilers.compiler import CHOICES, Compiler, choice_for, choice_of, find_compiler
 from vecmon_lab.compilers.inside import Diagnostic, read_messages
 from vecmon_lab.guest.guest import Guest

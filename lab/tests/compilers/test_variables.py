@@ -5,7 +5,8 @@ import re
 import pytest
 
 from support.places import EXAMPLES
-from vecmon_lab.compilers.compiled import CompiledProgram, compile_c
+from vecmon_lab.compilers.compiled import CompiledProgram
+from vecmon_lab.compilers.compiling import compile_c
 from vecmon_lab.compilers.compiler import CHOICES, Compiler
 from vecmon_lab.compilers.locations import CODE_END, Location, Operation, location
 from vecmon_lab.compilers.variables import Variable, read_variables

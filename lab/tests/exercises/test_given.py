@@ -9,7 +9,7 @@ import pytest
 from support.commands import Lab
 from support.drawn_inputs import DRAWS, Drawn
 from support.places import DOCS
-from vecmon_lab.compilers.compiled import compile_c
+from vecmon_lab.compilers.compiling import compile_c
 from vecmon_lab.compilers.compiler import Compiler
 from vecmon_lab.exercises.answer import Answer, Attempt, read_answer, ready, settled
 from vecmon_lab.exercises.exercise import FILES, OURS, Results, read_exercise

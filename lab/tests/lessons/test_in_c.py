@@ -12,7 +12,8 @@ from support.commands import Lab
 from support.places import EXAMPLES
 from support.tour_kernel import COMPILER, KERNEL, made
 from vecmon_lab import LabError
-from vecmon_lab.compilers.compiled import compile_c, variable_rows
+from vecmon_lab.compilers.compiled import variable_rows
+from vecmon_lab.compilers.compiling import compile_c
 from vecmon_lab.compilers.compiler import CHOICES, Compiler, choice_of
 from vecmon_lab.lessons.frames import make_frames
 from vecmon_lab.lessons.listings import listing_of

@@ -128,7 +128,7 @@ def test_a_process_that_hangs_is_replaced(program: pathlib.Path) -> None:
             os.kill(first, 0)
 
 
-@pytest.mark.parametrize("place", ["vecmon_lab.machine.session.is_whole", "vecmon_lab.machine.session.Session._record"])
+@pytest.mark.parametrize("place", ["vecmon_lab.machine.pipe.is_whole", "vecmon_lab.machine.session.Session._record"])
 def test_an_interrupt_between_a_line_and_its_record(
     counting: Session, monkeypatch: pytest.MonkeyPatch, place: str
 ) -> None:

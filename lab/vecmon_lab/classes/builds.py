@@ -5,8 +5,9 @@ import os
 from collections.abc import Sequence
 
 from .. import LabError
-from ..compilers.compiled import IMAGE_BYTES, CompiledProgram, read_compiled_program, words_for
+from ..compilers.compiled import IMAGE_BYTES, CompiledProgram, read_compiled_program
 from ..compilers.compiler import Compiler
+from ..compilers.compiling import words_for
 from ..compilers.sandbox import answer_beside, sandboxed_compiler
 from .beside import alone
 from .requests import BadRequest

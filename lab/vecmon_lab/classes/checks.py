@@ -13,86 +13,28 @@ import re
 import sys
 import time
 from collections.abc import Callable, Iterable, Iterator, Mapping, Sequence
-from dataclasses import dataclass, field
-from typing import NotRequired, TypedDict
+from typing import TypedDict
 
 from .. import LabError
 from ..assembler.source import SourceError
 from ..compilers.compiled import STACK, CompiledProgram
-from ..exercises.answer import C_SUFFIX, inputs, settled
+from ..exercises.answer import inputs, settled
 from ..exercises.check import Told
 from ..exercises.exercise import Exercise, read_exercise
 from ..exercises.taken import Taken
 from .beside import Beside
 from .builds import Builds
-from .codes import new_code
-from .languages import NUMBERS, C, SourceText
+from .languages import SourceText
 from .names import local_time
 from .requests import BadRequest
 from .store import BadFolder, Store
+from .progress import ExerciseView, SeatResult, Try, Progress, exercise_view, source_of, starts_of
 
 EXERCISES, ANSWERS = "exercises.json", "answers"
 PLACES, SECONDS = 16, 12.0  # checks at once, and how long one may take
 MOST_TRIES = 200  # of a seat at an exercise
 
-Try = TypedDict("Try", {"time": int, "text": str, "suffix": NotRequired[str], "told": Told})
-"""An answer: when, in seconds since 1970; the source, and that of its language, else `s`; and what was told of it."""
-Start = TypedDict("Start", {"text": str, "language": int})
-
-
-class ExerciseView(TypedDict):
-    """What a student is told of an exercise: of a hidden case its name, and whether it passes; hints that are due.
-
-    starts: sources to begin with, the one that is meant first; of two one is in C
-    before: what opens the lesson before it; "" for none
-    lesson: what opens a lesson of the case that failed first; "" for none
-    """
-
-    title: str
-    before: str
-    text: str
-    starts: list[Start]
-    cases: list[str]
-    hints: Sequence[str]
-    tries: int
-    passed: bool
-    checking: bool
-    told: Told
-    lesson: str
-
-
-SeatResult = TypedDict("SeatResult", {"tries": int, "passed": int, "best": int, "time": int})
-"""Of a seat at an exercise: tries; which passed first, or 0; the most cases that passed; when it passed, or the last."""
 ExerciseTable = TypedDict("ExerciseTable", {"title": str, "of": int, "seats": dict[str, SeatResult]})
-
-
-@dataclass
-class Work:
-    """What a seat has done of an exercise: of each try its time, and how many cases passed; and of the last one all.
-
-    first: which try passed, or 0; ticket: what opens a lesson of the last one
-    """
-
-    tries: list[tuple[int, int]] = field(default_factory=list)
-    source: SourceText = SourceText()
-    told: Told = field(default_factory=lambda: Told())
-    first: int = 0
-    ticket: str = ""
-
-    def add(self, done: Try) -> None:
-        """Takes up a try."""
-        self.source, self.told = _source(done), done["told"]
-        cases = self.told.get("cases", [])
-        self.tries.append((done["time"], sum(cases)))
-        self.ticket = new_code() if "number" in self.told else ""
-        if cases and all(cases) and not self.first:
-            self.first = len(self.tries)
-
-    def result(self) -> SeatResult:
-        """What a teacher's table has."""
-        which = self.first or len(self.tries)
-        best = max(passed for _, passed in self.tries)
-        return {"tries": len(self.tries), "passed": self.first, "best": best, "time": self.tries[which - 1][0]}
 
 
 class Checks:
@@ -118,10 +60,10 @@ class Checks:
             if not re.fullmatch(r"[\w-]{1,40}", name, re.ASCII) or name in self.exercises:
                 raise BadFolder(f"{folder}: an exercise has a name of its own: 1 to 40 letters, digits, _ and -")
             self.exercises[name] = exercise
-        self._starts = {name: _starts(exercise) for name, exercise in self.exercises.items()}
+        self._starts = {name: starts_of(exercise) for name, exercise in self.exercises.items()}
         if self.exercises:
             store.write(EXERCISES, {name: str(each.folder) for name, each in self.exercises.items()})
-        self._work: dict[tuple[str, str], Work] = {}
+        self._work: dict[tuple[str, str], Progress] = {}
         self._busy: dict[str, str] = {}  # exercises that are checked, or made a lesson of, by seat
         self._tasks: set[asyncio.Task[None]] = set()
         self._unsaved: dict[str, Try] = {}
@@ -182,7 +124,7 @@ class Checks:
         if not 1 <= number <= len(self._of(seat, name).tries):
             raise BadRequest("there is no such answer")
         file = _file(seat, name, number)
-        return _source(self._unsaved.get(file) or self._store.read(file, Try))
+        return source_of(self._unsaved.get(file) or self._store.read(file, Try))
 
     def keep(self) -> None:
         """Brings the folder up to date, as far as the disk takes it."""
@@ -191,7 +133,10 @@ class Checks:
 
     def of(self, seat: str) -> dict[str, ExerciseView]:
         """What a student is told."""
-        return {name: self._view(seat, name, exercise) for name, exercise in self.exercises.items()}
+        return {
+            name: exercise_view(name, exercise, self._starts[name], self._of(seat, name), self._busy.get(seat) == name)
+            for name, exercise in self.exercises.items()
+        }
 
     def table(self) -> dict[str, ExerciseTable]:
         """What the teacher is told: of each exercise the seats that have tried it."""
@@ -208,22 +153,6 @@ class Checks:
             for seat, it in sorted(exercise["seats"].items()):
                 passed, when = it["passed"] or "", local_time(it["time"])
                 yield seat, names.get(seat, ""), name, it["tries"], passed, it["best"], exercise["of"], when
-
-    def _view(self, seat: str, name: str, exercise: Exercise) -> ExerciseView:
-        work = self._of(seat, name)
-        return {
-            "title": exercise.title,
-            "before": f"lesson/{name}" if "lesson" in exercise.files else "",
-            "text": exercise.text,
-            "starts": self._starts[name],
-            "cases": [case.name for case in exercise.cases],
-            "hints": exercise.hints[: len(work.tries) - (work.first > 0)],
-            "tries": len(work.tries),
-            "passed": work.first > 0,
-            "checking": self._busy.get(seat) == name,
-            "told": work.told,
-            "lesson": f"lesson/{work.ticket}" if work.ticket else "",
-        }
 
     async def _check(self, seat: str, name: str, source: SourceText) -> None:
         """Checks an answer, keeps it, and tells."""
@@ -266,8 +195,8 @@ class Checks:
         except asyncio.TimeoutError as error:
             raise LabError(f"it takes more than {SECONDS:g} s") from error
 
-    def _of(self, seat: str, name: str) -> Work:
-        return self._work.setdefault((seat, name), Work())
+    def _of(self, seat: str, name: str) -> Progress:
+        return self._work.setdefault((seat, name), Progress())
 
     def _exercise(self, name: str) -> Exercise:
         if name not in self.exercises:
@@ -282,7 +211,7 @@ def kept_answers(store: Store, seat: str) -> dict[str, SourceText]:
         cases = done["told"].get("cases", [])
         is_passed = bool(cases) and all(cases)
         if of == seat and (is_passed or name not in passed):
-            answers[name] = _source(done)
+            answers[name] = source_of(done)
             passed |= {name} if is_passed else set()
     return answers
 
@@ -296,14 +225,3 @@ def _found(store: Store) -> Iterator[tuple[str, str, int, Try]]:
 
 def _file(seat: str, name: str, number: int) -> str:
     return f"{ANSWERS}/{seat}.{name}.{number}.json"
-
-
-def _source(done: Try) -> SourceText:
-    """The source of a try."""
-    return SourceText(done.get("text", ""), NUMBERS.get(done.get("suffix", ""), 0))
-
-
-def _starts(exercise: Exercise) -> list[Start]:
-    """The sources that a student may begin with."""
-    files = [exercise.files[key] for key in ("start", "start_c") if key in exercise.files]
-    return [Start(text=file.read_text("utf-8"), language=C if file.suffix == C_SUFFIX else 0) for file in files]

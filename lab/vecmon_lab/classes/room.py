@@ -9,32 +9,26 @@ import contextlib
 import math
 import pathlib
 from collections.abc import Callable, Container, Iterable, Mapping, Sequence
-from dataclasses import asdict, dataclass, field, replace
+from dataclasses import asdict, replace
 from functools import partial
 
 from .. import LabError
-from ..assembler.source import Program, SourceError, in_order, read_source, refusal
+from ..assembler.source import Program, SourceError, read_source
 from ..assembler.trial import all_mistakes
 from ..compilers.compiled import CompiledProgram
-from ..machine.answers import Granted, Listing, OutOfStep, Position, Refused, read
+from ..machine.answers import OutOfStep
 from ..machine.lines import DIGITS, is_look
-from ..machine.session import TOGETHER, Checkpoint, ProgramGone, ReplayDiffers, ScriptFull, Session
-from ..page.state import State
+from ..machine.session import Checkpoint, ProgramGone, ReplayDiffers, ScriptFull, Session
+from .shared_machine import SOURCE_LINES, SharedMachine, Turn, own_lines
 from .beside import Beside
 from .builds import Builds
 from .clock import Clock
 from .languages import SourceText
-from .live import GO, OUT, STOP, with_output
 from .past import Past
 from .requests import BadRequest, Lines
-from .seats import Done, Seat, Seats
+from .seats import Seat
 from .store import Notes, ScriptFile
 
-SEAT_BYTES = 1_500_000  # of a seat's lines in the script: eight leave 3,000,000 to the operator and the clock
-SOURCE_LINES = 4096
-LINE_BLOCKS, BLOCK_WORDS = 256, 16  # of code, that a step of a line goes through; and a block's instructions at most
-LEAVES = "bje"  # how the names of scalar instructions begin that may go elsewhere, or call: bne, jal, ecall
-LEAVING: Mapping[str, Sequence[str]] = {"absent": [], "running": ["stop", "leave"], "stopped": ["leave"]}
 WATCH_SECONDS = 0.5  # between looks at a program that runs
 FOLLOW_SECONDS, SHORTEN_SECONDS = 0.2, 0.5  # between a spare's parts; and between looks at how long a script has become
 NEXT_SCRIPT_BYTES, NEXT_SCRIPT_SECONDS = 12_000_000, 300.0  # after which another one begins: a server begins with it
@@ -52,20 +46,6 @@ def rebuilding(letter: str, percent: int) -> str:
     return f"machine {letter} is being rebuilt: {percent} %"
 
 
-@dataclass
-class _Work:
-    """What the machine's thread has done: lines with their answers, looks, and states that may be others now.
-
-    before, is_last: what was done in turns before for the same request; whether that has no more turns
-    """
-
-    before: Sequence[Done] = ()
-    is_last: bool = True
-    done: list[Done] = field(default_factory=list)
-    looks: list[list[str]] = field(default_factory=list)
-    states: dict[str, tuple[State, State]] = field(default_factory=dict)
-
-
 class Room:
     """A machine, its seats, and its clock.
 
@@ -75,21 +55,31 @@ class Room:
 
     def __init__(self, letter: str, session: Session, file: ScriptFile, makers: Beside) -> None:
         """makers: places where checkpoints are made"""
-        self.letter, self.session, self.file, self._makers = letter, session, file, makers
-        self.seats, self.clock = Seats(letter), Clock(self._tick)
+        self.letter, self.machine, self._makers, self.clock = (
+            letter,
+            SharedMachine(letter, session, file),
+            makers,
+            Clock(self._tick),
+        )
+        self.seats, self.file = self.machine.seats, file
         self.own_slices = True
         self.scripts: Sequence[int] = [0]  # of each one, how many lines at its beginning set the machine up
         self.changed: Callable[[Iterable[str]], None] = lambda names: None
         self.keep: Callable[[Notes], bool] = lambda notes: False
         self.watched: Callable[[], Container[str]] = set
         self.compile = Builds().compile
-        self._has_run = False  # whether slices were granted since programs were looked at
         self._least = math.inf  # the weight of a script that gets a checkpoint; more where there was none
         self.stopped = self.down = self.rebuilding = ""
         self._lock = asyncio.Lock()
+        self._turns = {digit: asyncio.Lock() for digit in f"{DIGITS}*"}  # given first come, first served
         self._thread = concurrent.futures.ThreadPoolExecutor(1)
         self._follower = concurrent.futures.ThreadPoolExecutor(1)  # of the spare process
         self._assembler = concurrent.futures.ThreadPoolExecutor(1)  # which needs no machine
+
+    @property
+    def session(self) -> Session:
+        """The machine."""
+        return self.machine.session
 
     @property
     def trouble(self) -> str:
@@ -133,42 +123,31 @@ class Room:
         slices = request.slices
         if slices and (seat is self.seats.operator or not self.own_slices):
             raise BadRequest("slices are the teacher's to grant")
-        own, seen = ([f"{seat.digit} {text}" for text in texts] for texts in (request.do, request.look))
+        own = own_lines(seat, request.do)
         if self._is_behind() and (slices or seat is self.seats.operator and not all(map(is_look, own))):
             raise BadRequest("programs have run much since the last checkpoint: slices wait for the next, some seconds")
-
-        def carry_out(work: _Work) -> None:
-            for place in range(0, len(own), TOGETHER):
-                self._do(work, *own[place : place + TOGETHER])
-            state = read(self.session.look(f"{seat.digit} state")) if slices else None
-            if isinstance(state, Position) and state.run == "running":
-                for _ in range(slices):
-                    if read(*self._do(work, f"* run {seat.digit}")) != Granted(1):
-                        break
-            work.looks += [self.session.look(line) for line in seen]
-
-        work = _Work()
+        turn = Turn()
         try:
-            async with seat.turn, self._lock:
-                self._check_share(seat, own + [f"* run {seat.digit}"] * slices)
-                await self._hop(work, carry_out, seat)
+            async with self._turns[seat.digit], self._lock:
+                self.machine.check_share(seat, own + [f"* run {seat.digit}"] * slices)
+                await self._hop(turn, lambda turn: self.machine.lines(turn, seat, request), seat)
         finally:
-            done += [[part[2:] for part in answer] for _, answer in work.done[: len(own)]]
+            done += [[part[2:] for part in answer] for _, answer in turn.done[: len(own)]]
         if not (self.clock.settings.on or slices or seat.state["run"] != "running") and "go" in request.do:
             own_way = ", or Slice grants some slices" if self.own_slices else ""
             self.note(seat, f"!The clock is off, so the program waits: the teacher can turn it on{own_way}.")
-        return [[part[2:] for part in answer] for answer in work.looks]
+        return [[part[2:] for part in answer] for answer in turn.looks]
 
     async def source(
         self, seat: Seat, source: SourceText | None, is_answer: bool = False
-    ) -> tuple[list[SourceError], Sequence[SourceError]]:
+    ) -> tuple[Sequence[SourceError], Sequence[SourceError]]:
         """Brings a source into a new machine of the seat's; the mistakes in it, and what a compiler warns of.
 
         Without one, that of the machine that there is, whose breakpoints stay. is_answer: whether it answers an exercise
         """
         program = await self._program(seat, source, is_answer) if source else None
         breaks: Sequence[int] = []
-        async with seat.turn:
+        async with self._turns[seat.digit]:
             if source is None:
                 source, program, breaks = seat.written, seat.program, sorted(seat.sight.breaks)
             if program is None:
@@ -194,75 +173,25 @@ class Room:
         mistakes = await loop.run_in_executor(self._assembler, all_mistakes, program, vecmon)
         return replace(program, mistakes=mistakes)
 
-    async def _bring_in(self, seat: Seat, program: Program, breaks: Iterable[int]) -> list[SourceError]:
+    async def _bring_in(self, seat: Seat, program: Program, breaks: Iterable[int]) -> Sequence[SourceError]:
         """Brings a program in, some dozens of lines at a turn, so that others have theirs between; what is refused."""
-        statements = {f"{seat.digit} {each.command}": each for each in program.statements}
-        lines, mistakes, done = list[str](), list[SourceError](), list[Done]()
-
-        def carry_out(work: _Work) -> None:
-            part = lines[len(done) : len(done) + TOGETHER]
-            work.is_last = len(done) + len(part) == len(lines)
-            for line, answer in zip(part, self._do(work, *part)):
-                match read(answer):
-                    case Refused("E15", column):
-                        mistakes.append(refusal(statements[line], int(column)))
-                    case Refused(code):
-                        raise BadRequest(f"the machine answers {code} to {line[2:60]}")
-            if work.is_last:
-                seat.list_program(program)
-
-        while not lines or len(done) < len(lines):
+        turns, turn = self.machine.bring_in(seat, program, breaks), Turn(is_last=False)
+        while not turn.is_last:
             async with self._lock:
-                if not lines:
-                    begin = [*LEAVING[seat.state["run"]], "enter", *program.lines, f"setpc {program.entry:x}"]
-                    stops = [f"break {address:x}" for address in breaks]
-                    lines = [f"{seat.digit} {command}" for command in [*begin, *stops]]
-                    self._check_share(seat, lines)
-                work = _Work(before=done)
-                await self._hop(work, carry_out, seat)
-            done = [*done, *work.done]
-        return in_order(mistakes)
+                turn, carry_out = next(turns)
+                await self._hop(turn, carry_out, seat)
+        return turn.mistakes
 
     async def step_line(self, seat: Seat) -> None:
-        """Steps a program until it stands at another line of its compiled source, or stops, or for LINE_BLOCKS blocks of code.
-
-        Raises BadRequest where there is no such source, or the program doesn't stand still.
-        """
-
-        def carry_out(work: _Work) -> None:
-            program, pc = seat.program, int(seat.state["pc"], 16)
-            assert isinstance(program, CompiledProgram)
-            begun = program.line_at(pc)
-            for _ in range(LINE_BLOCKS):
-                answer = read(*self._do(work, f"{seat.digit} step {self._block(seat, program, pc)}"))
-                if not isinstance(answer, Position):
-                    return
-                pc = answer.pc
-                if program.line_at(pc) not in (0, begun) or pc in seat.sight.breaks:
-                    return
-
-        async with seat.turn, self._lock:
-            if not isinstance(seat.program, CompiledProgram) or seat.state["run"] != "stopped":
-                raise BadRequest("lines are stepped where the program of a compiled source stands still")
-            self._check_share(seat, [f"{seat.digit} step {LINE_BLOCKS}"] * LINE_BLOCKS)
-            await self._hop(_Work(), carry_out, seat)
-
-    def _block(self, seat: Seat, program: CompiledProgram, pc: int) -> int:
-        """How many instructions from one on are of its line, up to the first that may go elsewhere, or calls."""
-        listing = read(self.session.look(f"{seat.digit} dis {pc:x} {BLOCK_WORDS}"))
-        words = listing.words if isinstance(listing, Listing) else []
-        number = 0
-        for number, word in enumerate(words, 1):
-            after = word.address + 4
-            if word.text[0] in LEAVES or program.line_at(after) != program.line_at(pc) or after in seat.sight.breaks:
-                break
-        return max(number, 1)
+        """Steps to another line of a compiled source. Raises BadRequest where there is none, or the program doesn't stand still."""
+        async with self._turns[seat.digit], self._lock:
+            self.machine.check_line_steps(seat)
+            await self._hop(Turn(), lambda turn: self.machine.step_line(turn, seat), seat)
 
     async def reset(self, seat: Seat) -> None:
         """Takes a seat's machine away, however much of its share is used up."""
-        async with seat.turn, self._lock:
-            lines = [f"{seat.digit} {line}" for line in LEAVING[seat.state["run"]]]
-            await self._hop(_Work(), lambda work: self._do(work, *lines), seat)
+        async with self._turns[seat.digit], self._lock:
+            await self._hop(Turn(), lambda turn: self.machine.leave(turn, seat), seat)
 
     def set_clock(self, settings: Mapping[str, int]) -> None:
         """Sets what is named of the clock's settings."""
@@ -288,7 +217,7 @@ class Room:
         """Shows programs that run to those who look at them, twice a second; goes for ever."""
         while True:
             await asyncio.sleep(WATCH_SECONDS)
-            has_run, self._has_run = self._has_run, False
+            has_run, self.machine.has_run = self.machine.has_run, False
             for digit in sorted(self.seats.running()) if has_run else ():
                 await self._attend(self.seats.users[digit])
 
@@ -348,11 +277,12 @@ class Room:
             except BaseException:
                 heir.close()
                 raise
-            old, self.session = self.session, heir
+            old, self.machine.session = self.session, heir
             old.end()
             old.close()
             self.file.close()
-            self.file, self.scripts = file, scripts
+            self.file = self.machine.file = file
+            self.scripts = scripts
 
         async with self._lock:
             await self._in_thread(begin)
@@ -372,7 +302,7 @@ class Room:
             return
         async with self._lock:
             with contextlib.suppress(LabError):  # whoever asks next is told
-                await self._hop(_Work(), partial(self._show, seat, not why), None)
+                await self._hop(Turn(), partial(self.machine.show, seat, not why), None)
         if why and seat.state["run"] == "stopped":
             seat.stand(f"stopped, since {why}", True)
             self.note(seat, f"!The server stopped the program, since {why}. go lets it run on.")
@@ -388,20 +318,13 @@ class Room:
             settings = self.clock.settings
             if settings.on and self.seats.running() and not self._is_behind():
                 try:
-                    await self._hop(_Work(), lambda work: self._do(work, f"* slices {settings.slices}"), None)
+                    await self._hop(Turn(), lambda turn: self.machine.do(turn, f"* slices {settings.slices}"), None)
                 except LabError as error:
                     self.set_clock({"on": False})
                     self.seats.operator.note(f"!The clock was stopped: {error}.")
 
-    def _check_share(self, seat: Seat, lines: Sequence[str]) -> None:
-        """Raises BadRequest where the lines don't fit into the seat's share of the script."""
-        size = sum(len(line) + 1 for line in lines if not is_look(line))
-        if seat is not self.seats.operator and size and seat.used + size > SEAT_BYTES:
-            left = f"this takes {size:,} bytes, and {max(0, SEAT_BYTES - seat.used):,} are left"
-            raise BadRequest(f"this seat's share of the script is used up, so only lines that look go on: {left}")
-
-    async def _hop(self, work: _Work, carry_out: Callable[[_Work], object], asker: Seat | None) -> None:
-        """Carries out work in the machine's thread, looks at whom it may have changed, and tells what was done.
+    async def _hop(self, turn: Turn, carry_out: Callable[[Turn], object], asker: Seat | None) -> None:
+        """Carries out turn in the machine's thread, looks at whom it may have changed, and tells what was done.
 
         Lines that aren't the asker's are the clock's, or grant a student's own slices: they aren't told.
         """
@@ -410,18 +333,8 @@ class Room:
         loop = asyncio.get_running_loop()
         self.session.progress = partial(self._follow_rebuilding, loop)
 
-        def hop() -> None:
-            try:
-                carry_out(work)
-            except (BadRequest, ScriptFull):
-                self._look(work)
-                raise
-            if work.is_last:
-                self._take_output(work)
-                self._look(work)
-
         try:
-            await self._in_thread(hop)
+            await self._in_thread(partial(self.machine.carry_out, turn, carry_out))
             self.down = ""
         except ReplayDiffers as error:
             self.stopped = f"machine {self.letter} was stopped, so that nothing goes on in doubt: {error}"
@@ -432,9 +345,7 @@ class Room:
             raise
         finally:
             self.rebuilding = ""
-            for line, answer in work.done:
-                self.seats.observe(line, answer, asker is not None and line[0] == asker.digit)
-            self.seats.take(work.states)
+            self.machine.tell(turn, asker)
             self.changed([self.letter, *self.seats.names()])
 
     async def _in_thread(self, call: Callable[[], None]) -> None:
@@ -444,43 +355,3 @@ class Room:
             await asyncio.shield(begun)
         finally:
             await asyncio.wait([begun])
-
-    def _take_output(self, work: _Work) -> None:
-        """Takes what programs have put out that stand still now. One whose buffer was full goes on."""
-        states = {digit: seat.state for digit, seat in self.seats.users.items()}
-        for digit, goes_on in with_output(work.done, states).items():
-            self._do(work, f"{digit} {OUT}", *([f"{digit} {GO}"] if goes_on else []))
-
-    def _show(self, seat: Seat, goes_on: bool, work: _Work) -> None:
-        """Looks at a running program, which stops for that, and may go on; at no breakpoint, since `go` passes one."""
-        work.is_last = False
-        place = read(self.session.look(f"{seat.digit} state"))
-        if not isinstance(place, Position) or place.run != "running" or place.pc in seat.sight.breaks:
-            return
-        self._do(work, f"{seat.digit} {STOP}", f"{seat.digit} {OUT}")
-        self._look(work)
-        if goes_on:
-            self._do(work, f"{seat.digit} {GO}")
-            for state in work.states[seat.digit]:
-                state["run"] = "running"
-
-    def _look(self, work: _Work) -> None:
-        """Looks at whom the work may have changed."""
-        done = [*work.before, *work.done]
-        work.states = self.seats.look(self.session, done, self.seats.touched(done))
-
-    def _do(self, work: _Work, *lines: str) -> list[list[str]]:
-        """Carries out lines in the machine's thread. Those that are recorded are on the disk before they are sent."""
-        for line in lines:
-            if not is_look(line):
-                self.file.append(line)
-        try:
-            answers = self.session.do_all(lines)
-        except BaseException:
-            self.file.cut(self.session.size)
-            raise
-        for line, answer in zip(lines, answers):
-            self._has_run = self._has_run or line[0] == "*"
-            self.seats.follow(line, answer)
-            work.done.append((line, answer))
-        return answers

@@ -1,6 +1,5 @@
 """The seats of a machine: what each has been told, and what is known of its user."""
 
-import asyncio
 import time
 from collections import deque
 from collections.abc import Iterable, Sequence
@@ -48,7 +47,6 @@ class Seat:
 
     name: str
     digit: str
-    turn: asyncio.Lock = field(default_factory=asyncio.Lock)  # which is given first come, first served
     log: deque[str] = field(default_factory=lambda: deque(maxlen=LOG_ENTRIES))
     number: int = 0
     state: State = field(default_factory=ABSENT.copy)

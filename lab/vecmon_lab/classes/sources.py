@@ -15,7 +15,7 @@ from ..compilers.compiled import CompiledProgram, read_compiled_program
 from ..compilers.debug import MOST_BYTES
 from .languages import LANGUAGES, NUMBERS, SourceText
 from .requests import BadRequest
-from .store import Store
+from .text_store import TextStore
 
 MADE = "written.json"
 MOST_VERSIONS = 50
@@ -31,7 +31,7 @@ class SeatSource:
     own, number: as it is, and how often it has changed since the server began; versions: the last ones, in order
     """
 
-    def __init__(self, name: str, store: Store) -> None:
+    def __init__(self, name: str, store: TextStore) -> None:
         self._name, self._store, self.number = name, store, 0
         self.versions = self._found()
         self.own = self._saved = kept_source(store, name)
@@ -119,25 +119,25 @@ class SeatSource:
     def _found(self) -> list[Version]:
         """The versions that the folder has."""
         found = []
-        for path in (self._store.folder / "sources").glob(f"{self._name}.*"):
-            parts = re.fullmatch(r"\w+\.(\d+)\.(typed|written|given)\.(.+)", path.name)
+        for file, when in self._store.files(f"sources/{self._name}.*"):
+            parts = re.fullmatch(r"sources/\w+\.(\d+)\.(typed|written|given)\.(.+)", file)
             if parts and parts[3] in NUMBERS:
-                number, when = int(parts[1]), int(path.stat().st_mtime)
-                found.append(Version(number=number, time=when, why=parts[2], language=NUMBERS[parts[3]]))
+                number = int(parts[1])
+                found.append(Version(number=number, time=int(when), why=parts[2], language=NUMBERS[parts[3]]))
         return sorted(found, key=lambda version: version["number"])[-MOST_VERSIONS:]
 
 
-def kept_source(store: Store, name: str) -> SourceText:
+def kept_source(store: TextStore, name: str) -> SourceText:
     """The source that was kept last by a name; an empty one if there is none."""
-    paths = [(store.folder / f"{name}.{language.suffix}", number) for number, language in enumerate(LANGUAGES)]
-    found = [(path.stat().st_mtime_ns, number, path) for path, number in paths if path.exists()]
+    numbers = {f"{name}.{language.suffix}": number for number, language in enumerate(LANGUAGES)}
+    found = [(when, numbers[file], file) for file, when in store.files(f"{name}.*") if file in numbers]
     if not found:
         return SourceText()
-    _, language, path = max(found)
-    return SourceText(store.read_text(path.name), language)
+    _, language, file = max(found)
+    return SourceText(store.read_text(file), language)
 
 
-def kept_program(store: Store, seat: str) -> tuple[SourceText, Program]:
+def kept_program(store: TextStore, seat: str) -> tuple[SourceText, Program]:
     """The source that stands in a seat's machine, which may be an empty one, and its program. Raises LabError."""
     source = kept_source(store, f"{seat}.written")
     if source.choice is None:

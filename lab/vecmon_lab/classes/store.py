@@ -17,6 +17,7 @@ import os
 import pathlib
 import re
 import shutil
+import threading
 from collections.abc import Callable, Iterator, Mapping, Sequence
 from dataclasses import asdict, dataclass, field, replace
 from typing import TypeVar
@@ -188,8 +189,8 @@ class Store:
 
     def session(self, patience: float) -> Session:
         """A new machine of this class, of which each process has the program that the class was begun with."""
-        check = self.check_program
-        return Session(self.program, self.images, quantum=self.quantum, patience=patience, check=check)
+        check, lock = self.check_program, threading.RLock
+        return Session(self.program, self.images, quantum=self.quantum, patience=patience, check=check, lock=lock)
 
     def scripts(self, machine: str) -> Iterator[tuple[bytes, bytes]]:
         """A machine's scripts: of each the lines that set the machine up, and those behind them that were answered."""
@@ -222,6 +223,11 @@ class Store:
     def trouble(self) -> str:
         """Why something isn't saved; empty if all is."""
         return next(iter(self.troubles.values()), "")
+
+    def files(self, pattern: str) -> Iterator[tuple[str, float]]:
+        """The names that match a pattern, and their times."""
+        for path in self.folder.glob(pattern):
+            yield path.relative_to(self.folder).as_posix(), path.stat().st_mtime_ns / 1e9
 
     def read_text(self, name: str) -> str:
         """A text that was kept; empty if there is none."""

@@ -9,7 +9,8 @@ from collections.abc import Callable
 from aiohttp import WSMsgType, web
 
 from .codes import TEACHER
-from .view import Class, Message, Tab
+from .messages import Message
+from .view import Class, Tab
 
 READ_SECONDS = 20.0  # in which a tab has to take a message
 MOST_WAITING, WAITING_BYTES = 64, 2_000_000  # requests of a tab that wait, besides the one that is carried out

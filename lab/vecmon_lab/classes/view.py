@@ -2,7 +2,6 @@
 
 import asyncio
 import contextlib
-import json
 import pathlib
 import time
 from collections.abc import Callable, Iterable, Mapping, Sequence
@@ -11,14 +10,12 @@ from functools import partial
 from typing import TypedDict
 
 from .. import LabError
-from ..assembler.commands import refusal_on_pages
-from ..exercises.check import Mistake, mistakes_told
+from ..exercises.check import mistakes_told
 from ..machine.session import SCRIPT_BYTES
-from ..page.pages import merge_patch
 from ..page.state import State
 from .beside import Beside, alone
 from .builds import Builds
-from .checks import Checks, ExerciseTable, ExerciseView
+from .checks import Checks, ExerciseTable
 from .codes import TEACHER, WALL
 from .comparisons import Comparisons
 from .languages import LANGUAGES, SourceText
@@ -29,6 +26,7 @@ from .requests import (
     Compare,
     Draft,
     Give,
+    JsonObject,
     Lines,
     LookOver,
     PutOnWall,
@@ -48,71 +46,13 @@ from .requests import (
     Write,
     read_request,
 )
-from .room import SEAT_BYTES, Room
+from .shared_machine import SEAT_BYTES
+from .room import Room
 from .seats import Seat
 from .sheet import pictures
-from .sources import SeatSource, Version, kept_program
+from .sources import SeatSource, kept_program
 from .store import Notes, ScriptFile, Store
-
-Logs = dict[str, list[str]]
-Answers = list[list[str]]
-Share = TypedDict("Share", {"used": int, "of": int})
-SourceView = TypedDict(
-    "SourceView",
-    {"text": str, "language": int, "number": int, "stands": bool, "versions": list[Version]},
-    total=False,
-)
-
-
-class Message(TypedDict, total=False):
-    """What a tab is told. A patch is one of its view; logs have new entries by the name of their seat."""
-
-    kind: str
-    id: int
-    who: str
-    time: float
-    do: Answers
-    look: Answers
-    mistakes: list[Mistake]
-    warnings: list[Mistake]
-    text: str
-    language: int
-    listings: str
-    error: str
-    done: Answers
-    words: list[str]
-    codes: dict[str, str]
-    pictures: dict[str, str]
-    patch: dict[str, object]
-    logs: Logs
-
-
-class PageView(TypedDict):
-    """What students' pages show, and the teacher's as well: of a seat its state and its source."""
-
-    state: State
-    source: SourceView
-    images: list[str]
-    quantum: int
-    languages: list[str]
-    no_c: str
-    trouble: str
-
-
-class StudentView(PageView):
-    """What a student's page shows."""
-
-    seat: str
-    name: str
-    stop: str
-    clock: bool
-    own_slices: bool
-    share: Share
-    against: list[str]
-    exercises: dict[str, ExerciseView]
-    again: bool
-    ready: bool
-
+from .messages import Answers, Message, PageView, Updates, add_words, request_of, shown, source_view, student_view
 
 WallView = TypedDict("WallView", {"seat": str, "state": State, "stop": str, "trouble": str})
 
@@ -164,8 +104,7 @@ class Tab:
     def __init__(self, who: str) -> None:
         self.who = who
         self.shoulder: Seat | None = None  # whom a teacher looks at
-        self.view: Mapping[str, object] = {}
-        self.since: dict[str, int] = {}  # how many entries of each log were told
+        self.told = Updates()
         self.changed = asyncio.Event()
         self.is_open = True
 
@@ -291,12 +230,10 @@ class Class:
     async def answer(self, tab: Tab, text: str, refusal: str = "") -> Message:
         """The answer to a request, with what is new. With a refusal, which is a sentence, nothing is done."""
         answer: Message = {"kind": "answer", "id": 0}
+        message: JsonObject = {}
         done: Answers = []
         try:
-            message = json.loads(text)
-            if not isinstance(message, dict) or type(message.get("id")) is not int:
-                raise BadRequest("a request is an object with a whole number as id")
-            answer["id"] = message["id"]
+            message = request_of(text, answer)
             if refusal:
                 raise BadRequest(refusal)
             if tab.who == WALL:
@@ -305,27 +242,14 @@ class Class:
         except (LabError, ValueError, RecursionError) as error:
             answer.update({"error": str(error), "done": done})
         digit = "*" if tab.who == TEACHER else tab.who[-1]
-        if done:  # which are the first of these lines
-            answers = [[f"{digit} {part}" for part in parts] for parts in done]
-            answer["words"] = [refusal_on_pages(f"{digit} {it}", said) for it, said in zip(message["do"], answers)]
+        add_words(answer, digit, message, done)
         answer.update(self.news(tab))
         return answer
 
     def news(self, tab: Tab) -> Message:
         """What the tab hasn't been told: a patch of its view, and entries of logs."""
         tab.changed.clear()
-        view = self._view(tab)
-        patch, tab.view = merge_patch(tab.view, view), view
-        news: Message = {"patch": patch} if patch else {}
-        logs = Logs()
-        for seat in self._logs(tab):
-            new = seat.number - tab.since.get(seat.name, 0)
-            if new:
-                logs[seat.name] = list(seat.log)[-new:]
-            tab.since[seat.name] = seat.number
-        if logs:
-            news["logs"] = logs
-        return news
+        return tab.told.news(self._view(tab), self._logs(tab))
 
     def _view(self, tab: Tab) -> Mapping[str, object]:
         """All that a tab is told of, but logs."""
@@ -350,34 +274,26 @@ class Class:
             if tab.who in names:
                 tab.changed.set()
 
-    def _student_view(self, seat: Seat) -> StudentView:
+    def _student_view(self, seat: Seat) -> Mapping[str, object]:
         room = self.rooms[seat.name[0]]
-        return {
-            "seat": seat.name,
+        more = {
             "name": self.names.get(seat.name, ""),
-            "state": _shown(seat),
-            "stop": seat.stop,
             "images": list(self.store.images),
-            "quantum": self.store.quantum,
             "clock": room.clock.settings.on,
             "own_slices": room.own_slices,
-            "share": {"used": seat.used, "of": SEAT_BYTES},
-            "languages": [language.name for language in LANGUAGES],
             "no_c": self.builds.no_c,
             "against": self.comparisons.names,
-            "source": self._source_view(seat),
-            "exercises": self.checks.of(seat.name),
-            "again": seat.program is not None,
             "ready": not room.rebuilding,
             "trouble": room.trouble,
         }
+        return student_view(seat, room.machine, self.sources[seat.name], self.checks.of(seat.name), more)
 
     def _wall_view(self) -> WallView:
         """What a wall shows: no code, nor anything of other seats."""
         if self.wall is None:
             return {"seat": "", "state": {}, "stop": "", "trouble": ""}
         trouble = self.rooms[self.wall.name[0]].trouble
-        return {"seat": self.wall.name, "state": _shown(self.wall), "stop": self.wall.stop, "trouble": trouble}
+        return {"seat": self.wall.name, "state": shown(self.wall), "stop": self.wall.stop, "trouble": trouble}
 
     def _teacher_view(self, tab: Tab) -> TeacherView:
         return {
@@ -387,23 +303,13 @@ class Class:
             "quantum": self.store.quantum,
             "trouble": self.store.trouble,
             "shoulder": tab.shoulder.name if tab.shoulder else "",
-            "state": _shown(tab.shoulder) if tab.shoulder else {},
+            "state": shown(tab.shoulder) if tab.shoulder else {},
             "wall": self.wall.name if self.wall else "",
             "address": self.address,
             "languages": [language.name for language in LANGUAGES],
             "no_c": self.builds.no_c,
-            "source": self._source_view(tab.shoulder) if tab.shoulder else {},
+            "source": source_view(self.sources[tab.shoulder.name], tab.shoulder) if tab.shoulder else {},
             "exercises": self.checks.table(),
-        }
-
-    def _source_view(self, seat: Seat) -> SourceView:
-        source = self.sources[seat.name]
-        return {
-            "text": source.own.text,
-            "language": source.own.language,
-            "number": source.number,
-            "stands": source.own == seat.written,
-            "versions": source.versions,
         }
 
     def _machine_view(self, room: Room) -> MachineView:
@@ -493,7 +399,7 @@ class Class:
             case LookOver(name):
                 tab.shoulder = self.seat(name) if name else None
                 if tab.shoulder:
-                    tab.since.pop(tab.shoulder.name, None)
+                    tab.told.since.pop(tab.shoulder.name, None)
             case PutOnWall(name):
                 self.wall = self.seat(name) if name else None
                 self._tell([WALL])
@@ -562,12 +468,3 @@ class Class:
         if machine not in self.rooms:
             raise BadRequest("there is no such machine")
         return self.rooms[machine]
-
-
-def _shown(seat: Seat) -> State:
-    """A seat's state as pages show it."""
-    shown = seat.shown.copy()
-    shown.update(seat.named)
-    if seat.output:
-        shown["outputs"] = seat.output
-    return shown

@@ -1,29 +1,23 @@
 """A source compiled to lines of the monitor, which bring its image in; they are carried out again without a compiler."""
 
-import atexit
 import bisect
 import json
 import math
-import pathlib
 import re
-import tempfile
 from collections.abc import Iterable, Iterator, Mapping, Sequence
 from dataclasses import dataclass, replace
 from itertools import groupby, islice
 from typing import Any
 
-from .. import LabError, mistakes_in
+from .. import LabError
 from ..assembler.source import Program, SourceError
 from ..guest.guest import STACK_END, STACK_POINTER, pokes
 from ..instructions.accesses import PAGE_BYTES, ROW_BYTES
-from .compiler import C_SOURCE, FUNCTION, IMAGE, OWN_SOURCES, Compiler, find_compiler
-from .debug import MOST_BYTES, MOST_ROWS, MOST_SEGMENTS, MOST_SYMBOLS
-from .inside import MESSAGE_LETTERS, MOST_MESSAGES
+from .compiler import OWN_SOURCES
+from .debug import MESSAGE_LETTERS, MOST_BYTES, MOST_MESSAGES, MOST_ROWS, MOST_SEGMENTS, MOST_SYMBOLS
 from .variables import Variable, read_variables
-from .sandbox import answer_of_own, answer_sandboxed
 
 IMAGE_BYTES, IMAGE_PAGES = 1 << 16, 200  # of what isn't zeros; and of all pages
-SOURCE_BYTES = 1 << 16
 
 _DATA = re.compile(rb"[^\0]+(?:\0{1,15}[^\0]+)*")  # bytes with few zeros between them
 STACK = (f"map {STACK_END - 0x4000:x} 4 rw", f"set x2 {STACK_POINTER:x}")
@@ -80,42 +74,6 @@ class CompiledProgram(Program):
     def addresses(self) -> dict[int, int]:
         """The first instruction of each line of the source that has one."""
         return {number: address for address, number, _ in reversed(self.rows) if number}
-
-
-def compile_c(
-    text: str, compiler: Compiler, choice: int, headers: pathlib.Path | None = None, is_answer: bool = False
-) -> CompiledProgram:
-    """Compiles a source, by the options of this number. Mistakes are in the program. Raises LabError.
-
-    headers: the folder of a source of one's own; without it that happens in a sandbox, as for a text of others
-    is_answer: whether it is to answer an exercise
-    """
-    words = words_for(text, compiler, choice, is_answer)
-    return read_compiled_program(answer_of_own(words, text, headers) if headers else answer_sandboxed(words, text))
-
-
-def compiled_image(path: pathlib.Path) -> pathlib.Path:
-    """The image of a source in C of one's own, by the first compiler, which is there until the command ends.
-
-    It has the source's name without `.c`. Raises LabError where there is no compiler, or the source has mistakes, and OSError.
-    """
-    with mistakes_in(path):
-        text = path.read_text("utf-8", "replace")
-        words = [*words_for(text, find_compiler(None), 0), f"{path.absolute()}"]
-        kept = tempfile.TemporaryDirectory()
-        atexit.register(kept.cleanup)
-        folder = pathlib.Path(kept.name)
-        program = read_compiled_program(answer_of_own(words, text, path.parent, folder))
-    program.check(f"{path}")
-    (folder / C_SOURCE).rename(folder / path.name)  # where its lines are looked for
-    return (folder / IMAGE).rename(folder / path.stem)
-
-
-def words_for(text: str, compiler: Compiler, choice: int, is_answer: bool = False) -> list[str]:
-    """The words of `inside` for a source. Raises LabError where that is too long."""
-    if len(text.encode("utf-8", "replace")) > SOURCE_BYTES:
-        raise LabError(f"a source that is compiled has {SOURCE_BYTES:,} bytes at most")
-    return [compiler.name, f"{choice}", *[FUNCTION] * is_answer]
 
 
 def read_compiled_program(told: bytes, most: int = IMAGE_BYTES) -> CompiledProgram:

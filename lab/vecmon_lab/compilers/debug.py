@@ -14,6 +14,7 @@ if TYPE_CHECKING:
     from elftools.dwarf.dwarfinfo import DWARFInfo
     from elftools.elf.elffile import ELFFile
 
+MOST_MESSAGES, MESSAGE_LETTERS = 100, 400  # of a compiler's
 MOST_SEGMENTS, MOST_BYTES, MOST_SYMBOLS, MOST_ROWS = 64, 1 << 20, 2000, 20_000
 _CODE = 4  # SHF_EXECINSTR: the section has instructions
 

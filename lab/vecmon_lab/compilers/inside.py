@@ -16,9 +16,9 @@ from subprocess import DEVNULL, PIPE, Popen
 from typing import NamedTuple
 
 from .compiler import FUNCTION, IMAGE, OWN_SOURCES, Compiler, source_of
-from .debug import image_of
+from .debug import MESSAGE_LETTERS, MOST_MESSAGES, image_of
 
-COMPLAINT_BYTES, MOST_MESSAGES, MESSAGE_LETTERS = 1 << 16, 100, 400
+COMPLAINT_BYTES = 1 << 16
 LIMITS = {
     resource.RLIMIT_CPU: 10,
     resource.RLIMIT_AS: 512 << 20,

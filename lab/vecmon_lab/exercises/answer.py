@@ -10,8 +10,7 @@ from dataclasses import dataclass, replace
 from random import Random
 
 from .. import LabError, mistakes_in
-from ..compilers.compiled import STACK, CompiledProgram, compile_c
-from ..compilers.compiler import find_compiler
+from ..compilers.compiled import STACK, CompiledProgram
 from ..guest.guest import IMAGE_BYTES, MOST_STEPS, QUANTUM, STACK_END, Guest, pokes
 from ..lessons.script import Script, read_assembled, read_compiled, send
 from ..machine.answers import Position, ScalarRegisters, Stop
@@ -76,6 +75,9 @@ def read_answer(path: pathlib.Path, most: int = IMAGE_BYTES, is_own: bool = Fals
     except UnicodeDecodeError as error:
         raise LabError(f"it is no image and no text: byte {error.start + 1} is {data[error.start]:#04x}") from error
     if path.suffix == C_SUFFIX:
+        from ..compilers.compiler import find_compiler
+        from ..compilers.compiling import compile_c  # which needs subprocesses
+
         compiled = compile_c(text, find_compiler(None), 0, path.parent if is_own else None, is_answer=True)
         return source_answer(text, path, compiled)
     return source_answer(text, path) if path.suffix in (".s", ".S") else Answer(path, _script_commands(text))

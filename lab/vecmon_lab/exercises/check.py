@@ -10,7 +10,6 @@ import json
 import os
 import pathlib
 import pickle
-import resource
 import sys
 from collections.abc import Iterable, Sequence
 from dataclasses import replace
@@ -173,6 +172,8 @@ def _strips(results: Results, with_addresses: bool = False) -> list[tuple[str, l
 
 def main(program: str, what: str) -> None:
     """Writes what is told, in JSON, or a lesson, to standard output."""
+    import resource  # which the synchronous core does without
+
     os.nice(10)
     resource.setrlimit(resource.RLIMIT_CPU, (CPU_SECONDS, CPU_SECONDS))
     (exercise, text, compiled, good), vecmon = pickle.load(sys.stdin.buffer), pathlib.Path(program)

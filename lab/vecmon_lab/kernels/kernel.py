@@ -14,7 +14,7 @@ from typing import Any, TypeAlias
 
 from .. import LabError, mistakes_in
 from ..assembler.commands import refusal_in_words
-from ..compilers.compiled import compile_c
+from ..compilers.compiling import compile_c
 from ..compilers.compiler import choice_of, find_compiler
 from ..exercises.answer import Answer, read_answer
 from ..guest.changes import Stepper

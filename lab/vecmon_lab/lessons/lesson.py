@@ -7,7 +7,7 @@ from collections.abc import Mapping
 
 from .. import LabError
 from ..arguments import check_output
-from ..compilers.compiled import compile_c
+from ..compilers.compiling import compile_c
 from ..compilers.compiler import CHOICES, choice_for, find_compiler
 from ..machine.program import find_program, images_of
 from .frames import make_frames

@@ -5,7 +5,6 @@ import os
 import pathlib
 import shutil
 import struct
-import subprocess
 from collections.abc import Iterator
 
 from .. import LabError, mistakes_in
@@ -70,6 +69,8 @@ def _unproved(name: str) -> pathlib.Path:
 
 def check_is_vecmon(program: pathlib.Path) -> None:
     """Raises NoProgram where a program that answers otherwise than it should isn't vecmon, by how its help begins."""
+    import subprocess  # which the synchronous core does without
+
     try:
         told = subprocess.run([program, "--help"], stdin=subprocess.DEVNULL, capture_output=True, timeout=10).stdout
     except (OSError, subprocess.TimeoutExpired):

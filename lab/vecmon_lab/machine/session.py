@@ -5,24 +5,20 @@ Blocking, and for one thread at a time: whoever has an event loop calls a sessio
 
 import contextlib
 import hashlib
-import os
 import pathlib
 import re
-import select
-import signal
-import threading
 import time
-import zlib
 from array import array
+from binascii import crc32
 from collections import deque
 from collections.abc import Callable, Iterator, Mapping, Sequence
 from dataclasses import dataclass
 from functools import partial
-from subprocess import PIPE, Popen
 
 from .. import LabError
-from .answers import OutOfStep, Users, is_refusal, is_whole, read
+from .answers import OutOfStep, Users, is_refusal, read
 from .lines import DIGITS, BadLine, check_line, is_look, words_of
+from .process import Process, ProgramGone, Starter, start
 from .program import check_is_vecmon
 
 __all__ = ["BadLine", "OutOfStep", "ProgramGone", "ReplayDiffers", "ScriptFull", "Session"]
@@ -30,17 +26,12 @@ __all__ = ["BadLine", "OutOfStep", "ProgramGone", "ReplayDiffers", "ScriptFull",
 SCRIPT_BYTES = 15_000_000  # a process takes 16,777,216 bytes at most, and lines that look need room as well
 TOGETHER = 40  # lines that go to the program at once: each has to fit into its pipe
 WEIGHTY_BYTES, WEIGHTY_SECONDS = 1_000_000, 1.0  # of lines that a new process carries out again
-BLOCK_BYTES = 65536  # that are written, or read, at once
 NEW_MACHINE = Users(dict.fromkeys(DIGITS, "-"))
 _RECORDED = re.compile(rb"(?:[1-8*] [ -~]{0,1022}+\n)*+")
 DIFFERS = "a new process answers the script otherwise than the one before"
 
 Block = tuple[Sequence[str], Sequence[str]]
 """Lines and their answers, which have newlines between their lines."""
-
-
-class ProgramGone(LabError):
-    """The program can't be started, has ended, or says nothing."""
 
 
 class ScriptFull(LabError):
@@ -59,127 +50,11 @@ class Checkpoint:
     lines: bytes
 
 
-class _Process:
-    """A process of the program: a line goes in, its whole answer comes out.
-
-    fed: how many bytes went in
-    number: the system's number of the process
-    """
-
-    def __init__(self, command: Sequence[str], patience: float) -> None:
-        self.fed = 0
-        self._patience = patience
-        self._unread = b""
-        try:  # in a session of its own, so that Ctrl-C in a terminal doesn't end it
-            self._child = Popen(command, stdin=PIPE, stdout=PIPE, stderr=PIPE, bufsize=0, start_new_session=True)
-        except OSError as error:
-            raise ProgramGone(f"{command[0]} can't be started: {error.strerror}") from error
-        assert self._child.stdin and self._child.stdout and self._child.stderr
-        self.number = self._child.pid
-        self._feed, self._source = self._child.stdin.fileno(), self._child.stdout.fileno()
-        self._complaints = self._child.stderr.fileno()
-        os.set_blocking(self._complaints, False)
-        self._readable = select.poll()
-        self._readable.register(self._source, select.POLLIN)
-
-    def ask(self, lines: Sequence[str]) -> list[list[str]]:
-        """The answers to lines that go in together. Raises ProgramGone and OutOfStep; then it is of no use any more."""
-        if self._unread or self._receive(0):
-            raise OutOfStep(f"before {lines[0][:60]!r} was sent there came {self._unread[:60]!r}")
-        data = "".join(f"{line}\n" for line in lines).encode("ascii")
-        self._put(memoryview(data))
-        self.fed += len(data)
-        answers = [self._answer(line) for line in lines]
-        if self._unread:
-            raise OutOfStep(f"after the answer to {lines[-1][:60]!r} there came {self._unread[:60]!r}")
-        return answers
-
-    def pour(self, script: bytes) -> Iterator[bytes]:
-        """Feeds lines that do, as the process takes them, and gives their answers as they come, in whole lines.
-
-        Nobody looks how the answers are made. Raises ProgramGone.
-        """
-        left = memoryview(script + b"* list\n")  # whose answer is the last one: no line that does is answered so
-        self.fed += len(left)
-        os.set_blocking(self._feed, False)
-        ends = select.poll()
-        ends.register(self._source, select.POLLIN)
-        ends.register(self._feed, select.POLLOUT)
-        while True:
-            ready = {end for end, _ in ends.poll(self._patience * 1000)}
-            if not ready:
-                raise ProgramGone(f"the program says nothing for {self._patience:g} s")
-            if self._feed in ready:
-                left = left[self._put(left[:BLOCK_BYTES]) :]
-                if not left:
-                    ends.unregister(self._feed)
-            if self._source in ready and self._receive(0):
-                block, newline, self._unread = self._unread.rpartition(b"\n")
-                answers, _, last = block.rpartition(b"\n")
-                if last.startswith(b"* list ") and not left:
-                    yield answers + newline if answers else b""
-                    break
-                yield block + newline
-        os.set_blocking(self._feed, True)
-
-    def _put(self, data: memoryview) -> int:
-        """Writes what the process takes now; how many bytes. Raises ProgramGone."""
-        try:
-            return os.write(self._feed, data)
-        except OSError as error:
-            raise ProgramGone(self._end()) from error
-
-    def _answer(self, line: str) -> list[str]:
-        """The lines of the next answer."""
-        answer = [self._line()]
-        while not is_whole(line, answer):
-            answer.append(self._line())
-        return answer
-
-    def _line(self) -> str:
-        """The next line that the process has said, without its newline."""
-        while b"\n" not in self._unread:
-            if not self._receive(self._patience):
-                raise ProgramGone(f"the program says nothing for {self._patience:g} s")
-        line, self._unread = self._unread.split(b"\n", 1)
-        return line.decode("latin-1")
-
-    def _receive(self, seconds: float) -> bool:
-        """Waits at most so long for what the process says, and takes it; whether it said anything."""
-        if not self._readable.poll(seconds * 1000):
-            return False
-        data = os.read(self._source, BLOCK_BYTES)
-        if not data:
-            raise ProgramGone(self._end())
-        self._unread += data
-        return True
-
-    def _end(self) -> str:
-        """How the process ended, with what it said of that."""
-        self._child.kill()
-        status = self._child.wait()
-        how = f"with status {status}" if status >= 0 else f"by {signal.Signals(-status).name}"
-        with contextlib.suppress(BlockingIOError):
-            complaint = os.read(self._complaints, 4096).decode("utf-8", "replace")
-            how = ": ".join([how, *complaint.splitlines()[:1]])
-        return f"the program ended {how}"
-
-    def kill(self) -> None:
-        """Ends the process, whatever it does, also from another thread."""
-        self._child.kill()
-
-    def close(self) -> None:
-        """Ends the process, and its pipes."""
-        self.kill()
-        with self._child:  # which closes the pipes, and waits
-            pass
-
-
 @dataclass
 class _Copy:
     """A process that has carried out the script as far as it was: so many lines, which have so many bytes."""
 
-    process: _Process
+    process: Process
     number: int
     size: int
 
@@ -197,26 +72,35 @@ class Session(contextlib.AbstractContextManager["Session"]):
 
     def __init__(
         self,
-        program: pathlib.Path,
+        program: pathlib.Path | Starter,
         images: Mapping[str, pathlib.Path] = {},
         *,
         quantum: int | None = None,
         patience: float = 30.0,
         script_bytes: int = SCRIPT_BYTES,
         check: Callable[[], object] = lambda: None,
+        lock: Callable[[], contextlib.AbstractContextManager[object]] = contextlib.nullcontext,
     ) -> None:
         """Starts the program with these images by name.
 
         A process hangs that says nothing for `patience` seconds. The script has room for `script_bytes`. `check` is
-        called once a process has started, and raises where that mustn't be used. Raises as `do` does.
+        called once a process has started, and raises where that mustn't be used. `lock` makes a lock that a thread can
+        take again, where another thread calls `follow`. Raises as `do` does.
         """
         self.quantum = 100 if quantum is None else quantum
         options = [] if quantum is None else ["--quantum", str(quantum)]
         words = [f"{name}={path}" for name, path in images.items()]
-        self.images = images
+        self.program, self.images = program, images
         self.command = [str(program), *options, "--", "/dev/stdin", *words]  # images are taken after a script alone
         self._opening = partial(
-            Session, program, images, quantum=quantum, patience=patience, script_bytes=script_bytes, check=check
+            Session,
+            program,
+            images,
+            quantum=quantum,
+            patience=patience,
+            script_bytes=script_bytes,
+            check=check,
+            lock=lock,
         )
         self._patience = patience
         self._script_bytes = script_bytes
@@ -226,19 +110,19 @@ class Session(contextlib.AbstractContextManager["Session"]):
         self._marks = array("I")  # the CRC-32 of each answer, by which a replay is compared
         self._base = Checkpoint(0, b""), 0  # and how many bytes of the script it stands for
         self._spare: _Copy | None = None
-        self._spare_turn = threading.RLock()
+        self._spare_turn = lock()
         self.spent = self.total = 0.0
         self._has_ended = False
         self.policy: dict[int, str] = {}
         self.losses: list[str] = []
         self.progress: Callable[[int], object] = lambda percent: None
         self._percent = 100
-        self._process: _Process | None = None
+        self._process: Process | None = None
         try:
             self._replay()
         except BaseException as error:
             self.close()
-            if isinstance(error, ProgramGone | OutOfStep):
+            if isinstance(error, ProgramGone | OutOfStep) and isinstance(program, pathlib.Path):
                 check_is_vecmon(program)
             raise
 
@@ -415,7 +299,7 @@ class Session(contextlib.AbstractContextManager["Session"]):
                 self.close()
         return self._replay().ask(lines)
 
-    def _replay(self) -> _Process:
+    def _replay(self) -> Process:
         """A process that has carried out the script, and has answered as the one before: the spare, or a new one."""
         with self._spare_turn:
             spare, self._spare = self._spare, None
@@ -426,7 +310,7 @@ class Session(contextlib.AbstractContextManager["Session"]):
                 spare.process.close()
             return self._with_process(self._copy())
 
-    def _with_process(self, copy: _Copy) -> _Process:
+    def _with_process(self, copy: _Copy) -> Process:
         """A copy's process, which is the session's now, brought up. Raises as a replay does, and then it is closed."""
         self._process = copy.process
         try:
@@ -438,7 +322,8 @@ class Session(contextlib.AbstractContextManager["Session"]):
 
     def _copy(self) -> _Copy:
         """A new process, which has carried out a checkpoint's lines, if there is one, in place of the first lines."""
-        process, (checkpoint, covered) = _Process(self.command, self._patience), self._base
+        process = start(self.program, self.command, self.images, self._patience)
+        checkpoint, covered = self._base
         try:
             if read(process.ask(["* list"])[0]) != NEW_MACHINE:
                 raise OutOfStep("the program doesn't begin with a new machine")
@@ -465,7 +350,7 @@ class Session(contextlib.AbstractContextManager["Session"]):
         copy.size += len(script)
 
     def _piped(
-        self, process: _Process, script: bytes, tell: Callable[[int], object] = lambda percent: None
+        self, process: Process, script: bytes, tell: Callable[[int], object] = lambda percent: None
     ) -> Iterator[Block]:
         """Lines that a session recorded, and their answers, in blocks as they come; tells how far it is, in percent.
 
@@ -533,4 +418,4 @@ class Session(contextlib.AbstractContextManager["Session"]):
 
 def _marks(answers: Sequence[str]) -> Iterator[int]:
     """Numbers of 32 bits that tell answers from others."""
-    return map(zlib.crc32, map(str.encode, answers))
+    return map(crc32, map(str.encode, answers))

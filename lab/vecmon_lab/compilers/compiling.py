@@ -1,0 +1,48 @@
+"""Sources are compiled: one's own beside its headers, those of others in a sandbox."""
+
+import atexit
+import pathlib
+import tempfile
+
+from .. import LabError, mistakes_in
+from .compiled import CompiledProgram, read_compiled_program
+from .compiler import C_SOURCE, FUNCTION, IMAGE, Compiler, find_compiler
+from .sandbox import answer_of_own, answer_sandboxed
+
+SOURCE_BYTES = 1 << 16
+
+
+def compile_c(
+    text: str, compiler: Compiler, choice: int, headers: pathlib.Path | None = None, is_answer: bool = False
+) -> CompiledProgram:
+    """Compiles a source, by the options of this number. Mistakes are in the program. Raises LabError.
+
+    headers: the folder of a source of one's own; without it that happens in a sandbox, as for a text of others
+    is_answer: whether it is to answer an exercise
+    """
+    words = words_for(text, compiler, choice, is_answer)
+    return read_compiled_program(answer_of_own(words, text, headers) if headers else answer_sandboxed(words, text))
+
+
+def compiled_image(path: pathlib.Path) -> pathlib.Path:
+    """The image of a source in C of one's own, by the first compiler, which is there until the command ends.
+
+    It has the source's name without `.c`. Raises LabError where there is no compiler, or the source has mistakes, and OSError.
+    """
+    with mistakes_in(path):
+        text = path.read_text("utf-8", "replace")
+        words = [*words_for(text, find_compiler(None), 0), f"{path.absolute()}"]
+        kept = tempfile.TemporaryDirectory()
+        atexit.register(kept.cleanup)
+        folder = pathlib.Path(kept.name)
+        program = read_compiled_program(answer_of_own(words, text, path.parent, folder))
+    program.check(f"{path}")
+    (folder / C_SOURCE).rename(folder / path.name)  # where its lines are looked for
+    return (folder / IMAGE).rename(folder / path.stem)
+
+
+def words_for(text: str, compiler: Compiler, choice: int, is_answer: bool = False) -> list[str]:
+    """The words of `inside` for a source. Raises LabError where that is too long."""
+    if len(text.encode("utf-8", "replace")) > SOURCE_BYTES:
+        raise LabError(f"a source that is compiled has {SOURCE_BYTES:,} bytes at most")
+    return [compiler.name, f"{choice}", *[FUNCTION] * is_answer]

@@ -1,0 +1,127 @@
+"""One `vecmon` process behind its pipes. Blocking, and for one thread at a time."""
+
+import contextlib
+import os
+import select
+import signal
+from collections.abc import Iterator, Sequence
+from subprocess import PIPE, Popen
+
+from .answers import OutOfStep, is_whole
+from .process import BLOCK_BYTES, ProgramGone
+
+
+class PipedProcess:
+    """A process of the program: a line goes in, its whole answer comes out.
+
+    fed: how many bytes went in
+    number: the system's number of the process
+    """
+
+    def __init__(self, command: Sequence[str], patience: float) -> None:
+        self.fed = 0
+        self._patience = patience
+        self._unread = b""
+        try:  # in a session of its own, so that Ctrl-C in a terminal doesn't end it
+            self._child = Popen(command, stdin=PIPE, stdout=PIPE, stderr=PIPE, bufsize=0, start_new_session=True)
+        except OSError as error:
+            raise ProgramGone(f"{command[0]} can't be started: {error.strerror}") from error
+        assert self._child.stdin and self._child.stdout and self._child.stderr
+        self.number = self._child.pid
+        self._feed, self._source = self._child.stdin.fileno(), self._child.stdout.fileno()
+        self._complaints = self._child.stderr.fileno()
+        os.set_blocking(self._complaints, False)
+        self._readable = select.poll()
+        self._readable.register(self._source, select.POLLIN)
+
+    def ask(self, lines: Sequence[str]) -> list[list[str]]:
+        """The answers to lines that go in together. Raises ProgramGone and OutOfStep; then it is of no use any more."""
+        if self._unread or self._receive(0):
+            raise OutOfStep(f"before {lines[0][:60]!r} was sent there came {self._unread[:60]!r}")
+        data = "".join(f"{line}\n" for line in lines).encode("ascii")
+        self._put(memoryview(data))
+        self.fed += len(data)
+        answers = [self._answer(line) for line in lines]
+        if self._unread:
+            raise OutOfStep(f"after the answer to {lines[-1][:60]!r} there came {self._unread[:60]!r}")
+        return answers
+
+    def pour(self, script: bytes) -> Iterator[bytes]:
+        """Feeds lines that do, as the process takes them, and gives their answers as they come, in whole lines.
+
+        Nobody looks how the answers are made. Raises ProgramGone.
+        """
+        left = memoryview(script + b"* list\n")  # whose answer is the last one: no line that does is answered so
+        self.fed += len(left)
+        os.set_blocking(self._feed, False)
+        ends = select.poll()
+        ends.register(self._source, select.POLLIN)
+        ends.register(self._feed, select.POLLOUT)
+        while True:
+            ready = {end for end, _ in ends.poll(self._patience * 1000)}
+            if not ready:
+                raise ProgramGone(f"the program says nothing for {self._patience:g} s")
+            if self._feed in ready:
+                left = left[self._put(left[:BLOCK_BYTES]) :]
+                if not left:
+                    ends.unregister(self._feed)
+            if self._source in ready and self._receive(0):
+                block, newline, self._unread = self._unread.rpartition(b"\n")
+                answers, _, last = block.rpartition(b"\n")
+                if last.startswith(b"* list ") and not left:
+                    yield answers + newline if answers else b""
+                    break
+                yield block + newline
+        os.set_blocking(self._feed, True)
+
+    def _put(self, data: memoryview) -> int:
+        """Writes what the process takes now; how many bytes. Raises ProgramGone."""
+        try:
+            return os.write(self._feed, data)
+        except OSError as error:
+            raise ProgramGone(self._end()) from error
+
+    def _answer(self, line: str) -> list[str]:
+        """The lines of the next answer."""
+        answer = [self._line()]
+        while not is_whole(line, answer):
+            answer.append(self._line())
+        return answer
+
+    def _line(self) -> str:
+        """The next line that the process has said, without its newline."""
+        while b"\n" not in self._unread:
+            if not self._receive(self._patience):
+                raise ProgramGone(f"the program says nothing for {self._patience:g} s")
+        line, self._unread = self._unread.split(b"\n", 1)
+        return line.decode("latin-1")
+
+    def _receive(self, seconds: float) -> bool:
+        """Waits at most so long for what the process says, and takes it; whether it said anything."""
+        if not self._readable.poll(seconds * 1000):
+            return False
+        data = os.read(self._source, BLOCK_BYTES)
+        if not data:
+            raise ProgramGone(self._end())
+        self._unread += data
+        return True
+
+    def _end(self) -> str:
+        """How the process ended, with what it said of that."""
+        self._child.kill()
+        status = self._child.wait()
+        how = f"with status {status}" if status >= 0 else f"by {signal.Signals(-status).name}"
+        with contextlib.suppress(BlockingIOError):
+            complaint = os.read(self._complaints, 4096).decode("utf-8", "replace")
+            how = ": ".join([how, *complaint.splitlines()[:1]])
+        return f"the program ended {how}"
+
+    def kill(self) -> None:
+        """Ends the process, whatever it does, also from another thread."""
+        self._child.kill()
+
+    def close(self) -> None:
+        """Ends the process, and its pipes."""
+        self.kill()
+        with self._child:  # which closes the pipes, and waits
+            pass
