@@ -165,9 +165,7 @@ async def served(
 
 def command(folder: pathlib.Path, *words: str, makes_checkpoints: bool = True) -> list[str]:
     """The command that serves a class."""
-    begin = (
-        "from vecmon_lab.classes import room; room.SHORTEN_SECONDS = 1e9; import vecmon_lab.__main__ as lab; lab.main()"
-    )
+    begin = "from vecmon_lab.classes import scripts; scripts.SHORTEN_SECONDS = 1e9; import vecmon_lab.__main__ as lab; lab.main()"
     lab = ["-m", "vecmon_lab"] if makes_checkpoints else ["-c", begin]
     return [sys.executable, *lab, "class", str(folder), *words, "--port", "0", "--no-clock"]
 

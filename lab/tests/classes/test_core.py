@@ -12,6 +12,8 @@ CORE = [
     "classes.progress",
     "classes.shared_machine",
     "classes.sources",
+    "classes.student",
+    "assembler.trial",
     "exercises.check",
     "lessons.frames",
     "lessons.page",

@@ -20,7 +20,7 @@ from support.terminal import INTERRUPT, Terminal
 from vecmon_lab import LabError
 from vecmon_lab.classes.languages import SourceText
 from vecmon_lab.classes.requests import Lines
-from vecmon_lab.classes.room import Stopped
+from vecmon_lab.classes.machine_thread import Stopped
 from vecmon_lab.classes.store import BadFolder, Store
 from vecmon_lab.classes.view import Class
 from vecmon_lab.machine import session as machine

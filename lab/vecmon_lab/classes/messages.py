@@ -1,4 +1,4 @@
-"""What a seat's page is told (docs/CLASS_PROTOCOL.md): messages, its view, and what of that is new to it."""
+"""Messages to pages of a class (docs/CLASS_PROTOCOL.md): answers, views of a seat, and the news that a page hasn't got yet."""
 
 import json
 from collections.abc import Mapping, Sequence
@@ -8,16 +8,12 @@ from ..assembler.commands import refusal_on_pages
 from ..exercises.check import Mistake, mistakes_told
 from ..page.pages import merge_patch
 from ..page.state import State
-from .shared_machine import SEAT_BYTES, SharedMachine
-from .languages import LANGUAGES
 from .requests import BadRequest, JsonObject
 from .seats import Seat
 from .sources import SeatSource, Version
-from .progress import ExerciseView
+from .shared_machine import Answers
 
 Logs = dict[str, list[str]]
-Answers = list[list[str]]
-Share = TypedDict("Share", {"used": int, "of": int})
 SourceView = TypedDict(
     "SourceView",
     {"text": str, "language": int, "number": int, "stands": bool, "versions": list[Version]},
@@ -48,42 +44,15 @@ class Message(TypedDict, total=False):
     logs: Logs
 
 
-class PageView(TypedDict):
-    """What students' pages show, and the teacher's as well: of a seat its state and its source."""
-
-    state: State
-    source: SourceView
-    images: list[str]
-    quantum: int
-    languages: list[str]
-    no_c: str
-    trouble: str
-
-
-class StudentView(PageView):
-    """What a student's page shows."""
-
-    seat: str
-    name: str
-    stop: str
-    clock: bool
-    own_slices: bool
-    share: Share
-    against: list[str]
-    exercises: dict[str, ExerciseView]
-    again: bool
-    ready: bool
-
-
 class Updates:
-    """What a page has been told: its view, and how many entries of each log."""
+    """What a page has been sent: its view, and how many entries of each log."""
 
     def __init__(self) -> None:
         self.view: Mapping[str, object] = {}
         self.since: dict[str, int] = {}
 
     def news(self, view: Mapping[str, object], seats: Sequence[Seat]) -> Message:
-        """What it hasn't been told: a patch of its view, and entries of the logs of seats."""
+        """What it hasn't been sent: a patch of its view, and new entries of the logs of seats."""
         patch, self.view = merge_patch(self.view, view), view
         news: Message = {"patch": patch} if patch else {}
         logs = Logs()
@@ -112,28 +81,6 @@ def add_words(answer: Message, digit: str, request: JsonObject, done: Answers) -
     if done and isinstance(lines, list):  # the answers are those to the first of these lines
         answers = [[f"{digit} {part}" for part in parts] for parts in done]
         answer["words"] = [refusal_on_pages(f"{digit} {line}", said) for line, said in zip(lines, answers)]
-
-
-def student_view(
-    seat: Seat,
-    machine: SharedMachine,
-    source: SeatSource,
-    exercises: Mapping[str, ExerciseView],
-    more: Mapping[str, object],
-) -> dict[str, object]:
-    """What a student's page shows; more: what isn't the seat's own."""
-    return {
-        "seat": seat.name,
-        "state": shown(seat),
-        "stop": seat.stop,
-        "quantum": machine.session.quantum,
-        "share": {"used": seat.used, "of": SEAT_BYTES},
-        "languages": [language.name for language in LANGUAGES],
-        "source": source_view(source, seat),
-        "exercises": exercises,
-        "again": seat.program is not None,
-        **more,
-    }
 
 
 def source_view(source: SeatSource, seat: Seat) -> SourceView:

@@ -1,18 +1,24 @@
-"""What a seat has done of exercises, and what it is told of them."""
+"""The exercises of a class, and the progress of each seat in them: its tries, their results, and what its page shows."""
 
-from collections.abc import Sequence
+from collections.abc import Callable, Mapping, Sequence
 from dataclasses import dataclass, field
 from typing import NotRequired, TypedDict
 
-from ..exercises.answer import C_SUFFIX
+from ..compilers.compiled import STACK
+from ..exercises.answer import C_SUFFIX, inputs
 from ..exercises.check import Told
 from ..exercises.exercise import Exercise
 from .codes import new_code
 from .languages import NUMBERS, C, SourceText
+from .requests import BadRequest
+
+MOST_TRIES = 200  # of a seat at an exercise
 
 Try = TypedDict("Try", {"time": int, "text": str, "suffix": NotRequired[str], "told": Told})
 """An answer: when, in seconds since 1970; the source, and that of its language, else `s`; and what was told of it."""
 Start = TypedDict("Start", {"text": str, "language": int})
+SeatResult = TypedDict("SeatResult", {"tries": int, "passed": int, "best": int, "time": int})
+"""Of a seat at an exercise: tries; which passed first, or 0; the most cases that passed; when it passed, or the last."""
 
 
 class ExerciseView(TypedDict):
@@ -36,13 +42,9 @@ class ExerciseView(TypedDict):
     lesson: str
 
 
-SeatResult = TypedDict("SeatResult", {"tries": int, "passed": int, "best": int, "time": int})
-"""Of a seat at an exercise: tries; which passed first, or 0; the most cases that passed; when it passed, or the last."""
-
-
 @dataclass
 class Progress:
-    """What a seat has done of an exercise: of each try its time, and how many cases passed; and of the last one all.
+    """The progress of a seat in an exercise: of each try its time, and how many cases passed; and of the last one all.
 
     first: which try passed, or 0; ticket: what opens a lesson of the last one
     """
@@ -53,39 +55,92 @@ class Progress:
     first: int = 0
     ticket: str = ""
 
-    def add(self, done: Try) -> None:
-        """Takes up a try."""
-        self.source, self.told = source_of(done), done["told"]
-        cases = self.told.get("cases", [])
+    def add(self, done: Try) -> bool:
+        """Takes up what was told of an answer; whether it is a try: mistakes of form are none."""
+        self.told, self.ticket = done["told"], ""
+        if "cases" not in self.told:
+            return False
+        cases, self.source = self.told["cases"], source_of(done)
         self.tries.append((done["time"], sum(cases)))
         self.ticket = new_code() if "number" in self.told else ""
         if cases and all(cases) and not self.first:
             self.first = len(self.tries)
+        return True
 
     def result(self) -> SeatResult:
-        """What a teacher's table has."""
+        """The row of a teacher's table."""
         which = self.first or len(self.tries)
         best = max(passed for _, passed in self.tries)
         return {"tries": len(self.tries), "passed": self.first, "best": best, "time": self.tries[which - 1][0]}
 
 
-def exercise_view(
-    name: str, exercise: Exercise, starts: list[Start], progress: Progress, is_checking: bool
-) -> ExerciseView:
-    """What a student is told of an exercise."""
-    return {
-        "title": exercise.title,
-        "before": f"lesson/{name}" if "lesson" in exercise.files else "",
-        "text": exercise.text,
-        "starts": starts,
-        "cases": [case.name for case in exercise.cases],
-        "hints": exercise.hints[: len(progress.tries) - (progress.first > 0)],
-        "tries": len(progress.tries),
-        "passed": progress.first > 0,
-        "checking": is_checking,
-        "told": progress.told,
-        "lesson": f"lesson/{progress.ticket}" if progress.ticket else "",
-    }
+class Exercises:
+    """Exercises by name, the sources that each may start with, and the progress of each seat.
+
+    busy: the exercise by seat whose answer is checked, or made a lesson of
+    """
+
+    def __init__(self, exercises: Mapping[str, Exercise], starts: Mapping[str, list[Start]]) -> None:
+        self.by_name, self._starts, self.busy = exercises, starts, dict[str, str]()
+        self._progress: dict[tuple[str, str], Progress] = {}
+
+    def exercise(self, name: str) -> Exercise:
+        """The exercise of a name. Raises BadRequest."""
+        if name not in self.by_name:
+            raise BadRequest("there is no such exercise")
+        return self.by_name[name]
+
+    def progress(self, seat: str, name: str) -> Progress:
+        """The progress of a seat in an exercise."""
+        return self._progress.setdefault((seat, name), Progress())
+
+    def of(self, name: str) -> dict[str, Progress]:
+        """The progress of each seat that has tried an exercise."""
+        return {seat: it for (seat, exercise), it in self._progress.items() if exercise == name and it.tries}
+
+    def check_may_begin(self, seat: str, name: str) -> None:
+        """Raises BadRequest where no answer of the seat to this exercise may be checked now."""
+        self.exercise(name)
+        if seat in self.busy:
+            raise BadRequest("a check of this seat is under way")
+        if len(self.progress(seat, name).tries) >= MOST_TRIES:
+            raise BadRequest(f"this seat has tried it {MOST_TRIES} times")
+
+    def failed(self, seat: str, name: str, source: SourceText) -> Callable[[int], list[str]]:
+        """What makes the commands of the case that failed first at a seat, for a source's program that begins at an address.
+
+        Raises BadRequest where none has failed.
+        """
+        exercise, told = self.exercise(name), self.progress(seat, name).told
+        if "number" not in told:
+            raise BadRequest("no case that is shown has failed")
+        case, stack = exercise.cases[told["number"]], STACK if source.choice is None else ()
+        return lambda begin: [*stack, *inputs(exercise, case, begin)]
+
+    def answered(self, ticket: str) -> tuple[str, str, Progress] | None:
+        """The seat and the exercise of the answer whose lesson a ticket opens, and the progress there."""
+        found = ((*key, it) for key, it in self._progress.items() if it.ticket and it.ticket == ticket)
+        return next(found, None)
+
+    def views(self, seat: str) -> dict[str, ExerciseView]:
+        """What a student's page shows."""
+        return {name: self._view(seat, name, exercise) for name, exercise in self.by_name.items()}
+
+    def _view(self, seat: str, name: str, exercise: Exercise) -> ExerciseView:
+        progress = self.progress(seat, name)
+        return {
+            "title": exercise.title,
+            "before": f"lesson/{name}" if "lesson" in exercise.files else "",
+            "text": exercise.text,
+            "starts": self._starts[name],
+            "cases": [case.name for case in exercise.cases],
+            "hints": exercise.hints[: len(progress.tries) - (progress.first > 0)],
+            "tries": len(progress.tries),
+            "passed": progress.first > 0,
+            "checking": self.busy.get(seat) == name,
+            "told": progress.told,
+            "lesson": f"lesson/{progress.ticket}" if progress.ticket else "",
+        }
 
 
 def source_of(done: Try) -> SourceText:

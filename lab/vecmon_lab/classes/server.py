@@ -25,6 +25,7 @@ from ..page.reference import reference_text
 from .codes import TEACHER
 from .room import Room
 from .store import BadFolder, script_name
+from .tab_requests import TabRequests
 from .tab_socket import CLOSED, READ_SECONDS, TabSocket
 from .view import Class, Tab
 
@@ -49,6 +50,7 @@ class Server:
     def __init__(self, members: Class, names: set[str]) -> None:
         """names: hosts that the page may be opened under, besides all numeric addresses."""
         self.members, self.names = members, {"localhost", *names}
+        self._requests = TabRequests(members)
         self._page, self._lesson, self._listings = Page("class"), Page("lesson"), Page("listings")
         self._spoke: set[web.RequestHandler] = set()  # connections that have made a whole request
         self._is_ending = False
@@ -147,10 +149,10 @@ class Server:
 
     async def _get_file(self, request: web.Request) -> web.Response:
         room = await self._room(request, TEACHER)
-        data, number = room.session.script, int(request.match_info.get("number", len(room.scripts)))
-        if number > len(room.scripts):
+        data, number = room.session.script, int(request.match_info.get("number", len(room.scripts.set_up)))
+        if number > len(room.scripts.set_up):
             raise web.HTTPNotFound
-        if number < len(room.scripts):
+        if number < len(room.scripts.set_up):
             data = await asyncio.to_thread((self.members.store.folder / script_name(room.letter, number)).read_bytes)
         if request.match_info["what"] == "transcript":
             data = await asyncio.to_thread(_transcript, room.session.command, data)
@@ -182,7 +184,7 @@ class Server:
         elif others >= (2 * SOCKETS if who == TEACHER else SOCKETS):
             await own.close(code=CROWDED, message=b"too many tabs")
         else:
-            await TabSocket(self.members, own, Tab(who), partial(_abort, request)).serve(lambda: self._is_ending)
+            await TabSocket(self._requests, own, Tab(who), partial(_abort, request)).serve(lambda: self._is_ending)
         return own
 
     async def _who(self, own: web.WebSocketResponse) -> str | None:
@@ -224,7 +226,7 @@ async def served(members: Class, doors: Iterable[socket.socket], names: set[str]
             server.sweep(runner),
             _keep(members),
             *(each for room in rooms for each in (room.clock.run(), room.watch(), room.shorten())),
-            *(room.follow() for room in rooms if members.has_spares),
+            *(room.scripts.follow() for room in rooms if members.has_spares),
         ]
         tasks = [asyncio.create_task(each) for each in work]
         yield runner.addresses[0][1]

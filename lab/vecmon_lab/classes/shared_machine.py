@@ -1,12 +1,13 @@
-"""What is done at a machine's seats: lines, a source that is brought in, slices. There are no turns, threads and clocks here.
+"""One machine that eight seats and the operator share: lines, sources and slices are executed, without threads or clocks.
 
-A room calls it in its machine's thread, and tells its seats in its event loop; a page that has a machine of its own calls it
-as it comes.
+What takes several turns at the machine is a generator of steps. The server executes each step in the machine's thread, and
+gives other seats their turns between two of them; a program without a server executes them one after another.
 """
 
-from collections.abc import Callable, Iterable, Iterator, Mapping, Sequence
+from collections.abc import Callable, Generator, Iterable, Mapping, Sequence
 from dataclasses import dataclass, field
-from typing import Protocol
+from functools import partial
+from typing import Protocol, TypeVar
 
 from ..assembler.source import Program, SourceError, in_order, refusal
 from ..compilers.compiled import CompiledProgram
@@ -14,6 +15,7 @@ from ..machine.answers import Granted, Listing, Position, Refused, read
 from ..machine.lines import is_look
 from ..machine.session import TOGETHER, ScriptFull, Session
 from ..page.state import State
+from .languages import SourceText
 from .live import GO, OUT, STOP, with_output
 from .requests import BadRequest, Lines
 from .seats import Done, Seat, Seats
@@ -24,31 +26,57 @@ LINE_BLOCKS, BLOCK_WORDS = 256, 16  # of code, that a step of a line goes throug
 LEAVES = "bje"  # how the names of scalar instructions begin that may go elsewhere, or call: bne, jal, ecall
 LEAVING: Mapping[str, Sequence[str]] = {"absent": [], "running": ["stop", "leave"], "stopped": ["leave"]}
 
+Answers = list[list[str]]
+"""Answers to lines, without the digits of their users."""
+Mistakes = Sequence[SourceError]
+"""Mistakes of a source, or a compiler's warnings."""
+
 
 class Recorder(Protocol):
-    """What keeps a script as it grows."""
+    """What records a script as it grows."""
 
     def append(self, line: str) -> None:
-        """Keeps a line that is about to be sent."""
+        """Records a line that is about to be sent."""
 
     def cut(self, size: int) -> None:
-        """Takes back what stands behind the first `size` bytes."""
+        """Drops what follows the first `size` bytes."""
 
 
 @dataclass
 class Turn:
-    """What the machine's thread has done: lines with their answers, looks, and states that may be others now.
+    """A turn at the machine: what it executes, and what came of it: lines with their answers, looks, new states.
 
-    before, is_last: what was done in turns before for the same request; whether that has no more turns
-    mistakes: what the machine refused of a program that was brought in
+    asker: whose lines its log shows; None for the clock's, which no log shows
+    before, is_last: lines of earlier turns of the same request; whether this is the last one
     """
 
+    execute: "Callable[[Turn], object]"
+    asker: Seat | None = None
     before: Sequence[Done] = ()
     is_last: bool = True
     done: list[Done] = field(default_factory=list)
     looks: list[list[str]] = field(default_factory=list)
     states: dict[str, tuple[State, State]] = field(default_factory=dict)
-    mistakes: Sequence[SourceError] = ()
+
+
+@dataclass(frozen=True)
+class MakeProgram:
+    """A step that makes the program of a source, which may take seconds and needs no machine; it is sent to the steps.
+
+    is_answer: whether the source answers an exercise
+    """
+
+    source: SourceText
+    is_answer: bool
+
+
+@dataclass(frozen=True)
+class TakeSeat:
+    """A step from which on no other request of the seat takes turns, until the steps end."""
+
+
+Result = TypeVar("Result")
+Steps = Generator[Turn | MakeProgram | TakeSeat, Program | None, Result]
 
 
 class SharedMachine:
@@ -58,32 +86,50 @@ class SharedMachine:
         self.letter, self.session, self.file, self.seats = letter, session, file, Seats(letter)
         self.has_run = False  # whether slices were granted since programs were looked at
 
-    def lines(self, turn: Turn, seat: Seat, request: Lines) -> None:
-        """Carries out lines, then slices of the seat's own program, then lines that look."""
-        own, seen = own_lines(seat, request.do), own_lines(seat, request.look)
-        for place in range(0, len(own), TOGETHER):
-            self.do(turn, *own[place : place + TOGETHER])
-        state = read(self.session.look(f"{seat.digit} state")) if request.slices else None
-        if isinstance(state, Position) and state.run == "running":
-            for _ in range(request.slices):
-                if read(*self.do(turn, f"* run {seat.digit}")) != Granted(1):
-                    break
-        turn.looks += [self.session.look(line) for line in seen]
+    def lines(self, seat: Seat, request: Lines, done: Answers) -> Steps[Answers]:
+        """Executes lines, which join `done` with their answers, and slices; the answers to lines that look.
 
-    def bring_in(
-        self, seat: Seat, program: Program, breaks: Iterable[int]
-    ) -> Iterator[tuple[Turn, Callable[[Turn], None]]]:
-        """What is done to bring a program in, some dozens of lines at a turn; what is refused joins `mistakes` of the last.
+        Raises BadRequest where the seat's share of the script has no room; then nothing is done.
+        """
+        yield TakeSeat()
+        self._check_share(seat, own_lines(seat, request.do) + [f"* run {seat.digit}"] * request.slices)
+        turn = Turn(partial(self._lines, seat, request, done), seat)
+        yield turn
+        return [[part[2:] for part in answer] for answer in turn.looks]
 
-        Raises BadRequest where the seat has no room for it.
+    def write(self, seat: Seat, source: SourceText | None, is_answer: bool = False) -> Steps[tuple[Mistakes, Mistakes]]:
+        """Starts a seat's machine anew with a source; its mistakes, and a compiler's warnings.
+
+        Without one, with the source that is in the machine, whose breakpoints stay. Raises BadRequest.
+        """
+        program = (yield MakeProgram(source, is_answer)) if source else None
+        yield TakeSeat()
+        breaks: Sequence[int] = []
+        if source is None:
+            source, program, breaks = seat.written, seat.program, sorted(seat.sight.breaks)
+        if program is None:
+            raise BadRequest("no source stands in this machine, so none can be written again")
+        warnings = program.warnings if isinstance(program, CompiledProgram) else []
+        if program.mistakes:
+            return program.mistakes, warnings
+        if (number := len(program.lines)) > SOURCE_LINES:
+            raise BadRequest(f"a source becomes {SOURCE_LINES} lines at most, and this one {number}")
+        mistakes = yield from self.bring_in(seat, program, breaks)
+        seat.take(source, program)
+        return mistakes, warnings
+
+    def bring_in(self, seat: Seat, program: Program, breaks: Iterable[int]) -> Steps[Mistakes]:
+        """Brings a program in, some dozens of lines at a turn; the mistakes that the machine refuses.
+
+        Raises BadRequest where the seat's share of the script has no room for it.
         """
         begin = [*LEAVING[seat.state["run"]], "enter", *program.lines, f"setpc {program.entry:x}"]
         lines = own_lines(seat, [*begin, *(f"break {address:x}" for address in breaks)])
-        self.check_share(seat, lines)
+        self._check_share(seat, lines)
         statements = {f"{seat.digit} {each.command}": each for each in program.statements}
         mistakes, done = list[SourceError](), list[Done]()
 
-        def carry_out(turn: Turn) -> None:
+        def write_part(turn: Turn) -> None:
             part = lines[len(done) : len(done) + TOGETHER]
             turn.is_last = len(done) + len(part) == len(lines)
             for line, answer in zip(part, self.do(turn, *part)):
@@ -94,40 +140,51 @@ class SharedMachine:
                         raise BadRequest(f"the machine answers {code} to {line[2:60]}")
             if turn.is_last:
                 seat.list_program(program)
-                turn.mistakes = in_order(mistakes)
 
         while len(done) < len(lines):
-            turn = Turn(before=done)
-            yield turn, carry_out
+            turn = Turn(write_part, seat, before=done)
+            yield turn
             done = [*done, *turn.done]
+        return in_order(mistakes)
 
-    def step_line(self, turn: Turn, seat: Seat) -> None:
-        """Steps a program until it stands at another line of its compiled source, or stops, or for LINE_BLOCKS blocks of code."""
-        program, pc = seat.program, int(seat.state["pc"], 16)
-        assert isinstance(program, CompiledProgram)
-        begun = program.line_at(pc)
-        for _ in range(LINE_BLOCKS):
-            answer = read(*self.do(turn, f"{seat.digit} step {self._block(seat, program, pc)}"))
-            if not isinstance(answer, Position):
-                return
-            pc = answer.pc
-            if program.line_at(pc) not in (0, begun) or pc in seat.sight.breaks:
-                return
+    def step_line(self, seat: Seat) -> Steps[None]:
+        """Steps a program to another line of its compiled source, to a stop, or through LINE_BLOCKS blocks of code.
 
-    def check_line_steps(self, seat: Seat) -> None:
-        """Raises BadRequest where there is no line to step, or no room in the seat's share."""
+        Raises BadRequest where there is no line to step, or no room in the seat's share of the script.
+        """
+        yield TakeSeat()
         if not isinstance(seat.program, CompiledProgram) or seat.state["run"] != "stopped":
             raise BadRequest("lines are stepped where the program of a compiled source stands still")
-        self.check_share(seat, [f"{seat.digit} step {LINE_BLOCKS}"] * LINE_BLOCKS)
+        self._check_share(seat, [f"{seat.digit} step {LINE_BLOCKS}"] * LINE_BLOCKS)
+        yield Turn(partial(self._step_line, seat, seat.program), seat)
 
-    def leave(self, turn: Turn, seat: Seat) -> None:
-        """Takes a seat's machine away."""
-        self.do(turn, *own_lines(seat, LEAVING[seat.state["run"]]))
+    def reset(self, seat: Seat) -> Steps[None]:
+        """Takes a seat's machine away, however much of its share of the script is used up."""
+        yield TakeSeat()
+        yield Turn(lambda turn: self.do(turn, *own_lines(seat, LEAVING[seat.state["run"]])), seat)
 
-    def carry_out(self, turn: Turn, carry_out: Callable[[Turn], object]) -> None:
-        """Carries out turn, and looks at whom it may have changed."""
+    def grant(self, slices: int) -> Turn:
+        """A turn that grants slices to all programs that run."""
+        return Turn(lambda turn: self.do(turn, f"* slices {slices}"))
+
+    def show(self, seat: Seat, why: str, who: str) -> Steps[None]:
+        """Shows a running program, which stops for that, and goes on unless there is a reason why it mustn't.
+
+        who: stops it then: the server, or the page
+        """
+        yield Turn(partial(self._show, seat, not why))
+        if why and seat.state["run"] == "stopped":
+            seat.stand(f"stopped, since {why}", True)
+            seat.note(f"!The {who} stopped the program, since {why}. go lets it run on.")
+
+    def has_run_long(self, seat: Seat, limit: int) -> str:
+        """Why a program that runs is to be stopped: it has run for so many ticks, about; "" where it hasn't."""
+        return f"it ran for {limit:,} ticks without a stop" if seat.slices * self.session.quantum >= limit else ""
+
+    def execute(self, turn: Turn) -> None:
+        """Executes a turn at the machine, and looks at whom it may have changed."""
         try:
-            carry_out(turn)
+            turn.execute(turn)
         except (BadRequest, ScriptFull):
             self._look(turn)
             raise
@@ -135,56 +192,14 @@ class SharedMachine:
             self._take_output(turn)
             self._look(turn)
 
-    def tell(self, turn: Turn, asker: Seat | None) -> None:
-        """Tells the seats what was done. Lines that aren't the asker's are the clock's, or grant own slices: they aren't told."""
+    def report(self, turn: Turn) -> None:
+        """Reports to the seats what was done. Lines that aren't the asker's are the clock's, or grant own slices."""
         for line, answer in turn.done:
-            self.seats.observe(line, answer, asker is not None and line[0] == asker.digit)
+            self.seats.observe(line, answer, turn.asker is not None and line[0] == turn.asker.digit)
         self.seats.take(turn.states)
 
-    def _block(self, seat: Seat, program: CompiledProgram, pc: int) -> int:
-        """How many instructions from one on are of its line, up to the first that may go elsewhere, or calls."""
-        listing = read(self.session.look(f"{seat.digit} dis {pc:x} {BLOCK_WORDS}"))
-        words = listing.words if isinstance(listing, Listing) else []
-        number = 0
-        for number, word in enumerate(words, 1):
-            after = word.address + 4
-            if word.text[0] in LEAVES or program.line_at(after) != program.line_at(pc) or after in seat.sight.breaks:
-                break
-        return max(number, 1)
-
-    def check_share(self, seat: Seat, lines: Sequence[str]) -> None:
-        """Raises BadRequest where the lines don't fit into the seat's share of the script."""
-        size = sum(len(line) + 1 for line in lines if not is_look(line))
-        if seat is not self.seats.operator and size and seat.used + size > SEAT_BYTES:
-            left = f"this takes {size:,} bytes, and {max(0, SEAT_BYTES - seat.used):,} are left"
-            raise BadRequest(f"this seat's share of the script is used up, so only lines that look go on: {left}")
-
-    def _take_output(self, turn: Turn) -> None:
-        """Takes what programs have put out that stand still now. One whose buffer was full goes on."""
-        states = {digit: seat.state for digit, seat in self.seats.users.items()}
-        for digit, goes_on in with_output(turn.done, states).items():
-            self.do(turn, f"{digit} {OUT}", *([f"{digit} {GO}"] if goes_on else []))
-
-    def show(self, seat: Seat, goes_on: bool, turn: Turn) -> None:
-        """Looks at a running program, which stops for that, and may go on; at no breakpoint, since `go` passes one."""
-        turn.is_last = False
-        place = read(self.session.look(f"{seat.digit} state"))
-        if not isinstance(place, Position) or place.run != "running" or place.pc in seat.sight.breaks:
-            return
-        self.do(turn, f"{seat.digit} {STOP}", f"{seat.digit} {OUT}")
-        self._look(turn)
-        if goes_on:
-            self.do(turn, f"{seat.digit} {GO}")
-            for state in turn.states[seat.digit]:
-                state["run"] = "running"
-
-    def _look(self, turn: Turn) -> None:
-        """Looks at whom the turn may have changed."""
-        done = [*turn.before, *turn.done]
-        turn.states = self.seats.look(self.session, done, self.seats.touched(done))
-
     def do(self, turn: Turn, *lines: str) -> list[list[str]]:
-        """Carries out lines in the machine's thread. Those that are recorded are on the disk before they are sent."""
+        """Sends lines to the machine. Those that change it are recorded before they are sent."""
         for line in lines:
             if not is_look(line):
                 self.file.append(line)
@@ -198,6 +213,75 @@ class SharedMachine:
             self.seats.follow(line, answer)
             turn.done.append((line, answer))
         return answers
+
+    def _lines(self, seat: Seat, request: Lines, done: Answers, turn: Turn) -> None:
+        """Executes lines, then slices of the seat's own program, then lines that look."""
+        own = own_lines(seat, request.do)
+        try:
+            for place in range(0, len(own), TOGETHER):
+                self.do(turn, *own[place : place + TOGETHER])
+        finally:
+            done += [[part[2:] for part in answer] for _, answer in turn.done]
+        state = read(self.session.look(f"{seat.digit} state")) if request.slices else None
+        if isinstance(state, Position) and state.run == "running":
+            for _ in range(request.slices):
+                if read(*self.do(turn, f"* run {seat.digit}")) != Granted(1):
+                    break
+        turn.looks += [self.session.look(line) for line in own_lines(seat, request.look)]
+
+    def _step_line(self, seat: Seat, program: CompiledProgram, turn: Turn) -> None:
+        """Steps to another line of a source, block by block."""
+        pc = int(seat.state["pc"], 16)
+        begun = program.line_at(pc)
+        for _ in range(LINE_BLOCKS):
+            answer = read(*self.do(turn, f"{seat.digit} step {self._block(seat, program, pc)}"))
+            if not isinstance(answer, Position):
+                return
+            pc = answer.pc
+            if program.line_at(pc) not in (0, begun) or pc in seat.sight.breaks:
+                return
+
+    def _block(self, seat: Seat, program: CompiledProgram, pc: int) -> int:
+        """How many instructions from one on are of its line, up to the first that may go elsewhere, or calls."""
+        listing = read(self.session.look(f"{seat.digit} dis {pc:x} {BLOCK_WORDS}"))
+        words = listing.words if isinstance(listing, Listing) else []
+        number = 0
+        for number, word in enumerate(words, 1):
+            after = word.address + 4
+            if word.text[0] in LEAVES or program.line_at(after) != program.line_at(pc) or after in seat.sight.breaks:
+                break
+        return max(number, 1)
+
+    def _check_share(self, seat: Seat, lines: Sequence[str]) -> None:
+        """Raises BadRequest where the lines don't fit into the seat's share of the script."""
+        size = sum(len(line) + 1 for line in lines if not is_look(line))
+        if seat is not self.seats.operator and size and seat.used + size > SEAT_BYTES:
+            left = f"this takes {size:,} bytes, and {max(0, SEAT_BYTES - seat.used):,} are left"
+            raise BadRequest(f"this seat's share of the script is used up, so only lines that look go on: {left}")
+
+    def _show(self, seat: Seat, goes_on: bool, turn: Turn) -> None:
+        """Looks at a running program, which stops for that, and may go on; at no breakpoint, since `go` passes one."""
+        turn.is_last = False
+        place = read(self.session.look(f"{seat.digit} state"))
+        if not isinstance(place, Position) or place.run != "running" or place.pc in seat.sight.breaks:
+            return
+        self.do(turn, f"{seat.digit} {STOP}", f"{seat.digit} {OUT}")
+        self._look(turn)
+        if goes_on:
+            self.do(turn, f"{seat.digit} {GO}")
+            for state in turn.states[seat.digit]:
+                state["run"] = "running"
+
+    def _take_output(self, turn: Turn) -> None:
+        """Takes the output of programs that stopped. One whose buffer was full goes on."""
+        states = {digit: seat.state for digit, seat in self.seats.users.items()}
+        for digit, goes_on in with_output(turn.done, states).items():
+            self.do(turn, f"{digit} {OUT}", *([f"{digit} {GO}"] if goes_on else []))
+
+    def _look(self, turn: Turn) -> None:
+        """Looks at whom the turn may have changed."""
+        done = [*turn.before, *turn.done]
+        turn.states = self.seats.look(self.session, done, self.seats.touched(done))
 
 
 def own_lines(seat: Seat, texts: Iterable[str]) -> list[str]:

@@ -10,7 +10,8 @@ from aiohttp import WSMsgType, web
 
 from .codes import TEACHER
 from .messages import Message
-from .view import Class, Tab
+from .tab_requests import TabRequests
+from .view import Tab
 
 READ_SECONDS = 20.0  # in which a tab has to take a message
 MOST_WAITING, WAITING_BYTES = 64, 2_000_000  # requests of a tab that wait, besides the one that is carried out
@@ -25,9 +26,9 @@ class TabSocket:
     when the tab goes away is carried out all the same, unless its code opens the seat no more.
     """
 
-    def __init__(self, members: Class, socket: web.WebSocketResponse, tab: Tab, abort: Callable[[], object]) -> None:
+    def __init__(self, tabs: TabRequests, socket: web.WebSocketResponse, tab: Tab, abort: Callable[[], object]) -> None:
         """abort: ends the connection without a word."""
-        self._members, self._socket, self._tab, self._abort = members, socket, tab, abort
+        self._tabs, self._socket, self._tab, self._abort = tabs, socket, tab, abort
         self._waiting: deque[str] = deque()
         self._has_come = asyncio.Event()  # set where there is one, or no more will come
         self._is_read = False
@@ -35,7 +36,7 @@ class TabSocket:
     async def serve(self, is_ending: Callable[[], bool]) -> None:
         """Greets the tab, and serves it until its socket is closed and nothing waits, or the server ends."""
         try:
-            await self._send(self._members.hello(self._tab))
+            await self._send(self._tabs.hello(self._tab))
             async with asyncio.TaskGroup() as tasks:
                 pusher, _ = tasks.create_task(self._push()), tasks.create_task(self._answer())
                 with contextlib.suppress(ConnectionError):
@@ -48,7 +49,7 @@ class TabSocket:
                 self._is_read = True
                 self._has_come.set()
         finally:
-            self._members.leave(self._tab)
+            self._tabs.leave(self._tab)
 
     async def _read(self) -> None:
         """Takes up requests until the socket is closed."""
@@ -59,7 +60,7 @@ class TabSocket:
                 self._waiting.append(message.data)
                 self._has_come.set()
             else:
-                await self._send(await self._members.answer(self._tab, message.data, TOO_MANY_WAIT))
+                await self._send(await self._tabs.answer(self._tab, message.data, TOO_MANY_WAIT))
 
     async def _answer(self) -> None:
         """Carries out what waits, in turn."""
@@ -68,14 +69,14 @@ class TabSocket:
             while self._waiting:
                 text = self._waiting.popleft()
                 if self._tab.is_open:
-                    await self._send(await self._members.answer(self._tab, text))
+                    await self._send(await self._tabs.answer(self._tab, text))
             self._has_come.clear()
 
     async def _push(self) -> None:
         """Sends news as they come; what changes meanwhile goes together."""
         while self._tab.is_open:
             await self._tab.changed.wait()
-            if self._tab.is_open and (news := self._members.news(self._tab)):
+            if self._tab.is_open and (news := self._tabs.news(self._tab)):
                 news["kind"] = "news"
                 await self._send(news)
             await asyncio.sleep(0.1 if self._tab.who == TEACHER else 0.02)

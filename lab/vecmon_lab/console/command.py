@@ -37,8 +37,8 @@ def run(arguments: argparse.Namespace) -> int:
         if is_able:
             from .prompt import terminal_prompt  # whose library takes a third of a second
 
-            prompt = terminal_prompt(MARK, console.choices, console.bar)
-        console.tell_place()
+            prompt = terminal_prompt(MARK, console.names.choices, console.bar)
+        console.execution.tell_place()
         while console.is_open:
             try:
                 console.do(prompt())

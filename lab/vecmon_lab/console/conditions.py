@@ -7,7 +7,9 @@ from operator import eq, ge, gt, le, lt, ne
 
 from .. import LabError
 from ..guest.changes import NAMES
+from ..guest.guest import Guest
 from ..instructions.table import ABI_NAMES
+from ..machine.answers import Addresses, ControlRegisters, ScalarRegisters
 
 REGISTERS = {name: number for number, name in ABI_NAMES.items()} | {"fp": "x8"} | {name: name for name in NAMES}
 """What scalar and control registers are called, and their names in NAMES."""
@@ -36,6 +38,32 @@ class Condition:
         """Whether it holds where registers have these values by name."""
         left, right = (values[side] if isinstance(side, str) else side for side in self.sides)
         return bool(_SIGNS[self.sign](left, right))
+
+
+class Conditions:
+    """Conditions of a user's breakpoints by their addresses."""
+
+    def __init__(self, guest: Guest) -> None:
+        self._guest = guest
+        self.by_address: dict[int, Condition] = {}
+
+    def drop_old(self) -> None:
+        """Drops the conditions of breakpoints that aren't there any more."""
+        if self.by_address:
+            (told,) = self._guest.ask("breaks")
+            there = told.addresses if isinstance(told, Addresses) else []
+            self.by_address = {at: it for at, it in self.by_address.items() if at in there}
+
+    def hold(self, address: int) -> bool:
+        """Whether the condition of a breakpoint holds, if it has one."""
+        if address not in self.by_address:
+            return True
+        registers, control = self._guest.told("regs", ScalarRegisters), self._guest.told("vcsr", ControlRegisters)
+        return self.by_address[address].holds(dict(zip(NAMES, [*registers.x, *vars(control).values()])))
+
+    def text(self, address: int) -> str:
+        """The condition of a breakpoint as a listing has it; "" without one."""
+        return f" if {self.by_address[address].text}" if address in self.by_address else ""
 
 
 def _side(word: str, value: Callable[[str], str]) -> str | int:

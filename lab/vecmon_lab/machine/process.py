@@ -43,9 +43,11 @@ class Starter(Protocol):
         """Starts a process with the program's arguments, which name the images. Raises ProgramGone."""
 
 
-def start(
-    program: pathlib.Path | Starter, command: Sequence[str], images: Mapping[str, pathlib.Path], patience: float
-) -> Process:
+Vecmon = pathlib.Path | Starter
+"""The program: a file, or one that isn't."""
+
+
+def start(program: Vecmon, command: Sequence[str], images: Mapping[str, pathlib.Path], patience: float) -> Process:
     """Starts a process by a command, whose first word is the program. Raises ProgramGone.
 
     patience: how many seconds a file's process may say nothing

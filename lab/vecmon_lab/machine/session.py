@@ -4,75 +4,47 @@ Blocking, and for one thread at a time: whoever has an event loop calls a sessio
 """
 
 import contextlib
-import hashlib
 import pathlib
 import re
 import time
-from array import array
-from binascii import crc32
 from collections import deque
 from collections.abc import Callable, Iterator, Mapping, Sequence
-from dataclasses import dataclass
 from functools import partial
 
 from .. import LabError
-from .answers import OutOfStep, Users, is_refusal, read
-from .lines import DIGITS, BadLine, check_line, is_look, words_of
-from .process import Process, ProgramGone, Starter, start
+from .answers import OutOfStep
+from .lines import BadLine, check_line, is_look
+from .process import Process, ProgramGone, Vecmon, start
 from .program import check_is_vecmon
+from .replay import DIFFERS, Copy, Progress, Replayer, ReplayDiffers
+from .script import Block, Checkpoint, Script
 
-__all__ = ["BadLine", "OutOfStep", "ProgramGone", "ReplayDiffers", "ScriptFull", "Session"]
+__all__ = ["BadLine", "Block", "Checkpoint", "OutOfStep", "ProgramGone", "ReplayDiffers", "ScriptFull", "Session"]
 
 SCRIPT_BYTES = 15_000_000  # a process takes 16,777,216 bytes at most, and lines that look need room as well
-TOGETHER = 40  # lines that go to the program at once: each has to fit into its pipe
 WEIGHTY_BYTES, WEIGHTY_SECONDS = 1_000_000, 1.0  # of lines that a new process carries out again
-NEW_MACHINE = Users(dict.fromkeys(DIGITS, "-"))
+TOGETHER = 40  # lines that go to the program at once: each has to fit into its pipe
 _RECORDED = re.compile(rb"(?:[1-8*] [ -~]{0,1022}+\n)*+")
-DIFFERS = "a new process answers the script otherwise than the one before"
-
-Block = tuple[Sequence[str], Sequence[str]]
-"""Lines and their answers, which have newlines between their lines."""
 
 
 class ScriptFull(LabError):
     """The script has no room for a line that does."""
 
 
-class ReplayDiffers(LabError):
-    """A new process answered the script otherwise than the one before."""
-
-
-@dataclass(frozen=True)
-class Checkpoint:
-    """Lines that stand for the first so many lines of a script: they leave a new machine as those do."""
-
-    number: int
-    lines: bytes
-
-
-@dataclass
-class _Copy:
-    """A process that has carried out the script as far as it was: so many lines, which have so many bytes."""
-
-    process: Process
-    number: int
-    size: int
-
-
 class Session(contextlib.AbstractContextManager["Session"]):
     """A machine for eight users, and the script that makes it anew.
 
     Its process is replaced where it ended, hangs, or has no room for more lines; then the new one carries out the
-    script again, or a checkpoint's lines and the lines since. `policy` has the policy for agnostic elements, `keep` or `ones`, of each user who is there: no
-    command shows it. `quantum` is the ticks of a slice. `command` starts the program with the `images`, and `losses` says why processes
-    that were asked gave no answer, and were replaced. `total` is how many seconds the lines of the script have taken, and
-    `spent` those that a new process would carry out. `progress` is called while a new process carries out the script,
-    with how much of it that has done in percent: 0 first, and 100 at the end.
+    script again, or a checkpoint's lines and the lines since. `policy` has the policy for agnostic elements, `keep` or
+    `ones`, of each user who is there: no command shows it. `quantum` is the ticks of a slice. `command` starts the program
+    with the `images`, and `losses` says why processes that were asked gave no answer, and were replaced. `recorded` has the
+    script. `progress` is called while a new process carries it out, with how much of it that has done in percent: 0 first,
+    and 100 at the end.
     """
 
     def __init__(
         self,
-        program: pathlib.Path | Starter,
+        program: Vecmon,
         images: Mapping[str, pathlib.Path] = {},
         *,
         quantum: int | None = None,
@@ -90,32 +62,18 @@ class Session(contextlib.AbstractContextManager["Session"]):
         self.quantum = 100 if quantum is None else quantum
         options = [] if quantum is None else ["--quantum", str(quantum)]
         words = [f"{name}={path}" for name, path in images.items()]
-        self.program, self.images = program, images
+        self.images = images
         self.command = [str(program), *options, "--", "/dev/stdin", *words]  # images are taken after a script alone
-        self._opening = partial(
-            Session,
-            program,
-            images,
-            quantum=quantum,
-            patience=patience,
-            script_bytes=script_bytes,
-            check=check,
-            lock=lock,
-        )
-        self._patience = patience
+        opening = partial(Session, program, images, quantum=quantum, patience=patience)
+        self._opening = partial(opening, script_bytes=script_bytes, check=check, lock=lock)
         self._script_bytes = script_bytes
-        self._check = check
-        self._script = bytearray()
-        self._answers = hashlib.sha256()
-        self._marks = array("I")  # the CRC-32 of each answer, by which a replay is compared
-        self._base = Checkpoint(0, b""), 0  # and how many bytes of the script it stands for
-        self._spare: _Copy | None = None
+        self.recorded = Script()
+        self.policy = self.recorded.policy
+        self._replayer = Replayer(self.recorded, partial(start, program, self.command, images, patience), check)
+        self._spare: Copy | None = None
         self._spare_turn = lock()
-        self.spent = self.total = 0.0
-        self._has_ended = False
-        self.policy: dict[int, str] = {}
         self.losses: list[str] = []
-        self.progress: Callable[[int], object] = lambda percent: None
+        self.progress: Progress = lambda percent: None
         self._percent = 100
         self._process: Process | None = None
         try:
@@ -132,22 +90,22 @@ class Session(contextlib.AbstractContextManager["Session"]):
     @property
     def script(self) -> bytes:
         """The lines that were done, each with its newline: a plain run of the program makes the machine from them."""
-        return bytes(self._script)
+        return bytes(self.recorded.text)
 
     @property
     def size(self) -> int:
         """How many bytes the script has."""
-        return len(self._script)
+        return len(self.recorded.text)
 
     @property
     def lines(self) -> int:
         """How many lines the script has."""
-        return len(self._marks)
+        return len(self.recorded.marks)
 
     @property
     def digest(self) -> str:
         """The SHA-256, in hexadecimal digits, of all answers to the script, as a plain run prints them."""
-        return self._answers.hexdigest()
+        return self.recorded.answers.hexdigest()
 
     @property
     def process(self) -> int | None:
@@ -167,7 +125,7 @@ class Session(contextlib.AbstractContextManager["Session"]):
         for line in lines:
             check_line(line)
         size = sum(len(line) + 1 for line in lines if not is_look(line))
-        if size and len(self._script) + size > self._script_bytes:
+        if size and self.size + size > self._script_bytes:
             raise ScriptFull(f"the script has {self._script_bytes:,} bytes at most, so only lines that look go on")
         return self._ask(lines)
 
@@ -186,30 +144,22 @@ class Session(contextlib.AbstractContextManager["Session"]):
         if not _RECORDED.fullmatch(script):
             raise BadLine("a script has lines that no session records")
         began = time.monotonic()
-        for block in self._piped(self._process or self._replay(), script, self._tell):
-            self._take_up(*block)
+        for block in self._replayer.piped(self._process or self._replay(), script, self._tell):
+            self.recorded.take_up(*block)
             yield block
-        self._script += script
-        self._spend(began)
+        self.recorded.text += script
+        self.recorded.spend(began)
 
     @property
     def short_script(self) -> bytes:
         """Lines that leave the machine as the script does: those of the last checkpoint, and the lines since."""
-        checkpoint, covered = self._base
-        return checkpoint.lines + self._script[covered:]
+        checkpoint, covered = self.recorded.base
+        return checkpoint.lines + self.recorded.text[covered:]
 
     @property
     def weight(self) -> float:
         """How much a new process would carry out: from 1 on it is time for a checkpoint."""
-        return (len(self._script) - self._base[1]) / WEIGHTY_BYTES + self.spent / WEIGHTY_SECONDS
-
-    def shorten(self, checkpoint: Checkpoint) -> None:
-        """Takes up a checkpoint of `short_script`, as that was some time ago: a new process begins with its lines."""
-        before, covered = self._base
-        gone = max(0, checkpoint.number - before.lines.count(b"\n"))
-        for _ in range(gone):
-            covered = self._script.index(b"\n", covered) + 1
-        self._base = Checkpoint(before.number + gone, checkpoint.lines), covered
+        return (self.size - self.recorded.base[1]) / WEIGHTY_BYTES + self.recorded.spent / WEIGHTY_SECONDS
 
     def follow(self) -> None:
         """Brings a spare process to where the machine is, in a thread of its own: it takes the place of one that is gone.
@@ -220,18 +170,19 @@ class Session(contextlib.AbstractContextManager["Session"]):
             if self._spare and self._spare.process.fed > self._script_bytes:
                 self._spare.process.close()
                 self._spare = None
-            if not self._has_ended:
-                self._spare = self._spare or self._copy()
+            if not self._replayer.has_ended:
+                self._spare = self._spare or self._replayer.copy()
                 try:
-                    self._bring_up(self._spare)
+                    self._replayer.bring_up(self._spare)
                 except BaseException:
                     self._spare = None
                     raise
 
     def renewed(self) -> "Session":
         """A session on the same machine whose script is `short_script`. Raises as a replay does."""
-        heir, since = self.rewound(self.short_script), self._marks[self._base[0].number :]
-        if heir._marks[heir.lines - len(since) :] != since:
+        recorded = self.recorded
+        heir, since = self.rewound(self.short_script), recorded.marks[recorded.base[0].number :]
+        if heir.recorded.marks[heir.lines - len(since) :] != since:
             heir.close()
             raise ReplayDiffers(DIFFERS)
         heir.losses = self.losses
@@ -259,7 +210,7 @@ class Session(contextlib.AbstractContextManager["Session"]):
         if self._process:
             self._process.close()
         self._process = None
-        if self._has_ended:
+        if self._replayer.has_ended:
             with self._spare_turn:
                 if self._spare:
                     self._spare.process.close()
@@ -267,7 +218,7 @@ class Session(contextlib.AbstractContextManager["Session"]):
 
     def end(self) -> None:
         """Ends the process for good, also while another thread waits for it: that one gets ProgramGone."""
-        self._has_ended, spare = True, self._spare
+        self._replayer.has_ended, spare = True, self._spare
         for process in (self._process, spare.process if spare else None):
             if process:
                 process.kill()
@@ -283,7 +234,7 @@ class Session(contextlib.AbstractContextManager["Session"]):
             done = [(line, "\n".join(answer)) for line, answer in zip(lines, answers) if not is_look(line)]
             if done:
                 self._record(*zip(*done))
-                self._spend(began)
+                self.recorded.spend(began)
         except BaseException:
             self.close()
             raise
@@ -308,76 +259,17 @@ class Session(contextlib.AbstractContextManager["Session"]):
                     self._with_process(spare).ask(["* list"])  # whether it lives
                     return spare.process
                 spare.process.close()
-            return self._with_process(self._copy())
+            return self._with_process(self._replayer.copy())
 
-    def _with_process(self, copy: _Copy) -> Process:
+    def _with_process(self, copy: Copy) -> Process:
         """A copy's process, which is the session's now, brought up. Raises as a replay does, and then it is closed."""
         self._process = copy.process
         try:
-            self._bring_up(copy, self._tell)
+            self._replayer.bring_up(copy, self._tell)
         except BaseException:
             self.close()
             raise
         return copy.process
-
-    def _copy(self) -> _Copy:
-        """A new process, which has carried out a checkpoint's lines, if there is one, in place of the first lines."""
-        process = start(self.program, self.command, self.images, self._patience)
-        checkpoint, covered = self._base
-        try:
-            if read(process.ask(["* list"])[0]) != NEW_MACHINE:
-                raise OutOfStep("the program doesn't begin with a new machine")
-            self._check()
-            deque(self._piped(process, checkpoint.lines), 0)
-        except BaseException:
-            process.close()
-            raise
-        return _Copy(process, checkpoint.number, covered)
-
-    def _bring_up(self, copy: _Copy, tell: Callable[[int], object] = lambda percent: None) -> None:
-        """Carries out what the script has since. No process outlives an error."""
-        script = bytes(self._script[copy.size :])
-        try:
-            for lines, answers in self._piped(copy.process, script, tell):
-                for line, answer, mark in zip(lines, answers, _marks(answers)):
-                    if mark != self._marks[copy.number]:
-                        told = f"line {copy.number + 1}, {line[:60]!r}, now with {answer[:60]!r}"
-                        raise ReplayDiffers(f"{DIFFERS}: {told}")
-                    copy.number += 1
-        except BaseException:
-            copy.process.close()
-            raise
-        copy.size += len(script)
-
-    def _piped(
-        self, process: Process, script: bytes, tell: Callable[[int], object] = lambda percent: None
-    ) -> Iterator[Block]:
-        """Lines that a session recorded, and their answers, in blocks as they come; tells how far it is, in percent.
-
-        Raises ProgramGone, and OutOfStep where there are more answers than lines, or fewer.
-        """
-        lines, number, stops = script.decode("ascii").split("\n")[:-1], 0, ""
-        left = iter(lines)
-        line = next(left, "")
-        for block in process.pour(script) if lines else ():
-            if self._has_ended:
-                raise ProgramGone("the session has ended")
-            tell(min(99, 100 * number // len(lines)))
-            answers = list[str]()
-            for part in block.decode("latin-1").split("\n")[:-1]:
-                if line[:1] == "*" != part[:1]:  # before an operator's answer stand stops
-                    stops += f"{part}\n"
-                    continue
-                if not line:
-                    raise OutOfStep(f"after the answers to a script there came {part[:60]!r}")
-                answers.append(stops + part if stops else part)
-                line, stops = next(left, ""), ""
-            number += len(answers)
-            yield lines[number - len(answers) : number], answers
-        if line:
-            raise OutOfStep("the program hasn't answered all lines of a script")
-        if lines:
-            tell(100)
 
     def _tell(self, percent: int) -> None:
         """Tells how much of the script is carried out, where that is another number than before."""
@@ -385,37 +277,6 @@ class Session(contextlib.AbstractContextManager["Session"]):
             self._percent = percent
             self.progress(percent)
 
-    def _spend(self, began: float) -> None:
-        """Counts the time since then."""
-        seconds = time.monotonic() - began
-        self.spent, self.total = self.spent + seconds, self.total + seconds
-
     def _record(self, lines: Sequence[str], answers: Sequence[str]) -> None:
         """Adds lines to the script, and takes up their answers."""
-        self._take_up(lines, answers)
-        # by now each line there has its mark, also for a spare's thread
-        self._script += "\n".join([*lines, ""]).encode("ascii")
-
-    def _take_up(self, lines: Sequence[str], answers: Sequence[str]) -> None:
-        """Adds answers to the digest; follows the policies of their lines' users."""
-        self._answers.update("\n".join([*answers, ""]).encode("latin-1"))
-        self._marks.extend(_marks(answers))
-        for line, answer in zip(lines, answers):
-            if line[2:3] in "elp ":
-                self._follow_policy(line, answer)
-
-    def _follow_policy(self, line: str, answer: str) -> None:
-        if line[0] == "*" or is_refusal([answer]):
-            return
-        match words_of(line):
-            case ["enter"] | ["load", _]:
-                self.policy[int(line[0])] = "keep"
-            case ["policy", choice]:
-                self.policy[int(line[0])] = choice
-            case ["leave"]:
-                del self.policy[int(line[0])]
-
-
-def _marks(answers: Sequence[str]) -> Iterator[int]:
-    """Numbers of 32 bits that tell answers from others."""
-    return map(crc32, map(str.encode, answers))
+        self.recorded.record(lines, answers)

@@ -1,0 +1,75 @@
+"""The thread of a machine: turns at it are executed there one at a time, first come, first served, for an event loop."""
+
+import asyncio
+import concurrent.futures
+from collections.abc import Callable
+from functools import partial
+
+from .. import LabError
+from ..machine.answers import OutOfStep
+from ..machine.session import ProgramGone, ReplayDiffers
+from .shared_machine import SharedMachine, Turn
+
+
+class Stopped(LabError):
+    """The machine was stopped for good, since a replay differs."""
+
+
+def rebuilding(letter: str, percent: int) -> str:
+    """How far a new process has carried out a machine's script."""
+    return f"machine {letter} is being rebuilt: {percent} %"
+
+
+class MachineThread:
+    """A machine that blocks in a thread of its own. The event loop's thread alone reports to seats.
+
+    lock: held by whoever has the machine
+    stopped, down, rebuilding: why the machine can't be asked any more, or now; "" where it can
+    """
+
+    def __init__(self, machine: SharedMachine, changed: Callable[[], None], doubted: Callable[[], None]) -> None:
+        """changed: called where seats have news; doubted: called where the machine is stopped, since a replay differs"""
+        self.lock = asyncio.Lock()  # which is given first come, first served
+        self.stopped = self.down = self.rebuilding = ""
+        self.changed, self.machine, self._doubted = changed, machine, doubted
+        self._thread = concurrent.futures.ThreadPoolExecutor(1)
+
+    async def execute(self, turn: Turn) -> None:
+        """Executes a turn in the machine's thread, and reports it. Raises LabError where the machine is down."""
+        if self.stopped:
+            raise Stopped(self.stopped)
+        letter = self.machine.letter
+        self.machine.session.progress = partial(self._follow_rebuilding, asyncio.get_running_loop())
+        try:
+            await self.call(partial(self.machine.execute, turn))
+            self.down = ""
+        except ReplayDiffers as error:
+            self.stopped = f"machine {letter} was stopped, so that nothing goes on in doubt: {error}"
+            self._doubted()
+            raise Stopped(self.stopped) from error
+        except (ProgramGone, OutOfStep) as error:
+            self.down = f"machine {letter} is down: {error}"
+            raise
+        finally:
+            self.rebuilding = ""
+            self.machine.report(turn)
+            self.changed()
+
+    async def call(self, call: Callable[[], None]) -> None:
+        """Calls in the machine's thread. A caller who is cancelled waits for it, so that no notes are made meanwhile."""
+        begun = asyncio.get_running_loop().run_in_executor(self._thread, call)
+        try:
+            await asyncio.shield(begun)
+        finally:
+            await asyncio.wait([begun])
+
+    def end(self) -> None:
+        """Ends the machine's process, whatever it does, and the thread."""
+        self.stopped = self.stopped or "the server ends"
+        self.machine.session.end()
+        self._thread.shutdown()
+
+    def _follow_rebuilding(self, loop: asyncio.AbstractEventLoop, percent: int) -> None:
+        """Reports how far a new process has come; called in the machine's thread."""
+        self.rebuilding = "" if percent == 100 else rebuilding(self.machine.letter, percent)
+        loop.call_soon_threadsafe(self.changed)

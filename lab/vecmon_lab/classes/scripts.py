@@ -1,0 +1,112 @@
+"""The scripts of a machine: checkpoints make them short for a new process, a spare process follows, and a long one is succeeded."""
+
+import asyncio
+import concurrent.futures
+import contextlib
+import math
+from collections.abc import Callable, Sequence
+
+from .. import LabError
+from ..machine.session import Checkpoint, Session
+from .beside import Beside
+from .machine_thread import MachineThread
+from .store import ScriptFile
+
+FOLLOW_SECONDS, SHORTEN_SECONDS = 0.2, 0.5  # between a spare's parts; and between looks at how long a script has become
+NEXT_SCRIPT_BYTES, NEXT_SCRIPT_SECONDS = 12_000_000, 300.0  # after which another one begins: a server begins with it
+MOST_SET_UP_BYTES = 9_000_000  # of another one's beginning
+MOST_BEHIND = 3.0  # as many scripts that get a checkpoint: then no slices are granted until there is one
+
+
+Saver = Callable[[Session, Sequence[int]], bool]
+"""Saves notes of a session, and of these scripts; whether that went well."""
+
+
+class Scripts:
+    """The scripts of a machine, and the file of the last one.
+
+    set_up: of each script, how many lines at its beginning set the machine up
+    """
+
+    def __init__(self, thread: MachineThread, file: ScriptFile, makers: Beside, save: Saver) -> None:
+        """makers: places where checkpoints are made"""
+        self.file = file
+        self.set_up: Sequence[int] = [0]
+        self._machine, self._thread, self._makers, self._save = thread.machine, thread, makers, save
+        self._least = math.inf  # the weight of a script that gets a checkpoint; more where there was none
+        self._follower = concurrent.futures.ThreadPoolExecutor(1)  # of the spare process
+
+    def is_behind(self) -> bool:
+        """Whether a new process would be busy for so long that slices wait for a checkpoint."""
+        return self._machine.session.weight > MOST_BEHIND * self._least
+
+    async def shorten(self) -> None:
+        """Makes checkpoints, so that a new process is soon where the last one was; goes for ever."""
+        self._least = max(1.0, self._machine.session.weight)
+        while True:
+            await asyncio.sleep(SHORTEN_SECONDS)
+            if self._machine.session.weight >= self._least:
+                try:
+                    await self.make_checkpoint()
+                    self._least = 1.0
+                    session = self._machine.session
+                    if session.size > NEXT_SCRIPT_BYTES or session.recorded.total > NEXT_SCRIPT_SECONDS:
+                        await self.begin_next()
+                except (LabError, OSError):
+                    self._least = max(1.0, 1.5 * self._machine.session.weight)
+
+    async def follow(self) -> None:
+        """Keeps a spare process where the machine is; goes for ever."""
+        while True:
+            with contextlib.suppress(LabError):  # whoever loses the machine itself is told
+                await asyncio.get_running_loop().run_in_executor(self._follower, self._machine.session.follow)
+            await asyncio.sleep(FOLLOW_SECONDS)
+
+    async def make_checkpoint(self) -> None:
+        """Makes a checkpoint beside the class, of this moment or shortly before. Raises LabError where there is none."""
+        async with self._thread.lock:
+            session = self._machine.session
+            script, spent = session.short_script, session.recorded.spent
+        program, *words = session.command
+        words = [program, f"{session.quantum}", *words[words.index("/dev/stdin") + 1 :]]
+        number, _, lines = (await self._makers.run("checkpoints.checkpoint", *words, script=script)).partition(b"\n")
+        async with self._thread.lock:
+            session.recorded.shorten(Checkpoint(int(number), lines), spent)
+
+    async def begin_next(self) -> None:
+        """Goes on in another script, which begins with the last checkpoint.
+
+        Raises LabError and OSError where that can't be; then the script goes on.
+        """
+        async with self._thread.lock:
+            await self._thread.call(self._begin_next)
+            for seat in (*self._machine.seats.users.values(), self._machine.seats.operator):
+                seat.used = 0
+        self._thread.changed()
+
+    def _begin_next(self) -> None:
+        """Begins another script; called in the machine's thread."""
+        heir = self._machine.session.renewed()
+        set_up = [*self.set_up, heir.lines]
+        try:
+            if heir.size > MOST_SET_UP_BYTES or not self.file.is_saved:
+                raise LabError("there is no room for another script")
+            file = self.file.successor(len(set_up), heir.script)
+            if not self._save(heir, set_up):
+                file.close()
+                raise LabError("the notes beside the script aren't saved")
+        except BaseException:
+            heir.close()
+            raise
+        old, self._machine.session = self._machine.session, heir
+        old.end()
+        old.close()
+        self.file.close()
+        self.file = self._machine.file = file
+        self.set_up = set_up
+
+    def end(self) -> None:
+        """Ends the spare's thread, and closes the file; the machine has ended."""
+        self._follower.shutdown()
+        self._machine.session.close()
+        self.file.close()

@@ -1,0 +1,98 @@
+"""A student's requests at one seat, as steps at the machine, and what the student's page shows."""
+
+import contextlib
+from collections.abc import Callable, Mapping
+
+from .. import LabError
+from ..exercises.check import mistakes_told
+from .languages import LANGUAGES, SourceText
+from .messages import Message, shown, source_view
+from .progress import Exercises
+from .requests import Check, Draft, Lines, ReadVersion, Source, StepLine, TryCase
+from .seats import Seat
+from .shared_machine import SEAT_BYTES, SharedMachine, Steps
+from .sources import SeatSource, kept_program
+from .text_store import TextStore
+
+SeatRequest = Source | StepLine | Draft | ReadVersion | Check | TryCase
+"""A student's request that needs nothing but the seat. Lines are the operator's as well: `SharedMachine.lines`."""
+
+
+Checker = Callable[[str, str, SourceText], None]
+"""Starts to check an answer of a seat to an exercise. Raises BadRequest."""
+
+
+class Student:
+    """A seat, its source, and the exercises."""
+
+    def __init__(
+        self, machine: SharedMachine, seat: Seat, texts: TextStore, exercises: Exercises, check: Checker
+    ) -> None:
+        """texts: keeps the seat's source and its versions"""
+        self.machine, self.seat, self.exercises = machine, seat, exercises
+        self.source = SeatSource(seat.name, texts)
+        self._texts, self._check = texts, check
+
+    def restore(self) -> None:
+        """Brings back which source is in the seat's machine, where its text is kept."""
+        with contextlib.suppress(LabError):
+            source, program = kept_program(self._texts, self.seat.name)
+            if source.text:
+                self.seat.take(source, program)
+                self.seat.list_program(program)
+
+    def keep(self) -> bool:
+        """Keeps the source where it has changed; whether there is a new version."""
+        self.source.written = self.seat.written
+        return self.source.keep(self.seat.program)
+
+    def execute(self, request: SeatRequest) -> Steps[Message]:
+        """Executes a request; what its answer has of its own. Raises BadRequest."""
+        match request:
+            case Source(source):
+                return (yield from self._write(source))
+            case StepLine():
+                yield from self.machine.step_line(self.seat)
+            case Draft(source, number):
+                self.source.draft(source, number)
+            case ReadVersion(number):
+                return text_of(self.source.version(number))
+            case Check(name, source):
+                self._check(self.seat.name, name, source)
+            case TryCase(name, source):
+                case = self.exercises.failed(self.seat.name, name, source)
+                told = yield from self._write(source, is_answer=True)
+                if not told["mistakes"]:
+                    given = Lines("", case(int(self.seat.state["pc"], 16)), 0, [])
+                    yield from self.machine.lines(self.seat, given, [])
+                return told
+        return {}
+
+    def _write(self, source: SourceText | None, is_answer: bool = False) -> Steps[Message]:
+        """Starts the machine anew with a source, or with the one that is there; the mistakes that it has."""
+        if source:
+            self.source.write(source)
+        mistakes, warnings = yield from self.machine.write(self.seat, source, is_answer)
+        if mistakes:
+            self.seat.stand(f"{len(mistakes)} mistake{'s' * (len(mistakes) > 1)} in the source", True)
+        return {"mistakes": mistakes_told(mistakes), "warnings": mistakes_told(warnings)}
+
+    def view(self, more: Mapping[str, object]) -> Mapping[str, object]:
+        """What the student's page shows; more: what isn't the seat's own."""
+        return {
+            "seat": self.seat.name,
+            "state": shown(self.seat),
+            "stop": self.seat.stop,
+            "quantum": self.machine.session.quantum,
+            "share": {"used": self.seat.used, "of": SEAT_BYTES},
+            "languages": [language.name for language in LANGUAGES],
+            "source": source_view(self.source, self.seat),
+            "exercises": self.exercises.views(self.seat.name),
+            "again": self.seat.program is not None,
+            **more,
+        }
+
+
+def text_of(source: SourceText) -> Message:
+    """A source as a message has it."""
+    return {"text": source.text, "language": source.language}

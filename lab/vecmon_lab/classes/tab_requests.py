@@ -1,0 +1,95 @@
+"""Requests of a class's tabs are answered, and news of the class collected for them (docs/CLASS_PROTOCOL.md)."""
+
+import time
+from collections.abc import Mapping
+
+from .. import LabError
+from .codes import TEACHER, WALL
+from .messages import Message, add_words, request_of
+from .names import checked_name
+from .requests import BadRequest, Check, Compare, Draft, JsonObject, Lines, ReadVersion, Request, SetName, Source
+from .requests import StepLine, TryCase, read_request
+from .seats import Seat
+from .shared_machine import Answers
+from .teacher import execute_teachers
+from .teacher_view import teacher_view, wall_view
+from .view import Class, Tab
+
+
+class TabRequests:
+    """Answers the tabs of a class."""
+
+    def __init__(self, members: Class) -> None:
+        self._members = members
+
+    def hello(self, tab: Tab) -> Message:
+        """The first message to a tab, which joins the class; news follow it."""
+        self._members.tabs.add(tab)
+        self._members.tell([tab.who])
+        hello: Message = {"kind": "hello", "who": tab.who, "time": time.time()}
+        hello.update(self.news(tab))
+        return hello
+
+    def leave(self, tab: Tab) -> None:
+        """The tab is gone."""
+        self._members.tabs.discard(tab)
+        self._members.tell([tab.who])
+
+    async def answer(self, tab: Tab, text: str, refusal: str = "") -> Message:
+        """The answer to a request, with what is new. With a refusal, which is a sentence, nothing is done."""
+        answer: Message = {"kind": "answer", "id": 0}
+        message: JsonObject = {}
+        done: Answers = []
+        try:
+            message = request_of(text, answer)
+            if refusal:
+                raise BadRequest(refusal)
+            if tab.who == WALL:
+                raise BadRequest("the wall only looks")
+            answer.update(await self._execute(tab, read_request(message, tab.who == TEACHER), done))
+        except (LabError, ValueError, RecursionError) as error:
+            answer.update({"error": str(error), "done": done})
+        add_words(answer, "*" if tab.who == TEACHER else tab.who[-1], message, done)
+        answer.update(self.news(tab))
+        return answer
+
+    def news(self, tab: Tab) -> Message:
+        """What the tab hasn't been sent: a patch of its view, and entries of logs."""
+        tab.changed.clear()
+        return tab.sent.news(self._view(tab), self._logs(tab))
+
+    def _view(self, tab: Tab) -> Mapping[str, object]:
+        """All that a tab shows, but logs."""
+        if tab.who == TEACHER:
+            return teacher_view(self._members, tab)
+        if tab.who == WALL:
+            return wall_view(self._members)
+        return self._members.student_view(self._members.student(tab.who))
+
+    def _logs(self, tab: Tab) -> list[Seat]:
+        """The seats whose logs a tab shows."""
+        if tab.who == WALL:
+            return []
+        if tab.who != TEACHER:
+            return [self._members.seat(tab.who)]
+        operators = [room.seats.operator for room in self._members.rooms.values()]
+        return operators if tab.shoulder is None else [*operators, tab.shoulder]
+
+    async def _execute(self, tab: Tab, request: Request, done: Answers) -> Message:
+        """Executes a request; what its answer has of its own. Raises BadRequest, and LabError where the machine is down."""
+        members, is_teacher = self._members, tab.who == TEACHER
+        match request:
+            case Lines(machine):
+                seat = members.room(machine).seats.operator if is_teacher else members.seat(tab.who)
+                return {"do": done, "look": await members.rooms[seat.name[0]].lines(seat, request, done)}
+            case SetName(seat_name, name):
+                members.set_name(members.seat(seat_name if is_teacher else tab.who).name, checked_name(name))
+            case Compare(source, other):
+                return {"listings": members.comparisons.ask(tab.who, source, other)}
+            case Source() | StepLine() | Draft() | ReadVersion() | Check() | TryCase():
+                seen = tab.shoulder.name if tab.shoulder else ""  # whose versions a teacher reads
+                student = members.student(seen if is_teacher else tab.who)
+                return await members.rooms[student.seat.name[0]].run(student.seat, student.execute(request))
+            case _:
+                return await execute_teachers(members, tab, request)
+        return {}

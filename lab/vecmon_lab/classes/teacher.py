@@ -1,0 +1,65 @@
+"""Requests that only the teacher of a class makes."""
+
+import asyncio
+
+from .codes import WALL
+from .messages import Message
+from .requests import (
+    BadRequest,
+    Give,
+    LookOver,
+    PutOnWall,
+    ReadAnswer,
+    Renew,
+    Reset,
+    SetClock,
+    SetRights,
+    ShowCodes,
+    TeacherRequest,
+    Write,
+)
+from .sheet import pictures
+from .student import text_of
+from .view import Class, Tab
+
+
+async def execute_teachers(members: Class, tab: Tab, request: TeacherRequest) -> Message:
+    """Executes a request of a teacher's tab; what its answer has of its own. Raises BadRequest."""
+    match request:
+        case ReadAnswer(seat_name, name, number):
+            return text_of(members.checks.answer(members.seat(seat_name).name, name, number))
+        case Give(name, source):
+            for seat in members.seats(name):
+                members.students[seat.name].source.give(source)
+            members.note(members.seats(name), "The teacher gave a source. Your own is kept, as a version.")
+        case Write(name, text):
+            members.note(members.seats(name), f"The teacher: {text}")
+        case Reset(name):
+            seat, room = members.seat(name), members.rooms[name[0]]
+            await room.run(seat, room.machine.reset(seat))
+            members.note([seat], "The teacher has taken this machine away. Your source is kept.")
+        case SetClock(machine, settings):
+            members.room(machine).set_clock(settings)
+        case SetRights(machine, own_slices):
+            members.room(machine).set_rights(own_slices)
+        case Renew(name):
+            members.renew(name if name == WALL else members.seat(name).name)
+            return {"codes": members.codes.shown(name)}
+        case LookOver(name):
+            tab.shoulder = members.seat(name) if name else None
+            if tab.shoulder:
+                tab.sent.since.pop(tab.shoulder.name, None)
+        case PutOnWall(name):
+            members.wall = members.seat(name) if name else None
+            members.tell([WALL])
+        case ShowCodes(name, with_pictures):
+            return await _shown_codes(members, name, with_pictures)
+    return {}
+
+
+async def _shown_codes(members: Class, name: str, with_pictures: bool) -> Message:
+    """The codes of a seat, or of all for "". Raises BadRequest."""
+    if not (codes := members.codes.shown(name)):
+        raise BadRequest("there is no such seat")
+    shown = await asyncio.to_thread(pictures, members.address, codes) if with_pictures and members.address else {}
+    return {"codes": codes, "pictures": shown}

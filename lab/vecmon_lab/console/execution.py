@@ -1,0 +1,171 @@
+"""The console's program runs, is stepped, or goes back, and what changed meanwhile is shown."""
+
+import itertools
+import re
+import threading
+from collections.abc import Iterable, Iterator, Sequence
+
+from .. import LabError
+from ..assembler.commands import refusal_in_words
+from ..guest.changes import NAMES, Carried, Change, Stepper
+from ..guest.guest import Guest
+from ..instructions.accesses import REGISTER_BYTES
+from ..instructions.reasons import describe_stop
+from ..machine.answers import Addresses, Position, Refused, Standing, Stop, read
+from ..replay.timeline import Timeline
+from ..replay.watches import Watch
+from .conditions import REGISTERS, Conditions
+from .names import DIGITS, VECTORS, Names, state_of
+from .show import Screen, change_rows, change_text
+
+MOST_ROWS = 6  # of what a run has changed
+
+
+class Execution:
+    """Executes a user's program, up to a stop, a breakpoint whose condition holds, or an interrupt.
+
+    interrupt: set by Ctrl-C; changes: rows of what the last run has changed
+    has_mask: whether v0 is the mask of the instruction that was stepped last
+    """
+
+    def __init__(self, guest: Guest, stepper: Stepper, screen: Screen, names: Names, conditions: Conditions) -> None:
+        self.interrupt = threading.Event()
+        self.changes: list[str] = []
+        self.has_mask = False
+        self._guest, self._stepper, self._screen = guest, stepper, screen
+        self._names, self._conditions, self._timeline = names, conditions, Timeline(guest)
+
+    def run(self) -> None:
+        """Runs the program to its next stop, or until Ctrl-C."""
+        self._tell_run(self._go())
+
+    def until(self, place: str) -> None:
+        """As `run`, also to an address."""
+        address = int(place, 16) if re.fullmatch(DIGITS, place) else -1
+        _, told = self._guest.ask("stop", "breaks")
+        is_new = not isinstance(told, Addresses) or address not in told.addresses
+        line = f"{self._guest.user} break {place}"
+        answer = read(self._guest.session.do(line)) if is_new else told
+        if isinstance(answer, Refused):
+            self._screen.say(*refusal_in_words(line, answer), kind="refused")
+            return
+        try:
+            stop = self._go(address)
+        finally:
+            self._guest.ask(*([f"unbreak {place}"] if is_new else []))
+        self._tell_run(None if is_new and stop == Stop("break", address) else stop)
+
+    def until_changed(self, name: str) -> None:
+        """Steps to the instruction that changes a register, which is shown with what it changed, or to another stop."""
+        self._guest.ask("stop")
+        self.look()
+        before = self._value(name)
+        for carried in self._stepped(itertools.count()):
+            if self._value(name) != before:
+                self._tell_step(carried)
+                break
+        self.tell_place()
+
+    def step(self, number: int) -> None:
+        """Steps so many instructions, and shows each with what it changed."""
+        for carried in self._stepped(range(number)):
+            self._tell_step(carried)
+        self.tell_place()
+
+    def back(self, number: int) -> None:
+        """Goes back so many instructions."""
+        self._guest.ask("stop")
+        self._tell_back(self._timeline.back(number))
+
+    def back_to_write(self, digits: str) -> None:
+        """Goes back to the last instruction that changed the bytes of a symbol, or else 8, from an address on."""
+        address, symbols = int(digits, 16) if re.fullmatch(DIGITS, digits) else -1, self._names.symbols
+        sizes = (symbols.sizes.get(name, 0) for name, at in symbols.addresses.items() if at == address)
+        if not 0 <= address < 1 << 48:
+            raise LabError(f"{digits} is no address of memory")
+        self._guest.ask("stop")
+        self._timeline.watches = [Watch("watch", address, max(sizes, default=0) or 8)]
+        try:
+            is_there = self._timeline.back_to_halt((), self.interrupt.is_set)
+        finally:
+            self._timeline.watches = []
+        if is_there:
+            self._timeline.back()
+        elif is_there is False:
+            self._screen.say(f"No instruction has changed what lies at {self._names.place(address)}.")
+        self._tell_back(is_there)
+
+    def look(self) -> list[Change]:
+        """Looks at all registers again, where the machine shows them; what has changed."""
+        return self._stepper.look() if state_of(self._guest)[0] == "stopped" else []
+
+    def tell_place(self) -> None:
+        """Shows the next instruction."""
+        run, pc = state_of(self._guest)
+        if run == "stopped":
+            line, text = self._names.symbols.line(pc), self._stepper.fetch(pc)[1]
+            self._screen.say(f"=> {self._names.place(pc)}  {text}" + (f"  ({line})" if line else ""))
+
+    def _go(self, address: int = -1) -> Stop | None:
+        """Runs the program to a stop; to a breakpoint only where its condition holds, or it is at an address."""
+        self._guest.ask("stop")  # it may have gone on in slices of the operator's
+        while True:
+            stop = self._guest.go(None, self.interrupt.is_set)
+            if stop is None or stop.kind != "break" or stop.pc == address or self._conditions.hold(stop.pc):
+                return stop
+            if self.interrupt.is_set():
+                return None
+
+    def _stepped(self, numbers: Iterable[int]) -> Iterator[Carried]:
+        """Steps instructions of these numbers, 0 first, up to a stop, a breakpoint or Ctrl-C, which is shown."""
+        breaks = self._guest.told("breaks", Addresses).addresses
+        for number in numbers:
+            pc, is_interrupted = self._guest.pc, self.interrupt.is_set()
+            if is_interrupted or number and pc in breaks and self._conditions.hold(pc):
+                self._screen.say(describe_stop(Standing("stopped" if is_interrupted else "break", pc)))
+                return
+            carried = self._stepper.step()
+            self.has_mask = carried.text.endswith("v0.t")
+            if carried.stop:
+                self._screen.say(self._guest.explain(carried.stop))
+                return
+            yield carried
+
+    def _tell_run(self, stop: Stop | None) -> None:
+        """Why the program stopped, and what has changed since it began."""
+        self._screen.say(self._guest.explain(stop) if stop else describe_stop(Position("stopped", self._guest.pc)))
+        self._tell_changes()
+
+    def _tell_back(self, is_there: bool | None) -> None:
+        """Shows what is other than at the later instant, and where the program stands now."""
+        if is_there is False:
+            self._screen.say("This is the begin: there is nothing before.")
+        self._tell_changes()
+
+    def _tell_changes(self) -> None:
+        """What has changed since it was looked at last, and the next instruction."""
+        self.has_mask = False
+        self.changes = rows = self._change_rows(self.look())
+        if len(rows) > MOST_ROWS:
+            rows = [*rows[: MOST_ROWS - 1], f"      and {len(rows) - MOST_ROWS + 1} rows more: see changes"]
+        self._screen.say(*rows, kind="changed")
+        self.tell_place()
+
+    def _tell_step(self, carried: Carried) -> None:
+        """Shows an instruction that was stepped, with what it changed."""
+        self._screen.say(f"   {self._names.place(carried.pc)}  {carried.text}")
+        self._screen.say(*self._change_rows(carried.changes), kind="changed")
+
+    def _change_rows(self, changes: Sequence[Change]) -> list[str]:
+        """What changed: scalar and control registers first, then each vector register, and memory, in rows of their own."""
+        rows = list[str]()
+        for _, group in itertools.groupby(changes, lambda change: (type(change), getattr(change, "register", 0))):
+            rows += change_rows(map(change_text, group), self._screen.width)
+        return rows
+
+    def _value(self, name: str) -> object:
+        """What a register holds, by what was looked at last."""
+        registers = self._stepper.registers
+        if name in VECTORS:
+            return bytes(registers.v[VECTORS[name] * REGISTER_BYTES :][:REGISTER_BYTES])
+        return registers.values()[NAMES.index(REGISTERS[name])]

@@ -1,0 +1,68 @@
+"""Names in the console's lines: registers, symbols and what may be left out become the words that the monitor takes."""
+
+import re
+from collections.abc import Iterable
+
+from .. import LabError
+from ..assembler.commands import COMMANDS
+from ..guest.changes import Stepper
+from ..guest.guest import Guest
+from ..guest.symbols import Symbols
+from ..instructions.accesses import PAGE_BYTES
+from ..machine.answers import ControlRegisters, Position
+from ..tables.table import read_table
+from .conditions import REGISTERS
+
+DIGITS = "[0-9a-fA-F]+"
+LEFT_OUT = {"dis": "{pc:x} {number}", "load": "image", "peek": "ADDR 16", "step": "1", "vreg": "vN {sew}"}
+LEFT_OUT |= {"list": "{pc:x}", "back": "1"}
+PLACES = ("ADDR", "VALUE", "PLACE")  # words that a symbol may stand for; the last one may be a register too
+VECTORS = {f"v{number}": number for number in range(32)}
+CHOICES = {kind: words.split() for kind, words in read_table("choices")} | {"COMMAND": list(COMMANDS)}
+
+
+class Names:
+    """The names that a user's lines may have; `symbols` are those of the program that is loaded."""
+
+    def __init__(self, guest: Guest, stepper: Stepper, symbols: Symbols) -> None:
+        self.symbols = symbols
+        self._guest, self._stepper = guest, stepper
+
+    def choices(self, kind: str) -> Iterable[str]:
+        """What may stand for a word of a command's form."""
+        registers = [*REGISTERS, *VECTORS] if kind == "PLACE" else []
+        return [*self.symbols.addresses, *registers] if kind in PLACES else CHOICES.get(kind, [])
+
+    def words(self, line: str) -> list[str]:
+        """The words of a line as the monitor takes them: with what may be left out, and with names as what they name."""
+        name = line.split()[0]
+        form = COMMANDS[name].form.split() if name in COMMANDS else [name]
+        words = line.split(None, max(len(form) - 1, 1))
+        vtype, (_, pc) = self._stepper.registers.control.vtype, state_of(self._guest)
+        number, sew = min(8, (PAGE_BYTES - pc % PAGE_BYTES) // 4), ControlRegisters(vtype=vtype & 0x3F).sew
+        words += LEFT_OUT.get(name, "").format(pc=pc, number=number, sew=sew).split()[len(words) - 1 :]
+        return words[:1] + [self.named(word, kind) for word, kind in zip(words[1:], [*form[1:], ""])]
+
+    def named(self, word: str, kind: str) -> str:
+        """A register's number for its name; the digits of a symbol's address, as main or main+8, or of a number with 0x."""
+        if kind == "xN":
+            return REGISTERS.get(word, word)
+        if kind not in PLACES or kind == "PLACE" and (word in REGISTERS or word in VECTORS):
+            return word
+        name, _, offset = word.partition("+")
+        address = self.symbols.addresses.get(name)
+        if address is None and re.fullmatch("[A-Za-z_.$][A-Za-z0-9_.$]*", name) and not re.fullmatch(DIGITS, name):
+            raise LabError(f"there is no symbol {name}")
+        if address is None or not re.fullmatch(f"(0x)?{DIGITS}", offset or "0"):
+            return word.removeprefix("0x")
+        return f"{address + int(offset or '0', 16):x}"
+
+    def place(self, address: int) -> str:
+        """An address, with the symbol before it."""
+        return f"{address:x} {self.symbols.place(address)}".rstrip()
+
+
+def state_of(guest: Guest) -> tuple[str, int]:
+    """Whether the user's program is `stopped` or `running`, and where; or `absent`."""
+    (state,) = guest.ask("state")
+    return (state.run, state.pc) if isinstance(state, Position) else ("absent", 0)

@@ -1,0 +1,83 @@
+"""The script of a session: the lines that were done, how they were answered, and what a new process executes of them."""
+
+import hashlib
+import time
+from array import array
+from binascii import crc32
+from collections.abc import Iterator, Sequence
+from dataclasses import dataclass
+
+from .answers import is_refusal
+from .lines import words_of
+
+Block = tuple[Sequence[str], Sequence[str]]
+"""Lines and their answers, which have newlines between their lines."""
+
+
+@dataclass(frozen=True)
+class Checkpoint:
+    """Lines that stand for the first so many lines of a script: they leave a new machine as those do."""
+
+    number: int
+    lines: bytes
+
+
+class Script:
+    """Lines, each with its newline, and the answers to them, of which a digest and a mark each are kept.
+
+    `answers` is the digest, and `marks` has the CRC-32 of each answer, by which a replay is compared. `base` has the last
+    checkpoint, and how many bytes of the script it stands for. `policy` has the policy for agnostic elements of each user who is there. `total` is how many
+    seconds the lines have taken, and `spent` those that a new process would take.
+    """
+
+    def __init__(self) -> None:
+        self.text = bytearray()
+        self.marks = array("I")
+        self.base = Checkpoint(0, b""), 0
+        self.policy: dict[int, str] = {}
+        self.spent = self.total = 0.0
+        self.answers = hashlib.sha256()
+
+    def shorten(self, checkpoint: Checkpoint, spent: float) -> None:
+        """Takes up a checkpoint of the script, as that was when so many seconds were `spent`: a new process begins with it."""
+        before, covered = self.base
+        gone = max(0, checkpoint.number - before.lines.count(b"\n"))
+        for _ in range(gone):
+            covered = self.text.index(b"\n", covered) + 1
+        self.base = Checkpoint(before.number + gone, checkpoint.lines), covered
+        self.spent -= spent
+
+    def record(self, lines: Sequence[str], answers: Sequence[str]) -> None:
+        """Adds lines, and takes up their answers."""
+        self.take_up(lines, answers)
+        # by now each line there has its mark, also for a spare's thread
+        self.text += "\n".join([*lines, ""]).encode("ascii")
+
+    def take_up(self, lines: Sequence[str], answers: Sequence[str]) -> None:
+        """Adds answers to the digest; follows the policies of their lines' users."""
+        self.answers.update("\n".join([*answers, ""]).encode("latin-1"))
+        self.marks.extend(marks(answers))
+        for line, answer in zip(lines, answers):
+            if line[2:3] in "elp ":
+                self._follow_policy(line, answer)
+
+    def spend(self, began: float) -> None:
+        """Counts the time since then, by `time.monotonic`."""
+        seconds = time.monotonic() - began
+        self.spent, self.total = self.spent + seconds, self.total + seconds
+
+    def _follow_policy(self, line: str, answer: str) -> None:
+        if line[0] == "*" or is_refusal([answer]):
+            return
+        match words_of(line):
+            case ["enter"] | ["load", _]:
+                self.policy[int(line[0])] = "keep"
+            case ["policy", choice]:
+                self.policy[int(line[0])] = choice
+            case ["leave"]:
+                del self.policy[int(line[0])]
+
+
+def marks(answers: Sequence[str]) -> Iterator[int]:
+    """Numbers of 32 bits that tell answers from others."""
+    return map(crc32, map(str.encode, answers))
