@@ -1,0 +1,124 @@
+"""The synchronous core does what the server does: a desk of one process and a class answer the same requests alike."""
+
+import asyncio
+import json
+import pathlib
+import random
+from collections.abc import Iterable, Mapping
+from typing import Any
+
+import pytest
+
+from support.class_tabs import patched
+from support.desk import Desk
+from support.desk_requests import Request, drawn_requests, repository_requests
+from vecmon_lab.classes.store import Store
+from vecmon_lab.classes.tab_requests import TabRequests
+from vecmon_lab.classes.view import Class, Tab
+from vecmon_lab.exercises.exercise import OURS
+from vecmon_lab.machine.program import find_program
+
+SEAT, LIMIT = "A1", 100_000
+OF_TIMES = ("time", "lesson")  # when a version was made; and what opens a lesson, which is drawn
+Message = Mapping[str, Any]
+Sent = list[list[Message]]
+"""The greeting, and for each request the answer, and the news once nothing goes on."""
+
+
+async def answered_by_server(members: Class, requests: Iterable[Request], has_clock: bool) -> Sent:
+    """What a class sends a student."""
+    desk, tab, room = TabRequests(members), Tab(SEAT), members.rooms["A"]
+    room.set_clock({"on": has_clock, "ms": 10, "limit": LIMIT})
+    tasks = [asyncio.create_task(each) for each in ([room.clock.run(), room.watch()] if has_clock else [])]
+    sent: Sent = [[desk.hello(tab)]]
+    for number, request in enumerate(requests, 1):
+        answer = await desk.answer(tab, json.dumps({"id": number, **request}))
+        while has_clock and members.seat(SEAT).state["run"] == "running" or members.checks.exercises.busy:
+            await asyncio.sleep(0.002)
+        sent.append([answer, desk.news(tab)])
+    for task in tasks:
+        task.cancel()
+    return sent
+
+
+def answered_by_desk(members: Class, requests: Iterable[Request], has_clock: bool) -> Sent:
+    """What a desk with the same exercises sends."""
+    desk = Desk(members.store.program, members.checks.exercises.by_name, LIMIT)
+    desk.has_clock = has_clock
+    sent: Sent = [[desk.hello()]]
+    for number, request in enumerate(requests, 1):
+        sent.append([desk.answer(json.dumps({"id": number, **request})), desk.settle()])
+    desk.close()
+    return sent
+
+
+def answered(folder: pathlib.Path, requests: list[Request], names: Iterable[str], has_clock: bool) -> tuple[Sent, Sent]:
+    """What a class and a desk with exercises of these names send."""
+    exercises = [pathlib.Path(name) for name in names]
+    members = Class(Store(folder, find_program()), 10.0, exercises=exercises)
+    try:
+        server = asyncio.run(answered_by_server(members, requests, has_clock))
+        return server, answered_by_desk(members, requests, has_clock)
+    finally:
+        members.end()
+
+
+def untimed(value: Any) -> Any:
+    """A value without what is another one each time."""
+    if isinstance(value, dict):
+        return {name: untimed(part) for name, part in value.items() if name not in OF_TIMES}
+    return [untimed(part) for part in value] if isinstance(value, list) else value
+
+
+def differences(sent: Sent, others: Sent) -> list[int]:
+    """The numbers of the requests after which answers, settled views or logs differ; 0 is the greeting."""
+    views: list[Any] = [{}, {}]
+    found = []
+    for number, pair in enumerate(zip(sent, others, strict=True)):
+        told = []
+        for side, messages in enumerate(pair):
+            for message in messages:
+                views[side] = patched(views[side], message.get("patch", {}))
+            own = {name: part for name, part in messages[0].items() if name not in ("patch", "logs")}
+            logs = [entry for message in messages for entry in message.get("logs", {}).get(SEAT, [])]
+            told.append(untimed([own, views[side], logs]))
+        found += [number] * (told[0] != told[1])
+    return found
+
+
+def test_all_sources_of_the_repository(tmp_path: pathlib.Path) -> None:
+    requests = repository_requests()
+    assert len(requests) > 1200
+    names = sorted(path.name for path in OURS.iterdir() if path.is_dir())
+    server, desk = answered(tmp_path / "class", requests, names, has_clock=True)
+    assert [(number, requests[number - 1]) for number in differences(server, desk)] == []
+    said = json.dumps(desk)
+    assert said.count('"cases"') > 80 and "The server stopped the program, since it ran for 100,000 ticks" in said
+
+
+def test_drawn_requests(tmp_path: pathlib.Path) -> None:
+    """Also a test of the comparison: one digit of one register, or of one answer, is found."""
+    requests = list(drawn_requests(random.Random(1), 1300))
+    server, desk = answered(tmp_path / "class", requests, ["doubles"], has_clock=False)
+    assert [(number, requests[number - 1]) for number in differences(server, desk)] == []
+    said = [part[0] for messages in desk for part in messages[0].get("do", [])]
+    assert {line.partition(" ")[0] for line in said} >= {
+        "E05",
+        "E11",
+        "E15",
+        "fault",
+        "ok",
+        "out",
+        "running",
+        "stepped",
+    }
+    place = next(at for at in range(500, 1300) if "x" in desk[at][0].get("patch", {}).get("state", {}))
+    registers = desk[place][0]["patch"]["state"]["x"]
+    name, value = next(iter(registers.items()))
+    registers[name] = f"{int(value, 16) ^ 1:x}"
+    assert place in differences(server, desk)
+    registers[name] = value
+    place = next(at for at in range(500, 1300) if desk[at][0].get("look"))
+    answer = desk[place][0]["look"][0]
+    answer[0] = answer[0][:-1] + chr(ord(answer[0][-1]) ^ 1)
+    assert differences(server, desk) == [place]
