@@ -1,26 +1,43 @@
-"""The rooms of the lab, as docs/ARCHITECTURE.md lists them: each stands on those above it alone."""
+"""The rooms of the lab and the modules of a class, as docs/ARCHITECTURE.md lists them: each stands on those above it alone."""
 
 import ast
+import pathlib
 import re
+from collections.abc import Sequence
 
 import vecmon_lab
-from support.places import DOCS, TOP
+from support.architecture import names_in
+from support.places import TOP
 
 LAB = TOP / "lab" / "vecmon_lab"
 ROOMS = [path.parent.name for path in sorted(LAB.glob("*/__init__.py"))]
+CORE, SERVER = names_in("### The synchronous core"), names_in("### The server of a class")
+
+
+def imported(path: pathlib.Path, level: int) -> set[str]:
+    """What a module imports by so many dots: of its own room, or other rooms."""
+    nodes = [node for node in ast.walk(ast.parse(path.read_text("utf-8"))) if isinstance(node, ast.ImportFrom)]
+    return {str(node.module).split(".")[0] for node in nodes if node.level == level and node.module}
+
+
+def misplaced(order: Sequence[str]) -> list[str]:
+    """Modules of a class that import one which this order doesn't have above them."""
+    paths = [(place, LAB / "classes" / f"{module}.py") for place, module in enumerate(order)]
+    return [path.stem for place, path in paths if not imported(path, 1) <= set(order[:place])]
 
 
 def test_each_room_stands_on_those_above_it() -> None:
-    section = (DOCS / "ARCHITECTURE.md").read_text("utf-8").partition("\n## The lab\n")[2].partition("\n#")[0]
-    order = re.findall(r"^\| `([a-z]+)` \|", section, re.MULTILINE)
+    order = names_in("## The lab")
     assert sorted(order) == ROOMS
     for place, room in enumerate(order):
         for path in (LAB / room).glob("*.py"):
-            imports = [
-                node for node in ast.walk(ast.parse(path.read_text("utf-8"))) if isinstance(node, ast.ImportFrom)
-            ]
-            others = {str(node.module).split(".")[0] for node in imports if node.level == 2 and node.module}
-            assert others & set(ROOMS) <= set(order[:place]), path
+            assert imported(path, 2) & set(ROOMS) <= set(order[:place]), path
+
+
+def test_each_module_of_a_class_stands_on_those_above_it() -> None:
+    assert sorted(CORE + SERVER) == sorted(path.stem for path in (LAB / "classes").glob("[a-z]*.py"))
+    assert misplaced(CORE + SERVER) == []
+    assert misplaced([*CORE[:-2], CORE[-1], CORE[-2]]) == [CORE[-1]]
 
 
 def test_the_version_is_that_of_the_changelog() -> None:

@@ -5,20 +5,11 @@ import sys
 
 import pytest
 
+from support.architecture import names_in
+
 BLOCKED = ["asyncio", "fcntl", "resource", "select", "socket", "subprocess", "threading"]
-CORE = [
-    "classes.messages",
-    "classes.past",
-    "classes.progress",
-    "classes.shared_machine",
-    "classes.sources",
-    "classes.student",
-    "assembler.trial",
-    "exercises.check",
-    "lessons.frames",
-    "lessons.page",
-    "machine.session",
-]
+MODULES = [f"classes.{name}" for name in names_in("### The synchronous core")]
+OTHERS = ["assembler.trial", "exercises.check", "lessons.frames", "lessons.page", "machine.session"]
 IMPORT = """
 import importlib, sys
 for name in {blocked}:
@@ -29,14 +20,14 @@ for name in {modules}:
 
 
 def imported(*modules: str) -> str:
-    """Imports modules of the lab while others are blocked; the last line of what Python complains of."""
+    """Imports modules of the lab while others are blocked; "" where that goes well, else what Python complains of."""
     program = IMPORT.format(blocked=BLOCKED, modules=modules)
     done = subprocess.run([sys.executable, "-c", program], stderr=subprocess.PIPE, text=True)
-    return "\n".join(line for line in done.stderr.splitlines() if "import of" in line)
+    return done.stderr if done.returncode else ""
 
 
 def test_the_core_is_imported_without_them() -> None:
-    assert imported(*CORE) == ""
+    assert "classes.student" in MODULES and imported(*MODULES, *OTHERS) == ""
 
 
 @pytest.mark.parametrize(
