@@ -4,6 +4,7 @@ import fnmatch
 import pathlib
 import time
 from collections.abc import Callable, Iterator, Mapping
+from typing import Any
 
 from vecmon_lab import LabError
 from vecmon_lab.assembler.source import Program
@@ -19,10 +20,12 @@ from vecmon_lab.classes.student import Student
 from vecmon_lab.exercises.check import check
 from vecmon_lab.exercises.exercise import Exercise
 from vecmon_lab.exercises.taken import Taken
+from vecmon_lab.machine.process import Vecmon
 from vecmon_lab.machine.session import Session
 
 SLICES = 1000  # that a program gets at once
 NO_C = "no compiler was named"
+OF_TIMES = ("time", "lesson")  # when a version was made; and what opens a lesson, which is drawn
 
 
 class KeptTexts:
@@ -65,7 +68,7 @@ class Desk:
     has_clock: whether programs that run get slices without a request
     """
 
-    def __init__(self, program: pathlib.Path, exercises: Mapping[str, Exercise], limit: int) -> None:
+    def __init__(self, program: Vecmon, exercises: Mapping[str, Exercise], limit: int) -> None:
         """limit: the ticks that a program has without a stop, about"""
         self.has_clock = True
         self.exercises = Exercises(exercises, {name: starts_of(each) for name, each in exercises.items()})
@@ -162,6 +165,7 @@ class Desk:
         self.exercises.busy[seat] = name
 
         def finish() -> None:
+            assert isinstance(self._program, pathlib.Path)
             told = check(self._program, exercise, source.text, None, self._good.get(name))
             del self.exercises.busy[seat]
             if "good" in told:
@@ -170,3 +174,10 @@ class Desk:
             self.exercises.progress(seat, name).add(done)
 
         self._checks.append(finish)
+
+
+def untimed(value: Any) -> Any:
+    """A value without what is another one each time."""
+    if isinstance(value, dict):
+        return {name: untimed(part) for name, part in value.items() if name not in OF_TIMES}
+    return [untimed(part) for part in value] if isinstance(value, list) else value

@@ -1,28 +1,51 @@
-"""The synchronous core: what a student's request does needs no event loop, thread, process or socket."""
+"""The synchronous core: what a student's request does needs no event loop, thread, subprocess or socket."""
 
+import json
+import pathlib
 import subprocess
 import sys
 
 import pytest
 
 from support.architecture import names_in
+from support.desk import Desk, untimed
+from support.places import TOP
 
 BLOCKED = ["asyncio", "fcntl", "resource", "select", "socket", "subprocess", "threading"]
 MODULES = [f"classes.{name}" for name in names_in("### The synchronous core")]
 OTHERS = ["assembler.trial", "exercises.check", "lessons.frames", "lessons.page", "machine.session"]
-IMPORT = """
-import importlib, sys
-for name in {blocked}:
+BLOCK = f"""
+import importlib, json, pathlib, sys
+for name in {BLOCKED}:
     sys.modules[name] = None
-for name in {modules}:
+"""
+IMPORT = """
+for name in {}:
     importlib.import_module(f"vecmon_lab.{{name}}")
 """
+ANSWER = """
+from support.desk import Desk
+from support.spawned import SpawnedProgram
+desk = Desk(SpawnedProgram(pathlib.Path({!r})), {{}}, 100_000)
+print(json.dumps([[desk.answer(request), desk.settle()] for request in {}]))
+"""
+SOURCE = "li t0, 3\nloop: vsetivli x0, 8, e32, m1, ta, ma\nvid.v v1\naddi t0, t0, -1\nbnez t0, loop\nebreak"
+REQUESTS: list[dict[str, object]] = [
+    {"ask": "source", "text": SOURCE},
+    {"ask": "lines", "do": ["step 3", "break 10010"], "look": ["regs", "vreg v1 32"]},
+    {"ask": "lines", "do": ["go"], "slices": 3},
+    {"ask": "again"},
+    {"ask": "lines", "do": ["unbreak 10010", "go"]},
+    {"ask": "source", "text": "addq x1, x2"},
+    {"ask": "draft", "text": "nop", "number": 1},
+    {"ask": "nonsense"},
+]
 
 
 def imported(*modules: str) -> str:
     """Imports modules of the lab while others are blocked; "" where that goes well, else what Python complains of."""
-    program = IMPORT.format(blocked=BLOCKED, modules=modules)
-    done = subprocess.run([sys.executable, "-c", program], stderr=subprocess.PIPE, text=True)
+    command = [sys.executable, "-c", BLOCK + IMPORT.format(modules)]
+    done = subprocess.run(command, stderr=subprocess.PIPE, text=True)
     return done.stderr if done.returncode else ""
 
 
@@ -35,3 +58,15 @@ def test_the_core_is_imported_without_them() -> None:
 )
 def test_what_is_no_part_of_it_is_found(module: str, needed: str) -> None:
     assert f"import of {needed} halted" in imported(module)
+
+
+def test_the_core_answers_without_them(program: pathlib.Path) -> None:
+    """A machine is spawned by other means, and answers as one behind pipes."""
+    requests = [json.dumps(dict(request, id=number)) for number, request in enumerate(REQUESTS)]
+    command = [sys.executable, "-c", BLOCK + ANSWER.format(str(program), requests)]
+    done = subprocess.run(command, stdout=subprocess.PIPE, check=True, cwd=TOP / "lab")
+    desk = Desk(program, {}, 100_000)
+    answers = [[desk.answer(request), desk.settle()] for request in requests]
+    desk.close()
+    assert answers[1][0]["do"] == [["stepped 3 pc=000000000001000c"], ["ok"]]
+    assert untimed(json.loads(done.stdout)) == untimed(json.loads(json.dumps(answers)))

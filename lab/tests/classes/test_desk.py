@@ -10,7 +10,7 @@ from typing import Any
 import pytest
 
 from support.class_tabs import patched
-from support.desk import Desk
+from support.desk import Desk, untimed
 from support.desk_requests import Request, drawn_requests, repository_requests
 from vecmon_lab.classes.store import Store
 from vecmon_lab.classes.tab_requests import TabRequests
@@ -19,7 +19,6 @@ from vecmon_lab.exercises.exercise import OURS
 from vecmon_lab.machine.program import find_program
 
 SEAT, LIMIT = "A1", 100_000
-OF_TIMES = ("time", "lesson")  # when a version was made; and what opens a lesson, which is drawn
 Message = Mapping[str, Any]
 Sent = list[list[Message]]
 """The greeting, and for each request the answer, and the news once nothing goes on."""
@@ -61,13 +60,6 @@ def answered(folder: pathlib.Path, requests: list[Request], names: Iterable[str]
         return server, answered_by_desk(members, requests, has_clock)
     finally:
         members.end()
-
-
-def untimed(value: Any) -> Any:
-    """A value without what is another one each time."""
-    if isinstance(value, dict):
-        return {name: untimed(part) for name, part in value.items() if name not in OF_TIMES}
-    return [untimed(part) for part in value] if isinstance(value, list) else value
 
 
 def differences(sent: Sent, others: Sent) -> list[int]:
