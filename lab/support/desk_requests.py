@@ -64,11 +64,8 @@ NONSENSE: list[Request] = [
 ]
 
 
-def repository_requests() -> list[Request]:
-    """Each source is written and stepped; those of exercises are checked and tried in the case that failed first.
-
-    At the end a program runs without a stop.
-    """
+def source_requests() -> list[Request]:
+    """Each assembler source of the repository is written and stepped; at the end a program runs without a stop."""
     paths = sorted({*(TOP / "lab").rglob("*.s"), *(TOP / "tests").rglob("*.s")})
     texts = [path.read_text("utf-8", "replace") for path in paths if "harness" not in path.parts]
     requests = list[Request]()
@@ -82,11 +79,17 @@ def repository_requests() -> list[Request]:
     requests += [{"ask": "draft", "text": "nop", "number": 0}, {"ask": "name", "name": "Ada"}, _lines(*BAD_LINES[:4])]
     requests += [{"ask": "version", "number": 3}, {"ask": "version", "number": 9999}, {"ask": "nonsense"}]
     requests += [_lines("out "), {"ask": "lines", "do": 3}, {"ask": "case", "exercise": "doubles", "text": "ret"}]
+    return [*requests, {"ask": "source", "text": "loop: j loop\n"}, _lines("step 1"), _lines("go")]
+
+
+def exercise_requests() -> list[Request]:
+    """Each assembler source of the exercises is checked, and tried in the case that failed first."""
+    requests = list[Request]()
     for folder in sorted(OURS.iterdir()):
         for path in sorted(folder.rglob("*.s")):
             answer = {"exercise": folder.name, "text": path.read_text()}
             requests += [{"ask": "check", **answer}, {"ask": "case", **answer}, _lines("step 20")]
-    return [*requests, {"ask": "source", "text": "loop: j loop\n"}, _lines("step 1"), _lines("go")]
+    return requests
 
 
 def drawn_requests(draws: random.Random, number: int) -> Iterator[Request]:

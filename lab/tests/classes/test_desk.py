@@ -11,7 +11,7 @@ import pytest
 
 from support.class_tabs import patched
 from support.desk import Desk, untimed
-from support.desk_requests import Request, drawn_requests, repository_requests
+from support.desk_requests import Request, drawn_requests, exercise_requests, source_requests
 from vecmon_lab.classes.store import Store
 from vecmon_lab.classes.tab_requests import TabRequests
 from vecmon_lab.classes.view import Class, Tab
@@ -79,13 +79,18 @@ def differences(sent: Sent, others: Sent) -> list[int]:
 
 
 def test_all_sources_of_the_repository(tmp_path: pathlib.Path) -> None:
-    requests = repository_requests()
-    assert len(requests) > 1200
+    requests = source_requests()
+    server, desk = answered(tmp_path / "class", requests, ["doubles"], has_clock=True)
+    assert [(number, requests[number - 1]) for number in differences(server, desk)] == []
+    assert len(desk) > 900 and "The server stopped the program, since it ran for 100,000 ticks" in json.dumps(desk)
+
+
+def test_all_answers_of_the_exercises(tmp_path: pathlib.Path) -> None:
+    requests = exercise_requests()
     names = sorted(path.name for path in OURS.iterdir() if path.is_dir())
     server, desk = answered(tmp_path / "class", requests, names, has_clock=True)
     assert [(number, requests[number - 1]) for number in differences(server, desk)] == []
-    said = json.dumps(desk)
-    assert said.count('"cases"') > 80 and "The server stopped the program, since it ran for 100,000 ticks" in said
+    assert len(desk) > 250 and json.dumps(desk).count('"cases"') > 80
 
 
 def test_drawn_requests(tmp_path: pathlib.Path) -> None:
