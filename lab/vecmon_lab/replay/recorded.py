@@ -82,7 +82,9 @@ class Search:
         return self._run(ticks, [*words, "--changes"] if words else [], lambda file: self._halts_of_changes(file, last))
 
     def _log(self, ticks: int, first: int, last: int) -> list[Halt]:
-        """The halts at breakpoints, or by accesses, from one instruction to another."""
+        """The halts at breakpoints, or by accesses, from one instruction to another; none where the first is behind the last."""
+        if first > last:  # the recorder refuses such a window
+            return []
         words = ["--from", f"{first}", "--to", f"{last}", "--log"]
         return self._run(ticks, words, lambda file: self._halts_of_log(file, first))[1]
 
