@@ -73,7 +73,7 @@ def test_lines_that_were_worked_out_by_hand(tmp_path: pathlib.Path, name: str, w
 def test_a_window_has_the_lines_of_its_numbers(tmp_path: pathlib.Path) -> None:
     words = lay(tmp_path, SCALAR_LOOP)
     *lines, end = (HERE / "data/scalar_loop.log").read_text("ascii").splitlines()
-    for first, last in [(1, 1), (2, 5), (13, 13), (13, 2**63), (14, 20), (5, 4)]:
+    for first, last in [(1, 1), (2, 5), (13, 13), (13, 2**63), (14, 20)]:
         ran = record_log(tmp_path, "--from", first, "--to", last, *words)
         assert ran.log.splitlines() == [*lines[first - 1 : last], end]
 
@@ -103,6 +103,8 @@ def test_an_instruction_that_faults_has_no_line(tmp_path: pathlib.Path) -> None:
         (["--log", "log", "--from", "2"], "--log needs --ticks or --to, unless FILE begins with /dev/"),
         (["--log", "log", "--to", "0"], "--to needs a number from 1 to 9223372036854775808"),
         (["--log", "log", "--to", "5", "--from", "x"], "--from needs a number from 1 to 9223372036854775808"),
+        (["--log", "log", "--from", "5", "--to", "4"], "--from needs a number up to that of --to"),
+        (["--log", "log", "--from", f"{2**63}", "--to", f"{2**63 - 1}"], "--from needs a number up to that of --to"),
         (["--from", "2"], "--from and --to need --log"),
         (["--to", "2", "--ticks", "5"], "--from and --to need --log"),
     ],

@@ -1,6 +1,7 @@
 pub mod Beginning
 pub mod CommandLine
 pub mod MemoryWords
+pub mod Paths
 pub mod RecordLines
 pub mod Recorded
 pub mod Statuses

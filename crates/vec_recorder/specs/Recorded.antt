@@ -13,8 +13,9 @@ use Rattle.recording.specs.declared.row.Row.{Row}
 use Rattle.rv_model.specs.declared.vector.policy.Policy.{Policy}
 use Rattle.rv_model.specs.step.Hart.{HartState}
 use Rattle.vec_recorder.specs.Beginning.{Begins}
-use Rattle.vec_recorder.specs.CommandLine.{RunWords, asked_number, asked_policy, run_words, words_fault}
+use Rattle.vec_recorder.specs.CommandLine.{RunWords, asked_number, asked_policy, asked_window, run_words, words_fault}
 use Rattle.vec_recorder.specs.MemoryWords.{IsMemoryOf}
+use Rattle.vec_recorder.specs.Paths.{ArePathsApart}
 use Rattle.vec_recorder.specs.RecordLines.{last_line, row_line}
 use Rattle.vec_recorder.specs.WatchWords.{IsPlaceOf}
 use Rattle.vec_recorder.specs.declared.memory_words.MemoryPath.{MemoryPath}
@@ -55,6 +56,16 @@ abbrev pub AreKept : {F : Type 0} → (Text → F → Type 0) → (F → List �
 AreKept is_made took None Says = ⊤
 AreKept is_made took (Some path) Says = IsWritten is_made took path Says
 
+-- A run of this policy, of so many ticks and with this memory put out what the definitions say, and its records were kept.
+pub record RunBy {F : Type 0} (file_bytes : Text → Option (List ℕ)) (is_made : Text → F → Type 0) (took : F → List ℕ → F → Type 0) (put : List ℕ → Type 0) (words : RunWords)
+    (policy : Policy) (ticks : ℕ) (memories : List MemoryPath) (places : List Place) (window : Window) : Type 0 where
+  pub state : HartState
+  pub begins : Begins file_bytes policy words.image memories words.registers state
+  pub output : put (flat_map put_out (ran ticks state).found)
+  pub counted : AreKept is_made took words.counts (λ told. AreCounted told ticks state)
+  pub changed : AreKept is_made took words.changes (λ told. AreChanged told places ticks state)
+  pub logged : AreKept is_made took words.log (λ told. AreLogged told window ticks state)
+
 -- The run that words ask for was carried out: it put this out, and its records were kept.
 pub record RecordedBy {F : Type 0} (file_bytes : Text → Option (List ℕ)) (is_made : Text → F → Type 0) (took : F → List ℕ → F → Type 0) (put : List ℕ → Type 0) (words : RunWords) : Type 0 where
   pub policy : Policy
@@ -66,14 +77,9 @@ pub record RecordedBy {F : Type 0} (file_bytes : Text → Option (List ℕ)) (is
   pub places : List Place
   pub places_are : AllZip IsPlaceOf words.watch places
   pub window : Window
-  pub first_is : asked_number 1 words.from ≡ Some window.from
-  pub last_is : asked_number (2 ^ 63) words.to ≡ Some window.to
-  pub state : HartState
-  pub begins : Begins file_bytes policy words.image memories words.registers state
-  pub output : put (flat_map put_out (ran ticks state).found)
-  pub counted : AreKept is_made took words.counts (λ told. AreCounted told ticks state)
-  pub changed : AreKept is_made took words.changes (λ told. AreChanged told places ticks state)
-  pub logged : AreKept is_made took words.log (λ told. AreLogged told window ticks state)
+  pub window_is : asked_window words.from words.to ≡ Some window
+  pub apart : ArePathsApart words memories
+  pub run : RunBy file_bytes is_made took put words policy ticks memories places window
 
 -- clap took the words, and the run that they ask for was carried out
 pub record Recorded {F : Type 0} (file_bytes : Text → Option (List ℕ)) (is_made : Text → F → Type 0) (took : F → List ℕ → F → Type 0) (words : List Text) (put : List ℕ → Type 0) : Type 0 where

@@ -3,7 +3,7 @@ use Rattle.std.specs.Prelude.{◌≡◌, ◌⊎◌, ℕ}
 use Rattle.recording.specs.declared.fault.RecordFault.{RecordFault}
 use Rattle.recording.specs.declared.fault.RecordFault.TheVariants as stopped
 use Rattle.vec_recorder.specs.declared.program_fault.ProgramFault.{ProgramFault}
-use Rattle.vec_recorder.specs.declared.program_fault.ProgramFault.TheVariants.{NoText, Usage, Policy, Ticks, MemoryWord, WatchWord, WatchAlone, From, To, LogAlone, LogEnd, NoPlace, Record, TableFull, Changes, Log, Output, NoMemory}
+use Rattle.vec_recorder.specs.declared.program_fault.ProgramFault.TheVariants.{NoText, Usage, Policy, Ticks, MemoryWord, WatchWord, WatchAlone, From, To, FromAboveTo, LogAlone, LogEnd, SameOutput, OutputIsInput, NoPlace, Record, TableFull, Changes, Log, Output, NoMemory}
 
 -- of the words 2, of what a run begins with 4, of what is written 5, of memory 6
 abbrev pub program_status : ProgramFault → ℕ
@@ -16,8 +16,11 @@ program_status (WatchWord word) = 2
 program_status WatchAlone = 2
 program_status From = 2
 program_status To = 2
+program_status FromAboveTo = 2
 program_status LogAlone = 2
 program_status LogEnd = 2
+program_status (SameOutput first second) = 2
+program_status (OutputIsInput output input) = 2
 program_status (Record path) = 5
 program_status TableFull = 5
 program_status Changes = 5

@@ -8,6 +8,7 @@ mod log_words;
 mod memory_words;
 mod numbers;
 mod outputs;
+mod paths;
 mod program;
 mod program_fault;
 mod record_lines;

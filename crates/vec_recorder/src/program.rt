@@ -4,24 +4,27 @@ ghost use Rattle.clap.specs.Walk.{texts};
 ghost use Rattle.clap.specs.Words.{IsAmong};
 ghost use Rattle.clap.specs.declared.error.kind.ErrorKind.TheVariants.{DisplayHelp};
 ghost use Rattle.vec_recorder.specs.CommandLine.{option_words, words_fault};
-ghost use Rattle.vec_recorder.specs.Recorded.{Recorded, RecordedBy};
+ghost use Rattle.vec_recorder.specs.Recorded.{Recorded, RecordedBy, RunBy};
 ghost use Rattle.vec_recorder.specs.Statuses.{program_status};
 
 use crate::beginning::first_machine;
 use crate::command_line::{Options, UsageFault};
 use crate::log_words::{LogWords, check_log};
-use crate::memory_words::memory_paths;
+use crate::memory_words::{MemoryPath, memory_paths};
 use crate::numbers::{policy, ticks, window};
 use crate::outputs::Outputs;
+use crate::paths::check_paths;
 use crate::program_fault::{ProgramFault, STATUS_DONE};
 use crate::runs::run_machine;
 use crate::watch_words::{WatchWords, watched_places};
 use crate::words::options;
+use commit_log::Window;
 use devices::{Sink, WriterSink};
 use first_state::OwnBytes;
 use memory_changes::{Place, has_memory};
 use program_files::Inputs;
 use recording::Alone;
+use rv_model::Policy;
 use std::alloc::Global;
 use std::io;
 
@@ -35,9 +38,57 @@ fn check_places<'a>(alone: &Alone<OwnBytes>, places: &[Place]) -> Result<(), Pro
     Ok(())
 }
 
-/// Does what the options ask for. The words are read before any file is opened, and the files of
-/// records are made once there is a machine to run. Answers how many calls wrote less than they were
-/// asked to.
+/// The values of options, which have been read and checked.
+#[derive(Drop)]
+struct Values<'a> {
+    policy: Policy,
+    ticks: u64,
+    memories: Vec<MemoryPath<'a>>,
+    places: Vec<Place>,
+    window: Window,
+}
+
+/// Runs a machine with these values of options, and makes the files of records once there is a
+/// machine to run. Answers how many calls wrote less than they were asked to.
+fn run_options<'a, R: Inputs + Outputs, K: Sink>(
+    rt: &R,
+    alloc: Global,
+    options: &Options<'a>,
+    values: Values<'a>,
+    output: &mut K,
+) -> Result<u64, ProgramFault<'a>>
+    ensures { OnOk result (RunBy (R.file_bytes rt.now) (R.is_made rt.now) R.Made.took
+        (λ told. K.took output.old told output.new) (option_words options.now) values.entry.policy
+        values.entry.ticks values.entry.memories.items values.entry.places.items values.entry.window) }
+{
+    let Values {
+        policy,
+        ticks,
+        memories,
+        places,
+        window,
+    } = values;
+    let mut alone = first_machine(
+        rt,
+        alloc,
+        policy,
+        options.image,
+        memories.as_slice(),
+        options.registers,
+    )?;
+    check_places(&alone, places.as_slice())?;
+    let (counted, path) = (options.counts, options.changes);
+    let watch = WatchWords { path, places };
+    let log = LogWords {
+        path: options.log,
+        window,
+    };
+    let short = run_machine(rt, alloc, &mut alone, output, ticks, counted, watch, log)?;
+    Ok(short)
+}
+
+/// Does what the options ask for. The words are read before any file is opened. Answers how many
+/// calls wrote less than they were asked to.
 fn record_options<'a, R: Inputs + Outputs, K: Sink>(
     rt: &R,
     alloc: Global,
@@ -56,23 +107,15 @@ fn record_options<'a, R: Inputs + Outputs, K: Sink>(
     if places.is_empty() != options.changes.is_none() {
         return Err(ProgramFault::WatchAlone);
     }
-    let mut alone = first_machine(
-        rt,
-        alloc,
+    check_paths(rt, options, memories.as_slice())?;
+    let values = Values {
         policy,
-        options.image,
-        memories.as_slice(),
-        options.registers,
-    )?;
-    check_places(&alone, places.as_slice())?;
-    let (counted, path) = (options.counts, options.changes);
-    let watch = WatchWords { path, places };
-    let log = LogWords {
-        path: options.log,
+        ticks,
+        memories,
+        places,
         window,
     };
-    let short = run_machine(rt, alloc, &mut alone, output, ticks, counted, watch, log)?;
-    Ok(short)
+    run_options(rt, alloc, options, values, output)
 }
 
 /// Does what the words ask for: help, or a run. Answers how many calls wrote less than they were asked

@@ -53,12 +53,21 @@ pub enum ProgramFault<'a> {
     /// The word of `--to` is no number from 1 to 2^63.
     #[error("vecmon-record: --to needs a number from 1 to 9223372036854775808\n")]
     To,
+    /// The number of `--from` is above that of `--to`.
+    #[error("vecmon-record: --from needs a number up to that of --to\n")]
+    FromAboveTo,
     /// `--from` or `--to` without `--log`.
     #[error("vecmon-record: --from and --to need --log\n")]
     LogAlone,
     /// A log of a run without an end, to a file that is no device.
     #[error("vecmon-record: --log needs --ticks or --to, unless FILE begins with /dev/\n")]
     LogEnd,
+    /// Two options that name the same output file.
+    #[error("vecmon-record: {0} and {1} name the same file; use a different path for each\n")]
+    SameOutput(&'static str, &'static str),
+    /// An option whose output file is also an input, and the input's path.
+    #[error("vecmon-record: {0} would overwrite the input {1}; use another path\n")]
+    OutputIsInput(&'static str, &'a str),
     /// The file at this path can't be read.
     #[error("vecmon-record: cannot read {0}\n")]
     Read(&'a str),
@@ -111,8 +120,11 @@ impl ProgramFault<'_> {
             | ProgramFault::WatchAlone
             | ProgramFault::From
             | ProgramFault::To
+            | ProgramFault::FromAboveTo
             | ProgramFault::LogAlone
-            | ProgramFault::LogEnd => STATUS_USAGE,
+            | ProgramFault::LogEnd
+            | ProgramFault::SameOutput(_, _)
+            | ProgramFault::OutputIsInput(_, _) => STATUS_USAGE,
             ProgramFault::Read(_)
             | ProgramFault::TooLong(_)
             | ProgramFault::Image(_, _)

@@ -1,0 +1,99 @@
+//! The paths of a run: no two outputs are the same file, and no output is an input.
+ghost use Rattle.std.specs.Prelude.{◌≡◌, IfErr, IsFalse, IsOk, option_map};
+ghost use Rattle.vec_recorder.specs.CommandLine.{option_words};
+ghost use Rattle.vec_recorder.specs.Paths.{ArePathsApart, Differ, IsNoInput};
+ghost use Rattle.vec_recorder.specs.Statuses.{program_status};
+
+use crate::command_line::Options;
+use crate::memory_words::MemoryPath;
+use crate::outputs::Outputs;
+use crate::program_fault::ProgramFault;
+
+/// Whether two paths are given and name the same file: they are the same text, or both files exist
+/// and are the same one.
+fn are_same<R: Outputs>(rt: &R, first: Option<&str>, second: Option<&str>) -> bool
+    ensures { IsFalse result → Differ (option_map (λ path. path.now) first.entry)
+        (option_map (λ path. path.now) second.entry) }
+{
+    let Some(first) = first else {
+        return false;
+    };
+    let Some(second) = second else {
+        return false;
+    };
+    first == second || rt.is_same_file(first, second)
+}
+
+/// Refused where two outputs are the same file.
+fn check_outputs<'a, R: Outputs>(rt: &R, options: &Options<'a>) -> Result<(), ProgramFault<'a>>
+    ensures changes { IsOk result → Differ (option_words options.now).counts (option_words options.now).changes }
+    ensures log { IsOk result → Differ (option_words options.now).counts (option_words options.now).log }
+    ensures both { IsOk result → Differ (option_words options.now).changes (option_words options.now).log }
+    ensures refused { IfErr result (λ fault. program_status fault ≡ 2) }
+{
+    if are_same(rt, options.counts, options.changes) {
+        return Err(ProgramFault::SameOutput("--counts", "--changes"));
+    }
+    if are_same(rt, options.counts, options.log) {
+        return Err(ProgramFault::SameOutput("--counts", "--log"));
+    }
+    if are_same(rt, options.changes, options.log) {
+        return Err(ProgramFault::SameOutput("--changes", "--log"));
+    }
+    Ok(())
+}
+
+/// Refused where the output of an option is an input.
+fn check_input<'a, R: Outputs>(
+    rt: &R,
+    option: &'static str,
+    output: Option<&'a str>,
+    input: Option<&'a str>,
+) -> Result<(), ProgramFault<'a>>
+    ensures apart { IsOk result → Differ (option_map (λ path. path.now) output.entry)
+        (option_map (λ path. path.now) input.entry) }
+    ensures refused { IfErr result (λ fault. program_status fault ≡ 2) }
+{
+    let Some(path) = input else {
+        return Ok(());
+    };
+    if are_same(rt, output, input) {
+        return Err(ProgramFault::OutputIsInput(option, path));
+    }
+    Ok(())
+}
+
+/// Refused where the output of an option is the image or a file of registers or memory.
+fn check_inputs<'a, R: Outputs>(
+    rt: &R,
+    option: &'static str,
+    output: Option<&'a str>,
+    options: &Options<'a>,
+    memories: &[MemoryPath<'a>],
+) -> Result<(), ProgramFault<'a>>
+    ensures apart { IsOk result → IsNoInput (option_words options.now) memories.now
+        (option_map (λ path. path.now) output.entry) }
+    ensures refused { IfErr result (λ fault. program_status fault ≡ 2) }
+{
+    check_input(rt, option, output, options.image)?;
+    check_input(rt, option, output, options.registers)?;
+    for memory in memories {
+        check_input(rt, option, output, Some(memory.path))?;
+    }
+    Ok(())
+}
+
+/// Refused where two outputs are the same file, or an output is an input. Opens no file.
+pub(crate) fn check_paths<'a, R: Outputs>(
+    rt: &R,
+    options: &Options<'a>,
+    memories: &[MemoryPath<'a>],
+) -> Result<(), ProgramFault<'a>>
+    ensures apart { IsOk result → ArePathsApart (option_words options.now) memories.now }
+    ensures refused { IfErr result (λ fault. program_status fault ≡ 2) }
+{
+    check_outputs(rt, options)?;
+    check_inputs(rt, "--counts", options.counts, options, memories)?;
+    check_inputs(rt, "--changes", options.changes, options, memories)?;
+    check_inputs(rt, "--log", options.log, options, memories)
+}
