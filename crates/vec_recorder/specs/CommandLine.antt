@@ -1,12 +1,11 @@
 -- The words of the command line, as clap's own definitions take them, and what they ask for.
-use Rattle.std.specs.Prelude.{◌≡◌, ◌≢◌, ◌^◌, ⊤, ℕ, List, [], Option, Some, None, codes, nat_lt, option_map, unwrap_or, if◌then◌else◌}
+use Rattle.std.specs.Prelude.{◌≡◌, ◌≢◌, ◌^◌, ⊤, ℕ, List, [], Option, Some, None, codes, option_map, unwrap_or}
 use Rattle.std.specs.Borrow.{Bor}
 use Rattle.clap.specs.Walk.{texts}
 use Rattle.clap.specs.Words.{App, IsAmong, Kinds, Rule, Text, all_of, fault_of, first_of, kind_of, matches_of, new_app, new_rule, with_rule}
 use Rattle.clap.specs.declared.builder.ArgAction.TheVariants.{Append}
 use Rattle.clap.specs.declared.error.kind.ErrorKind.{ErrorKind}
 use Rattle.clap.specs.declared.error.kind.ErrorKind.TheVariants.{DisplayHelp, OutOfMemory}
-use Rattle.commit_log.specs.declared.log.Window.{Window}
 use Rattle.rv_model.specs.commands.Arguments.{number_between, policy_word as policy_of}
 use Rattle.rv_model.specs.declared.vector.policy.Policy.{Policy}
 use Rattle.rv_model.specs.declared.vector.policy.Policy.TheVariants.{Keep}
@@ -79,16 +78,6 @@ asked_policy (Some word) = policy_of word
 abbrev pub asked_number : ℕ → Option Text → Option ℕ
 asked_number other None = Some other
 asked_number other (Some word) = number_between 1 (2 ^ 63) word
-
--- the instructions of the log from a first to a last one, if the first isn't above the last
-abbrev pub window_of : Option ℕ → Option ℕ → Option Window
-window_of (Some first) (Some last) = if nat_lt last first then None else Some (record { from = first; to = last })
-window_of (Some first) None = None
-window_of None last = None
-
--- the instructions that the words of `--from` and `--to` ask for, all without them
-abbrev pub asked_window : Option Text → Option Text → Option Window
-asked_window from to = window_of (asked_number 1 from) (asked_number (2 ^ 63) to)
 
 -- the kinds of error that clap has for the words; none where it takes them
 abbrev pub words_fault : List Text → Kinds

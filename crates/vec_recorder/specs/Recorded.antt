@@ -1,5 +1,5 @@
 -- What the program did with its words: the machine that a run began with, what it put out, and what was recorded of it.
-use Rattle.std.specs.Prelude.{◌≡◌, ◌%◌, ◌^◌, ◌++◌, ⊤, ℕ, Bool, List, [], Option, None, Some, flat_map}
+use Rattle.std.specs.Prelude.{◌≡◌, ◌≤◌, ◌%◌, ◌^◌, ◌++◌, ⊤, ℕ, Bool, List, [], Option, None, Some, flat_map}
 use Rattle.std.specs.List.{AllZip}
 use Rattle.clap.specs.Walk.{Text}
 use Rattle.commit_log.specs.Logged.{logged_from}
@@ -13,7 +13,7 @@ use Rattle.recording.specs.declared.row.Row.{Row}
 use Rattle.rv_model.specs.declared.vector.policy.Policy.{Policy}
 use Rattle.rv_model.specs.step.Hart.{HartState}
 use Rattle.vec_recorder.specs.Beginning.{Begins}
-use Rattle.vec_recorder.specs.CommandLine.{RunWords, asked_number, asked_policy, asked_window, run_words, words_fault}
+use Rattle.vec_recorder.specs.CommandLine.{RunWords, asked_number, asked_policy, run_words, words_fault}
 use Rattle.vec_recorder.specs.MemoryWords.{IsMemoryOf}
 use Rattle.vec_recorder.specs.Paths.{ArePathsApart}
 use Rattle.vec_recorder.specs.RecordLines.{last_line, row_line}
@@ -77,7 +77,9 @@ pub record RecordedBy {F : Type 0} (file_bytes : Text → Option (List ℕ)) (is
   pub places : List Place
   pub places_are : AllZip IsPlaceOf words.watch places
   pub window : Window
-  pub window_is : asked_window words.from words.to ≡ Some window
+  pub first_is : asked_number 1 words.from ≡ Some window.from
+  pub last_is : asked_number (2 ^ 63) words.to ≡ Some window.to
+  pub in_order : window.from ≤ window.to
   pub apart : ArePathsApart words memories
   pub run : RunBy file_bytes is_made took put words policy ticks memories places window
 

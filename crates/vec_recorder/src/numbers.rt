@@ -1,8 +1,8 @@
 //! What the words of options with one value mean.
-ghost use Rattle.std.specs.Prelude.{◌≡◌, ◌<◌, ◌≤◌, ◌^◌, IfSome, MatchResult, None, Some, option_map};
+ghost use Rattle.std.specs.Prelude.{◌≡◌, ◌<◌, ◌≤◌, ◌^◌, IfErr, IfOk, IfSome, MatchResult, None, Some, option_map};
 ghost use Rattle.rv_model.specs.commands.Arguments.{decimal_number, number_between};
 ghost use Rattle.rv_model.specs.lending.Text.{capped};
-ghost use Rattle.vec_recorder.specs.CommandLine.{asked_number, asked_policy, asked_window};
+ghost use Rattle.vec_recorder.specs.CommandLine.{asked_number, asked_policy};
 ghost use Rattle.vec_recorder.specs.Statuses.{program_status};
 ghost use Rattle.vec_recorder.specs.declared.program_fault.ProgramFault.TheVariants as program_fault;
 
@@ -82,12 +82,12 @@ fn asked_number(word: Option<&str>, other: u64) -> Option<u64>
 /// The instructions that the log has, by the words for the first and the last one. Refused where
 /// one is no number, and where the first is above the last.
 pub(crate) fn window<'a>(from: Option<&str>, to: Option<&str>) -> Result<Window, ProgramFault<'a>>
-    ensures { MatchResult result
-        (λ window. asked_window (option_map (λ word. word.now) from.entry)
-        (option_map (λ word. word.now) to.entry) ≡ Some window)
-        (λ fault. (program_status fault ≡ 2)
-        × (asked_window (option_map (λ word. word.now) from.entry)
-        (option_map (λ word. word.now) to.entry) ≡ None)) }
+    ensures from { IfOk result (λ window.
+        asked_number 1 (option_map (λ word. word.now) from.entry) ≡ Some window.from) }
+    ensures to { IfOk result (λ window.
+        asked_number (2 ^ 63) (option_map (λ word. word.now) to.entry) ≡ Some window.to) }
+    ensures order { IfOk result (λ window. window.from ≤ window.to) }
+    ensures refused { IfErr result (λ fault. program_status fault ≡ 2) }
 {
     let Some(first) = asked_number(from, 1) else {
         return Err(ProgramFault::From);

@@ -24,7 +24,9 @@ returns g c =
       places = c.in_ok-places.places.items;
       places_are = zip_texts IsPlaceOf _ _ places;
       window = c.in_ok-window.window;
-      window_is = c.in_ok-window.ensures;
+      first_is = c.in_ok-window.ensures.from;
+      last_is = c.in_ok-window.ensures.to;
+      in_order = c.in_ok-window.ensures.order;
       apart = apart;
       run = run;
     })
