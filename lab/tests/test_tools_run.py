@@ -101,8 +101,8 @@ def clone(tmp_path: pathlib.Path, program: pathlib.Path) -> Clone:
 
 
 def until(holds: Callable[[], object]) -> None:
-    """Waits until something holds, at most 20 seconds."""
-    end = time.monotonic() + 20
+    """Waits until something holds, at most 60 seconds."""
+    end = time.monotonic() + 60
     while not holds():
         assert time.monotonic() < end
         time.sleep(0.02)
@@ -204,7 +204,7 @@ def test_programs_without_a_record_are_not_taken(clone: Clone, program: pathlib.
 def test_interrupted(clone: Clone, number: int, status: int) -> None:
     process = clone.start()
     os.killpg(process.pid, number)
-    process.communicate(timeout=20)
+    process.communicate(timeout=60)
     assert process.returncode == status and clone.folders() == []
     until(lambda: not waiting_builds(clone))
     (clone.top / "wait").unlink()
@@ -214,7 +214,7 @@ def test_interrupted(clone: Clone, number: int, status: int) -> None:
 def test_killed(clone: Clone) -> None:
     process = clone.start()
     process.kill()
-    process.communicate(timeout=20)
+    process.communicate(timeout=60)
     assert [name.split(".")[0] for name in clone.folders()] == ["new"]
     (clone.top / "wait").unlink()
     until(lambda: not waiting_builds(clone))
@@ -226,7 +226,7 @@ def test_two_at_once(clone: Clone) -> None:
     one, other = clone.start(), clone.start()
     time.sleep(0.5)
     (clone.top / "wait").unlink()
-    ended = [process.communicate(timeout=30) for process in (one, other)]
+    ended = [process.communicate(timeout=60) for process in (one, other)]
     assert [process.returncode for process in (one, other)] == [0, 0]
     assert [output for output, _ in ended] == [check.first_script()[1]] * 2
     assert clone.builds() == ["vecmon", "vecmon_record"] and len(clone.folders()) == 1
@@ -289,7 +289,7 @@ def test_sources_that_change_during_the_build(clone: Clone) -> None:
     process = clone.start()
     clone.write("crates/low/src/lib.rt", "fn changed() {}\n")
     (clone.top / "wait").unlink()
-    _, told = process.communicate(timeout=20)
+    _, told = process.communicate(timeout=60)
     assert (process.returncode, clone.folders()) == (2, [])
     assert told.endswith("tools/run: the sources changed during the build: run tools/run again\n")
 
