@@ -131,7 +131,7 @@ fn with_length(unmasked: bool, found: &Found, conf: VConf, ticks: usize) -> Sums
 }
 
 /// Counts an instruction with another body.
-#[inline(never)]
+#[inline(always)]
 fn with_extent(extent: Extent, found: &Found, conf: VConf, ticks: usize) -> Sums
     ensures { result ≡ carried_out ticks (body (Other extent) found.now.mask found.now.start conf)
         (tail_end (Other extent) found.now.start conf) }
