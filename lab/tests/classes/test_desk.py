@@ -9,7 +9,7 @@ from typing import Any
 
 import pytest
 
-from support.class_tabs import patched
+from support.class_tabs import SECONDS, patched
 from support.desk import Desk, untimed
 from support.desk_requests import Request, drawn_requests, exercise_requests, source_requests
 from vecmon_lab.classes.store import Store
@@ -54,7 +54,7 @@ def answered_by_desk(members: Class, requests: Iterable[Request], has_clock: boo
 def answered(folder: pathlib.Path, requests: list[Request], names: Iterable[str], has_clock: bool) -> tuple[Sent, Sent]:
     """What a class and a desk with exercises of these names send."""
     exercises = [pathlib.Path(name) for name in names]
-    members = Class(Store(folder, find_program()), 10.0, exercises=exercises)
+    members = Class(Store(folder, find_program()), SECONDS, exercises=exercises)
     try:
         server = asyncio.run(answered_by_server(members, requests, has_clock))
         return server, answered_by_desk(members, requests, has_clock)
@@ -85,7 +85,8 @@ def test_all_sources_of_the_repository(tmp_path: pathlib.Path) -> None:
     assert len(desk) > 900 and "The server stopped the program, since it ran for 100,000 ticks" in json.dumps(desk)
 
 
-def test_all_answers_of_the_exercises(tmp_path: pathlib.Path) -> None:
+def test_all_answers_of_the_exercises(tmp_path: pathlib.Path, monkeypatch: pytest.MonkeyPatch) -> None:
+    monkeypatch.setattr("vecmon_lab.classes.checks.SECONDS", SECONDS)  # as other tests may take all cores
     requests = exercise_requests()
     names = sorted(path.name for path in OURS.iterdir() if path.is_dir())
     server, desk = answered(tmp_path / "class", requests, names, has_clock=True)
