@@ -16,15 +16,15 @@ class Stopped(LabError):
 
 
 def rebuilding(letter: str, percent: int) -> str:
-    """How far a new process has carried out a machine's script."""
+    """The message on how much of a machine's script a new process has executed."""
     return f"machine {letter} is being rebuilt: {percent} %"
 
 
 class MachineThread:
     """A machine that blocks in a thread of its own. The event loop's thread alone reports to seats.
 
-    lock: held by whoever has the machine
-    stopped, down, rebuilding: why the machine can't be asked any more, or now; "" where it can
+    lock: held during a turn
+    stopped, down, rebuilding: why the machine answers no more, or not now; "" where it does
     """
 
     def __init__(self, machine: SharedMachine, changed: Callable[[], None], doubted: Callable[[], None]) -> None:

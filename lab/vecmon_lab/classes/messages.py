@@ -22,7 +22,7 @@ SourceView = TypedDict(
 
 
 class Message(TypedDict, total=False):
-    """What a tab is told. A patch is one of its view; logs have new entries by the name of their seat."""
+    """A message to a tab. Its patch changes the tab's view; logs have new entries by the name of their seat."""
 
     kind: str
     id: int

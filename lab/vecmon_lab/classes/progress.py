@@ -15,18 +15,18 @@ from .requests import BadRequest
 MOST_TRIES = 200  # of a seat at an exercise
 
 Try = TypedDict("Try", {"time": int, "text": str, "suffix": NotRequired[str], "told": Told})
-"""An answer: when, in seconds since 1970; the source, and that of its language, else `s`; and what was told of it."""
+"""An answer: when, in seconds since 1970; the source, and that of its language, else `s`; and the result of its check."""
 Start = TypedDict("Start", {"text": str, "language": int})
 SeatResult = TypedDict("SeatResult", {"tries": int, "passed": int, "best": int, "time": int})
 """Of a seat at an exercise: tries; which passed first, or 0; the most cases that passed; when it passed, or the last."""
 
 
 class ExerciseView(TypedDict):
-    """What a student is told of an exercise: of a hidden case its name, and whether it passes; hints that are due.
+    """An exercise on a student's page: of a hidden case the name, and whether it passes; the hints that are due.
 
-    starts: sources to begin with, the one that is meant first; of two one is in C
-    before: what opens the lesson before it; "" for none
-    lesson: what opens a lesson of the case that failed first; "" for none
+    starts: sources to start with, the preferred one first; of two one is in C
+    before: the path of the lesson before it; "" for none
+    lesson: the path of a lesson of the case that failed first; "" for none
     """
 
     title: str
@@ -44,9 +44,9 @@ class ExerciseView(TypedDict):
 
 @dataclass
 class Progress:
-    """The progress of a seat in an exercise: of each try its time, and how many cases passed; and of the last one all.
+    """The progress of a seat in an exercise: time and number of passed cases of each try, and all of the last one.
 
-    first: which try passed, or 0; ticket: what opens a lesson of the last one
+    first: number of the first try that passed, or 0; ticket: opens a lesson of the last one
     """
 
     tries: list[tuple[int, int]] = field(default_factory=list)
@@ -56,7 +56,7 @@ class Progress:
     ticket: str = ""
 
     def add(self, done: Try) -> bool:
-        """Takes up what was told of an answer; whether it is a try: mistakes of form are none."""
+        """Adds the result of a check; returns whether it counts as a try, which mistakes of form don't."""
         self.told, self.ticket = done["told"], ""
         if "cases" not in self.told:
             return False
@@ -107,7 +107,7 @@ class Exercises:
             raise BadRequest(f"this seat has tried it {MOST_TRIES} times")
 
     def failed(self, seat: str, name: str, source: SourceText) -> Callable[[int], list[str]]:
-        """What makes the commands of the case that failed first at a seat, for a source's program that begins at an address.
+        """Return a function from a program's entry address to the commands that set up the case that failed first.
 
         Raises BadRequest where none has failed.
         """
@@ -149,6 +149,6 @@ def source_of(done: Try) -> SourceText:
 
 
 def starts_of(exercise: Exercise) -> list[Start]:
-    """The sources that a student may begin with."""
+    """The sources that a student may start with."""
     files = [exercise.files[key] for key in ("start", "start_c") if key in exercise.files]
     return [Start(text=file.read_text("utf-8"), language=C if file.suffix == C_SUFFIX else 0) for file in files]

@@ -31,8 +31,8 @@ UNSEEN_SECONDS = 60.0  # after which a program that runs is stopped, if nobody l
 class Room:
     """A machine, its seats, and its clock.
 
-    `changed` is called with the names of seats that have news; `watched` answers whom somebody looks at; `keep` keeps
-    notes beside the script, and answers whether that went well; `compile` makes a program of a seat's source by a compiler.
+    `changed` is called with the names of seats that have news; `watched` returns the seats that somebody looks at; `keep`
+    saves notes, and returns whether that succeeded; `compile` compiles a seat's source.
     """
 
     def __init__(self, letter: str, session: Session, file: ScriptFile, makers: Beside) -> None:
@@ -79,7 +79,7 @@ class Room:
         self.set_clock(notes.clock)
 
     def notes(self) -> Notes:
-        """What is kept beside the script."""
+        """The notes that the class's folder keeps of the machine."""
         return self._notes(self.session, self.scripts.set_up)
 
     async def run(self, seat: Seat, steps: Steps[Result]) -> Result:
@@ -127,7 +127,7 @@ class Room:
         return await self.run(seat, self.machine.write(seat, source))
 
     def note(self, seat: Seat, entry: str) -> None:
-        """Adds an entry to a seat's log, which its pages are told."""
+        """Adds an entry to a seat's log, and sends it to the pages."""
         seat.note(entry)
         self.changed([seat.name])
 
@@ -170,7 +170,7 @@ class Room:
         why = f"nobody looked at it for {UNSEEN_SECONDS:g} s" if now - seat.seen > UNSEEN_SECONDS else ""
         why = self.machine.has_run_long(seat, self.clock.settings.limit) or why
         if why or is_watched:
-            with contextlib.suppress(LabError):  # whoever asks next is told
+            with contextlib.suppress(LabError):  # the next request reports it
                 await self.run(seat, self.machine.show(seat, why, "server"))
 
     async def _tick(self) -> None:

@@ -13,9 +13,9 @@ from .machine_thread import MachineThread
 from .store import ScriptFile
 
 FOLLOW_SECONDS, SHORTEN_SECONDS = 0.2, 0.5  # between a spare's parts; and between looks at how long a script has become
-NEXT_SCRIPT_BYTES, NEXT_SCRIPT_SECONDS = 12_000_000, 300.0  # after which another one begins: a server begins with it
-MOST_SET_UP_BYTES = 9_000_000  # of another one's beginning
-MOST_BEHIND = 3.0  # as many scripts that get a checkpoint: then no slices are granted until there is one
+NEXT_SCRIPT_BYTES, NEXT_SCRIPT_SECONDS = 12_000_000, 300.0  # after which another one starts: a server starts with it
+MOST_SET_UP_BYTES = 9_000_000  # of lines that set the machine up in another one
+MOST_BEHIND = 3.0  # times the weight at which a checkpoint is due: until it is made, no slices are granted
 
 
 Saver = Callable[[Session, Sequence[int]], bool]
@@ -41,7 +41,7 @@ class Scripts:
         return self._machine.session.weight > MOST_BEHIND * self._least
 
     async def shorten(self) -> None:
-        """Makes checkpoints, so that a new process is soon where the last one was; goes for ever."""
+        """Makes checkpoints, so that a new process catches up fast; runs for ever."""
         self._least = max(1.0, self._machine.session.weight)
         while True:
             await asyncio.sleep(SHORTEN_SECONDS)
@@ -56,14 +56,14 @@ class Scripts:
                     self._least = max(1.0, 1.5 * self._machine.session.weight)
 
     async def follow(self) -> None:
-        """Keeps a spare process where the machine is; goes for ever."""
+        """Brings the spare process up to the machine, again and again; runs for ever."""
         while True:
-            with contextlib.suppress(LabError):  # whoever loses the machine itself is told
+            with contextlib.suppress(LabError):  # the next request reports it
                 await asyncio.get_running_loop().run_in_executor(self._follower, self._machine.session.follow)
             await asyncio.sleep(FOLLOW_SECONDS)
 
     async def make_checkpoint(self) -> None:
-        """Makes a checkpoint beside the class, of this moment or shortly before. Raises LabError where there is none."""
+        """Makes a checkpoint in a process of its own, of this moment or shortly before. Raises LabError where that fails."""
         async with self._thread.lock:
             session = self._machine.session
             script, spent = session.short_script, session.recorded.spent
@@ -74,9 +74,9 @@ class Scripts:
             session.recorded.shorten(Checkpoint(int(number), lines), spent)
 
     async def begin_next(self) -> None:
-        """Goes on in another script, which begins with the last checkpoint.
+        """Continues in another script, which starts with the last checkpoint.
 
-        Raises LabError and OSError where that can't be; then the script goes on.
+        Raises LabError and OSError where that fails; then the script continues.
         """
         async with self._thread.lock:
             await self._thread.call(self._begin_next)
@@ -85,7 +85,7 @@ class Scripts:
         self._thread.changed()
 
     def _begin_next(self) -> None:
-        """Begins another script; called in the machine's thread."""
+        """Starts another script; called in the machine's thread."""
         heir = self._machine.session.renewed()
         set_up = [*self.set_up, heir.lines]
         try:

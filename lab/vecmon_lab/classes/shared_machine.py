@@ -23,7 +23,7 @@ from .seats import Done, Seat, Seats
 SEAT_BYTES = 1_500_000  # of a seat's lines in the script: eight leave 3,000,000 to the operator and the clock
 SOURCE_LINES = 4096
 LINE_BLOCKS, BLOCK_WORDS = 256, 16  # of code, that a step of a line goes through; and a block's instructions at most
-LEAVES = "bje"  # how the names of scalar instructions begin that may go elsewhere, or call: bne, jal, ecall
+LEAVES = "bje"  # first letters of scalar instructions that may branch, jump or call: bne, jal, ecall
 LEAVING: Mapping[str, Sequence[str]] = {"absent": [], "running": ["stop", "leave"], "stopped": ["leave"]}
 
 Answers = list[list[str]]

@@ -1,4 +1,4 @@
-"""Sources are compiled: one's own beside its headers, those of others in a sandbox."""
+"""Compile sources: your own next to their headers, those of others in a sandbox."""
 
 import atexit
 import pathlib

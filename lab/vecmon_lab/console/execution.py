@@ -137,7 +137,7 @@ class Execution:
         self._tell_changes()
 
     def _tell_back(self, is_there: bool | None) -> None:
-        """Shows what is other than at the later instant, and where the program stands now."""
+        """Shows what differs from the later instant, and the next instruction."""
         if is_there is False:
             self._screen.say("This is the begin: there is nothing before.")
         self._tell_changes()

@@ -16,7 +16,7 @@ from .conditions import REGISTERS
 DIGITS = "[0-9a-fA-F]+"
 LEFT_OUT = {"dis": "{pc:x} {number}", "load": "image", "peek": "ADDR 16", "step": "1", "vreg": "vN {sew}"}
 LEFT_OUT |= {"list": "{pc:x}", "back": "1"}
-PLACES = ("ADDR", "VALUE", "PLACE")  # words that a symbol may stand for; the last one may be a register too
+PLACES = ("ADDR", "VALUE", "PLACE")  # arguments that may be a symbol; the last one may also be a register
 VECTORS = {f"v{number}": number for number in range(32)}
 CHOICES = {kind: words.split() for kind, words in read_table("choices")} | {"COMMAND": list(COMMANDS)}
 
@@ -29,7 +29,7 @@ class Names:
         self._guest, self._stepper = guest, stepper
 
     def choices(self, kind: str) -> Iterable[str]:
-        """What may stand for a word of a command's form."""
+        """The words that may take the place of a word of a command's form."""
         registers = [*REGISTERS, *VECTORS] if kind == "PLACE" else []
         return [*self.symbols.addresses, *registers] if kind in PLACES else CHOICES.get(kind, [])
 

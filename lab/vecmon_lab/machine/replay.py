@@ -12,7 +12,7 @@ from .script import Block, Script, marks
 
 NEW_MACHINE = Users(dict.fromkeys(DIGITS, "-"))
 Progress = Callable[[int], object]
-"""Takes how much of a script a process has carried out, in percent."""
+"""Receives how much of a script a process has executed, in percent."""
 DIFFERS = "a new process answers the script otherwise than the one before"
 
 
@@ -22,7 +22,7 @@ class ReplayDiffers(LabError):
 
 @dataclass
 class Copy:
-    """A process that has carried out the script as far as it was: so many lines, which have so many bytes."""
+    """A process, and how many lines and bytes of the script it has executed."""
 
     process: Process
     number: int
@@ -30,15 +30,15 @@ class Copy:
 
 
 class Replayer:
-    """Makes processes that have carried out a script. `has_ended` falls with the session."""
+    """Makes processes that have executed a script. `has_ended` is set when the session ends."""
 
     def __init__(self, script: Script, start: Callable[[], Process], check: Callable[[], object]) -> None:
-        """start: a new process; check: raises where the program mustn't be used"""
+        """start: starts a process; check: raises where the program mustn't be used"""
         self._script, self._start, self._check = script, start, check
         self.has_ended = False
 
     def copy(self) -> Copy:
-        """A new process, which has carried out a checkpoint's lines, if there is one, in place of the first lines."""
+        """Return a new process that has executed the checkpoint's lines, if there is one, in place of the first lines."""
         process, (checkpoint, covered) = self._start(), self._script.base
         try:
             if read(process.ask(["* list"])[0]) != NEW_MACHINE:
@@ -51,7 +51,7 @@ class Replayer:
         return Copy(process, checkpoint.number, covered)
 
     def bring_up(self, copy: Copy, tell: Progress = lambda percent: None) -> None:
-        """Carries out what the script has since. No process outlives an error."""
+        """Executes the lines that the script has since. An error ends the process."""
         script = bytes(self._script.text[copy.size :])
         try:
             for lines, answers in self.piped(copy.process, script, tell):
@@ -66,7 +66,7 @@ class Replayer:
         copy.size += len(script)
 
     def piped(self, process: Process, script: bytes, tell: Progress = lambda percent: None) -> Iterator[Block]:
-        """Lines that a session recorded, and their answers, in blocks as they come; tells how far it is, in percent.
+        """Lines that a session recorded, and their answers, in blocks as they come; reports progress in percent.
 
         Raises ProgramGone, and OutOfStep where there are more answers than lines, or fewer.
         """
@@ -79,7 +79,7 @@ class Replayer:
             tell(min(99, 100 * number // len(lines)))
             answers = list[str]()
             for part in block.decode("latin-1").split("\n")[:-1]:
-                if line[:1] == "*" != part[:1]:  # before an operator's answer stand stops
+                if line[:1] == "*" != part[:1]:  # stops precede an operator's answer
                     stops += f"{part}\n"
                     continue
                 if not line:

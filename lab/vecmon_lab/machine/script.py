@@ -1,4 +1,4 @@
-"""The script of a session: the lines that were done, how they were answered, and what a new process executes of them."""
+"""The script of a session: its lines, a digest of the answers, and the part that a new process executes."""
 
 import hashlib
 import time
@@ -16,7 +16,7 @@ Block = tuple[Sequence[str], Sequence[str]]
 
 @dataclass(frozen=True)
 class Checkpoint:
-    """Lines that stand for the first so many lines of a script: they leave a new machine as those do."""
+    """Lines that replace the first `number` lines of a script: they leave a new machine in the same state."""
 
     number: int
     lines: bytes
@@ -26,7 +26,7 @@ class Script:
     """Lines, each with its newline, and the answers to them, of which a digest and a mark each are kept.
 
     `answers` is the digest, and `marks` has the CRC-32 of each answer, by which a replay is compared. `base` has the last
-    checkpoint, and how many bytes of the script it stands for. `policy` has the policy for agnostic elements of each user who is there. `total` is how many
+    checkpoint, and how many bytes of the script it replaces. `policy` has the policy for agnostic elements of each user who is there. `total` is how many
     seconds the lines have taken, and `spent` those that a new process would take.
     """
 
@@ -39,7 +39,7 @@ class Script:
         self.answers = hashlib.sha256()
 
     def shorten(self, checkpoint: Checkpoint, spent: float) -> None:
-        """Takes up a checkpoint of the script, as that was when so many seconds were `spent`: a new process begins with it."""
+        """Adds a checkpoint, of the script as it was when `spent` seconds were spent: a new process starts with it."""
         before, covered = self.base
         gone = max(0, checkpoint.number - before.lines.count(b"\n"))
         for _ in range(gone):
@@ -48,13 +48,13 @@ class Script:
         self.spent -= spent
 
     def record(self, lines: Sequence[str], answers: Sequence[str]) -> None:
-        """Adds lines, and takes up their answers."""
+        """Adds lines and their answers."""
         self.take_up(lines, answers)
         # by now each line there has its mark, also for a spare's thread
         self.text += "\n".join([*lines, ""]).encode("ascii")
 
     def take_up(self, lines: Sequence[str], answers: Sequence[str]) -> None:
-        """Adds answers to the digest; follows the policies of their lines' users."""
+        """Adds answers to the digest and the marks, and follows the policies that their lines set."""
         self.answers.update("\n".join([*answers, ""]).encode("latin-1"))
         self.marks.extend(marks(answers))
         for line, answer in zip(lines, answers):
@@ -79,5 +79,5 @@ class Script:
 
 
 def marks(answers: Sequence[str]) -> Iterator[int]:
-    """Numbers of 32 bits that tell answers from others."""
+    """Return the CRC-32 of each answer."""
     return map(crc32, map(str.encode, answers))
