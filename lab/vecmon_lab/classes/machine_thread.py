@@ -60,8 +60,9 @@ class MachineThread:
         begun = asyncio.get_running_loop().run_in_executor(self._thread, call)
         try:
             await asyncio.shield(begun)
-        finally:
+        except asyncio.CancelledError:
             await asyncio.wait([begun])
+            raise
 
     def end(self) -> None:
         """Ends the machine's process, whatever it does, and the thread."""

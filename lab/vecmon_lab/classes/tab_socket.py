@@ -76,8 +76,8 @@ class TabSocket:
         """Sends news as they come; what changes meanwhile goes together."""
         while self._tab.is_open:
             await self._tab.changed.wait()
-            is_new = self._tab.changed.is_set()  # unless an answer had it all
-            if self._tab.is_open and is_new and (news := self._tabs.news(self._tab)):
+            # an answer may have sent all of it meanwhile
+            if self._tab.is_open and self._tab.changed.is_set() and (news := self._tabs.news(self._tab)):
                 news["kind"] = "news"
                 await self._send(news)
             await asyncio.sleep(0.1 if self._tab.who == TEACHER else 0.02)
