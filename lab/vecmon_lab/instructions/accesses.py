@@ -12,7 +12,8 @@ UNIT_STRIDE, STRIDED = 0, 2  # mop; 1 and 3 are indexed
 WHOLE_REGISTERS, MASK = 0b01000, 0b01011  # sumop
 REGISTER_BYTES, ROW_BYTES, LINE_BYTES, PAGE_BYTES = 32, 16, 256, 4096  # a line shows or writes LINE_BYTES of memory
 REGISTER_BITS = 8 * REGISTER_BYTES
-ACCUMULATES = ("vmacc", "vnmsac", "vmadd", "vnmsub", "vwmacc", "vslideup", "vcompress")  # which read their destination
+MULTIPLY_ADDS = ("vmacc", "vnmsac", "vmadd", "vnmsub", "vwmacc")  # whose destination is an operand as well
+ACCUMULATES = (*MULTIPLY_ADDS, "vslideup", "vcompress")  # which read their destination
 FIRST_ELEMENT = ("vred", "vwred", "vmv.s.x")  # which write element 0 alone
 _GATHERS = ("vrgather", "vslide")  # which read their source up to VLMAX
 

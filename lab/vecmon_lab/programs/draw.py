@@ -7,10 +7,11 @@ from dataclasses import dataclass, field, replace
 
 from ..instructions.accesses import REGISTER_BITS
 from ..instructions.reasons import illegal_reasons
+from ..instructions.reserved import registers_of_two_widths
 from ..instructions.table import Row, instruction_table
 from ..instructions.words import LOAD, OP_V, STORE, STORE_FP, SUPPORTED, SYSTEM, VECTOR_ACCESSES, Operand, decode
 from ..machine.answers import ControlRegisters
-from ..vectors.cases import PLACES, reads_two_widths
+from ..vectors.cases import PLACES
 from .registers import DrawnRegisters, operands_of
 
 FIRST = ControlRegisters(vl=32, vtype=0)
@@ -269,7 +270,7 @@ class _Generator:
         if row.opcode in VECTOR_ACCESSES and index and not {*others, *read}.isdisjoint(index[0].registers):
             return False
         is_own_mask = instruction.leaves_out and instruction.operands[0].registers.start == 0
-        return self._has_choices or not is_own_mask and not reads_two_widths(instruction.operands)
+        return self._has_choices or not is_own_mask and not registers_of_two_widths(instruction)
 
     def _bits(self, numbers: dict[str, int]) -> int:
         """Registers and `vm` at their places in a word, and any bits for an immediate."""

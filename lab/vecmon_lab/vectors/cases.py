@@ -4,12 +4,14 @@ A case depends on its instruction, its number and the seed alone.
 """
 
 import functools
+import itertools
 import random
 from collections.abc import Sequence
 from dataclasses import dataclass, field, replace
 from fractions import Fraction
 
 from ..instructions.reasons import illegal_reasons
+from ..instructions.reserved import registers_of_two_widths
 from ..instructions.table import Row
 from ..instructions.words import (
     CONTROL_REGISTERS,
@@ -163,11 +165,11 @@ def _operands(row: Row, word: int, view: ControlRegisters) -> list[Operand]:
 
 
 def _draw_word(row: Row, kind: Kind, draws: _Draws, steps: Sequence[int]) -> tuple[int, ControlRegisters]:
-    """A word of the row and a state that are legal together, or illegal; any where some dozens of draws find none.
+    """A word of the row and a state that are legal together, or illegal; either, if _DRAWS draws find none. Never one that is odd.
 
     steps: of one of these numbers the numbers of vector registers are multiples
     """
-    for _ in range(_DRAWS):
+    for number in itertools.count(1):
         vlmax = ControlRegisters(vtype=kind.vtype).vlmax
         starts = (0, 0, 0, 0, 0, 0, draws.randrange(4), draws.randrange(vlmax + 1), draws.randrange(256))
         view = ControlRegisters(vtype=kind.vtype, vstart=draws.choice(starts))
@@ -179,18 +181,17 @@ def _draw_word(row: Row, kind: Kind, draws: _Draws, steps: Sequence[int]) -> tup
             word = word & ~(mask << PLACES[name]) | value << PLACES[name]
         word = row.word(word)
         is_illegal = bool(illegal_reasons(word, view))
-        stride_is_base = _is_strided(row) and not (word >> 15 ^ word >> 20) & 31
-        is_odd = stride_is_base or reads_two_widths(_operands(row, word, view))
-        if is_illegal == kind.is_illegal and (is_illegal or not is_odd):
+        is_wanted = is_illegal == kind.is_illegal or number >= _DRAWS
+        if is_wanted and (is_illegal or not _is_odd(row, word, view)):
             break
     return word, view
 
 
-def reads_two_widths(operands: list[Operand]) -> bool:
-    """Whether a register is read with two element widths: the standard reserves that, and the machine does it."""
-    sources = [operand for operand in operands if operand.noun != "destination"]
-    widths = [(number, operand.eew) for operand in sources for number in operand.registers]
-    return len(dict(widths)) < len(set(widths))
+def _is_odd(row: Row, word: int, view: ControlRegisters) -> bool:
+    """Whether a legal word is left out: its stride and its base are one register, or its encoding is reserved."""
+    stride_is_base = _is_strided(row) and not (word >> 15 ^ word >> 20) & 31
+    instruction = decode(word, view.sew, view.lmul) if _is_vector(row) else None
+    return stride_is_base or instruction is not None and bool(registers_of_two_widths(instruction))
 
 
 def _fill_scalars(case: Case, row: Row, draws: _Draws) -> None:

@@ -1,18 +1,23 @@
 """Runs golden vectors (docs/GOLDEN_VECTORS.md) on QEMU's user mode, and prints where it differs: on_qemu.py FILE
 
-All cases go through one process. The program around them (on_qemu.txt) takes each from standard input; a signal ends it.
+All cases go through one process, and those behind a case that ends QEMU itself through another one. The program around
+them (on_qemu.txt) takes each from standard input; a signal ends it.
 """
 
+import functools
 import json
 import pathlib
+import re
 import shutil
 import struct
 import subprocess
 import sys
 import tempfile
-from collections.abc import Mapping, Sequence
+from collections.abc import Iterator, Mapping, Sequence
 
 QEMU = ["qemu-riscv64", "-cpu", "rv64,Zve64f=true,vext_spec=v1.0,vlen=256,elen=64"]
+"""The command of QEMU 7.2."""
+
 CODE, DATA, PROGRAM, BLOCK, STACK = 0x10000, 0x20000, 0x60000000, 0x60010000, 0x60020000
 CONTROL = ("vl", "vtype", "vxrm", "vxsat", "vstart")
 NAMES = ("end", *CONTROL, "value", "v", "pc", *(f"x{number}" for number in range(1, 32)), "memory")
@@ -69,8 +74,10 @@ def expected(case: Case) -> State:
     return {**state(case, held(case, "after")), "end": end, "value": value}
 
 
-def found(case: Case, result: bytes) -> State:
+def found(case: Case, result: bytes | None) -> State:
     """The same by a result of QEMU's. A signal at another place tells that the instruction ran."""
+    if result is None:
+        return {**expected(case), "end": "QEMU ended"}
     values = dict(zip(NAMES, LAYOUT.unpack(result)))
     cause = 7 if int(str(case["word"]), 16) & 0x20 else 5
     end = SIGNALS[values["end"]].format(cause) if values["pc"] == int(str(case["pc"]), 16) else "ran"
@@ -80,16 +87,42 @@ def found(case: Case, result: bytes) -> State:
 def differences(cases: Sequence[Case]) -> list[dict[str, tuple[object, object]]]:
     """For each case what QEMU leaves otherwise, by name: what is expected, and what was found."""
     befores = [LAYOUT.pack(*(state(case) | {"end": int(str(case["word"]), 16)}).values()) for case in cases]
-    with tempfile.TemporaryDirectory() as folder, tempfile.TemporaryFile() as feed:
+    pairs = [(expected(case), found(case, result)) for case, result in zip(cases, results(befores), strict=True)]
+    return [{name: (one[name], other[name]) for name in NAMES if one[name] != other[name]} for one, other in pairs]
+
+
+def results(befores: Sequence[bytes]) -> Iterator[bytes | None]:
+    """The state that QEMU leaves of each case; None where QEMU itself ends. Raises CalledProcessError where it doesn't start."""
+    done = 0
+    while done < len(befores):
+        output = _run(b"".join(before[-8192:] + before[:-8192] for before in befores[done:]))
+        ends = range(2 * LAYOUT.size, len(output) + 1, LAYOUT.size)  # the first state is that before all cases
+        yield from (output[end - LAYOUT.size : end] for end in ends)
+        done += len(ends)
+        if done < len(befores):
+            yield None
+            done += 1
+
+
+def _run(feed: bytes) -> bytes:
+    """The output of the program around cases, which reads them."""
+    with tempfile.TemporaryDirectory() as folder:
         elf = pathlib.Path(folder, "image")
         elf.write_bytes(image())
         elf.chmod(0o700)
-        feed.write(b"".join(before[-8192:] + before[:-8192] for before in befores))
-        feed.seek(0)
-        output = subprocess.run([*QEMU, elf], stdin=feed, stdout=subprocess.PIPE, check=True).stdout[LAYOUT.size :]
-    results = [output[at : at + LAYOUT.size] for at in range(0, len(output), LAYOUT.size)]
-    pairs = [(expected(case), found(case, result)) for case, result in zip(cases, results, strict=True)]
-    return [{name: (one[name], other[name]) for name in NAMES if one[name] != other[name]} for one, other in pairs]
+        done = subprocess.run([*qemu(), elf], input=feed, stdout=subprocess.PIPE)
+    if len(done.stdout) < LAYOUT.size:
+        raise subprocess.CalledProcessError(done.returncode, done.args)
+    return done.stdout
+
+
+@functools.cache
+def qemu() -> list[str]:
+    """The command of the QEMU that is installed: since version 8.2 names of extensions are in lower case."""
+    told = subprocess.run([QEMU[0], "--version"], stdout=subprocess.PIPE, text=True, check=True).stdout
+    version = re.search(r"version (\d+)\.(\d+)", told)
+    is_new = version is not None and (int(version[1]), int(version[2])) >= (8, 2)
+    return [*QEMU[:2], QEMU[2].replace("Zve", "zve") if is_new else QEMU[2]]
 
 
 if __name__ == "__main__":
