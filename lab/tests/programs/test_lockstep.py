@@ -65,7 +65,8 @@ def told(lab: Lab, image: pathlib.Path, lines: list[str]) -> tuple[int, list[str
 
 @pytest.mark.by_command("lockstep")
 def test_a_log_of_spikes_form_agrees(lab: Lab, image: pathlib.Path) -> None:
-    assert told(lab, image, spike_log(image, WRITTEN)) == (0, ["6 instructions agree, and the log ends"])
+    end = "6 instructions agree; 10018: ebreak: An ebreak stands at 0x10018."
+    assert told(lab, image, spike_log(image, WRITTEN)) == (0, [end])
 
 
 def test_planted_differences(lab: Lab, image: pathlib.Path) -> None:
@@ -95,12 +96,12 @@ def test_where_a_log_goes_elsewhere(lab: Lab, image: pathlib.Path) -> None:
         and printed[0] == "instruction 3: 10008: vid.v v8"
         and printed[2:]
         == [
-            "carried out here, and the log goes on at 1000c",
+            "executed here, and the log goes on at 1000c",
             "not allowed: the standard leaves nothing open here",
         ]
     )
     stopped = told(lab, image, [*lines, "core   0: 3 0x0000000000010018 (0x00100073)"])
-    assert stopped[0] == 1 and stopped[1][2] == "ebreak here, carried out in the log"
+    assert stopped[0] == 1 and stopped[1][2] == "ebreak here, executed in the log"
     path = image.with_name("log")
     assert told(lab, image, lines[:1]) == (2, [f"vecmon-lab: {path} has no instruction where {image} begins"])
 
@@ -114,7 +115,7 @@ def qemu_log(image: pathlib.Path, *properties: str) -> pathlib.Path:
         ",".join([QEMU[-1], *properties]),
         "-singlestep",
         "-d",
-        "nochain,cpu",
+        "nochain,cpu,strace",
         "-D",
         log,
         image,
@@ -158,7 +159,7 @@ TAIL = "allowed: these elements are tail, and agnostic: each stays or becomes on
     [
         (f"{VSTART}csrr a2, vstart", 7, "x12: 0 here, 5 in the log", 6, REFUSED),
         (f"{VSTART}vse8.v v8, (a1)\nlb a2, 0(a1)", 8, "x12: 0 here, 7 in the log", 6, REFUSED),
-        (f"{VSTART}nop\nvmsbf.m v1, v2", 8, "carried out here, the end of the log", 6, REFUSED),
+        (f"{VSTART}nop\nvmsbf.m v1, v2", 8, "executed here, SIGILL in the log", 6, REFUSED),
         ("vid.v v8\nvs1r.v v8, (a1)\nlh a2, 1(a1)", 7, "x12: 1 here, ffffffffffffff01 in the log", 5, TAIL),
         ("vid.v v8\nvmv1r.v v9, v8\nvsetivli x0, 4, e8, m1, ta, mu\nvredsum.vs v1, v9, v9\nvmv.x.s a2, v1",
          9, "x12: 1 here, ffffffffffffffff in the log", 5, f"perhaps {TAIL.replace(':', ': some of', 1)}"),

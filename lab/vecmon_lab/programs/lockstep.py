@@ -1,4 +1,4 @@
-"""Another device's log of an image beside the machine: the first instruction that differs, and what the standard allows there."""
+"""Another device's log of an image compared with the machine: the first instruction that differs, and what the standard allows there."""
 
 import argparse
 import itertools
@@ -7,14 +7,14 @@ import re
 from collections import deque
 from collections.abc import Iterator, Sequence
 
-from .. import LabError
-from ..guest.changes import ECALL, Carried, Registers, Stepper, vtype_text
-from ..guest.guest import started
+from .. import LabError, mistakes_in
+from ..guest.changes import ECALL, Carried, Stepper, vtype_text
+from ..guest.guest import Guest, started
 from ..guest.symbols import Symbols
-from ..instructions.accesses import REGISTER_BYTES, vector_instruction
-from ..machine.answers import elements_in
-from ..runs.dataflow import Cell, bits_of_registers
-from .logs import Commit, commits
+from ..instructions.accesses import REGISTER_BYTES
+from ..runs.dataflow import Cell
+from .differences import differences
+from .logs import Commit, Kind, Log
 from .origins import LOOKS_BACK, LoggedStep, origin
 
 _NUMBER = re.compile(r"\b([xv])(\d+)\b")
@@ -23,81 +23,132 @@ _NUMBER = re.compile(r"\b([xv])(\d+)\b")
 def add_arguments(parser: argparse.ArgumentParser) -> None:
     """The words of `vecmon-lab lockstep`."""
     parser.add_argument("image", metavar="IMAGE", type=pathlib.Path, help="an ELF file")
-    parser.add_argument("log", metavar="LOG", type=pathlib.Path, help="Spike's --log-commits, or QEMU's -d nochain,cpu")
+    logs = "Spike's --log-commits, vecmon-record's --log, or QEMU's -d nochain,cpu,vpu,strace (7.2: without vpu)"
+    parser.add_argument("log", metavar="LOG", type=pathlib.Path, help=logs)
     parser.add_argument("--policy", choices=("keep", "ones"), default="keep", help="for agnostic elements; else keep")
 
 
 def run(arguments: argparse.Namespace) -> int:
     """Prints the first difference, with status 1; or how many instructions agree. Raises LabError and OSError."""
-    image, symbols, steps = arguments.image, Symbols.read(arguments.image), deque[LoggedStep](maxlen=LOOKS_BACK)
-    number = shift = 0
-    with arguments.log.open(errors="replace") as log, started(image, policy=arguments.policy) as guest:
-        stepper = Stepper(guest)
-        told = itertools.dropwhile(lambda commit: commit.pc != guest.pc, commits(log))
-        for commit, following in itertools.pairwise(itertools.chain(told, [None])):
-            assert commit
-            if commit.pc != guest.pc:  # Spike tells nothing of what it doesn't carry out
-                commit, following = Commit(guest.pc, commit.word, is_done=False), commit
-            before, number = stepper.registers.copy(), number + 1
-            if number == 1 and commit.stack is not None:
-                shift = commit.stack - before.x[2]
-            step = LoggedStep(_carried(stepper, commit), before, number, commit)
-            steps.append(step)
-            trap = _trap(step, following, guest.pc)
-            if lines := {trap: {("vstart", 0)}} if trap else dict(differences(step, stepper.registers, shift)):
-                print(*_report(steps, lines, trap is not None, symbols), sep="\n")
-                return 1
-            if step.carried.stop:
-                print(f"{number:,} instructions agree; {guest.tell(step.carried.stop, symbols.place(guest.pc))}")
-                return 0
-    if not number:
+    image, symbols = arguments.image, Symbols.read(arguments.image)
+    with arguments.log.open(errors="replace") as lines, started(image, policy=arguments.policy) as guest:
+        lockstep = _Lockstep(guest, Log(lines), symbols)
+        with mistakes_in(arguments.log):
+            status = lockstep.run()
+    if not lockstep.number:
         raise LabError(f"{arguments.log} has no instruction where {image} begins")
-    print(f"{number:,} instructions agree, and the log ends")
-    return 0
+    return status
+
+
+class _Lockstep:
+    """The machine, and a log beside it.
+
+    number: how many instructions were compared
+    """
+
+    def __init__(self, guest: Guest, log: Log, symbols: Symbols) -> None:
+        self.number = 0
+        self._guest, self._log, self._symbols = guest, log, symbols
+        self._stepper, self._steps, self._shift = Stepper(guest), deque[LoggedStep](maxlen=LOOKS_BACK), 0
+
+    def run(self) -> int:
+        """Compares all instructions from the machine's program counter on; the status. Raises LabError."""
+        commits = itertools.dropwhile(lambda commit: commit.pc != self._guest.pc, self._log.commits())
+        for commit, following in itertools.pairwise(itertools.chain(commits, [None])):
+            assert commit
+            status = self._compare(commit, following)
+            if status is not None:
+                return status
+        return self._finish() if self.number else 2
+
+    def _compare(self, commit: Commit, following: Commit | None) -> int | None:
+        """Executes an instruction and compares it with the log's; the status, if it ends the comparison. Raises LabError."""
+        if commit.pc != self._guest.pc:  # Spike shows nothing of an instruction that isn't executed
+            commit, following = Commit(self._guest.pc, commit.word, is_done=False), commit
+        if not commit.is_done and following is None and self._log.end is Kind.TRUNCATED:
+            raise self._truncated(commit.pc)
+        step = self._step(commit)
+        trap = self._trap(step, following)
+        if trap:
+            return self._report({trap: {("vstart", 0)}}, is_trap=True)
+        lines = dict(differences(step, self._stepper.registers, self._shift, self._guest.peek))
+        if lines:
+            return self._report(lines, is_trap=False)
+        return self._agree(step) if step.carried.stop else None
+
+    def _step(self, commit: Commit) -> LoggedStep:
+        """Executes an instruction, for this one of the log."""
+        before = self._stepper.registers.copy()
+        self.number += 1
+        if self.number == 1 and commit.stack is not None:
+            self._shift = commit.stack - before.x[2]
+        step = LoggedStep(_carried(self._stepper, commit), before, self.number, commit)
+        self._steps.append(step)
+        return step
+
+    def _finish(self) -> int:
+        """The status where all instructions of a log in Spike's form agree: it ends where the program does. Raises LabError."""
+        if self._log.end is Kind.LIMITED:
+            print(f"{self.number:,} instructions agree, up to the limit of ticks of the log")
+            return 0
+        if self._log.end is Kind.TRUNCATED:
+            raise self._truncated(self._guest.pc)
+        step = self._step(Commit(self._guest.pc, is_done=False))
+        if step.carried.stop:
+            self.number -= 1
+            return self._agree(step)
+        if self._log.end is Kind.OPEN:
+            self.number -= 1
+            raise self._truncated(step.carried.pc)
+        return self._report({f"executed here, {self._log.end_text} in the log": {("vstart", 0)}}, is_trap=True)
+
+    def _agree(self, step: LoggedStep) -> int:
+        """Prints that all agrees up to a stop."""
+        print(f"{self.number:,} instructions agree; {self._told_stop(step)}")
+        return 0
+
+    def _told_stop(self, step: LoggedStep) -> str:
+        """Where and why the program stopped."""
+        return self._guest.tell(step.carried.stop, self._symbols.place(self._guest.pc))
+
+    def _truncated(self, pc: int) -> LabError:
+        """The error that the log ends before the instruction at an address."""
+        place = f"{pc:x} {self._symbols.place(pc)}".rstrip()
+        agreed = f"{self.number:,} instructions agree, and then the log is truncated"
+        return LabError(f"{agreed}: the program goes on at {place}. Record all of it, or less of the program")
+
+    def _trap(self, step: LoggedStep, following: Commit | None) -> str | None:
+        """How one device refused what the other executed, if it did, by the log's next instruction and its end. Raises LabError."""
+        commit, stop, log = step.commit, step.carried.stop, self._log
+        if stop:
+            has_gone_on = commit.is_done and (commit.word is not None or following and following.pc == commit.pc + 4)
+            return f"{stop.kind} here, executed in the log" if has_gone_on and stop.kind != "exit" else None
+        if commit.is_done and (following is None or commit.word is not None or following.pc == self._guest.pc):
+            return None
+        if following:
+            return f"executed here, and the log goes on at {following.pc:x}"
+        if log.end is Kind.ENDED:
+            return f"executed here, {log.end_text} in the log"
+        if log.has_calls:  # so a signal would have its line
+            self.number -= 1
+            raise self._truncated(step.carried.pc)
+        return (
+            "executed here, the end of the log: refused there, or the log is truncated (QEMU's -d strace shows which)"
+        )
+
+    def _report(self, lines: dict[str, set[Cell]], is_trap: bool) -> int:
+        """Prints a difference; the status."""
+        print(*_report(self._steps, lines, is_trap, self._symbols), sep="\n")
+        return 1
 
 
 def _carried(stepper: Stepper, commit: Commit) -> Carried:
-    """Carries out an instruction. What a call answers is the log's: it is the business of the other device's system."""
+    """Executes an instruction. The result of a call is the log's: it depends on the other device's system."""
     before, carried = stepper.registers.x[10], stepper.step()
     if carried.word == ECALL and commit.is_done:
         stepper.guest.ask(f"set x10 {commit.x.get(10, before):x}")
         stepper.look()
     return carried
-
-
-def _trap(step: LoggedStep, following: Commit | None, pc: int) -> str | None:
-    """How one device refused what the other carried out, if it did: by what the log tells next, and where the machine is then."""
-    commit, stop = step.commit, step.carried.stop
-    if stop:
-        has_gone_on = commit.is_done and (commit.word is not None or following and following.pc == commit.pc + 4)
-        return f"{stop.kind} here, carried out in the log" if has_gone_on and stop.kind != "exit" else None
-    if commit.is_done and (following is None or commit.word is not None or following.pc == pc):
-        return None
-    return f"carried out here, {f'and the log goes on at {following.pc:x}' if following else 'the end of the log'}"
-
-
-def differences(step: LoggedStep, after: Registers, shift: int) -> Iterator[tuple[str, set[Cell]]]:
-    """What the log tells otherwise than the machine, a line each, and where it is: by the machine's registers after it.
-
-    shift: how far the log's stack lies off
-    """
-    commit, before = step.commit, step.before
-    if commit.word not in (None, step.carried.word):
-        yield f"word: {step.carried.word:08x} here, {commit.word:08x} in the log", set()
-    for number in range(1, 32):
-        told = commit.x.get(number, before.x[number])
-        if told not in (after.x[number], after.x[number] + shift):
-            bits = {("x", 64 * number + bit) for bit in range(64) if (told ^ after.x[number]) >> bit & 1}
-            yield f"x{number}: {after.x[number]:x} here, {told:x} in the log", bits
-    instruction = vector_instruction(step.carried.word, before.control.vtype)
-    width = instruction.operands[0].eew if instruction and instruction.operands else 8
-    for at in range(0, 32 * REGISTER_BYTES if commit.word is not None else 0, REGISTER_BYTES):
-        register, number = slice(at, at + REGISTER_BYTES), at // REGISTER_BYTES
-        held = commit.v.get(number, bytes(before.v[register]))
-        for element, (here, there) in enumerate(zip(elements_in(after.v[register], width), elements_in(held, width))):
-            if here != there:
-                line = f"v{number}.e{width}[{element}]: {here:x} here, {there:x} in the log"
-                yield line, bits_of_registers(8 * at + width * element, width)
 
 
 def _report(steps: Sequence[LoggedStep], lines: dict[str, set[Cell]], is_trap: bool, symbols: Symbols) -> Iterator[str]:

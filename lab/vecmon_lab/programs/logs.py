@@ -1,23 +1,44 @@
-"""Logs of other devices, instruction by instruction: Spike's, and QEMU's."""
+"""Logs of other devices, instruction by instruction: Spike's form, which `vecmon-record` writes too, and QEMU's."""
 
+import enum
 import itertools
 import re
 from collections.abc import Iterable, Iterator
 from dataclasses import dataclass, field
+from fractions import Fraction
 
+from .. import LabError
 from ..instructions.accesses import REGISTER_BYTES
+from ..machine.answers import CONTROL
 
-_COMMIT = re.compile(r"core +\d+: (?:\d+ )?0x([0-9a-f]+) \(0x([0-9a-f]+)\)(.*)")
-_WRITTEN = re.compile(r"\b([xv])(\d+) +0x([0-9a-f]+)")
-_PLACE, _HELD = re.compile(r" pc +([0-9a-f]{16})"), re.compile(r"x(\d+)/\w+ +([0-9a-f]{16})")
+_WRITTEN = (
+    r"$| +(?:[xfv]\d+ +0x|e\d+ m|c\d+_|mem 0x)"  # without privilege and with another text it is Spike's disassembly
+)
+_COMMIT = re.compile(rf"core +\d+: (?:\d+ )?0x([0-9a-f]+) \(0x([0-9a-f]+)\)(?={_WRITTEN})(.*)")
+_REGISTER = re.compile(r"\b([xv])(\d+) +0x([0-9a-f]+)")
+_TYPE = re.compile(r" e(\d+) m(f?)(\d+) l(\d+)\b")
+_CONTROL = re.compile(r"\bc\d+_(v\w+) +0x([0-9a-f]+)")
+_MEMORY = re.compile(r"\bmem 0x([0-9a-f]+)(?: 0x([0-9a-f]+))?")
+_END = re.compile(r"((?:exit|ebreak|fault|running)\b.*?) pc=[0-9a-f]+.* \d+ \d+$")  # the recorder's last line
+_PC, _X = re.compile(r" pc +([0-9a-f]{16})"), re.compile(r"x(\d+)/\w+ +([0-9a-f]{16})")
+_VECTOR_UNIT = re.compile(r" (v[a-z0-9]+) +([0-9a-f]+)$")
+_CALL, _EXIT, _SIGNAL = re.compile(r"\d+ \w+\("), re.compile(r"\d+ exit(_group)?\("), re.compile(r"--- (SIG\w+) ")
+
+Kind = enum.Enum("Kind", "OPEN TRUNCATED LIMITED ENDED")
+"""How a log ends: OPEN, nothing says it; TRUNCATED, inside an instruction; LIMITED, where the recorder's ticks were used
+up; ENDED, where it says that the program ended."""
 
 
 @dataclass
 class Commit:
-    """An instruction of a log: its address, the registers that it changed or wrote, by their numbers, and its word.
+    """An instruction of a log: its address and word, and what it wrote, which is also what the log shows to have changed.
 
-    QEMU tells no word, and then nothing of vector registers either; it tells the stack pointer before each instruction.
-    is_done: False where the log doesn't tell that the instruction was carried out
+    QEMU has no word. It has the stack pointer before each instruction.
+    x, v, control: values of registers after the instruction, by number or name
+    vector_type: SEW, LMUL and vl after the instruction
+    loads: addresses that were read; stores: addresses that were written, each with its bytes
+    compared: which of `v`, `control` and `memory` the log shows: what isn't named there didn't change
+    is_done: False where the log doesn't show that the instruction was executed
     """
 
     pc: int
@@ -25,29 +46,111 @@ class Commit:
     stack: int | None = None
     x: dict[int, int] = field(default_factory=dict)
     v: dict[int, bytes] = field(default_factory=dict)
+    control: dict[str, int] = field(default_factory=dict)
+    vector_type: tuple[int, Fraction, int] | None = None
+    loads: list[int] = field(default_factory=list)
+    stores: list[tuple[int, bytes]] = field(default_factory=list)
+    compared: frozenset[str] = frozenset()
     is_done: bool = True
 
 
-def commits(lines: Iterable[str]) -> Iterator[Commit]:
-    """The instructions of a log. What QEMU tells last is before an instruction."""
-    states: list[Commit] = []  # QEMU's, before an instruction each: the last one and this one
-    for line in lines:
-        if written := _COMMIT.match(line):
-            values = [(kind, int(number), int(digits, 16)) for kind, number, digits in _WRITTEN.findall(written[3])]
-            x = {number: value for kind, number, value in values if kind == "x"}
-            v = {number: value.to_bytes(REGISTER_BYTES, "little") for kind, number, value in values if kind == "v"}
-            yield Commit(int(written[1], 16), int(written[2], 16), x=x, v=v)
-        elif place := _PLACE.match(line):
-            yield from _changed(states)
-            states = [*states[-1:], Commit(int(place[1], 16))]
-        elif states:
-            states[-1].x.update({int(number): int(digits, 16) for number, digits in _HELD.findall(line)})
-    yield from _changed(states)
-    yield from (Commit(state.pc, stack=state.x.get(2), is_done=False) for state in states[-1:])
+class Log:
+    """A log, which is read once. How it ends is known when all instructions have been read.
+
+    end: how the log ends; end_text: what it says there, as `SIGILL` or `exit 0`
+    has_calls: whether calls are in it, as QEMU's -d strace has them
+    """
+
+    def __init__(self, lines: Iterable[str]) -> None:
+        self.end, self.end_text, self.has_calls = Kind.OPEN, "", False
+        self._lines = lines
+        self._compared = {"v"}  # what a log in Spike's form has shown up to now
+        self._states: list[Commit] = []  # QEMU's, before an instruction each: the last one and this one
+
+    def commits(self) -> Iterator[Commit]:
+        """The instructions. QEMU's last state is before an instruction, which isn't done. Raises LabError."""
+        for line in self._lines:
+            if not line.endswith("\n"):
+                self.end = Kind.TRUNCATED
+            elif written := _COMMIT.match(line):
+                yield self._commit(int(written[1], 16), int(written[2], 16), written[3])
+            elif place := _PC.match(line):
+                yield from self._changed()
+                self.end, self._states = Kind.OPEN, [*self._states[-1:], Commit(int(place[1], 16))]
+            elif not self._take_end(line) and self._states:
+                self._take_registers(line)
+        if self._states and not self._is_whole():
+            self.end, self._states = Kind.TRUNCATED, self._states[:-1]
+        yield from self._changed()
+        yield from (Commit(state.pc, stack=state.x.get(2), is_done=False) for state in self._states[-1:])
+
+    def _commit(self, pc: int, word: int, text: str) -> Commit:
+        """An instruction in Spike's form."""
+        commit = Commit(pc, word)
+        for kind, number, digits in _REGISTER.findall(text):
+            if kind == "x":
+                commit.x[int(number)] = int(digits, 16)
+            else:
+                commit.v[int(number)] = _vector(digits)
+        commit.control = {name: int(digits, 16) for name, digits in _CONTROL.findall(text)}
+        if shown := _TYPE.search(text):
+            lmul = Fraction(1, int(shown[3])) if shown[2] else Fraction(int(shown[3]))
+            commit.vector_type = int(shown[1]), lmul, int(shown[4])
+        for address, digits in _MEMORY.findall(text):
+            if digits:
+                commit.stores.append((int(address, 16), bytes.fromhex(digits)[::-1]))
+            else:
+                commit.loads.append(int(address, 16))
+        self._compared |= {"control"} if commit.control else set()
+        self._compared |= {"memory"} if commit.loads or commit.stores else set()
+        commit.compared = frozenset(self._compared)
+        return commit
+
+    def _take_end(self, line: str) -> bool:
+        """Whether a line says that the program ended, or made a call; takes it in then."""
+        self.has_calls |= bool(_CALL.match(line))
+        if end := _END.match(line):
+            self.end = Kind.LIMITED if end[1] == "running" else Kind.ENDED
+            self.end_text = end[1]
+        elif end := _SIGNAL.match(line) or _EXIT.match(line):
+            self.end, self.end_text = Kind.ENDED, "exit" if line[0].isdigit() else end[1]
+        return self.end is not Kind.OPEN
+
+    def _take_registers(self, line: str) -> None:
+        """Takes in what a line of QEMU's shows of the state before an instruction. Raises LabError for another VLEN."""
+        state = self._states[-1]
+        state.x.update({int(number): int(digits, 16) for number, digits in _X.findall(line)})
+        if shown := _VECTOR_UNIT.match(line):
+            name, digits = shown[1], shown[2]
+            if name[1:].isdigit():
+                state.v[int(name[1:])] = _vector(digits)
+            elif name in CONTROL:
+                state.control[name] = int(digits, 16)
+
+    def _is_whole(self) -> bool:
+        """Whether the last state of QEMU's has all registers, those of the vector unit if the first one does."""
+        first, last = self._states[0], self._states[-1]
+        return len(last.x) == 32 and len(last.v) in (0, 32) and len(last.v) == len(first.v)
+
+    def _changed(self) -> Iterator[Commit]:
+        """What an instruction changed, by QEMU's registers before it and after it, if there are both."""
+        for before, after in itertools.pairwise(self._states):
+            compared = frozenset({"v", "control"} if after.v else set())
+            yield Commit(
+                before.pc,
+                stack=before.x.get(2),
+                x=dict(after.x.items() - before.x.items()),
+                v=dict(after.v.items() - before.v.items()),
+                control=dict(after.control.items() - before.control.items()),
+                compared=compared,
+            )
 
 
-def _changed(states: list[Commit]) -> Iterator[Commit]:
-    """What an instruction changed, by the registers before it and after it, if there are both."""
-    for before, after in itertools.pairwise(states):
-        changed = {number: value for number, value in after.x.items() if value != before.x.get(number)}
-        yield Commit(before.pc, stack=before.x.get(2), x=changed)
+def _vector(digits: str) -> bytes:
+    """The bytes of a vector register, from its digits, the last byte first. Raises LabError for another VLEN."""
+    if len(digits) != 2 * REGISTER_BYTES:
+        width = f"{4 * len(digits)} bits, and here they have {8 * REGISTER_BYTES}"
+        raise LabError(
+            f"in the log vector registers have {width}: run the other device with a VLEN of 256 (QEMU: vlen=256)"
+        )
+    return bytes.fromhex(digits)[::-1]

@@ -4,6 +4,8 @@ import re
 from collections.abc import Sequence
 from dataclasses import dataclass
 
+from ..instructions.accesses import vector_instruction
+from ..instructions.reserved import registers_of_two_widths
 from ..machine.answers import CONTROL
 from ..runs.dataflow import Cell, Executed, Part, parts
 from ..tables.table import read_table
@@ -29,7 +31,9 @@ def origin(
     is_part: whether it is enough that some of the elements that made these places are agnostic
     """
     last = steps[-1]
-    untold = {"memory", *CONTROL} | ({"v"} if last.commit.word is None else set())
+    unseen = (
+        {"memory", "v", *CONTROL} - last.commit.compared - ({*CONTROL} if "control" in last.commit.compared else set())
+    )
     for step in reversed(steps):
         met = [part for part in parts(step) if not part[0].isdisjoint(places)]
         if met or step is last:
@@ -37,7 +41,7 @@ def origin(
                 return step, sentence
             made_of = (part[1] for part in met if step is last or step.carried.text.startswith("v"))
             places = places.difference(*(part[0] for part in met)).union(*made_of)
-            places = {place for place in places if place[0] in untold}
+            places = {place for place in places if place[0] in unseen}
     return None
 
 
@@ -52,6 +56,9 @@ def _left_open(step: LoggedStep, met: Sequence[Part], is_trap: bool, is_part: bo
     names = {name for name, _ in written}
     holds = {"trap": is_trap, "value": "v" in names, "vl": "vl" in names, "order": len(written) > len(set(written))}
     holds |= {"vstart": text.startswith("v") and step.before.control.vstart > 0}
+    instruction = vector_instruction(step.carried.word, step.before.control.vtype)
+    holds |= {"reserved": instruction is not None and bool(registers_of_two_widths(instruction))}
     holds |= {"control": last.carried.text.startswith("csr") and not names.isdisjoint(CONTROL)}
     rows = read_table("left_open")
-    return next((f"perhaps allowed: {row[2]}" for row in rows if holds[row[0]] and re.match(row[1], text)), None)
+    fitting = (row for row in rows if holds[row[0]] and re.match(row[1], text))
+    return next((row[2] if row[2].startswith("reserved: ") else f"perhaps allowed: {row[2]}" for row in fitting), None)
