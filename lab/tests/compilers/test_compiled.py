@@ -63,7 +63,7 @@ def test_all_kernels_are_tried() -> None:
 
 
 def test_a_kernel_is_a_short_script(clang: Compiler) -> None:
-    for path in KERNELS.glob("*.c"):
+    for path in (KERNELS / f"{name}.c" for name in OUTPUTS):
         program = compile_c(path.read_text("ascii"), clang, 0, KERNELS)
         assert sum(len(line) + 3 for line in program.lines) <= 12_000, path
 

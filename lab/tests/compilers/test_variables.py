@@ -63,7 +63,9 @@ def test_arguments_come_in_registers(clang: Compiler) -> None:
 
 def test_locals_lie_in_their_frame(clang: Compiler) -> None:
     text = "int main(void)\n{\n    int first = 1;\n    long second = 2;\n    return first + (int)second;\n}\n"
-    for _, _, _, _, function, _, (place,) in compiled(clang, text, O0).variables:
+    variables = compiled(clang, text, O0).variables
+    assert {name for name, *_ in variables} == {"first", "second"}
+    for _, _, _, _, function, _, (place,) in variables:
         assert function == "main" and place[2:4] == ("memory", 8) and int(place[4], 16) >= (1 << 64) - 64
 
 

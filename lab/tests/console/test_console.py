@@ -568,7 +568,7 @@ def test_colours(tmp_path: pathlib.Path, more: dict[str, str], has_colours: bool
     elements = re.findall("v8  ([^\r]*)\r", told["vreg v8"])[-1].split()
     assert [element.startswith(tail) for element in elements] == [False] * 5 + [has_colours] * 3
     assert masked not in told["vreg v9"]
-    assert has_colours or not any(colour in "".join(told.values()) for colour in (tail, masked, changed))
+    assert [colour in "".join(told.values()) for colour in (tail, masked, changed)] == [has_colours, False, has_colours]
 
 
 @pytest.mark.parametrize(

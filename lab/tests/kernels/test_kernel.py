@@ -257,6 +257,8 @@ def test_the_example(clang: Compiler, tmp_path: pathlib.Path) -> None:
     run = subprocess.run(command, cwd=tmp_path, capture_output=True, text=True, check=False)
     assert run.returncode == 0 and "2 passed" in run.stdout, run.stdout
     page = (TOP / "docs" / "LAB.md").read_text("utf-8")
-    for path in folder.glob("*.[cp]*"):
+    paths = sorted(folder.glob("*.[cp]*"))
+    assert {path.suffix for path in paths} == {".c", ".py"}
+    for path in paths:
         text = path.read_text("utf-8")
         assert f"\n{text[text.index('@settings') if path.suffix == '.py' else 0:]}```" in page

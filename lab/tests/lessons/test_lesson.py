@@ -218,7 +218,9 @@ def test_merge_patches(old: dict[str, Any], new: dict[str, Any]) -> None:
 
 
 def test_the_files_of_the_page_stay_within_their_elements() -> None:
-    for path in FILES.glob("*.js"):
+    paths = list(FILES.glob("*.js"))
+    assert FILES / "lesson.js" in paths
+    for path in paths:
         assert "</script" not in path.read_text("utf-8") and "<!--" not in path.read_text("utf-8")
         assert not re.search(r"innerHTML|outerHTML|insertAdjacentHTML|document\.write", path.read_text("utf-8"))
 

@@ -48,7 +48,9 @@ def run_on(emulator: list[str], path: pathlib.Path) -> tuple[int, str]:
 @pytest.mark.usefixtures("qemu")
 def test_faults_on_qemu(lab: Lab, tmp_path: pathlib.Path) -> None:
     assert lab("programs", tmp_path, "--count", "8", "--length", "50", "--faults")[0] == 0
-    for path in tmp_path.glob("*.elf"):
+    paths = sorted(tmp_path.glob("*.elf"))
+    assert len(paths) == 8
+    for path in paths:
         assert lab("run", path)[0] == 139
         told = subprocess.run([*QEMU, path], stdout=subprocess.PIPE, text=True).stdout
         assert told == path.with_suffix(".reference").read_text("ascii") + "00000000\n", path
@@ -88,7 +90,7 @@ def test_each_result_is_read() -> None:
         row: (int(row.bits.replace("-", "0"), 2), int(row.bits.replace("0", "1").replace("-", "0"), 2))
         for row in instruction_table().values()
     }
-    written = set[int]()
+    written, writes = set[int](), 0
     words = iter(draw_program("3", 1000, False).words)
     for word in words:
         if word < 0:
@@ -101,3 +103,5 @@ def test_each_result_is_read() -> None:
         if "rd" in row.fields() and word >> 7 & 31:
             assert word >> 7 & 31 not in written
             written.add(word >> 7 & 31)
+            writes += 1
+    assert writes > 100

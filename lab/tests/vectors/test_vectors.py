@@ -1,6 +1,7 @@
 """Golden results of single instructions: values by hand, QEMU's results, and what each plan covers."""
 
 import json
+import os
 import pathlib
 import subprocess
 import sys
@@ -127,6 +128,43 @@ def test_each_ninth_instruction_on_qemu(program: pathlib.Path) -> None:
     reasons = Counter(reason_of(case, differing) for case, differing in zip(shown, on_qemu.differences(shown)))
     assert "unknown" not in reasons, reasons
     assert reasons["none"] > 250
+
+
+@pytest.mark.parametrize(
+    ("version", "extension"),
+    [
+        ("7.2.22 (Debian 1:7.2+dfsg-7+deb12u18+b3)", "Zve64f"),
+        ("8.1.5", "Zve64f"),
+        ("8.2.0", "zve64f"),
+        ("10.0.13 (Debian 1:10.0.13+ds-0+deb13u1)", "zve64f"),
+        ("11.1.3 (Debian 1:11.1.3+ds-1)", "zve64f"),
+    ],
+)
+def test_names_of_extensions(
+    monkeypatch: pytest.MonkeyPatch, tmp_path: pathlib.Path, version: str, extension: str
+) -> None:
+    """QEMU 8.2 renamed the property, and QEMU 11 refuses the old name."""
+    emulator = tmp_path / "qemu-riscv64"
+    emulator.write_text(f"#!/bin/sh\necho 'qemu-riscv64 version {version}'\n", "ascii")
+    emulator.chmod(0o700)
+    monkeypatch.setenv("PATH", f"{tmp_path}:{os.environ['PATH']}")
+    on_qemu.qemu.cache_clear()
+    assert on_qemu.qemu() == ["qemu-riscv64", "-cpu", f"rv64,{extension}=true,vext_spec=v1.0,vlen=256,elen=64"]
+    on_qemu.qemu.cache_clear()
+
+
+def test_cases_behind_one_that_ends_qemu(monkeypatch: pytest.MonkeyPatch) -> None:
+    """A process that ends at each case of zeros: the next one begins behind it."""
+    size = on_qemu.LAYOUT.size
+
+    def run(cases: bytes) -> bytes:
+        each = [cases[at : at + size] for at in range(0, len(cases), size)]
+        end = each.index(bytes(size)) if bytes(size) in each else len(each)
+        return bytes(size) + b"".join(each[:end])
+
+    monkeypatch.setattr(on_qemu, "_run", run)
+    left = list(on_qemu.results([bytes([number]) * size for number in (1, 0, 2, 3, 0)]))
+    assert [result and result[0] for result in left] == [1, None, 2, 3, None]
 
 
 def reason_of(case: dict[str, Any], differing: dict[str, tuple[Any, Any]]) -> str:

@@ -6,7 +6,7 @@ from dataclasses import dataclass, replace
 from ..machine.answers import Granted, Position, Refused, read
 from ..machine.lines import words_of
 
-MOST_TICKS = 257  # of an instruction: a fault-only-first load of 256 elements tries one more
+MOST_TICKS = 256  # of an instruction: those of a load or store of 256 elements, and no group has more (e8, m8)
 
 
 @dataclass

@@ -104,13 +104,15 @@ def results(befores: Sequence[bytes]) -> Iterator[bytes | None]:
             done += 1
 
 
-def _run(feed: bytes) -> bytes:
-    """The output of the program around cases, which reads them."""
-    with tempfile.TemporaryDirectory() as folder:
+def _run(cases: bytes) -> bytes:
+    """The output of the program around cases. It reads them from a file, since a read from a pipe may be short."""
+    with tempfile.TemporaryDirectory() as folder, tempfile.TemporaryFile() as feed:
         elf = pathlib.Path(folder, "image")
         elf.write_bytes(image())
         elf.chmod(0o700)
-        done = subprocess.run([*qemu(), elf], input=feed, stdout=subprocess.PIPE)
+        feed.write(cases)
+        feed.seek(0)
+        done = subprocess.run([*qemu(), elf], stdin=feed, stdout=subprocess.PIPE)
     if len(done.stdout) < LAYOUT.size:
         raise subprocess.CalledProcessError(done.returncode, done.args)
     return done.stdout
