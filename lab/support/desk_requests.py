@@ -65,7 +65,7 @@ NONSENSE: list[Request] = [
 
 
 def source_requests() -> list[Request]:
-    """Each assembler source of the repository is written and stepped; at the end a program runs without a stop."""
+    """Each assembler source of the repository is written and stepped; one prints in a loop."""
     paths = sorted({*(TOP / "lab").rglob("*.s"), *(TOP / "tests").rglob("*.s")})
     texts = [path.read_text("utf-8", "replace") for path in paths if "harness" not in path.parts]
     requests = list[Request]()
@@ -79,7 +79,7 @@ def source_requests() -> list[Request]:
     requests += [{"ask": "draft", "text": "nop", "number": 0}, {"ask": "name", "name": "Ada"}, _lines(*BAD_LINES[:4])]
     requests += [{"ask": "version", "number": 3}, {"ask": "version", "number": 9999}, {"ask": "nonsense"}]
     requests += [_lines("out "), {"ask": "lines", "do": 3}, {"ask": "case", "exercise": "doubles", "text": "ret"}]
-    return [*requests, {"ask": "source", "text": "loop: j loop\n"}, _lines("step 1"), _lines("go")]
+    return requests
 
 
 def exercise_requests() -> list[Request]:
