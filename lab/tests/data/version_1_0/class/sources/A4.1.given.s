@@ -1,0 +1,1 @@
+first: j first
