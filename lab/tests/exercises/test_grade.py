@@ -433,7 +433,7 @@ def test_reports_for_other_programs(tmp_path: pathlib.Path) -> None:
     assert [test["visibility"] for test in tests] == ["visible"] * 3 + ["hidden"] * 2
     assert [test["output"] for test in tests if test["name"] != "forty"] == ["", wrong, "fails", ""]
     several = run_grade("saturating_sum", "--gradescope", "results.json", "wraps.s", odd.name, folder=tmp_path)
-    assert several.stderr == "vecmon-lab: --gradescope tells of one answer, and here are several\n"
+    assert several.stderr == "vecmon-lab: --gradescope is for one answer, and here are several\n"
     over = run_grade("saturating_sum", "--junit", "wraps.s", "wraps.s", folder=tmp_path)
     assert over.returncode == 2 and "would be overwritten" in over.stderr
 

@@ -2,12 +2,14 @@
 
 import asyncio
 import os
+import sys
 from collections.abc import Sequence
 
 from .. import LabError
 from ..compilers.compiled import IMAGE_BYTES, CompiledProgram, read_compiled_program
 from ..compilers.compiler import Compiler
 from ..compilers.compiling import words_for
+from ..compilers.failures import ToolError
 from ..compilers.sandbox import answer_beside, sandboxed_compiler
 from .beside import alone
 from .requests import BadRequest
@@ -54,4 +56,6 @@ def builds_by(name: str | None, most: int = IMAGE_BYTES) -> Builds:
     except LabError as error:
         if name:
             raise
+        if isinstance(error, ToolError):  # what is installed doesn't work
+            print(f"vecmon-lab: no source in C is compiled: {error}", file=sys.stderr)
         return Builds(None, str(error))

@@ -4,7 +4,7 @@ import bisect
 import json
 import math
 import re
-from collections.abc import Iterable, Iterator, Mapping, Sequence
+from collections.abc import Callable, Iterable, Iterator, Mapping, Sequence
 from dataclasses import dataclass, replace
 from itertools import groupby, islice
 from typing import Any
@@ -15,12 +15,16 @@ from ..guest.guest import STACK_END, STACK_POINTER, pokes
 from ..instructions.accesses import PAGE_BYTES, ROW_BYTES
 from .compiler import OWN_SOURCES
 from .debug import MESSAGE_LETTERS, MOST_BYTES, MOST_MESSAGES, MOST_ROWS, MOST_SEGMENTS, MOST_SYMBOLS
+from .failures import ToolError
 from .variables import Variable, read_variables
 
 IMAGE_BYTES, IMAGE_PAGES = 1 << 16, 200  # of what isn't zeros; and of all pages
 
 _DATA = re.compile(rb"[^\0]+(?:\0{1,15}[^\0]+)*")  # bytes with few zeros between them
 STACK = (f"map {STACK_END - 0x4000:x} 4 rw", f"set x2 {STACK_POINTER:x}")
+
+Isolation = Callable[[Sequence[str], str], bytes]
+"""A function that runs `inside` with these arguments for a source of others, apart from the user's files; its output."""
 
 
 @dataclass(frozen=True)
@@ -77,10 +81,15 @@ class CompiledProgram(Program):
 
 
 def read_compiled_program(told: bytes, most: int = IMAGE_BYTES) -> CompiledProgram:
-    """The program of what was answered from the sandbox. Raises LabError where that is in bad form, or too much."""
+    """The program of what `inside` printed. Raises LabError where that is in bad form, or too much.
+
+    Raises ToolError where the source couldn't be compiled, and that says nothing about it.
+    """
     errors, warnings = list[SourceError](), list[SourceError]()
     try:
         answer = json.loads(told)
+        if failure := answer.get("failure"):
+            raise ToolError(str(failure)[:MESSAGE_LETTERS])
         for line, column, is_error, text in answer["messages"][:MOST_MESSAGES]:
             (errors if is_error else warnings).append(SourceError(int(line), int(column), str(text)[:MESSAGE_LETTERS]))
         if errors:

@@ -9,7 +9,7 @@ from collections.abc import Sequence
 from dataclasses import dataclass
 
 from .. import LabError
-from ..machine.program import MARCH
+from ..machine.image import MARCH
 
 RUNTIME = pathlib.Path(__file__).parent / "runtime"
 C_SOURCE, ASSEMBLER_SOURCE, IMAGE = "source.c", "source.s", "image"

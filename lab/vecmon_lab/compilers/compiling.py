@@ -5,7 +5,7 @@ import pathlib
 import tempfile
 
 from .. import LabError, mistakes_in
-from .compiled import CompiledProgram, read_compiled_program
+from .compiled import CompiledProgram, Isolation, read_compiled_program
 from .compiler import C_SOURCE, FUNCTION, IMAGE, Compiler, find_compiler
 from .sandbox import answer_of_own, answer_sandboxed
 
@@ -13,15 +13,22 @@ SOURCE_BYTES = 1 << 16
 
 
 def compile_c(
-    text: str, compiler: Compiler, choice: int, headers: pathlib.Path | None = None, is_answer: bool = False
+    text: str,
+    compiler: Compiler,
+    choice: int,
+    headers: pathlib.Path | None = None,
+    is_answer: bool = False,
+    isolation: Isolation | None = None,
 ) -> CompiledProgram:
-    """Compiles a source, by the options of this number. Mistakes are in the program. Raises LabError.
+    """Compiles a source, by the options of this number. Mistakes are in the program. Raises LabError, and ToolError.
 
-    headers: the folder of a source of one's own; without it that happens in a sandbox, as for a text of others
+    headers: the folder of your own source, which isn't isolated; None for a source of others
     is_answer: whether it is to answer an exercise
+    isolation: what compiles a source of others; None for the sandbox
     """
     words = words_for(text, compiler, choice, is_answer)
-    return read_compiled_program(answer_of_own(words, text, headers) if headers else answer_sandboxed(words, text))
+    isolated = isolation or answer_sandboxed
+    return read_compiled_program(answer_of_own(words, text, headers) if headers else isolated(words, text))
 
 
 def compiled_image(path: pathlib.Path) -> pathlib.Path:

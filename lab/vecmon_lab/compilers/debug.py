@@ -6,7 +6,7 @@ from itertools import islice
 from typing import TYPE_CHECKING, NamedTuple, TypedDict
 
 from ..guest.symbols import Symbols, source_rows
-from ..machine.program import rights_of
+from ..machine.image import rights_of
 from .entries import NAME_LETTERS, name_of, ranges_of
 from .variables import Variable, variables_of
 

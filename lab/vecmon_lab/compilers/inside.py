@@ -1,7 +1,8 @@
-"""What runs in the sandbox: compiles the source on its input, and answers what became of it, as JSON.
+"""The program in the sandbox: it compiles the source on its input, and prints messages and the image as JSON.
 
-`inside COMPILER CHOICE [answer | PATH]`, in a folder of its own, with that word for an answer to an exercise, and a path that
-debug data names. What is answered has `messages`, and `image` where there is one (`debug.py`).
+`inside COMPILER CHOICE [answer | PATH]` runs in a folder of its own, with `answer` for an answer to an exercise, and a path
+that debug data names. The object has `messages`, `image` where there is one (`debug.py`), and `failure`: why the source
+couldn't be compiled, where that says nothing about the source.
 """
 
 import importlib
@@ -10,26 +11,39 @@ import os
 import pathlib
 import re
 import resource
+import signal
 import sys
 from collections.abc import Sequence
 from subprocess import DEVNULL, PIPE, Popen
 from typing import NamedTuple
 
 from .compiler import FUNCTION, IMAGE, OWN_SOURCES, Compiler, source_of
-from .debug import MESSAGE_LETTERS, MOST_MESSAGES, image_of
+from .debug import MESSAGE_LETTERS, MOST_MESSAGES, Image, image_of
 
 COMPLAINT_BYTES = 1 << 16
+CPU_SECONDS, MEMORY_BYTES, FILE_BYTES = 10, 512 << 20, 32 << 20
 LIMITS = {
-    resource.RLIMIT_CPU: 10,
-    resource.RLIMIT_AS: 512 << 20,
-    resource.RLIMIT_FSIZE: 32 << 20,
-    resource.RLIMIT_NOFILE: 64,
-    resource.RLIMIT_CORE: 0,
+    resource.RLIMIT_CPU: (CPU_SECONDS, CPU_SECONDS + 1),  # SIGXCPU comes before SIGKILL
+    resource.RLIMIT_AS: (MEMORY_BYTES, MEMORY_BYTES),
+    resource.RLIMIT_FSIZE: (FILE_BYTES, FILE_BYTES),
+    resource.RLIMIT_NOFILE: (64, 64),
+    resource.RLIMIT_CORE: (0, 0),
 }
+CRASHED = "that is a fault of the compiler, which another form of the source may avoid"
+MEMORY = f"it took more than {MEMORY_BYTES >> 20} MB of memory"
 OWN_BEGIN = re.compile(rb"\bvoid\s+_start\s*\(")  # of a source that has no need of the runtime's
 
-_MESSAGE = re.compile(r"(?:([^:\s]+):(\d+):(?:(\d+):)? )?(?:[^:\s]+: )?(fatal error|[Ee]rror|[Ww]arning): (.*)")
+_MESSAGE = re.compile(
+    r"(?:(<inline asm>|[^:\s]+):(\d+):(?:(\d+):)? )?(?:[^:\s]+: )?(fatal error|[Ee]rror|[Ww]arning): (.*)"
+)
 _FOLDERS = re.compile(r"(?:/[\w.+-]+)+/")
+_NO_MEMORY = re.compile("out of memory|bad_alloc|[Cc]annot allocate memory|virtual memory exhausted|memory exhausted")
+_NO_ROOM = re.compile("[Ff]ile too large|[Ff]ile size limit|No space left|[Qq]uota exceeded")
+_CRASH = re.compile("internal compiler error|PLEASE submit a bug report|due to signal|unable to execute command: (.*)")
+
+
+class Failure(Exception):
+    """The compiler fails, and that says nothing about the source."""
 
 
 class Diagnostic(NamedTuple):
@@ -57,26 +71,56 @@ def read_messages(complaint: str) -> list[Diagnostic]:
 
 
 def compile_source(command: Sequence[str]) -> list[Diagnostic]:
-    """Compiles the source of this folder; what the compiler said."""
-    with Popen(command, stdin=DEVNULL, stdout=DEVNULL, stderr=PIPE) as child:
-        assert child.stderr
-        importlib.import_module("elftools.elf.elffile")  # which is at hand then when the image is
-        complaint = child.stderr.read(COMPLAINT_BYTES)
-        child.stderr.close()  # whoever has more to say ends here
-        is_done = child.wait() == 0
-    messages = read_messages(complaint.decode("utf-8", "replace"))
-    if not is_done and not any(message.is_error for message in messages):
-        messages.append(Diagnostic(0, 0, True, "the compiler ended without a word; it may have taken too much"))
+    """Compiles the source of this folder, and returns the compiler's messages. Raises Failure."""
+    try:
+        with Popen(command, stdin=DEVNULL, stdout=DEVNULL, stderr=PIPE) as child:
+            assert child.stderr
+            importlib.import_module("elftools.elf.elffile")  # for the image, meanwhile
+            said = child.stderr.read(COMPLAINT_BYTES).decode("utf-8", "replace")
+            child.stderr.close()  # a compiler with more messages ends here
+            status = child.wait()
+    except ImportError as error:
+        raise Failure(f"Python's package pyelftools can't be imported ({error})") from error
+    except OSError as error:
+        raise Failure(f"{command[0]} can't be started: {error.strerror}") from error
+    if status == 127 and "error while loading shared libraries" in said:
+        raise Failure(f"{command[0]} can't be started: {said.strip()[:MESSAGE_LETTERS]}")
+    messages = read_messages(said)
+    if not status:
+        return messages
+    usage = resource.getrusage(resource.RUSAGE_CHILDREN)
+    ending = ending_of(status, said, usage.ru_utime + usage.ru_stime)
+    if ending:
+        return [Diagnostic(0, 0, True, ending), *(message for message in messages if message.line)]
+    if not any(message.is_error for message in messages):
+        messages.append(Diagnostic(0, 0, True, f"the compiler ended with status {status} and no message"))
     return messages
 
 
-def main() -> None:
-    """Compiles, and answers."""
-    os.nice(10)  # whoever steps a machine comes first
-    for limit, most in LIMITS.items():
-        resource.setrlimit(limit, (most, most))
-    compiler, choice, is_answer = Compiler(sys.argv[1]), int(sys.argv[2]), sys.argv[3:] == [FUNCTION]
-    named = "" if is_answer else "".join(sys.argv[3:])
+def ending_of(status: int, said: str, seconds: float) -> str:
+    """Why a compiler ended that used so much processor time, or "" where its messages say that. Raises Failure.
+
+    status: of its process, which is negative for a signal; said: the start of its standard error
+    """
+    if seconds > CPU_SECONDS - 0.5:
+        return f"the compiler was stopped: it took more than {CPU_SECONDS} s of processor time"
+    if _NO_MEMORY.search(said):
+        return f"the compiler was stopped: {MEMORY}"
+    if status == -signal.SIGXFSZ or _NO_ROOM.search(said):
+        return f"the compiler was stopped: it wrote a file of more than {FILE_BYTES >> 20} MB"
+    if len(said) >= COMPLAINT_BYTES:
+        return f"the compiler was stopped: it printed more than {COMPLAINT_BYTES >> 10} KB of messages"
+    if status == -signal.SIGKILL:
+        raise Failure("the compiler was killed from outside (SIGKILL), as by a system that has no memory left")
+    if status < 0:
+        return f"the compiler crashed ({signal.strsignal(-status)}): {CRASHED}"
+    if crash := _CRASH.search(said):
+        return f"the compiler crashed ({crash[1] or crash[0]}): {CRASHED}"
+    return ""
+
+
+def compiled(compiler: Compiler, choice: int, is_answer: bool, named: str) -> tuple[list[Diagnostic], Image | None]:
+    """Compiles the source on standard input: the messages, and the image where there is one. Raises Failure."""
     text = sys.stdin.buffer.read()
     pathlib.Path(source_of(choice)).write_bytes(text)
     is_alone = not is_answer and OWN_BEGIN.search(text) is not None
@@ -90,7 +134,35 @@ def main() -> None:
                 )
     except (ValueError, OSError) as error:
         messages.append(Diagnostic(0, 0, True, f"the image can't be read: {error}"))
-    sys.stdout.write(json.dumps({"messages": messages, "image": image}))
+    return messages, image
+
+
+def main() -> None:
+    """Prints the messages, and the image or why the source couldn't be compiled."""
+    os.nice(10)  # machines that are stepped come first
+    for limit, most in LIMITS.items():
+        resource.setrlimit(limit, most)
+    signal.signal(signal.SIGXCPU, _stop)
+    is_answer = sys.argv[3:] == [FUNCTION]
+    named = "" if is_answer else "".join(sys.argv[3:])
+    answer: dict[str, object] = {"messages": [], "image": None}
+    try:
+        messages, image = compiled(Compiler(sys.argv[1]), int(sys.argv[2]), is_answer, named)
+        answer |= {"messages": messages, "image": image}
+    except Failure as error:
+        answer["failure"] = f"{error}"
+    except MemoryError:
+        answer["messages"] = [Diagnostic(0, 0, True, f"the image can't be read: {MEMORY}")]
+    except RecursionError:
+        answer["messages"] = [Diagnostic(0, 0, True, "the image can't be read: its debug data nests too deeply")]
+    sys.stdout.write(json.dumps(answer))
+
+
+def _stop(number: int, frame: object) -> None:
+    """Ends this process with a message, since reading the image takes too much processor time."""
+    text = f"the image can't be read: that takes more than {CPU_SECONDS} s of processor time"
+    os.write(1, json.dumps({"messages": [Diagnostic(0, 0, True, text)], "image": None}).encode("ascii"))
+    os._exit(0)
 
 
 if __name__ == "__main__":

@@ -1,6 +1,6 @@
-"""A sandbox around a compiler: no network, no file but the system's programs, little memory, and no time without end.
+"""A sandbox around a compiler: no network, no file but those of `sandbox_files`, and limits of memory, time and output.
 
-A source can have a compiler read files (`#include`, `.incbin`), take all memory, and put out what its readers fall over.
+A source can make a compiler read files (`#include`, `.incbin`), use all memory, and print without end.
 """
 
 import asyncio
@@ -8,6 +8,8 @@ import contextlib
 import os
 import pathlib
 import shutil
+import signal
+import subprocess
 import sys
 import tempfile
 from asyncio.subprocess import DEVNULL, PIPE
@@ -15,22 +17,20 @@ from collections.abc import Mapping, Sequence
 
 from .. import LabError
 from .compiler import Compiler, find_compiler
+from .failures import ToolError
+from .sandbox_files import LAB, PLACE, TRUE, elftools, sandbox_files
 
-LAB = pathlib.Path(__file__).resolve().parents[2]
-SECONDS, ANSWER_BYTES, FOLDER_BYTES = 20, 4 << 20, 64 << 20  # by the clock; of what is answered; of all files there
+SECONDS, ANSWER_BYTES, FOLDER_BYTES = 20, 4 << 20, 64 << 20  # by the clock; of the answer; of all files in /tmp
+COMPLAINT_BYTES = 4096  # of standard error, the last ones
 PROCESSES = 32  # and threads
-PLACE = "/lab"  # where the lab's own files are within
+REMEDIES = "CLASS.md, `Where the sandbox doesn't start`, says what helps"
 MODULE = ("-m", "vecmon_lab.compilers.inside")
-TOO_MUCH = "the compiler was stopped, since it, or what it made, took too much"
 
 _SPACES = ("--unshare-ipc", "--unshare-pid", "--unshare-net", "--unshare-uts", "--unshare-cgroup-try")
 _EMPTY = (*_SPACES, "--die-with-parent", "--new-session", "--clearenv")
-_SYSTEM = ("--ro-bind", "/usr", "/usr", "--symlink", "usr/lib", "/lib", "--symlink", "usr/lib64", "/lib64")
 _TEMPORARY = ("--perms", "1777", "--size", f"{FOLDER_BYTES}", "--tmpfs", "/tmp", "--chdir", "/tmp")
-_FOLDER = ("--dev", "/dev", "--remount-ro", "/dev", *_TEMPORARY)
+_FOLDER = ("--perms", "755", "--dir", "/dev", "--dev-bind", "/dev/null", "/dev/null", *_TEMPORARY, "--remount-ro", "/")
 _VARIABLES = ("--setenv", "PATH", "/usr/bin", "--setenv", "PYTHONPATH", PLACE, "--setenv", "LC_ALL", "C.UTF-8")
-
-
 _PYTHON = ("/usr/bin/prlimit", f"--nproc={PROCESSES}", "/usr/bin/python3", "-B")
 _NOBODY = ("/usr/bin/setpriv", "--reuid=65534", "--regid=65534", "--clear-groups", "/usr/bin/unshare", "--user")
 _INSIDE = ("--unshare-user-try", "--", *_PYTHON) if os.geteuid() else ("--", *_NOBODY, *_PYTHON)  # root's don't count
@@ -41,64 +41,96 @@ def check_sandbox() -> None:
     if shutil.which("bwrap") is None:
         raise LabError("others' C is compiled behind bwrap alone, which isn't here: apt-get install bubblewrap")
     if os.geteuid() == 0:
-        raise LabError("others' C isn't compiled as root: begin this as another user")
+        raise LabError(
+            "others' C isn't compiled as root: start this as another user; "
+            "in a container for one answer, `grade --no-sandbox` compiles it"
+        )
+
+
+def check_start(compiler: Compiler) -> None:
+    """Starts the sandbox of a compiler once. Raises ToolError with bwrap's message where that fails."""
+    command = [*_sandbox(compiler), "--", TRUE]
+    try:
+        done = subprocess.run(command, stdin=DEVNULL, capture_output=True, timeout=SECONDS, env=_environment())
+    except subprocess.TimeoutExpired as error:
+        raise ToolError(f"the sandbox of compilers doesn't start within {SECONDS} s") from error
+    if done.returncode:
+        raise _failure(done.returncode, done.stderr)
 
 
 def sandboxed_compiler(name: str | None) -> Compiler:
-    """The compiler of this name, or the first one, for sources of others. Raises LabError where there can be none."""
+    """The compiler of this name, or the first one, for others' sources. Raises LabError where its sandbox doesn't start."""
     compiler = find_compiler(name)
     check_sandbox()
+    check_start(compiler)
     return compiler
 
 
 def answer_sandboxed(words: Sequence[str], text: str) -> bytes:
-    """What words of `inside` answer to a text of others. Raises LabError."""
+    """The output of `inside` with these arguments for a source of others. Raises LabError, and ToolError."""
     return asyncio.run(answer_beside(words, text))
 
 
 async def answer_beside(words: Sequence[str], text: str) -> bytes:
-    """As `answer_sandboxed`, beside all else that an event loop does."""
-    own = ("--perms", "755", "--dir", PLACE, "--ro-bind", f"{LAB / 'vecmon_lab'}", f"{PLACE}/vecmon_lab")
-    command = ["bwrap", *_EMPTY, *_SYSTEM, *own, *_FOLDER, *_VARIABLES, *_INSIDE, *MODULE, *words]
-    return await _answer(command, text, pathlib.Path("/"), {"PATH": os.environ.get("PATH", os.defpath)})
+    """As `answer_sandboxed`, without blocking an event loop."""
+    files = await asyncio.to_thread(_sandbox, Compiler(words[0]))
+    return await run_inside([*files, *_INSIDE, *MODULE, *words], text, pathlib.Path("/"), _environment())
 
 
 def answer_of_own(words: Sequence[str], text: str, headers: pathlib.Path, kept: pathlib.Path | None = None) -> bytes:
-    """What words of `inside` answer to a text of one's own, which includes headers of a folder. Raises LabError.
+    """The output of `inside` for your own source, which includes headers of a folder. Raises LabError, and ToolError.
 
-    kept: the folder in which source and image are left; without it nothing is
+    kept: the folder that keeps source and image; without it they are deleted
     """
+    elftools()
     variables = os.environ | {"PYTHONPATH": f"{LAB}", "CPATH": f"{headers.absolute()}", "LC_ALL": "C.UTF-8"}
     with tempfile.TemporaryDirectory() as folder:
         return asyncio.run(
-            _answer([sys.executable, "-PB", *MODULE, *words], text, kept or pathlib.Path(folder), variables)
+            run_inside([sys.executable, "-PB", *MODULE, *words], text, kept or pathlib.Path(folder), variables)
         )
 
 
-async def _answer(command: Sequence[str], text: str, folder: pathlib.Path, variables: Mapping[str, str]) -> bytes:
-    """What a command answers a text. Raises LabError where it takes too long, fails, or answers too much."""
-    child = await asyncio.create_subprocess_exec(
-        *command, stdin=PIPE, stdout=PIPE, stderr=DEVNULL, cwd=folder, env=variables
-    )
+def _sandbox(compiler: Compiler) -> list[str]:
+    """The command that starts a compiler's sandbox, up to the program that it runs. Raises ToolError."""
+    return ["bwrap", *_EMPTY, *sandbox_files(compiler), *_FOLDER, *_VARIABLES]
+
+
+def _environment() -> dict[str, str]:
+    """The variables of bwrap itself."""
+    return {"PATH": os.environ.get("PATH", os.defpath), "LC_ALL": "C.UTF-8"}
+
+
+async def run_inside(command: Sequence[str], text: str, folder: pathlib.Path, variables: Mapping[str, str]) -> bytes:
+    """The output of a command that runs `inside` for a text. Raises LabError where that is too much, and ToolError where it fails."""
+    try:
+        child = await asyncio.create_subprocess_exec(
+            *command, stdin=PIPE, stdout=PIPE, stderr=PIPE, cwd=folder, env=variables, start_new_session=True
+        )
+    except OSError as error:
+        raise ToolError(f"{command[0]} can't be started: {error.strerror}") from error
+    assert child.stderr
+    complaint = asyncio.create_task(_last_bytes(child.stderr))
     try:
         async with asyncio.timeout(SECONDS):
-            answer = await _told(child, text.encode("utf-8", "replace"))
+            answer = await _output(child, text.encode("utf-8", "replace"))
             status = await child.wait()
+            said = await complaint
     except asyncio.TimeoutError as error:
-        raise LabError(f"the compiler was stopped, since it took more than {SECONDS} s") from error
+        raise ToolError(f"the compiler was stopped: it took more than {SECONDS} s by the clock") from error
     finally:
+        complaint.cancel()
         with contextlib.suppress(ProcessLookupError):
-            child.kill()
+            os.killpg(child.pid, signal.SIGKILL)
         await child.wait()
     if status:
-        raise LabError(TOO_MUCH)
+        raise _failure(status, said)
     return answer
 
 
-async def _told(child: asyncio.subprocess.Process, text: bytes) -> bytes:
-    """What a process puts out for a text on its input. Raises LabError where that is too much."""
+async def _output(child: asyncio.subprocess.Process, text: bytes) -> bytes:
+    """The output of a process that reads a text. Raises LabError where that is too much."""
     assert child.stdin and child.stdout
-    with contextlib.suppress(ConnectionError):  # whoever doesn't read it all
+    with contextlib.suppress(ConnectionError):  # it may end without reading all of it
         child.stdin.write(text)
         await child.stdin.drain()
     child.stdin.close()
@@ -106,4 +138,24 @@ async def _told(child: asyncio.subprocess.Process, text: bytes) -> bytes:
         await child.stdout.readexactly(ANSWER_BYTES + 1)
     except asyncio.IncompleteReadError as end:
         return end.partial
-    raise LabError(TOO_MUCH)
+    raise LabError(f"the compiler was stopped: its image and debug data have more than {ANSWER_BYTES:,} bytes")
+
+
+async def _last_bytes(stream: asyncio.StreamReader) -> bytes:
+    """The last bytes of a stream."""
+    last = b""
+    while data := await stream.read(1 << 16):
+        last = (last + data)[-COMPLAINT_BYTES:]
+    return last
+
+
+def _failure(status: int, said: bytes) -> ToolError:
+    """The failure of the sandbox, or of the process in it, by its status and the last bytes of its standard error."""
+    lines = said.decode("utf-8", "replace").strip().splitlines()
+    last = lines[-1] if lines else "it printed no message"
+    if any(line.startswith("bwrap: ") for line in lines):
+        return ToolError(f"the sandbox of compilers doesn't start: {last} ({REMEDIES})")
+    number = -status if status < 0 else status - 128  # bwrap's status has the signal of the process in it
+    if number in {*signal.Signals}:
+        return ToolError(f"the compiler's process was ended by the signal {signal.Signals(number).name}")
+    return ToolError(f"the compiler's process ended with status {status}: {last}")

@@ -10,7 +10,7 @@ from dataclasses import dataclass, replace
 from random import Random
 
 from .. import LabError, mistakes_in
-from ..compilers.compiled import STACK, CompiledProgram
+from ..compilers.compiled import STACK, CompiledProgram, Isolation
 from ..guest.guest import IMAGE_BYTES, MOST_STEPS, QUANTUM, STACK_END, Guest, pokes
 from ..lessons.script import Script, read_assembled, read_compiled, send
 from ..machine.answers import Position, ScalarRegisters, Stop
@@ -51,11 +51,14 @@ class Attempt:
     is_long: bool
 
 
-def read_answer(path: pathlib.Path, most: int = IMAGE_BYTES, is_own: bool = False) -> Answer:
+def read_answer(
+    path: pathlib.Path, most: int = IMAGE_BYTES, is_own: bool = False, isolation: Isolation | None = None
+) -> Answer:
     """The answer in a file of so many bytes at most: an ELF image, a source (.s, .S, .c), or a script.
 
-    Raises LabError with the reason. A link isn't followed, and what is no file, as a pipe or a device, isn't read.
-    is_own: whether it is one's own file, of which C is compiled without a sandbox, with the headers that lie beside it
+    Raises LabError with the reason, and ToolError where that isn't the answer's. Links, pipes and devices aren't read.
+    is_own: whether it is your own file; C is compiled without a sandbox then, with the headers next to it
+    isolation: what compiles C of others; None for the sandbox
     """
     try:
         with open(path, "rb", opener=_open) as file:
@@ -78,7 +81,8 @@ def read_answer(path: pathlib.Path, most: int = IMAGE_BYTES, is_own: bool = Fals
         from ..compilers.compiler import find_compiler
         from ..compilers.compiling import compile_c  # which needs subprocesses
 
-        compiled = compile_c(text, find_compiler(None), 0, path.parent if is_own else None, is_answer=True)
+        headers = path.parent if is_own else None
+        compiled = compile_c(text, find_compiler(None), 0, headers, is_answer=True, isolation=isolation)
         return source_answer(text, path, compiled)
     return source_answer(text, path) if path.suffix in (".s", ".S") else Answer(path, _script_commands(text))
 

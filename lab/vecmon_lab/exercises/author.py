@@ -6,6 +6,7 @@ import shutil
 from collections.abc import Iterator
 
 from ..compilers.compiler import find_compilers
+from ..compilers.sandbox import check_start
 from ..machine.program import find_program
 from .answer import C_SUFFIX, settled
 from .exercise import OURS, Exercise, read_exercise
@@ -30,7 +31,10 @@ def run(arguments: argparse.Namespace) -> int:
         print(f"{folder} has the exercise `doubles`: change its files, and then: vecmon-lab exercise try {folder}")
         return 0
     program = find_program()
-    exercise = settled(program, read_exercise(folder))
+    exercise = read_exercise(folder)
+    if any(path.suffix == C_SUFFIX for path, _ in _answers(exercise)):
+        _check_sandbox()
+    exercise = settled(program, exercise)
     print("\n".join([exercise.title, "", exercise.text.strip(), ""]))
     for number, hint in enumerate(exercise.hints, 1):
         print(f"after {number} {'try' if number == 1 else 'tries'}: {hint}")
@@ -44,6 +48,13 @@ def run(arguments: argparse.Namespace) -> int:
         print(f"{path.relative_to(exercise.folder)}: {_verdict(exercise, outcomes)}", end="")
         print("" if any(outcomes) != shall_pass else f", and it shall {'pass' if shall_pass else 'fail'}")
     return int(not is_fit)
+
+
+def _check_sandbox() -> None:
+    """Raises ToolError where students' C couldn't be compiled here, since the sandbox is installed and doesn't start."""
+    compilers = find_compilers()
+    if compilers and shutil.which("bwrap"):
+        check_start(compilers[0])
 
 
 def _answers(exercise: Exercise) -> Iterator[tuple[pathlib.Path, bool]]:

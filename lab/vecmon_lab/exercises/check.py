@@ -20,6 +20,7 @@ from ..instructions.table import ABI_NAMES
 from ..assembler.source import SourceError, read_source
 from ..assembler.trial import all_mistakes
 from ..compilers.compiled import CompiledProgram
+from ..compilers.failures import ToolError
 from ..lessons.script import Script, Step, read_assembled
 from .answer import inputs, read_answer, source_answer
 from .exercise import ADDRESSES, Case, Exercise, Results
@@ -41,8 +42,10 @@ class Told(TypedDict, total=False):
 
     Rows have what is given there, expected and found, and notes what else holds there. Without cases the source has
     mistakes, and wasn't tried. Warnings are a compiler's.
+    failure: why the check itself failed, which says nothing about the source; then there are no cases
     """
 
+    failure: str
     mistakes: list[Mistake]
     warnings: list[Mistake]
     cases: list[bool]
@@ -56,10 +59,23 @@ class Told(TypedDict, total=False):
     good: Taken
 
 
+def check_or_failure(
+    program: pathlib.Path, exercise: Exercise, text: str, compiled: CompiledProgram | None, good: Taken | None
+) -> Told:
+    """As `check`, once more where a tool fails; where one fails again, a message instead of cases, so that it is no try."""
+    with contextlib.suppress(ToolError):
+        return check(program, exercise, text, compiled, good)
+    try:
+        return check(program, exercise, text, compiled, good)
+    except ToolError as error:
+        mistake = SourceError(0, 0, "the answer couldn't be checked, which isn't your fault: nothing was counted")
+        return {"failure": f"{error}", "mistakes": mistakes_told([mistake])}
+
+
 def check(
     program: pathlib.Path, exercise: Exercise, text: str, compiled: CompiledProgram | None, good: Taken | None
 ) -> Told:
-    """What is told of a source, in an exercise with what is expected.
+    """What is told of a source, in an exercise with what is expected. Raises ToolError.
 
     compiled: what a compiler made of it, if it is in C; good: what the exercise's good answer takes, if that is known
     """
@@ -70,6 +86,8 @@ def check(
         outcomes = [outcome(program, answer, exercise, case) for case in exercise.cases]
         if outcomes[0][0].startswith(f"{NAME}:"):  # the machine refuses an instruction
             raise LabError
+    except ToolError:
+        raise
     except LabError as error:
         of_form = compiled.mistakes if compiled else all_mistakes(read_source(text), program)
         mistakes = of_form or [SourceError(1, 1, f"{error}")]
@@ -86,9 +104,8 @@ def check(
             told.update({"found": found} if done else {})
             return told
     if all(told["cases"]) and "good" in exercise.files:
-        with contextlib.suppress(LabError):  # as one in C, where there is no compiler
+        with contextlib.suppress(LabError):  # without a compiler for C, or a recorder
             good = good or taken_by(program, read_answer(exercise.files["good"], is_own=True), exercise)
-        if good:
             told.update({"taken": taken_by(program, answer, exercise), "good": good})
     return told
 
@@ -179,7 +196,7 @@ def main(program: str, what: str) -> None:
     (exercise, text, compiled, good), vecmon = pickle.load(sys.stdin.buffer), pathlib.Path(program)
     match what:
         case "check":
-            told = json.dumps(check(vecmon, exercise, text, compiled, good))
+            told = json.dumps(check_or_failure(vecmon, exercise, text, compiled, good))
         case "before":
             told = lesson_before(vecmon, exercise)[1]
         case number:

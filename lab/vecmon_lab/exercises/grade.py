@@ -1,6 +1,7 @@
 """Grades answers to an exercise: a table, or a row of CSV for each answer, and where each one goes wrong first."""
 
 import argparse
+import contextlib
 import csv
 import os
 import pathlib
@@ -11,7 +12,11 @@ from functools import partial
 
 from .. import LabError
 from ..arguments import check_output
-from ..compilers.sandbox import sandboxed_compiler
+from ..compilers.compiled import Isolation
+from ..compilers.compiler import find_compiler
+from ..compilers.container import answer_as_nobody, check_container
+from ..compilers.failures import ToolError
+from ..compilers.sandbox import answer_sandboxed, sandboxed_compiler
 from ..machine.program import find_program
 from ..tables.table import spreadsheet_row, table_lines
 from .answer import C_SUFFIX, read_answer, settled
@@ -21,6 +26,9 @@ from .reports import Grades, gradescope, junit
 from .taken import Taken, taken_by
 
 COUNTS = ("instructions", "work")  # columns of what an answer takes
+Graded = tuple[list[str], Taken | None]
+"""Why an answer fails, or "", for each case; and what it takes, if that is counted and it passes."""
+
 EXERCISE = "a folder with a file exercise.toml, or the name of an exercise that comes with the lab"
 
 
@@ -33,6 +41,8 @@ def add_arguments(parser: argparse.ArgumentParser) -> None:
     form.add_argument("--rows", action="store_true", help="the same without the header")
     counts = "what answers take that pass: instructions, and elements that did work, of cases that aren't hidden"
     parser.add_argument("--counts", action="store_true", help=counts)
+    container = "compile C as the user nobody, without a sandbox: for root of a container for one answer"
+    parser.add_argument("--no-sandbox", action="store_true", help=container)
     for option, report in (("--junit", "a report in JUnit's XML"), ("--gradescope", "Gradescope's results.json")):
         parser.add_argument(option, metavar="FILE", type=pathlib.Path, help=f"write {report} as well")
 
@@ -43,19 +53,48 @@ def names() -> list[str]:
 
 
 def run(arguments: argparse.Namespace) -> int:
-    """Grades the answers side by side; 1 if one of them fails. Raises LabError and OSError for bad input."""
-    if arguments.gradescope and len(arguments.answers) > 1:
-        raise LabError("--gradescope tells of one answer, and here are several")
+    """Grades the answers side by side; 1 if one of them fails, 2 if one can't be graded.
+
+    Raises LabError and OSError for bad input, and where the sandbox that C needs doesn't start.
+    """
+    if len(arguments.answers) > 1 and (arguments.gradescope or arguments.no_sandbox):
+        option = "--gradescope" if arguments.gradescope else "--no-sandbox"
+        raise LabError(f"{option} is for one answer, and here are several")
     for report in (arguments.junit, arguments.gradescope):
         check_output(report, *arguments.answers)
-    if any(path.suffix == C_SUFFIX for path in arguments.answers):
-        sandboxed_compiler(None)
+    exercise = read_exercise(arguments.exercise)
+    isolation = _isolation(arguments, exercise)
     program = find_program()
-    exercise = settled(program, read_exercise(arguments.exercise))
+    exercise = settled(program, exercise)
+    make = partial(graded_or_failure, program, exercise, isolation, is_counted=arguments.counts)
     with ThreadPoolExecutor(os.cpu_count()) as pool:
-        found = [*pool.map(partial(graded, program, exercise, is_counted=arguments.counts), arguments.answers)]
-    grades = [(path, outcomes) for path, (outcomes, _) in zip(arguments.answers, found)]
-    more = [_cells(taken) for _, taken in found] if arguments.counts else [[] for _ in found]
+        found = [*zip(arguments.answers, pool.map(make, arguments.answers))]
+    done = [(path, it) for path, it in found if not isinstance(it, ToolError)]
+    if done:
+        _report(arguments, exercise, done)
+    for path, error in found:
+        if isinstance(error, ToolError):
+            text = f"vecmon-lab: {path} isn't graded, for a reason that isn't the answer's: {error}"
+            print(text, file=sys.stderr)
+    return 2 if len(done) < len(found) else int(any(any(outcomes) for _, (outcomes, _) in done))
+
+
+def _isolation(arguments: argparse.Namespace, exercise: Exercise) -> Isolation:
+    """The function that compiles answers in C. Raises LabError, before anything is graded, where that isn't possible."""
+    if not any(path.suffix == C_SUFFIX for path in arguments.answers):
+        return answer_sandboxed
+    if arguments.no_sandbox:
+        find_compiler(None)
+        check_container(exercise.folder)
+        return answer_as_nobody
+    sandboxed_compiler(None)
+    return answer_sandboxed
+
+
+def _report(arguments: argparse.Namespace, exercise: Exercise, done: Sequence[tuple[pathlib.Path, Graded]]) -> None:
+    """Prints the table or the rows of answers that were graded, and writes the other reports."""
+    grades = [(path, outcomes) for path, (outcomes, _) in done]
+    more = [_cells(taken) for _, (_, taken) in done] if arguments.counts else [[] for _ in done]
     if arguments.junit:
         arguments.junit.write_text(junit(exercise, grades), "utf-8")
     if arguments.gradescope:
@@ -64,24 +103,45 @@ def run(arguments: argparse.Namespace) -> int:
         _print_rows(exercise, grades, more, arguments.csv)
     else:
         _print_table(exercise, grades, more)
-    return int(any(any(outcomes) for _, outcomes in grades))
 
 
 def grade(program: pathlib.Path, exercise: Exercise, path: pathlib.Path, is_own: bool = False) -> list[str]:
-    """Why an answer, which may be one's own, fails, or nothing, for each case, whatever the file is."""
-    return graded(program, exercise, path, is_own)[0]
+    """Why an answer, which may be your own, fails, or "", for each case. Raises ToolError."""
+    return graded(program, exercise, answer_sandboxed, path, is_own)[0]
 
 
 def graded(
-    program: pathlib.Path, exercise: Exercise, path: pathlib.Path, is_own: bool = False, is_counted: bool = False
-) -> tuple[list[str], Taken | None]:
-    """As `grade`; and what an answer takes that passes, if that is counted."""
+    program: pathlib.Path,
+    exercise: Exercise,
+    isolation: Isolation,
+    path: pathlib.Path,
+    is_own: bool = False,
+    is_counted: bool = False,
+) -> Graded:
+    """As `grade`; and what an answer takes that passes, if that is counted.
+
+    isolation: what compiles C that isn't your own
+    """
     try:
-        answer = read_answer(path, exercise.limits.size, is_own)
+        answer = read_answer(path, exercise.limits.size, is_own, isolation)
+    except ToolError:
+        raise
     except LabError as error:
         return [str(error)] * len(exercise.cases), None
     outcomes = [outcome(program, answer, exercise, case)[0] for case in exercise.cases]
     return outcomes, taken_by(program, answer, exercise) if is_counted and not any(outcomes) else None
+
+
+def graded_or_failure(
+    program: pathlib.Path, exercise: Exercise, isolation: Isolation, path: pathlib.Path, is_counted: bool
+) -> Graded | ToolError:
+    """As `graded`, once more where a tool fails; the failure where one fails again."""
+    with contextlib.suppress(ToolError):
+        return graded(program, exercise, isolation, path, is_counted=is_counted)
+    try:
+        return graded(program, exercise, isolation, path, is_counted=is_counted)
+    except ToolError as error:
+        return error
 
 
 def _cells(taken: Taken | None) -> list[str]:

@@ -1,18 +1,26 @@
-"""What comes of an answer in a case: whether it passes, and why not."""
+"""The outcome of an answer in a case: it passes, or it fails for a reason, or a tool failed and there is no outcome."""
 
 import pathlib
 from collections.abc import Iterator, Mapping
 
 from .. import LabError
+from ..compilers.failures import ToolError
 from ..instructions.table import ABI_NAMES
+from ..machine.program import NoProgram
+from ..machine.session import OutOfStep, ProgramGone, ReplayDiffers
 from .answer import Answer, Attempt, attempt
 from .exercise import ADDRESSES, Case, Exercise, Results
 
 
 def outcome(program: pathlib.Path, answer: Answer, exercise: Exercise, case: Case) -> tuple[str, Attempt | None]:
-    """Why an answer fails in a case, or nothing; and what it left, if it came to an end."""
+    """Why an answer fails in a case, or ""; and what it left, if it came to an end.
+
+    Raises ToolError where the machine failed, which says nothing about the answer.
+    """
     try:
         done = attempt(program, answer, exercise, case)
+    except (NoProgram, OutOfStep, ProgramGone, ReplayDiffers, ToolError) as error:
+        raise ToolError(f"{error}") from error
     except LabError as error:
         return str(error), None
     reason = difference(case.expected, done, case.registers)

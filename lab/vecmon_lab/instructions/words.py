@@ -6,7 +6,7 @@ from collections.abc import Iterable, Mapping
 from dataclasses import dataclass
 from fractions import Fraction
 
-from ..machine.program import MARCH
+from ..machine.image import MARCH
 from ..tables.table import read_table
 
 LOAD, LOAD_FP, STORE, STORE_FP, OP_V, SYSTEM = 0x03, 0x07, 0x23, 0x27, 0x57, 0x73  # opcodes

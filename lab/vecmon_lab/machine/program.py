@@ -9,6 +9,7 @@ from collections.abc import Iterator
 
 from .. import LabError, mistakes_in
 from ..tables.table import read_table
+from .image import MARCH, rights_of
 
 _CRATES = pathlib.Path(__file__).resolve().parents[3] / "crates"
 BUILT, BUILT_RECORDER = _CRATES / "vecmon" / "out" / "vecmon", _CRATES / "vecmon_record" / "out" / "vecmon_record"
@@ -17,11 +18,8 @@ UNPROVED = (
 )  # of tools/run: a folder for each state of the sources; `current` names one
 RECORDER = "vecmon-record"
 HOW_TO_BUILD = dict(read_table("how_to_build"))
-MARCH = "-march=rv64im_zicsr_zve64x_zvl256b"
-"""The compiler's word for what the machine has, as docs/COMPILING.md has it."""
 
 PT_LOAD = 1
-RIGHTS = {"r": 4, "w": 2, "x": 1}  # by the bits of p_flags
 _FLAGS = {1: "compressed instructions", 6: "a floating-point ABI"}  # by the bits of e_flags that say so
 
 
@@ -106,11 +104,6 @@ def segments_of(image: bytes) -> Iterator[tuple[int, str, int, bytes]]:
         kind, flags, offset, address, _, in_file, length = struct.unpack_from("<IIQQQQQ", image, at)
         if kind == PT_LOAD and length:
             yield address, rights_of(flags), length, image[offset : offset + in_file]
-
-
-def rights_of(flags: int) -> str:
-    """What a program may do in a segment, as `rx`."""
-    return "".join(letter for letter, bit in RIGHTS.items() if flags & bit)
 
 
 def digest_of(path: pathlib.Path) -> str:

@@ -10,7 +10,7 @@ from ..guest.changes import runs
 from ..harness.environments import BLOCK_BYTES, CODE, ENVIRONMENTS, LIST, MEMORY, SPARE, Environment, Harness, digest
 from ..harness.environments import harness, signature_text
 from ..instructions.accesses import PAGE_BYTES
-from ..machine.program import MARCH
+from ..machine.image import MARCH
 from .on_qemu import LAYOUT, Case, expected, held, state
 
 CASES_OF_A_PROGRAM = 200

@@ -1,0 +1,198 @@
+"""Failures of the sandbox, of compilers and of what they need: each has its own sentence, and none is a fault of the source."""
+
+import asyncio
+import json
+import os
+import pathlib
+import signal
+import subprocess
+import sys
+
+import pytest
+
+from support.commands import Lab
+from support.places import EXAMPLES, TOP
+from vecmon_lab.classes.builds import builds_by
+from vecmon_lab.compilers import sandbox
+from vecmon_lab.compilers.compiled import read_compiled_program
+from vecmon_lab.compilers.compiler import Compiler
+from vecmon_lab.compilers.compiling import compile_c
+from vecmon_lab.compilers.failures import ToolError
+from vecmon_lab.compilers.inside import COMPLAINT_BYTES, Failure, ending_of
+from vecmon_lab.compilers.report import print_compilers
+from vecmon_lab.compilers.sandbox import answer_sandboxed, check_start
+
+MAIN = "int main(void) { return 0; }\n"
+WORDS = "bwrap: No permissions to create new namespace, likely because the kernel does not allow non-privileged user namespaces."
+GOOD = TOP / "lab" / "vecmon_lab" / "exercises" / "given" / "doubles" / "good.c"
+
+
+@pytest.fixture
+def no_namespaces(tmp_path: pathlib.Path, monkeypatch: pytest.MonkeyPatch, sandboxed_clang: Compiler) -> Compiler:
+    """A compiler where bwrap fails as under a kernel without namespaces for users, and who runs this isn't root."""
+    folder = tmp_path / "programs"
+    folder.mkdir()
+    (folder / "bwrap").write_text(f"#!/bin/sh\necho '{WORDS}' >&2\nexit 1\n")
+    (folder / "bwrap").chmod(0o755)
+    monkeypatch.setenv("PATH", f"{folder}:{os.environ['PATH']}")
+    monkeypatch.setattr(os, "geteuid", lambda: 1000)
+    return sandboxed_clang
+
+
+@pytest.mark.parametrize("report", ["--csv", "--junit", "--gradescope"])
+def test_nothing_is_graded_where_the_sandbox_does_not_start(
+    no_namespaces: Compiler, lab: Lab, tmp_path: pathlib.Path, report: str
+) -> None:
+    """`grade` ends with 2 and bwrap's own words, prints no mark and writes no report."""
+    words: list[object] = [report] if report == "--csv" else [report, tmp_path / "report"]
+    status, told, complaint = lab("grade", "doubles", GOOD, *words)
+    assert (status, told) == (2, b"") and not (tmp_path / "report").exists()
+    assert complaint.startswith(f"vecmon-lab: the sandbox of compilers doesn't start: {WORDS}")
+
+
+def test_no_exercise_is_tried_where_the_sandbox_does_not_start(
+    no_namespaces: Compiler, lab: Lab, tmp_path: pathlib.Path
+) -> None:
+    lab("exercise", "new", tmp_path / "mine")
+    status, told, complaint = lab("exercise", "try", tmp_path / "mine")
+    assert (status, told) == (2, b"") and WORDS in complaint
+
+
+def test_explore_and_check_tell_that_the_sandbox_does_not_start(no_namespaces: Compiler, lab: Lab) -> None:
+    """So does what a class is served with: before anything is compiled."""
+    status, _, complaint = lab("explore", EXAMPLES / "kernels" / "saxpy.c")
+    assert status == 2 and WORDS in complaint
+    status, told, _ = lab("check")
+    assert (
+        status == 0
+        and f"C: others' sources aren't compiled: the sandbox of compilers doesn't start: {WORDS}" in told.decode()
+    )
+
+
+def test_a_class_tells_that_the_sandbox_does_not_start(
+    no_namespaces: Compiler, capsys: pytest.CaptureFixture[str]
+) -> None:
+    builds = builds_by(None)
+    assert builds.compiler is None and WORDS in builds.no_c and WORDS in capsys.readouterr().err
+    with pytest.raises(ToolError, match="namespace"):
+        builds_by(no_namespaces.name)
+
+
+def test_the_sandbox_starts(sandboxed_clang: Compiler, capsys: pytest.CaptureFixture[str]) -> None:
+    check_start(sandboxed_clang)
+    if os.geteuid():
+        print_compilers()
+        assert (
+            capsys.readouterr().out
+            == f"C: {sandboxed_clang.name}; its sandbox starts, so that others' sources are compiled too\n"
+        )
+
+
+@pytest.mark.parametrize(
+    "status, said, sentence",
+    [
+        (1, WORDS, f"the sandbox of compilers doesn't start: {WORDS}"),
+        (137, "", "the compiler's process was ended by the signal SIGKILL"),
+        (139, "", "the compiler's process was ended by the signal SIGSEGV"),
+        (-9, "", "the compiler's process was ended by the signal SIGKILL"),
+        (
+            1,
+            "Traceback\nOSError: [Errno 28] No space left",
+            "the compiler's process ended with status 1: OSError: [Errno 28] No",
+        ),
+        (3, "", "the compiler's process ended with status 3: it printed no message"),
+        (
+            127,
+            "python3: error while loading",
+            "the compiler's process ended with status 127: python3: error while loading",
+        ),
+    ],
+)
+def test_each_end_of_the_sandbox_has_a_sentence(
+    sandboxed_clang: Compiler, monkeypatch: pytest.MonkeyPatch, status: int, said: str, sentence: str
+) -> None:
+    """By its status and its standard error, which isn't thrown away."""
+    command = ["/bin/sh", "-c", f'echo "$SAID" >&2; {"kill -9 $$" if status < 0 else f"exit {status}"}']
+    with pytest.raises(ToolError) as raised:
+        asyncio.run(sandbox.run_inside(command, MAIN, pathlib.Path("/"), {"SAID": said}))
+    assert str(raised.value).startswith(sentence)
+
+
+@pytest.mark.parametrize(
+    "status, said, seconds, sentence",
+    [
+        (1, "", 9.9, "it took more than 10 s of processor time"),
+        (-6, "LLVM ERROR: out of memory\nAllocation failed", 1, "it took more than 512 MB of memory"),
+        (1, "cc1: out of memory allocating 65536 bytes", 1, "it took more than 512 MB of memory"),
+        (-25, "", 1, "it wrote a file of more than 32 MB"),
+        (1, "fatal error: error writing to a.s: No space left on device", 1, "it wrote a file of more than 32 MB"),
+        (1, "x" * COMPLAINT_BYTES, 1, "it printed more than 64 KB of messages"),
+        (-11, "", 1, "the compiler crashed (Segmentation fault)"),
+        (
+            1,
+            "clang-19: error: unable to execute command: Segmentation fault",
+            1,
+            "the compiler crashed (Segmentation fault)",
+        ),
+        (1, "source.c:1:1: internal compiler error: in f", 1, "the compiler crashed (internal compiler error)"),
+        (1, "source.c:1:1: error: expected expression", 1, ""),
+    ],
+)
+def test_each_end_of_a_compiler_has_a_sentence(status: int, said: str, seconds: float, sentence: str) -> None:
+    ending = ending_of(status, said, seconds)
+    assert sentence in ending if sentence else not ending
+
+
+def test_a_compiler_that_is_killed_says_nothing_about_the_source() -> None:
+    with pytest.raises(Failure, match="killed from outside"):
+        ending_of(-signal.SIGKILL, "", 1.0)
+    with pytest.raises(ToolError, match="killed from outside"):
+        read_compiled_program(b'{"messages": [], "image": null, "failure": "it was killed from outside"}')
+
+
+def test_a_crash_has_its_sentence(sandboxed_clang: Compiler) -> None:
+    """And what the compiler prints about itself isn't repeated."""
+    text = f"#pragma clang __debug crash\n{MAIN}"
+    [[line, _, is_error, message]] = json.loads(answer_sandboxed([sandboxed_clang.name, "0"], text))["messages"]
+    assert (line, is_error) == (0, True) and message.startswith("the compiler crashed (")
+
+
+def test_a_sandbox_that_is_killed(sandboxed_clang: Compiler) -> None:
+    """By something else: that isn't the source's fault, as a limit of memory is."""
+    text = "#if __INCLUDE_LEVEL__ < 100\n#include __FILE__\n#include __FILE__\n#endif\n"
+
+    async def kill() -> bytes:
+        made = asyncio.create_task(sandbox.answer_beside([sandboxed_clang.name, "0"], text))
+        while not (children := _children("bwrap")):
+            await asyncio.sleep(0.02)
+        await asyncio.sleep(0.5)  # by then the process in the sandbox ends with bwrap
+        os.kill(children[0], signal.SIGKILL)
+        return await made
+
+    with pytest.raises(ToolError, match="ended by the signal SIGKILL"):
+        asyncio.run(kill())
+
+
+def test_a_computer_that_is_busy_is_no_fault_of_a_source(
+    sandboxed_clang: Compiler, monkeypatch: pytest.MonkeyPatch
+) -> None:
+    monkeypatch.setattr(sandbox, "SECONDS", 0.01)
+    with pytest.raises(ToolError, match="took more than 0.01 s by the clock"):
+        compile_c(MAIN, sandboxed_clang, 0)
+
+
+def test_a_missing_package_has_its_sentence(clang: Compiler, tmp_path: pathlib.Path) -> None:
+    """`profile x.c` without pyelftools names the package."""
+    (tmp_path / "x.c").write_text(MAIN)
+    code = "import sys; sys.modules['elftools'] = None; import vecmon_lab.__main__ as lab; sys.exit(lab.main())"
+    done = subprocess.run(
+        [sys.executable, "-c", code, "profile", str(tmp_path / "x.c")], capture_output=True, text=True
+    )
+    assert done.returncode == 2 and "pyelftools isn't installed: apt-get install python3-pyelftools" in done.stderr
+
+
+def _children(name: str) -> list[int]:
+    """The processes of this name that this one has started."""
+    tasks = pathlib.Path(f"/proc/{os.getpid()}/task").glob("*/children")
+    children = [int(word) for path in tasks for word in path.read_text().split()]
+    return [each for each in children if pathlib.Path(f"/proc/{each}/comm").read_text().strip() == name]

@@ -1,0 +1,53 @@
+"""Others' sources without a sandbox, for root of a container that is deleted after one answer: compiled as the user nobody.
+
+A container that Docker starts by default can make no sandbox. There the compiler can read every file of the container that all
+users can read, and no other file: so an exercise that it can read isn't graded.
+"""
+
+import asyncio
+import os
+import pathlib
+import shutil
+import subprocess
+import tempfile
+from collections.abc import Sequence
+from subprocess import DEVNULL
+
+from .. import LabError
+from .failures import ToolError
+from .sandbox import MODULE, PROCESSES, SECONDS, run_inside
+from .sandbox_files import LAB, MODULES, elftools
+
+NOBODY = 65534  # Debian's user and group with the fewest rights
+_AS_NOBODY = ("/usr/bin/setpriv", f"--reuid={NOBODY}", f"--regid={NOBODY}", "--clear-groups", "--no-new-privs")
+_LIMITED = ("/usr/bin/prlimit", f"--nproc={PROCESSES}", "/usr/bin/python3", "-B")
+
+
+def check_container(private: pathlib.Path) -> None:
+    """Raises LabError where the user nobody can't be used, or can read a file of this folder."""
+    if os.geteuid():
+        raise LabError("--no-sandbox is for root of a container: the compiler then runs as the user nobody")
+    command = [*_AS_NOBODY, "/usr/bin/find", "-L", str(private.resolve()), "-type", "f", "-readable", "-print", "-quit"]
+    try:
+        done = subprocess.run(command, stdin=DEVNULL, capture_output=True, cwd="/", timeout=SECONDS)
+    except (OSError, subprocess.TimeoutExpired) as error:
+        raise ToolError(f"{command[0]} can't be run: {error}") from error
+    if done.stderr.startswith(b"setpriv: "):
+        raise ToolError(done.stderr.decode("utf-8", "replace").strip())
+    if found := done.stdout.decode("utf-8", "replace").strip():
+        raise LabError(f"without a sandbox a source in C could include {found}: chmod -R go= {private}")
+
+
+def answer_as_nobody(words: Sequence[str], text: str) -> bytes:
+    """The output of `inside` with these arguments, which runs as the user nobody. Raises LabError, and ToolError."""
+    with tempfile.TemporaryDirectory() as place:
+        lab, folder = pathlib.Path(place, "lab"), pathlib.Path(place, "folder")
+        for module in MODULES:  # since the lab may be in a folder that root alone can read
+            (lab / module).parent.mkdir(parents=True, exist_ok=True)
+            shutil.copyfile(LAB / module, lab / module)
+        shutil.copytree(elftools(), lab / "elftools", ignore=shutil.ignore_patterns("__pycache__"))
+        subprocess.run(["chmod", "-R", "a+rX", place], check=True)
+        folder.mkdir()
+        os.chown(folder, NOBODY, NOBODY)
+        variables = {"PATH": "/usr/bin", "PYTHONPATH": str(lab), "LC_ALL": "C.UTF-8", "TMPDIR": str(folder)}
+        return asyncio.run(run_inside([*_AS_NOBODY, *_LIMITED, *MODULE, *words], text, folder, variables))

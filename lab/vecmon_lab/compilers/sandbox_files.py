@@ -1,0 +1,129 @@
+"""The files in the sandbox of a compiler: a closed list, as arguments of bwrap.
+
+The list has the compiler with its headers and libraries, Python with its standard library and pyelftools, the modules that
+run there, and the runtime with `vecmon.h`. It has no folder of exercises and no file of a user.
+"""
+
+import functools
+import importlib.util
+import os
+import pathlib
+import re
+import shutil
+import subprocess
+from collections.abc import Iterable, Iterator, Sequence
+
+from .compiler import Compiler
+from .failures import ToolError
+
+LAB = pathlib.Path(__file__).resolve().parents[2]
+PLACE = "/lab"  # where Python finds the modules within
+MODULES = (
+    "vecmon_lab/__init__.py",
+    *(f"vecmon_lab/compilers/{name}.py" for name in ("__init__", "c_types", "compiler", "debug", "entries", "inside")),
+    *(f"vecmon_lab/compilers/{name}.py" for name in ("locations", "variables")),
+    "vecmon_lab/compilers/runtime/runtime.c",
+    "vecmon_lab/compilers/runtime/vecmon.h",
+    "vecmon_lab/guest/__init__.py",
+    "vecmon_lab/guest/symbols.py",
+    "vecmon_lab/machine/__init__.py",
+    "vecmon_lab/machine/image.py",
+)
+"""The files of the lab in the sandbox: `inside.py`, the modules that it imports, and what is linked to a source."""
+
+TRUE = "/usr/bin/true"  # which the sandbox runs once, to see whether it starts
+_PROGRAMS_OF_ROOT = () if os.geteuid() else ("/usr/bin/setpriv", "/usr/bin/unshare")
+_PROGRAMS = ("/usr/bin/python3", "/usr/bin/prlimit", TRUE, *_PROGRAMS_OF_ROOT)
+_LINKS = ("--symlink", "usr/lib", "/lib", "--symlink", "usr/lib64", "/lib64")
+_LIBRARY = re.compile(r"(/\S+) \(0x[0-9a-f]+\)")  # of ldd's output
+
+
+@functools.cache
+def sandbox_files(compiler: Compiler) -> Sequence[str]:
+    """The arguments of bwrap that make a compiler's files visible, read-only. Raises ToolError where one is missing."""
+    programs, folders = _gcc_files(compiler) if not compiler.is_clang else _clang_files(compiler)
+    programs = [*_PROGRAMS, *programs]
+    python = pathlib.Path("/usr/bin/python3").resolve().name
+    links, files = dict[str, str](), dict[str, str]()
+    for program in programs:
+        files |= _followed(program, links)
+    files |= {_merged(path): path for path in _libraries([*programs, *_plugins(folders)])}
+    files |= {folder: folder for folder in [*folders, f"/usr/lib/{python}"]}
+    files |= {f"{PLACE}/elftools": str(elftools())}
+    files |= {f"{PLACE}/{module}": str(LAB / module) for module in MODULES}
+    return (*_folders([*files, *links]), *_arguments(links, files), *_LINKS)
+
+
+def elftools() -> pathlib.Path:
+    """The folder of Python's package pyelftools. Raises ToolError where it isn't installed."""
+    found = importlib.util.find_spec("elftools")
+    if found is None or not found.submodule_search_locations:
+        raise ToolError("Python's package pyelftools isn't installed: apt-get install python3-pyelftools")
+    return pathlib.Path(found.submodule_search_locations[0])
+
+
+def _clang_files(compiler: Compiler) -> tuple[list[str], list[str]]:
+    """The programs and the folders of a clang."""
+    linker = f"/usr/bin/ld.lld{compiler.name.removeprefix('clang')}"
+    return [f"/usr/bin/{compiler.name}", linker], [f"{_asked(compiler, '-print-resource-dir')}/include"]
+
+
+def _gcc_files(compiler: Compiler) -> tuple[list[str], list[str]]:
+    """The programs and the folders of a gcc."""
+    tools = [os.path.normpath(_asked(compiler, f"-print-prog-name={tool}")) for tool in ("cc1", "collect2", "as", "ld")]
+    programs = [shutil.which(tool, path="/usr/bin") or tool for tool in tools]
+    folders = [pathlib.Path(programs[0]).parent, pathlib.Path(_asked(compiler, "-print-libgcc-file-name")).parent]
+    library = pathlib.Path(programs[2]).parent.with_name("include")  # headers of the C library for the machine, if any
+    folders += [library] if library.is_dir() and library != pathlib.Path("/usr/include") else []
+    return [f"/usr/bin/{compiler.name}", *programs[2:]], list(dict.fromkeys(os.path.normpath(each) for each in folders))
+
+
+def _asked(compiler: Compiler, option: str) -> str:
+    """The line that a compiler prints for an option. Raises ToolError where it prints none."""
+    done = subprocess.run([f"/usr/bin/{compiler.name}", option], capture_output=True, text=True, errors="replace")
+    if done.returncode or not done.stdout.strip():
+        raise ToolError(f"{compiler.name} {option} fails with status {done.returncode}: {done.stderr.strip()[:200]}")
+    return done.stdout.strip()
+
+
+def _followed(path: str, links: dict[str, str]) -> dict[str, str]:
+    """The file that a path leads to by symbolic links of its last part, which are added to `links`."""
+    while os.path.islink(path):
+        links[path] = os.readlink(path)
+        path = os.path.normpath(os.path.join(os.path.dirname(path), links[path]))
+    return {path: path}
+
+
+def _plugins(folders: Iterable[str]) -> Iterator[str]:
+    """The programs and shared libraries in the folders of a gcc."""
+    for path in (path for folder in folders for path in pathlib.Path(folder).iterdir()):
+        if path.is_file() and (os.access(path, os.X_OK) or ".so" in path.name):
+            yield str(path)
+
+
+def _libraries(programs: Iterable[str]) -> list[str]:
+    """The shared libraries that programs load. Raises ToolError where one is missing."""
+    done = subprocess.run(["ldd", *programs], capture_output=True, text=True, errors="replace")
+    if missing := re.search(r"\S+(?= => not found)", done.stdout):
+        raise ToolError(f"the compiler's library {missing[0]} isn't installed")
+    return sorted(set(_LIBRARY.findall(done.stdout)))
+
+
+def _merged(path: str) -> str:
+    """A library's path below /usr, since /lib leads there."""
+    return path if path.startswith("/usr/") else f"/usr{path}"
+
+
+def _folders(paths: Iterable[str]) -> Iterator[str]:
+    """The arguments that make the folders above files, which everybody may enter."""
+    folders = {str(folder) for path in paths for folder in pathlib.PurePath(path).parents} - {"/"}
+    for folder in sorted(folders):
+        yield from ("--perms", "755", "--dir", folder)
+
+
+def _arguments(links: dict[str, str], files: dict[str, str]) -> Iterator[str]:
+    """The arguments for symbolic links, and for files by their paths in the sandbox."""
+    for path, target in links.items():
+        yield from ("--symlink", target, path)
+    for path, source in files.items():
+        yield from ("--ro-bind", source, path)

@@ -1,0 +1,11 @@
+"""What images are compiled for, and the permissions of their segments."""
+
+MARCH = "-march=rv64im_zicsr_zve64x_zvl256b"
+"""The compiler's option for the machine's instruction set, as docs/COMPILING.md has it."""
+
+RIGHTS = {"r": 4, "w": 2, "x": 1}  # by the bits of p_flags
+
+
+def rights_of(flags: int) -> str:
+    """Permissions of a segment by its p_flags, as `rx`."""
+    return "".join(letter for letter, bit in RIGHTS.items() if flags & bit)
