@@ -150,6 +150,35 @@ def test_a_compiler_that_is_killed_says_nothing_about_the_source() -> None:
         read_compiled_program(b'{"messages": [], "image": null, "failure": "it was killed from outside"}')
 
 
+INSTEAD = """
+import resource
+from vecmon_lab.compilers import inside
+inside.LIMITS[resource.RLIMIT_CPU] = (1, 2)
+def instead(command):
+    {code}
+inside.compile_source = instead
+inside.main()
+"""
+
+
+@pytest.mark.parametrize(
+    "code, sentence",
+    [
+        ("while True: pass", "the image can't be read: that takes more than 10 s of processor time"),
+        ("bytearray(1 << 30)", "the image can't be read: it took more than 512 MB of memory"),
+        ("instead(command)", "the image can't be read: its debug data nests too deeply"),
+    ],
+)
+def test_each_limit_of_the_image_has_a_sentence(
+    sandboxed_clang: Compiler, monkeypatch: pytest.MonkeyPatch, code: str, sentence: str
+) -> None:
+    """Of time, of memory and of depth, as where debug data is crafted."""
+    monkeypatch.setattr(sandbox, "MODULE", ("-c", INSTEAD.format(code=code)))
+    assert json.loads(answer_sandboxed([sandboxed_clang.name, "0"], MAIN)) == {
+        "messages": [[0, 0, True, sentence]], "image": None
+    }  # fmt: skip
+
+
 def test_a_crash_has_its_sentence(sandboxed_clang: Compiler) -> None:
     """And what the compiler prints about itself isn't repeated."""
     text = f"#pragma clang __debug crash\n{MAIN}"

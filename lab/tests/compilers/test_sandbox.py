@@ -16,6 +16,7 @@ from vecmon_lab import LabError
 from vecmon_lab.compilers import sandbox
 from vecmon_lab.compilers.compiler import Compiler, choice_of
 from vecmon_lab.compilers.debug import image_of
+from vecmon_lab.compilers.failures import ToolError
 from vecmon_lab.compilers.sandbox import SECONDS, answer_sandboxed, check_sandbox
 
 MAIN = "int main(void) { return 0; }\n"
@@ -109,15 +110,15 @@ def test_processes_without_end(answer: Ask, monkeypatch: pytest.MonkeyPatch) -> 
 
 
 @pytest.mark.parametrize(
-    "text",
+    "text, sentence",
     [
-        "char bytes[100 << 20] = {1};\n" + MAIN,
-        "#include __FILE__\n#include __FILE__\n#warning again\n" + MAIN,
-        '__asm__(".rept 100000000\\n.dword 1\\n.endr");\n' + MAIN,
-        '__asm__(".incbin \\"/dev/zero\\"");\n' + MAIN,
-        "(" * 65_000,
-        "{" * 65_000,
-        "int main(void) { return " + "-" * 60_000 + "1; }",
+        ("char bytes[100 << 20] = {1};\n" + MAIN, "it wrote a file of more than 32 MB"),
+        ("#include __FILE__\n#include __FILE__\n#warning again\n" + MAIN, "it printed more than 64 KB of messages"),
+        ('__asm__(".rept 100000000\\n.dword 1\\n.endr");\n' + MAIN, "it took more than 512 MB of memory"),
+        ('__asm__(".incbin \\"/dev/zero\\"");\n' + MAIN, "Could not find incbin file"),
+        ("(" * 65_000, "bracket nesting level exceeded"),
+        ("{" * 65_000, "expected identifier"),
+        ("int main(void) { return " + "-" * 60_000 + "1; }", "the compiler crashed (Segmentation fault)"),
     ],
     ids=[
         "a large array",
@@ -129,13 +130,13 @@ def test_processes_without_end(answer: Ask, monkeypatch: pytest.MonkeyPatch) -> 
         "signs",
     ],
 )
-def test_what_takes_too_much_ends(answer: Ask, text: str) -> None:
+def test_what_takes_too_much_ends(answer: Ask, text: str, sentence: str) -> None:
     begun = time.monotonic()
     try:
         told = answer(text)
-        assert told["image"] is None and told["messages"]
-    except LabError as error:
-        assert "was stopped" in str(error)
+        assert told["image"] is None and sentence in told["messages"][0][3]
+    except ToolError as error:
+        assert "by the clock" in str(error)
     assert time.monotonic() - begun < SECONDS + 5
 
 

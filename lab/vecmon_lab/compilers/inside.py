@@ -39,7 +39,8 @@ _MESSAGE = re.compile(
 _FOLDERS = re.compile(r"(?:/[\w.+-]+)+/")
 _NO_MEMORY = re.compile("out of memory|bad_alloc|[Cc]annot allocate memory|virtual memory exhausted|memory exhausted")
 _NO_ROOM = re.compile("[Ff]ile too large|[Ff]ile size limit|No space left|[Qq]uota exceeded")
-_CRASH = re.compile("internal compiler error|PLEASE submit a bug report|due to signal|unable to execute command: (.*)")
+_SIGNAL = re.compile("unable to execute command: (.*)")  # as clang names a crash
+_CRASH = re.compile("internal compiler error|PLEASE submit a bug report|due to signal")
 
 
 class Failure(Exception):
@@ -114,8 +115,10 @@ def ending_of(status: int, said: str, seconds: float) -> str:
         raise Failure("the compiler was killed from outside (SIGKILL), as by a system that has no memory left")
     if status < 0:
         return f"the compiler crashed ({signal.strsignal(-status)}): {CRASHED}"
-    if crash := _CRASH.search(said):
-        return f"the compiler crashed ({crash[1] or crash[0]}): {CRASHED}"
+    if crash := _SIGNAL.search(said):
+        return f"the compiler crashed ({crash[1]}): {CRASHED}"
+    if _CRASH.search(said):
+        return f"the compiler crashed (internal compiler error): {CRASHED}"
     return ""
 
 
