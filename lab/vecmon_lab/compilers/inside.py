@@ -19,6 +19,7 @@ from typing import NamedTuple
 
 from .compiler import FUNCTION, IMAGE, OWN_SOURCES, Compiler, source_of
 from .debug import MESSAGE_LETTERS, MOST_MESSAGES, Image, image_of
+from .failures import without_folders
 
 COMPLAINT_BYTES = 1 << 16
 CPU_SECONDS, MEMORY_BYTES, FILE_BYTES = 10, 512 << 20, 32 << 20
@@ -36,7 +37,6 @@ OWN_BEGIN = re.compile(rb"\bvoid\s+_start\s*\(")  # of a source that has no need
 _MESSAGE = re.compile(
     r"(?:(<inline asm>|[^:\s]+):(\d+):(?:(\d+):)? )?(?:[^:\s]+: )?(fatal error|[Ee]rror|[Ww]arning): (.*)"
 )
-_FOLDERS = re.compile(r"(?:/[\w.+-]+)+/")
 _NO_MEMORY = re.compile("out of memory|bad_alloc|[Cc]annot allocate memory|virtual memory exhausted|memory exhausted")
 _NO_ROOM = re.compile("[Ff]ile too large|[Ff]ile size limit|No space left|[Qq]uota exceeded")
 _SIGNAL = re.compile("unable to execute command: (.*)")  # as clang names a crash
@@ -67,7 +67,7 @@ def read_messages(complaint: str) -> list[Diagnostic]:
             is_own = file in OWN_SOURCES
             text = text if is_own or not file else f"{file}:{number}: {text}"
             place = (int(number), int(column or 1)) if is_own else (0, 0)
-            messages.append(Diagnostic(*place, kind.lower() != "warning", _FOLDERS.sub("", text)[:MESSAGE_LETTERS]))
+            messages.append(Diagnostic(*place, kind.lower() != "warning", without_folders(text)[:MESSAGE_LETTERS]))
     return list(dict.fromkeys(messages))[:MOST_MESSAGES]
 
 

@@ -20,8 +20,8 @@ LAB = pathlib.Path(__file__).resolve().parents[2]
 PLACE = "/lab"  # where Python finds the modules within
 MODULES = (
     "vecmon_lab/__init__.py",
-    *(f"vecmon_lab/compilers/{name}.py" for name in ("__init__", "c_types", "compiler", "debug", "entries", "inside")),
-    *(f"vecmon_lab/compilers/{name}.py" for name in ("locations", "variables")),
+    *(f"vecmon_lab/compilers/{name}.py" for name in ("__init__", "c_types", "compiler", "debug", "entries")),
+    *(f"vecmon_lab/compilers/{name}.py" for name in ("failures", "inside", "locations", "variables")),
     "vecmon_lab/compilers/runtime/runtime.c",
     "vecmon_lab/compilers/runtime/vecmon.h",
     "vecmon_lab/guest/__init__.py",
@@ -47,7 +47,10 @@ def sandbox_files(compiler: Compiler) -> Sequence[str]:
     links, files = dict[str, str](), dict[str, str]()
     for program in programs:
         files |= _followed(program, links)
-    files |= {_merged(path): path for path in _libraries([*programs, *_plugins(folders)])}
+    compressed = map(
+        str, pathlib.Path("/usr/lib", python, "lib-dynload").glob("zlib.*")
+    )  # of debug data, if it is a file
+    files |= {_merged(path): path for path in _libraries([*programs, *_plugins(folders), *compressed])}
     files |= {folder: folder for folder in [*folders, f"/usr/lib/{python}"]}
     files |= {f"{PLACE}/elftools": str(elftools())}
     files |= {f"{PLACE}/{module}": str(LAB / module) for module in MODULES}

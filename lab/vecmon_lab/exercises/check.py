@@ -20,7 +20,7 @@ from ..instructions.table import ABI_NAMES
 from ..assembler.source import SourceError, read_source
 from ..assembler.trial import all_mistakes
 from ..compilers.compiled import CompiledProgram
-from ..compilers.failures import ToolError
+from ..compilers.failures import ToolError, without_folders
 from ..lessons.script import Script, Step, read_assembled
 from .answer import inputs, read_answer, source_answer
 from .exercise import ADDRESSES, Case, Exercise, Results
@@ -69,7 +69,7 @@ def check_or_failure(
         return check(program, exercise, text, compiled, good)
     except ToolError as error:
         mistake = SourceError(0, 0, "the answer couldn't be checked, which isn't your fault: nothing was counted")
-        return {"failure": f"{error}", "mistakes": mistakes_told([mistake])}
+        return {"failure": without_folders(f"{error}"), "mistakes": mistakes_told([mistake])}
 
 
 def check(
