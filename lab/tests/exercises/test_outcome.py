@@ -121,6 +121,8 @@ def test_root_of_a_container(shared: pathlib.Path, clang: Compiler) -> None:
     assert (done.returncode, done.stdout) == (2, "") and f"chmod -R go= {shared}/doubles" in done.stderr
     assert not (shared / "results.json").exists()
     subprocess.run(["chmod", "-R", "go=", shared / "doubles"], check=True)
+    with pytest.raises(LabError, match=f"could include {shared}/answer.c: "):  # as a file outside of the folder
+        check_container(shared / "doubles", shared / "answer.c")
     done = grade_in_container(shared, good, "--no-sandbox", *report)
     assert (done.returncode, done.stderr) == (0, "") and (shared / "results.json").read_text().count('"passed"') == 5
     done = grade_in_container(shared, f'#include "{shared}/doubles/good.c"\n', "--no-sandbox", *report)

@@ -23,11 +23,12 @@ _AS_NOBODY = ("/usr/bin/setpriv", f"--reuid={NOBODY}", f"--regid={NOBODY}", "--c
 _LIMITED = ("/usr/bin/prlimit", f"--nproc={PROCESSES}", "/usr/bin/python3", "-B")
 
 
-def check_container(private: pathlib.Path) -> None:
-    """Raises LabError where the user nobody can't be used, or can read a file of this folder."""
+def check_container(*private: pathlib.Path) -> None:
+    """Raises LabError where the user nobody can't be used, or can read one of these files, or a file of these folders."""
     if os.geteuid():
         raise LabError("--no-sandbox is for root of a container: the compiler then runs as the user nobody")
-    command = [*_AS_NOBODY, "/usr/bin/find", "-L", str(private.resolve()), "-type", "f", "-readable", "-print", "-quit"]
+    paths = [str(path.resolve()) for path in private]
+    command = [*_AS_NOBODY, "/usr/bin/find", "-L", *paths, "-type", "f", "-readable", "-print", "-quit"]
     try:
         done = subprocess.run(command, stdin=DEVNULL, capture_output=True, cwd="/", timeout=SECONDS)
     except (OSError, subprocess.TimeoutExpired) as error:
@@ -35,7 +36,8 @@ def check_container(private: pathlib.Path) -> None:
     if done.stderr.startswith(b"setpriv: "):
         raise ToolError(done.stderr.decode("utf-8", "replace").strip())
     if found := done.stdout.decode("utf-8", "replace").strip():
-        raise LabError(f"without a sandbox a source in C could include {found}: chmod -R go= {private}")
+        place = next((path for path in private if pathlib.Path(found).is_relative_to(path.resolve())), found)
+        raise LabError(f"without a sandbox a source in C could include {found}: chmod -R go= {place}")
 
 
 def answer_as_nobody(words: Sequence[str], text: str) -> bytes:

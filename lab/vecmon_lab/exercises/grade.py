@@ -85,7 +85,7 @@ def _isolation(arguments: argparse.Namespace, exercise: Exercise) -> Isolation:
         return answer_sandboxed
     if arguments.no_sandbox:
         find_compiler(None)
-        check_container(exercise.folder)
+        check_container(exercise.folder, *exercise.files.values())
         return answer_as_nobody
     sandboxed_compiler(None)
     return answer_sandboxed
