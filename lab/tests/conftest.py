@@ -15,6 +15,8 @@ from support.browser import WINDOWS, start_browser
 from support.commands import Lab
 from support.left_out import NO_BINUTILS, NO_BROWSER, NO_CLANG, NO_GDB, NO_QEMU, NO_SANDBOX, leave_out
 from vecmon_lab.compilers.compiler import Compiler, find_compilers
+from vecmon_lab.compilers.failures import ToolError
+from vecmon_lab.compilers.sandbox import check_start
 from vecmon_lab.machine.program import find_program
 from vecmon_lab.machine.session import Session
 
@@ -90,6 +92,10 @@ def sandboxed_clang(clang: Compiler) -> Compiler:
     """The same with what makes the sandbox, where both are."""
     if shutil.which("bwrap") is None:
         leave_out(NO_SANDBOX)
+    try:
+        check_start(clang)
+    except ToolError as error:
+        leave_out(f"{NO_SANDBOX} that starts: {error}")
     return clang
 
 

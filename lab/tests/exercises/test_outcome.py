@@ -69,6 +69,23 @@ def test_a_machine_that_fails_twice(tmp_path: pathlib.Path, program: pathlib.Pat
     )
 
 
+def test_hidden_cases_are_not_shown(lab: Lab, tmp_path: pathlib.Path, program: pathlib.Path, doubles: Exercise) -> None:
+    """An answer that saturates fails the hidden case with large numbers alone, and neither a class nor a report has these."""
+    text = GOOD.read_text().replace("vadd.vv", "vsadd.vv")
+    (tmp_path / "answer.s").write_text(text)
+    told = check_or_failure(program, doubles, text, None, None)
+    assert told == {"cases": [True, True, True, False, True]}
+    reports = [tmp_path / "report.xml", tmp_path / "results.json"]
+    status, table, _ = lab("grade", "doubles", tmp_path / "answer.s", "--junit", reports[0], "--gradescope", reports[1])
+    shown = table.decode() + "".join(report.read_text() for report in reports)
+    assert status == 1 and "4 of 5" in shown and "large numbers" in shown
+    [large] = [case for case in doubles.cases if case.name == "large numbers"]
+    numbers = {
+        f"{number}" for place in (*large.memory, *large.expected.memory) for number in place.numbers if abs(number) > 9
+    }
+    assert "2147483647" in numbers and not [number for number in numbers if number in shown]
+
+
 def test_an_answer_that_is_not_graded(
     lab: Lab, tmp_path: pathlib.Path, monkeypatch: pytest.MonkeyPatch, sandboxed_clang: Compiler
 ) -> None:
