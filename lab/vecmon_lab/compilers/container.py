@@ -48,7 +48,7 @@ def answer_as_nobody(words: Sequence[str], text: str) -> bytes:
             (lab / module).parent.mkdir(parents=True, exist_ok=True)
             shutil.copyfile(LAB / module, lab / module)
         shutil.copytree(elftools(), lab / "elftools", ignore=shutil.ignore_patterns("__pycache__"))
-        subprocess.run(["chmod", "-R", "a+rX", place], check=True)
+        subprocess.run(["/usr/bin/chmod", "-R", "a+rX", place], check=True)
         folder.mkdir()
         os.chown(folder, NOBODY, NOBODY)
         variables = {"PATH": "/usr/bin", "PYTHONPATH": str(lab), "LC_ALL": "C.UTF-8", "TMPDIR": str(folder)}

@@ -52,8 +52,8 @@ def check_start(compiler: Compiler) -> None:
     command = [*_sandbox(compiler), "--", TRUE]
     try:
         done = subprocess.run(command, stdin=DEVNULL, capture_output=True, timeout=SECONDS, env=_environment())
-    except subprocess.TimeoutExpired as error:
-        raise ToolError(f"the sandbox of compilers doesn't start within {SECONDS} s") from error
+    except (OSError, subprocess.TimeoutExpired) as error:
+        raise ToolError(f"the sandbox of compilers doesn't start: {error}") from error
     if done.returncode:
         raise _failure(done.returncode, done.stderr)
 

@@ -12,6 +12,7 @@ import re
 import shutil
 import subprocess
 from collections.abc import Iterable, Iterator, Sequence
+from subprocess import DEVNULL
 
 from .compiler import Compiler
 from .failures import ToolError
@@ -47,10 +48,8 @@ def sandbox_files(compiler: Compiler) -> Sequence[str]:
     links, files = dict[str, str](), dict[str, str]()
     for program in programs:
         files |= _followed(program, links)
-    compressed = map(
-        str, pathlib.Path("/usr/lib", python, "lib-dynload").glob("zlib.*")
-    )  # of debug data, if it is a file
-    files |= {_merged(path): path for path in _libraries([*programs, *_plugins(folders), *compressed])}
+    extensions = map(str, pathlib.Path("/usr/lib", python, "lib-dynload").glob("zlib.*"))  # unless it is built in
+    files |= {_merged(path): path for path in _libraries([*programs, *_plugins(folders), *extensions])}
     files |= {folder: folder for folder in [*folders, f"/usr/lib/{python}"]}
     files |= {f"{PLACE}/elftools": str(elftools())}
     files |= {f"{PLACE}/{module}": str(LAB / module) for module in MODULES}
@@ -83,10 +82,18 @@ def _gcc_files(compiler: Compiler) -> tuple[list[str], list[str]]:
 
 def _asked(compiler: Compiler, option: str) -> str:
     """The line that a compiler prints for an option. Raises ToolError where it prints none."""
-    done = subprocess.run([f"/usr/bin/{compiler.name}", option], capture_output=True, text=True, errors="replace")
+    done = _run(f"/usr/bin/{compiler.name}", option)
     if done.returncode or not done.stdout.strip():
         raise ToolError(f"{compiler.name} {option} fails with status {done.returncode}: {done.stderr.strip()[:200]}")
     return done.stdout.strip()
+
+
+def _run(*command: str) -> "subprocess.CompletedProcess[str]":
+    """Runs a program of the system. Raises ToolError where it can't be started, or doesn't end."""
+    try:
+        return subprocess.run(command, stdin=DEVNULL, capture_output=True, text=True, errors="replace", timeout=60)
+    except (OSError, subprocess.TimeoutExpired) as error:
+        raise ToolError(f"{command[0]} can't be run: {error}") from error
 
 
 def _followed(path: str, links: dict[str, str]) -> dict[str, str]:
@@ -106,7 +113,7 @@ def _plugins(folders: Iterable[str]) -> Iterator[str]:
 
 def _libraries(programs: Iterable[str]) -> list[str]:
     """The shared libraries that programs load. Raises ToolError where one is missing."""
-    done = subprocess.run(["ldd", *programs], capture_output=True, text=True, errors="replace")
+    done = _run("/usr/bin/ldd", *programs)
     if missing := re.search(r"\S+(?= => not found)", done.stdout):
         raise ToolError(f"the compiler's library {missing[0]} isn't installed")
     return sorted(set(_LIBRARY.findall(done.stdout)))
