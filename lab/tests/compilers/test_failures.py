@@ -24,7 +24,14 @@ from vecmon_lab.compilers.sandbox import answer_sandboxed, check_start
 
 MAIN = "int main(void) { return 0; }\n"
 WORDS = "bwrap: No permissions to create new namespace, likely because the kernel does not allow non-privileged user namespaces."
+ENDLESS = "#if __INCLUDE_LEVEL__ < 100\n#include __FILE__\n#include __FILE__\n#endif\n"
 GOOD = TOP / "lab" / "vecmon_lab" / "exercises" / "given" / "doubles" / "good.c"
+
+
+@pytest.fixture(autouse=True)
+def patient(monkeypatch: pytest.MonkeyPatch) -> None:
+    """Compilers have more time by the clock, as other tests may take all cores."""
+    monkeypatch.setattr(sandbox, "SECONDS", 200)
 
 
 @pytest.fixture
@@ -179,6 +186,14 @@ def test_each_limit_of_the_image_has_a_sentence(
     }  # fmt: skip
 
 
+def test_an_endless_compile_has_its_sentence(sandboxed_clang: Compiler, monkeypatch: pytest.MonkeyPatch) -> None:
+    """With a limit of a second of processor time, which a signal to the compiler ends."""
+    limit = "inside.CPU_SECONDS, inside.LIMITS[inside.resource.RLIMIT_CPU] = 1, (1, 2)"
+    monkeypatch.setattr(sandbox, "MODULE", ("-c", f"from vecmon_lab.compilers import inside\n{limit}\ninside.main()"))
+    told = json.loads(answer_sandboxed([sandboxed_clang.name, "0"], ENDLESS))
+    assert told["messages"][0] == [0, 0, True, "the compiler was stopped: it took more than 1 s of processor time"]
+
+
 def test_a_crash_has_its_sentence(sandboxed_clang: Compiler) -> None:
     """And what the compiler prints about itself isn't repeated."""
     text = f"#pragma clang __debug crash\n{MAIN}"
@@ -188,10 +203,9 @@ def test_a_crash_has_its_sentence(sandboxed_clang: Compiler) -> None:
 
 def test_a_sandbox_that_is_killed(sandboxed_clang: Compiler) -> None:
     """By something else: that isn't the source's fault, as a limit of memory is."""
-    text = "#if __INCLUDE_LEVEL__ < 100\n#include __FILE__\n#include __FILE__\n#endif\n"
 
     async def kill() -> bytes:
-        made = asyncio.create_task(sandbox.answer_beside([sandboxed_clang.name, "0"], text))
+        made = asyncio.create_task(sandbox.answer_beside([sandboxed_clang.name, "0"], ENDLESS))
         while not (children := _children("bwrap")):
             await asyncio.sleep(0.02)
         await asyncio.sleep(0.5)  # by then the process in the sandbox ends with bwrap

@@ -12,6 +12,7 @@ import pytest
 
 from support.commands import Lab
 from vecmon_lab import LabError
+from vecmon_lab.compilers import sandbox
 from vecmon_lab.compilers.compiler import Compiler
 from vecmon_lab.compilers.container import check_container
 from vecmon_lab.compilers.failures import ToolError
@@ -23,6 +24,12 @@ from vecmon_lab.exercises.grade import graded, graded_or_failure
 
 GOOD = OURS / "doubles" / "good.s"
 AS_IN_A_CONTAINER = ["setpriv", "--bounding-set=-sys_admin", "--inh-caps=-sys_admin"]  # of Docker's default profile
+
+
+@pytest.fixture(autouse=True)
+def patient(monkeypatch: pytest.MonkeyPatch) -> None:
+    """Compilers have more time by the clock, as other tests may take all cores."""
+    monkeypatch.setattr(sandbox, "SECONDS", 200)
 
 
 @pytest.fixture(scope="module")
@@ -91,7 +98,6 @@ def test_an_answer_that_is_not_graded(
 ) -> None:
     """Others have their rows and their reports; it has none, and the status is 2."""
     monkeypatch.setattr(os, "geteuid", lambda: 1000)
-    monkeypatch.setattr("vecmon_lab.compilers.sandbox.SECONDS", 5)
     monkeypatch.setattr(
         "vecmon_lab.compilers.sandbox.MODULE", ("-c", "import time; time.sleep(0.1); raise SystemExit(9)")
     )
@@ -120,6 +126,7 @@ def shared() -> Iterator[pathlib.Path]:
 def grade_in_container(folder: pathlib.Path, answer: str, *words: str) -> "subprocess.CompletedProcess[str]":
     """The lab's `grade` of an answer in C, by root without the right to make namespaces."""
     (folder / "answer.c").write_text(answer)
+    (folder / "answer.c").chmod(0o644)
     command = [*AS_IN_A_CONTAINER, sys.executable, "-m", "vecmon_lab", "grade", "doubles", "answer.c", *words]
     return subprocess.run(command, capture_output=True, text=True, cwd=folder)
 

@@ -103,7 +103,7 @@ def ending_of(status: int, said: str, seconds: float) -> str:
 
     status: of its process, which is negative for a signal; said: the start of its standard error
     """
-    if seconds > CPU_SECONDS - 0.5:
+    if seconds > 0.95 * CPU_SECONDS:
         return f"the compiler was stopped: it took more than {CPU_SECONDS} s of processor time"
     if _NO_MEMORY.search(said):
         return f"the compiler was stopped: {MEMORY}"
