@@ -4,7 +4,6 @@ import os
 import pathlib
 import re
 import shutil
-import subprocess
 from collections.abc import Sequence
 from dataclasses import dataclass
 
@@ -142,6 +141,8 @@ def install_compilers() -> None:
     """Install Debian's compilers if there are none, in a clone, as root or by a sudo that asks for no password."""
     if find_compilers() or not INSTALLER.is_file():
         return
+    import subprocess  # which the synchronous core does without
+
     if os.geteuid() == 0 or subprocess.run("sudo -n true", shell=True, capture_output=True).returncode == 0:
         subprocess.run([INSTALLER, "compilers"], stdout=subprocess.DEVNULL)
 
