@@ -49,12 +49,12 @@ class Builds:
             return await asyncio.to_thread(read_compiled_program, answer, self._most)
 
 
-def builds_by(name: str | None, most: int = IMAGE_BYTES) -> Builds:
-    """What compiles sources in C; without a name nothing may. Raises LabError where a compiler of a name can't."""
+def builds_by(name: str | None, most: int = IMAGE_BYTES, is_needed: bool = False) -> Builds:
+    """What compiles sources in C, which may be nothing. Raises LabError where a compiler of a name, or a needed one, can't."""
     try:
         return Builds(sandboxed_compiler(name), most=most)
     except LabError as error:
-        if name:
+        if name or is_needed:
             raise
         if isinstance(error, ToolError):  # what is installed doesn't work
             print(f"vecmon-lab: no source in C is compiled: {error}", file=sys.stderr)

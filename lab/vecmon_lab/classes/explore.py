@@ -34,9 +34,7 @@ def run(arguments: argparse.Namespace) -> int:
     """Serves until it is told to end. Raises LabError and OSError for a bad source, or where nothing can be compiled."""
     os.umask(0o077)
     source = read(arguments.source, arguments.options)
-    builds = builds_by(arguments.cc)
-    if builds.no_c and arguments.source.suffix == ".c":
-        raise LabError(builds.no_c)
+    builds = builds_by(arguments.cc, is_needed=arguments.source.suffix == ".c")
     builds.others = find_compilers()
     with tempfile.TemporaryDirectory(prefix="vecmon-") as folder:
         store = Store(pathlib.Path(folder) / "own", find_program(), quantum=arguments.quantum)
