@@ -44,7 +44,8 @@ def main() -> int:
 
 def _missing(module: str) -> str:
     """What is said of a library that isn't installed: its name for pip and Debian's, and how the launcher finds one."""
-    name = {"elftools": "pyelftools"}.get(module, module)
+    package = module.partition(".")[0]
+    name = {"elftools": "pyelftools"}.get(package, package)
     own = f"`python3 -m venv ~/.vecmon && ~/.vecmon/bin/pip install {name}`, and VECMON_PYTHON=~/.vecmon/bin/python"
     return f"this needs the Python library {name}: `sudo apt install python3-{name.replace('_', '-')}`; or else {own}"
 

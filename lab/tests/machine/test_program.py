@@ -164,12 +164,19 @@ def test_help(capsys: pytest.CaptureFixture[str], words: list[str], begin: str, 
     assert told.startswith(begin) and has in told
 
 
-def test_a_library_that_is_missing() -> None:
-    code = "import sys; sys.modules['aiohttp'] = None; sys.argv[1:] = 'class', 'x'; from vecmon_lab.__main__ import main; sys.exit(main())"
+@pytest.mark.parametrize(
+    "module, words, library",
+    [
+        ("aiohttp", ["class", "x"], "aiohttp"),
+        ("elftools.elf", ["run", str(SUM)], "pyelftools"),
+    ],
+)
+def test_a_library_that_is_missing(program: pathlib.Path, module: str, words: list[str], library: str) -> None:
+    code = f"import sys; sys.modules[{module!r}] = None; sys.argv[1:] = {words}; from vecmon_lab.__main__ import main; sys.exit(main())"
     run = subprocess.run([sys.executable, "-c", code], cwd=TOP, capture_output=True, text=True)
     assert (run.returncode, run.stdout) == (2, "")
     assert run.stderr.startswith(
-        "vecmon-lab: this needs the Python library aiohttp: `sudo apt install python3-aiohttp`"
+        f"vecmon-lab: this needs the Python library {library}: `sudo apt install python3-{library}`"
     )
 
 
