@@ -69,7 +69,7 @@ class Clone:
         """Starts tools/run with a build that waits, in a process group of its own, and returns once both builds wait."""
         (self.top / "wait").touch()
         process = subprocess.Popen(
-            [self.run_tool],
+            ["env", "--default-signal=HUP,INT,TERM", self.run_tool],  # nohup makes its children ignore SIGHUP
             env=self.environment,
             stdout=subprocess.PIPE,
             stderr=subprocess.PIPE,
