@@ -4,16 +4,16 @@ use Rattle.std.specs.List.{filter}
 use mir.Val.{bits}
 use Rattle.rv_model.specs.declared.instructions.instruction.Instr.TheVariants as instr
 use Rattle.rv_model.specs.declared.instructions.operations.PermuteOp.{PermuteOp}
-use Rattle.rv_model.specs.declared.instructions.operations.PermuteOp.TheVariants.{Vrgatherei16, Vslidedown, Vslide1down}
+use Rattle.rv_model.specs.declared.instructions.operations.PermuteOp.TheVariants.{Vrgatherei16}
 use Rattle.rv_model.specs.declared.instructions.operations.VectorOp.{VectorOp}
 use Rattle.rv_model.specs.declared.instructions.operations.VectorOp.TheVariants.{Permute}
 use Rattle.rv_model.specs.declared.instructions.source.Source.{Source}
-use Rattle.rv_model.specs.declared.instructions.source.Source.TheVariants.{V, X, I}
+use Rattle.rv_model.specs.declared.instructions.source.Source.TheVariants.{V}
 use Rattle.rv_model.specs.declared.legality.Operand.{Operand}
 use Rattle.rv_model.specs.declared.legality.Shape.{Shape}
-use Rattle.rv_model.specs.declared.legality.Shape.TheVariants.{Single, Widening, WideSource, Narrowing, Compare, Gather, GatherIndices16, Reduction, WideReduction}
+use Rattle.rv_model.specs.declared.legality.Shape.TheVariants.{Single, Widening, WideSource, GatherIndices16}
 use Rattle.rv_model.specs.declared.vector.types.Sew.{Sew}
-use Rattle.rv_model.specs.declared.vector.types.Sew.TheVariants.{E8, E16, E32}
+use Rattle.rv_model.specs.declared.vector.types.Sew.TheVariants.{E8}
 use Rattle.rv_model.specs.declared.vector.types.VType.{VType}
 use Rattle.rv_model.specs.legality.OperandShapes.{destination, first_source, second_source, shape_of, shape_operands, v0}
 use Rattle.rv_model.specs.vector.Groups.{doubled, lmul_eighths, registers, sew_width, wide_type}
@@ -27,8 +27,6 @@ use Rattle.commit_log.specs.Targets.{registers_from, registers_of, vector_target
 
 twice : (s : Sew) (e : ℕ) → bits (doubled (sew_width s)) * e / bits (sew_width s) ≡ 2 * e
 twice E8 e = omega arith
-twice E16 e = omega arith
-twice E32 e = omega arith
 twice _ e = omega arith
 
 pub wide_emul : (t : VType) → (wide_type t).emul ≡ 2 * lmul_eighths t.lmul
@@ -36,8 +34,6 @@ wide_emul t = twice t.sew (lmul_eighths t.lmul)
 
 pub permute_emul : (op : PermuteOp) (vd : ℕ) (t : VType) → (destination (shape_of (Permute op)) vd t).emul ≡ lmul_eighths t.lmul
 permute_emul Vrgatherei16 vd t = refl
-permute_emul Vslidedown vd t = refl
-permute_emul Vslide1down vd t = refl
 permute_emul _ vd t = refl
 
 -- ---- operands
@@ -51,23 +47,13 @@ mask_written true = refl
 mask_written false = refl
 
 source_written : (shape : Shape) (s : Source) (vm : Bool) (t : VType) → written (second_source shape s t ++ v0 vm) ≡ []
-source_written shape (X rs1) vm t = mask_written vm
-source_written shape (I imm) vm t = mask_written vm
 source_written GatherIndices16 (V vs1) vm t = mask_written vm
-source_written Reduction (V vs1) vm t = mask_written vm
-source_written WideReduction (V vs1) vm t = mask_written vm
 source_written _ (V vs1) vm t = mask_written vm
+source_written _ _ vm t = mask_written vm
 
 sources_written : (shape : Shape) (vs2 : ℕ) (s : Source) (vm : Bool) (t : VType)
     → written (first_source shape vs2 t ∷ (second_source shape s t ++ v0 vm)) ≡ []
 sources_written WideSource vs2 s vm t = source_written WideSource s vm t
-sources_written Narrowing vs2 s vm t = source_written Narrowing s vm t
-sources_written Widening vs2 s vm t = source_written Widening s vm t
-sources_written Compare vs2 s vm t = source_written Compare s vm t
-sources_written Gather vs2 s vm t = source_written Gather s vm t
-sources_written GatherIndices16 vs2 s vm t = source_written GatherIndices16 s vm t
-sources_written Reduction vs2 s vm t = source_written Reduction s vm t
-sources_written WideReduction vs2 s vm t = source_written WideReduction s vm t
 sources_written shape vs2 s vm t = source_written shape s vm t
 
 -- the registers of one that is written, and of others that aren't
@@ -77,12 +63,6 @@ alone_written rs rest none = ap (λ (l : List ℕ). rs ++ l) none ∙ append-nil
 destination_written : (shape : Shape) (vd : ℕ) (t : VType) (rest : List Operand) → written rest ≡ []
     → written (destination shape vd t ∷ rest) ≡ registers_of (destination shape vd t)
 destination_written Widening vd t rest none = alone_written _ (written rest) none
-destination_written WideSource vd t rest none = alone_written _ (written rest) none
-destination_written Compare vd t rest none = alone_written _ (written rest) none
-destination_written Gather vd t rest none = alone_written _ (written rest) none
-destination_written GatherIndices16 vd t rest none = alone_written _ (written rest) none
-destination_written Reduction vd t rest none = alone_written _ (written rest) none
-destination_written WideReduction vd t rest none = alone_written _ (written rest) none
 destination_written _ vd t rest none = alone_written _ (written rest) none
 
 pub shape_written : (shape : Shape) (vd vs2 : ℕ) (s : Source) (vm : Bool) (t : VType)
@@ -94,12 +74,6 @@ shape_written shape vd vs2 s vm t =
 -- a destination is one group from vd on
 one_group : (shape : Shape) (vd : ℕ) (t : VType) → registers_of (destination shape vd t) ≡ registers_from vd (1 * registers (destination shape vd t).emul)
 one_group Widening vd t = refl
-one_group WideSource vd t = refl
-one_group Compare vd t = refl
-one_group Gather vd t = refl
-one_group GatherIndices16 vd t = refl
-one_group Reduction vd t = refl
-one_group WideReduction vd t = refl
 one_group _ vd t = refl
 
 pub arith_targets : (a : VectorOp × Source) (vd vs2 : ℕ) (vm : Bool) (t : VType)

@@ -1,8 +1,8 @@
 -- Hexadecimal digits, and those of bytes that are put together.
-use Rattle.std.proofs.Common.{◌≡◌, refl, sym, ap, ◌∙◌, ℕ, zero, suc, ◌+◌, ◌/◌, ◌%◌, ◌<◌, ◌≤◌, cond, nat_lt, bit_and, List, [], ◌∷◌, ◌++◌, length, take, drop, append_assoc, arith}
+use Rattle.std.proofs.Common.{◌≡◌, refl, sym, ap, ◌∙◌, ℕ, suc, ◌+◌, ◌/◌, ◌%◌, ◌<◌, cond, nat_lt, bit_and, List, [], ◌∷◌, ◌++◌, length, take, drop, append_assoc, arith}
 use Rattle.std.specs.Int.{to_be_bytes, w32, w64}
 use Rattle.std.specs.Prelude.{reverse, slice_index}
-use Rattle.std.proofs.lemmas.List.{reverse-append, take-append-drop, drop-drop, take_all, length-drop}
+use Rattle.std.proofs.lemmas.List.{reverse-append, take-append-drop, drop-drop}
 use Rattle.std.proofs.lemmas.Nat.{and_mask}
 use lib.Lanes.{top}
 use Rattle.hex.specs.Hex.{encode_lower, encode_with, lower_digits}
@@ -15,23 +15,8 @@ abbrev pub digit_of : ℕ → ℕ
 digit_of n = (n + cond (top 7 (cond (nat_lt n 10) 255 0)) 48 87) % 256
 
 digit_is : (n : ℕ) → n < 16 → digit_of n ≡ slice_index lower_digits n
-digit_is zero h = refl
-digit_is (suc zero) h = refl
-digit_is (suc (suc zero)) h = refl
-digit_is (suc (suc (suc zero))) h = refl
-digit_is (suc (suc (suc (suc zero)))) h = refl
-digit_is (suc (suc (suc (suc (suc zero))))) h = refl
-digit_is (suc (suc (suc (suc (suc (suc zero)))))) h = refl
-digit_is (suc (suc (suc (suc (suc (suc (suc zero))))))) h = refl
-digit_is (suc (suc (suc (suc (suc (suc (suc (suc zero)))))))) h = refl
-digit_is (suc (suc (suc (suc (suc (suc (suc (suc (suc zero))))))))) h = refl
-digit_is (suc (suc (suc (suc (suc (suc (suc (suc (suc (suc zero)))))))))) h = refl
-digit_is (suc (suc (suc (suc (suc (suc (suc (suc (suc (suc (suc zero))))))))))) h = refl
-digit_is (suc (suc (suc (suc (suc (suc (suc (suc (suc (suc (suc (suc zero)))))))))))) h = refl
-digit_is (suc (suc (suc (suc (suc (suc (suc (suc (suc (suc (suc (suc (suc zero))))))))))))) h = refl
-digit_is (suc (suc (suc (suc (suc (suc (suc (suc (suc (suc (suc (suc (suc (suc zero)))))))))))))) h = refl
-digit_is (suc (suc (suc (suc (suc (suc (suc (suc (suc (suc (suc (suc (suc (suc (suc zero))))))))))))))) h = refl
 digit_is (suc (suc (suc (suc (suc (suc (suc (suc (suc (suc (suc (suc (suc (suc (suc (suc n)))))))))))))))) h = absurd (omega (arith, h))
+digit_is _ h = refl
 
 -- ---- of some bytes
 
@@ -57,16 +42,8 @@ digits_are (b ∷ bs) h =
 -- ---- lists of a known length
 
 pub list_of_8 : (xs : List ℕ) → length xs ≡ 8 → xs ≡ slice_index xs 0 ∷ slice_index xs 1 ∷ slice_index xs 2 ∷ slice_index xs 3 ∷ slice_index xs 4 ∷ slice_index xs 5 ∷ slice_index xs 6 ∷ slice_index xs 7 ∷ []
-list_of_8 ([]) h = absurd (omega (arith, h))
-list_of_8 (a0 ∷ []) h = absurd (omega (arith, h))
-list_of_8 (a0 ∷ a1 ∷ []) h = absurd (omega (arith, h))
-list_of_8 (a0 ∷ a1 ∷ a2 ∷ []) h = absurd (omega (arith, h))
-list_of_8 (a0 ∷ a1 ∷ a2 ∷ a3 ∷ []) h = absurd (omega (arith, h))
-list_of_8 (a0 ∷ a1 ∷ a2 ∷ a3 ∷ a4 ∷ []) h = absurd (omega (arith, h))
-list_of_8 (a0 ∷ a1 ∷ a2 ∷ a3 ∷ a4 ∷ a5 ∷ []) h = absurd (omega (arith, h))
-list_of_8 (a0 ∷ a1 ∷ a2 ∷ a3 ∷ a4 ∷ a5 ∷ a6 ∷ []) h = absurd (omega (arith, h))
 list_of_8 (a0 ∷ a1 ∷ a2 ∷ a3 ∷ a4 ∷ a5 ∷ a6 ∷ a7 ∷ []) h = refl
-list_of_8 (a0 ∷ a1 ∷ a2 ∷ a3 ∷ a4 ∷ a5 ∷ a6 ∷ a7 ∷ a8 ∷ rest) h = absurd (omega (arith, h))
+list_of_8 _ h = absurd (omega (arith, h))
 
 -- ---- the last ones
 
@@ -77,12 +54,8 @@ low_digits n = refl
 pub behind_zeros : (bs : List ℕ) → length bs ≡ 4
     → take 8 (drop 8 (encode_lower (0 ∷ 0 ∷ 0 ∷ 0 ∷ slice_index bs 3 ∷ slice_index bs 2 ∷ slice_index bs 1 ∷ slice_index bs 0 ∷ []))) ≡ highest_first bs
 unfolding encode_with
-behind_zeros ([]) h = absurd (omega (arith, h))
-behind_zeros (a0 ∷ []) h = absurd (omega (arith, h))
-behind_zeros (a0 ∷ a1 ∷ []) h = absurd (omega (arith, h))
-behind_zeros (a0 ∷ a1 ∷ a2 ∷ []) h = absurd (omega (arith, h))
 behind_zeros (a0 ∷ a1 ∷ a2 ∷ a3 ∷ []) h = refl
-behind_zeros (a0 ∷ a1 ∷ a2 ∷ a3 ∷ a4 ∷ rest) h = absurd (omega (arith, h))
+behind_zeros _ h = absurd (omega (arith, h))
 
 -- ---- put together
 
@@ -99,37 +72,10 @@ highest_first-append xs ys = ap encode_lower (reverse-append xs ys) ∙ encode-a
 split_at : (n : ℕ) (xs : List ℕ) → highest_first xs ≡ highest_first (drop n xs) ++ highest_first (take n xs)
 split_at n xs = ap highest_first (sym (take-append-drop n xs)) ∙ highest_first-append (take n xs) (drop n xs)
 
--- a text, and then 32 bytes in four parts
-pub four_parts : (text bs : List ℕ) → length bs ≡ 32
-    → (((text ++ highest_first (take 8 (drop 24 bs))) ++ highest_first (take 8 (drop 16 bs))) ++ highest_first (take 8 (drop 8 bs))) ++ highest_first (take 8 bs)
-    ≡ text ++ highest_first bs
-four_parts text bs long =
+-- a text with the last of some bytes, and then the 8 before them
+pub part_pushed : (n : ℕ) (text mid new bs : List ℕ) → mid ≡ text ++ highest_first (drop (n + 8) bs) → new ≡ mid ++ highest_first (take 8 (drop n bs))
+    → new ≡ text ++ highest_first (drop n bs)
+part_pushed n text mid new bs last e =
     let h : List ℕ → List ℕ = highest_first in
-    let few : length (drop 24 bs) ≤ 8 = omega (arith, length-drop 24 bs, long) in
-    let last : drop 8 (drop 16 bs) ≡ take 8 (drop 24 bs) = drop-drop 8 16 bs ∙ sym (take_all 8 (drop 24 bs) few) in
-    let third : h (drop 16 bs) ≡ h (take 8 (drop 24 bs)) ++ h (take 8 (drop 16 bs)) =
-    split_at 8 (drop 16 bs) ∙ ap (λ (l : List ℕ). h l ++ h (take 8 (drop 16 bs))) last in
-    let second : h (drop 8 bs) ≡ (h (take 8 (drop 24 bs)) ++ h (take 8 (drop 16 bs))) ++ h (take 8 (drop 8 bs)) =
-    split_at 8 (drop 8 bs) ∙ ap (λ (l : List ℕ). h l ++ h (take 8 (drop 8 bs))) (drop-drop 8 8 bs)
-    ∙ ap (λ (l : List ℕ). l ++ h (take 8 (drop 8 bs))) third in
-    let whole : h bs ≡ ((h (take 8 (drop 24 bs)) ++ h (take 8 (drop 16 bs))) ++ h (take 8 (drop 8 bs))) ++ h (take 8 bs) =
-    split_at 8 bs ∙ ap (λ (l : List ℕ). l ++ h (take 8 bs)) second in
-    let a : List ℕ = h (take 8 (drop 24 bs)) in
-    let b : List ℕ = h (take 8 (drop 16 bs)) in
-    let d : List ℕ = h (take 8 (drop 8 bs)) in
-    let e : List ℕ = h (take 8 bs) in
-    ap (λ (l : List ℕ). (l ++ d) ++ e) (append_assoc text a b)
-    ∙ ap (λ (l : List ℕ). l ++ e) (append_assoc text (a ++ b) d)
-    ∙ append_assoc text ((a ++ b) ++ d) e
-    ∙ ap (λ (l : List ℕ). text ++ l) (sym whole)
-
-pub four_pushed : (text t1 t2 t3 t4 bs : List ℕ) → length bs ≡ 32
-    → t1 ≡ text ++ highest_first (take 8 (drop 24 bs)) → t2 ≡ t1 ++ highest_first (take 8 (drop 16 bs))
-    → t3 ≡ t2 ++ highest_first (take 8 (drop 8 bs)) → t4 ≡ t3 ++ highest_first (take 8 bs)
-    → t4 ≡ text ++ highest_first bs
-four_pushed text t1 t2 t3 t4 bs long e1 e2 e3 e4 =
-    e4
-    ∙ ap (λ (l : List ℕ). l ++ highest_first (take 8 bs))
-    (e3 ∙ ap (λ (l : List ℕ). l ++ highest_first (take 8 (drop 8 bs)))
-    (e2 ∙ ap (λ (l : List ℕ). l ++ highest_first (take 8 (drop 16 bs))) e1))
-    ∙ four_parts text bs long
+    e ∙ ap (λ (l : List ℕ). l ++ h (take 8 (drop n bs))) (last ∙ ap (λ (l : List ℕ). text ++ h l) (sym (drop-drop 8 n bs)))
+    ∙ append_assoc text (h (drop 8 (drop n bs))) (h (take 8 (drop n bs))) ∙ ap (λ (l : List ℕ). text ++ l) (sym (split_at 8 (drop n bs)))

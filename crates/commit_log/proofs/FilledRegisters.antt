@@ -10,7 +10,7 @@ use Rattle.rv_model.specs.declared.instructions.operations.Direction.TheVariants
 use Rattle.rv_model.specs.declared.instructions.operations.Eew.{Eew}
 use Rattle.rv_model.specs.declared.instructions.operations.Order.{Order}
 use Rattle.rv_model.specs.declared.instructions.operations.RegisterCount.{RegisterCount}
-use Rattle.rv_model.specs.declared.instructions.operations.RegisterCount.TheVariants.{One, Two, Four, Eight}
+use Rattle.rv_model.specs.declared.instructions.operations.RegisterCount.TheVariants.{One}
 use Rattle.rv_model.specs.declared.instructions.operations.UnitOp.{UnitOp}
 use Rattle.rv_model.specs.declared.instructions.operations.UnitOp.TheVariants as unit
 use Rattle.rv_model.specs.declared.legality.Role.{Role}
@@ -35,8 +35,7 @@ module _ (v : VState) (x : Scalar) where
       → vector_targets (instr.Access (UnitStride op w nf vd rs1 vm)) (Some t) ≡ filled (unit_access op (access_type t w) nf vd rs1 vm v x)
   unfolding operands
   unit_filled unit.Store w nf vd rs1 vm t = mask_written vm
-  unit_filled unit.Load w nf vd rs1 vm t = alone_written _ _ (mask_written vm)
-  unit_filled unit.FaultOnlyFirst w nf vd rs1 vm t = alone_written _ _ (mask_written vm)
+  unit_filled _ w nf vd rs1 vm t = alone_written _ _ (mask_written vm)
 
   pub strided_filled : (d : Direction) (w : Eew) (nf vd rs1 rs2 : ℕ) (vm : Bool) (t : VType)
       → vector_targets (instr.Access (Strided d w nf vd rs1 rs2 vm)) (Some t) ≡ filled (strided_access d (access_type t w) nf vd rs1 rs2 vm v x)
@@ -56,9 +55,7 @@ module _ (v : VState) (x : Scalar) where
       → vector_targets (instr.Access (WholeLoad count w vd rs1)) o ≡ registers_from vd (1 * register_count count)
   unfolding operands
   whole_filled One w vd rs1 o = append-nil _
-  whole_filled Two w vd rs1 o = append-nil _
-  whole_filled Four w vd rs1 o = append-nil _
-  whole_filled Eight w vd rs1 o = append-nil _
+  whole_filled _ w vd rs1 o = append-nil _
 
   pub whole_group : (count : RegisterCount) (w : Eew) (vd rs1 : ℕ) (o : Option VType)
       → registers_from vd (1 * registers (8 * register_count count)) ≡ vector_targets (instr.Access (WholeLoad count w vd rs1)) o

@@ -1,19 +1,16 @@
 -- The line of one instruction, as it is kept.
 use Rattle.std.proofs.Common.{◌≡◌, ◌∙◌, ◌++◌, ◌∷◌, [], ℕ, Bool, true, false, List, Option, None, Some, ap, refl, subst, sym, append-nil, append_assoc, if◌then◌else◌}
-use Rattle.std.proofs.lemmas.Bool.{false≢true}
+use Rattle.std.proofs.lemmas.Bool.{and_parts, false≢true}
 use Rattle.std.specs.Option.{option_map_or}
 use Rattle.std.specs.Prelude.{◌&&◌}
 use Rattle.recording.proofs.Counted.{was_fetched}
 use Rattle.recording.specs.Runs.{is_counted, word_of}
 use Rattle.rv_model.specs.declared.instructions.instruction.Instr.{Instr}
-use Rattle.rv_model.specs.declared.memory.Access.TheVariants.{Fetch}
 use Rattle.rv_model.specs.declared.scalar.Scalar.{Scalar}
-use Rattle.rv_model.specs.declared.step.step_end.Cause.TheVariants.{FetchAccess}
 use Rattle.rv_model.specs.declared.step.step_end.StepEnd.{StepEnd}
 use Rattle.rv_model.specs.declared.vector.state.VState.{VState}
 use Rattle.rv_model.specs.instructions.Table.{scan, table}
-use Rattle.rv_model.specs.memory.Memory.{can_access}
-use Rattle.rv_model.specs.step.Hart.{HartState, Stepped, ends_after, faults}
+use Rattle.rv_model.specs.step.Hart.{HartState, Stepped, ends_after}
 use Rattle.rv_model.specs.step.Step.{executed, step}
 use Rattle.commit_log.specs.Finds.{Finds, Retires}
 use Rattle.commit_log.specs.declared.found.Found.{Found}
@@ -21,7 +18,7 @@ use Rattle.commit_log.specs.declared.log.Log.{Log}
 use Rattle.commit_log.specs.declared.log.Window.{Window}
 use Rattle.commit_log.specs.LineTexts.{line_text}
 use Rattle.commit_log.specs.Lines.{instruction_line}
-use Rattle.commit_log.proofs.Retired.{Retired, steps_retire}
+use Rattle.commit_log.proofs.Retired.{Retired, of_counted, steps_retire}
 use Rattle.commit_log.specs.Logged.{Gathered, IsLogged, IsNoted, is_within, line_by, logged, logged_from, number_after, one_more}
 
 -- a line that was added to what was gathered
@@ -41,90 +38,65 @@ pub noted_word : (s : HartState) (word : ℕ) (i : Option Instr) (x : Scalar) (v
 noted_word s word i x v f instr_is word_is finds =
     subst (λ (w : ℕ). Finds w (scan table w) x v f) word_is (subst (λ (o : Option Instr). Finds word o x v f) instr_is finds)
 
-none_runs : (word : ℕ) (s : HartState) → is_counted (executed 256 None word s).end ≡ false
-unfolding executed
-none_runs word s = refl
-
 -- an instruction that is counted is one
 was_instruction : (s next : HartState) (ticks : ℕ) (end : StepEnd) → step 256 s ≡ ends_after ticks end next → is_counted end ≡ true
     → scan table (word_of s) ≡ None → ⊥
-unfolding step
+unfolding executed
 was_instruction s next ticks end made counts none =
-    by (can_access Fetch s.memory s.scalar.pc 4)
-    (ap (λ (o : Option Instr). is_counted (if can_access Fetch s.memory s.scalar.pc 4 then executed 256 o (word_of s) s else faults FetchAccess s.scalar.pc s).end) (sym none)
-    ∙ (ap (λ (o : Stepped). is_counted o.end) made ∙ counts))
-  where
-    by : (fetches : Bool) → is_counted (if fetches then executed 256 None (word_of s) s else faults FetchAccess s.scalar.pc s).end ≡ true → ⊥
-    by true h = absurd (false≢true (sym (none_runs (word_of s) s) ∙ h))
-    by false h = absurd (false≢true h)
-
-one_number : (number : ℕ) (s : HartState) → number_after number (s ∷ []) ≡ one_more number
-unfolding number_after
-one_number number s = refl
+    of_counted s (λ (r : Stepped). ⊥) None none (λ h. absurd (false≢true h)) (ap (λ (o : Stepped). is_counted o.end) made ∙ counts)
 
 -- what one instruction adds
 abbrev added : Window → ℕ → HartState → List ℕ
 added w number s = if is_within w (one_more number) then logged s else []
 
-one_from : (w : Window) (number : ℕ) (s : HartState) → added w number s ≡ logged_from w number (s ∷ [])
-unfolding logged_from
-one_from w number s = sym (append-nil (added w number s))
-
-none_of : (within counts : Bool) (line : List ℕ) → (counts && within) ≡ false → (if within then if counts then line else [] else []) ≡ []
-none_of true true line e = absurd (false≢true (sym e))
-none_of true false line e = refl
-none_of false counts line e = refl
-
-some_of : (within counts : Bool) (line : List ℕ) → (counts && within) ≡ true → (if within then if counts then line else [] else []) ≡ line
-some_of true true line e = refl
-some_of true false line e = absurd (false≢true e)
-some_of false true line e = absurd (false≢true e)
-some_of false false line e = absurd (false≢true e)
-
-both_hold : (counts within : Bool) → (counts && within) ≡ true → (counts ≡ true) × (within ≡ true)
-both_hold true true e = (refl, refl)
-both_hold true false e = absurd (false≢true e)
-both_hold false within e = absurd (false≢true e)
+both_of : (within counts : Bool) (line : List ℕ) → (if within then if counts then line else [] else []) ≡ (if counts && within then line else [])
+both_of within true line = refl
+both_of true false line = refl
+both_of false false line = refl
 
 module _ {K : Type 0} (Took : K → List ℕ → K → Type 0) (before old : Log K) (s next : HartState) (end : StepEnd) (ticks : ℕ) (noted : IsNoted before s old)
     (made : step 256 s ≡ ends_after ticks end next) where
   counts_are : (is_counted end && is_within old.window old.number) ≡ (is_counted (step 256 s).end && is_within before.window (one_more before.number))
-  counts_are =
-      ap (λ (o : Stepped). is_counted o.end && is_within old.window old.number) (sym made)
-      ∙ (ap (λ (w : Window). is_counted (step 256 s).end && is_within w old.number) noted.window_is
-      ∙ ap (λ (n : ℕ). is_counted (step 256 s).end && is_within before.window n) noted.number_is)
+  counts_are = rw (noted.window_is, noted.number_is, made) refl
+
+  -- its line, where it has one
+  line_where : (b : Bool) → (is_counted end && is_within old.window old.number) ≡ b → added before.window before.number s ≡ (if b then line_by s (step 256 s) else [])
+  line_where b is =
+      both_of (is_within before.window (one_more before.number)) (is_counted (step 256 s).end) (line_by s (step 256 s))
+      ∙ ap (λ (c : Bool). if c then line_by s (step 256 s) else []) (sym counts_are ∙ is)
 
   -- these bytes are those of the instruction
   logged_by : (bytes : List ℕ) (new : Log K) → new.window ≡ old.window → new.number ≡ old.number → Gathered Took old.sink old.text bytes new.sink new.text
       → added before.window before.number s ≡ bytes → IsLogged Took before (s ∷ []) new
+  unfolding logged_from number_after
   logged_by bytes new window number gathered is =
       record {
         window_is = window ∙ noted.window_is;
-        number_is = number ∙ (noted.number_is ∙ sym (one_number before.number s));
+        number_is = number ∙ noted.number_is;
         lines = subst (λ (sink : K). Gathered Took sink before.text (logged_from before.window before.number (s ∷ [])) new.sink new.text) noted.sink_is
             (subst (λ (text : List ℕ). Gathered Took old.sink text (logged_from before.window before.number (s ∷ [])) new.sink new.text) noted.text_is
-            (subst (λ (l : List ℕ). Gathered Took old.sink old.text l new.sink new.text) (sym is ∙ one_from before.window before.number s) gathered));
+            (subst (λ (l : List ℕ). Gathered Took old.sink old.text l new.sink new.text) (sym is ∙ sym (append-nil (added before.window before.number s))) gathered));
       }
 
   pub none_kept : ((k : K) → Took k [] k) → (is_counted end && is_within old.window old.number) ≡ false → IsLogged Took before (s ∷ []) old
   none_kept took_none isnt =
       logged_by [] old refl refl (record { written = []; took = took_none old.sink; all = sym (append-nil old.text) })
-      (none_of (is_within before.window (one_more before.number)) (is_counted (step 256 s).end) (line_by s (step 256 s)) (sym counts_are ∙ isnt))
+      (line_where false isnt)
 
   pub line_kept : (new : Log K) → (is_counted end && is_within old.window old.number) ≡ true → new.window ≡ old.window → new.number ≡ old.number
       → ((i : Instr) (word : ℕ) (t : HartState) → Finds word (Some i) t.scalar t.vector old.found → Retires i t.vector next.vector.conf.vl
       → Gathered Took old.sink old.text (line_text (instruction_line i word t next.scalar next.vector)) new.sink new.text)
       → IsLogged Took before (s ∷ []) new
   line_kept new holds window number gathered =
-      let both = both_hold (is_counted end) (is_within old.window old.number) holds in
+      let both = and_parts (is_counted end) (is_within old.window old.number) holds in
       let finds = noted.finds both.1 (was_fetched s next ticks end made both.0) in
       by (scan table (word_of s)) refl finds
     where
       by : (o : Option Instr) → scan table (word_of s) ≡ o → Finds (word_of s) o s.scalar s.vector old.found → IsLogged Took before (s ∷ []) new
-      by None e finds = absurd (was_instruction s next ticks end made (both_hold (is_counted end) (is_within old.window old.number) holds).0 e)
+      by None e finds = absurd (was_instruction s next ticks end made (and_parts (is_counted end) (is_within old.window old.number) holds).0 e)
       by (Some i) e finds =
-          let retired = subst (λ (o : Stepped). Retired i s o) made (steps_retire s i e) (both_hold (is_counted end) (is_within old.window old.number) holds).0 in
+          let retired = subst (λ (o : Stepped). Retired i s o) made (steps_retire s i e) (and_parts (is_counted end) (is_within old.window old.number) holds).0 in
           logged_by (line_text (instruction_line i (word_of s) s next.scalar next.vector)) new window number (gathered i (word_of s) s finds retired)
-          (some_of (is_within before.window (one_more before.number)) (is_counted (step 256 s).end) (line_by s (step 256 s)) (sym counts_are ∙ holds)
+          (line_where true holds
           ∙ (ap (λ (o : Stepped). line_by s o) made
           ∙ ap (λ (o : Option Instr). option_map_or (λ j. line_text (instruction_line j (word_of s) s next.scalar next.vector)) o []) e))

@@ -3,12 +3,12 @@ use Rattle.std.proofs.Common.{◌≡◌, ◌∙◌, ap, refl, sym, subst, ℕ, z
 use Rattle.std.specs.Prelude.{not, nat_le, IfSome}
 use Rattle.std.specs.Int.{byte_len, w64}
 use Rattle.std.specs.List.{range_with_len}
-use Rattle.std.specs.Option.{option_map, option_map_or}
+use Rattle.std.specs.Option.{option_map_or}
 use Rattle.std.specs.Simd.Lanes.{chunk}
 use Rattle.std.proofs.lemmas.Bool.{leb-true}
 use Rattle.std.proofs.lemmas.List.{map-append}
 use Rattle.rv_model.specs.declared.instructions.access.AccessInstr.{AccessInstr}
-use Rattle.rv_model.specs.declared.instructions.access.AccessInstr.TheVariants.{UnitStride, WholeLoad, WholeStore, MaskAccess}
+use Rattle.rv_model.specs.declared.instructions.access.AccessInstr.TheVariants.{UnitStride, WholeLoad, WholeStore}
 use Rattle.rv_model.specs.declared.instructions.csr.CsrInstr.{CsrInstr}
 use Rattle.rv_model.specs.declared.instructions.csr.CsrInstr.TheVariants.{Register, Immediate}
 use Rattle.rv_model.specs.declared.instructions.instruction.Instr.{Instr}
@@ -20,35 +20,29 @@ use Rattle.rv_model.specs.declared.instructions.operations.SystemOp.TheVariants 
 use Rattle.rv_model.specs.declared.instructions.operations.UnitOp.{UnitOp}
 use Rattle.rv_model.specs.declared.instructions.operations.UnitOp.TheVariants as unit
 use Rattle.rv_model.specs.declared.instructions.scalar.ScalarInstr.{ScalarInstr}
-use Rattle.rv_model.specs.declared.instructions.scalar.ScalarInstr.TheVariants.{Upper, Jump, JumpRegister, Branch, Load, Store, RegisterImmediate, ShiftImmediate, ShiftImmediateWord, RegisterRegister, Fence, System}
+use Rattle.rv_model.specs.declared.instructions.scalar.ScalarInstr.TheVariants.{Jump, JumpRegister, Branch, Load, Store, System}
 use Rattle.rv_model.specs.declared.instructions.vector.VectorInstr.{VectorInstr}
 use Rattle.rv_model.specs.declared.memory.Access.TheVariants as access
 use Rattle.rv_model.specs.declared.scalar.Scalar.{Scalar}
 use Rattle.rv_model.specs.declared.step.memory_end.MemEnd.{MemEnd}
 use Rattle.rv_model.specs.declared.step.memory_end.MemEnd.TheVariants as memory_end
-use Rattle.rv_model.specs.declared.step.step_end.Cause.{Cause}
-use Rattle.rv_model.specs.declared.step.step_end.Cause.TheVariants.{FetchAccess, StoreAccess}
-use Rattle.rv_model.specs.declared.step.vector_end.VEnd.{VEnd}
 use Rattle.rv_model.specs.declared.step.vector_end.VEnd.TheVariants as vector_end
 use Rattle.rv_model.specs.declared.vector.control_register.ControlRegister.{ControlRegister}
 use Rattle.rv_model.specs.declared.vector.state.VState.{VState}
-use Rattle.rv_model.specs.declared.vector.types.VType.{VType}
 use Rattle.rv_model.specs.accesses.AccessRuns.{access_ends, directed_run, store_run}
 use Rattle.rv_model.specs.accesses.Transfers.{Moved, Plan, Transfer, end_at, memory_stored, stop_index, transfers}
 use Rattle.rv_model.specs.accesses.VectorAccess.{VectorAccess, access_of, element_start, is_first_only, moved_segment, plan, unit_direction}
 use Rattle.rv_model.specs.elements.Elements.{is_enabled}
-use Rattle.rv_model.specs.instructions.Immediates.{i_immediate, s_immediate}
-use Rattle.rv_model.specs.instructions.Table.{scan, table}
-use Rattle.rv_model.specs.legality.Legality.{is_legal}
+use Rattle.rv_model.specs.instructions.Immediates.{s_immediate}
 use Rattle.rv_model.specs.memory.Memory.{Memory, can_access, put_bytes}
 use Rattle.rv_model.specs.scalar.Arithmetic.{sum}
 use Rattle.rv_model.specs.scalar.ControlTransfer.{is_taken}
-use Rattle.rv_model.specs.scalar.LoadsAndStores.{load_width, store_width}
-use Rattle.rv_model.specs.scalar.Registers.{read_register, with_register}
-use Rattle.rv_model.specs.step.Hart.{HartState, Stepped, faults}
+use Rattle.rv_model.specs.scalar.LoadsAndStores.{store_width}
+use Rattle.rv_model.specs.scalar.Registers.{read_register}
+use Rattle.rv_model.specs.step.Hart.{HartState, Stepped}
 use Rattle.rv_model.specs.step.MemoryStep.{access_end, load_fills_masked_off}
-use Rattle.rv_model.specs.step.ScalarStep.{csr_executed, csr_step, environment_call, jumps, scalar_step}
-use Rattle.rv_model.specs.step.Step.{VectorStepped, access_step, after_vector, executed, operation_step, performed, step, vector_executed, vector_step, vector_ticks}
+use Rattle.rv_model.specs.step.ScalarStep.{csr_executed, csr_step, environment_call, scalar_step}
+use Rattle.rv_model.specs.step.Step.{access_step, executed, operation_step, performed}
 use Rattle.rv_model.specs.step.WriteCall.{output_room, write_call, write_count}
 use Rattle.rv_model.specs.vector.Control.{csr_form, is_write}
 use Rattle.rv_model.specs.vector.ControlRegisters.{control_register, is_read_only}
@@ -61,6 +55,8 @@ use Rattle.recording.specs.Runs.{is_counted, word_of}
 use Rattle.vector_memory.specs.MovedElements.{MovedElement, element_of, moved_elements, moved_end}
 use Rattle.commit_log.specs.Lines.{told_moved}
 use Rattle.commit_log.specs.Told.{MemoryIsTold, with_stored}
+use Rattle.commit_log.proofs.LoadsTold.{typed_fits}
+use Rattle.commit_log.proofs.Retired.{of_counted, of_done}
 
 -- ---- elements, one after another
 
@@ -145,95 +141,69 @@ unit_whole : (op : UnitOp) → unit_direction op ≡ direction.Store → is_firs
 unit_whole unit.Store e = refl
 unit_whole _ e = absurd (cc)
 
-typed_whole : (o : Option VType) (make : VType → VectorAccess) (P : VectorAccess → Type 0) → ((t : VType) → P (make t)) → IfSome (option_map make o) P
-typed_whole None make P each = tt
-typed_whole (Some t) make P each = each t
-
 abbrev IsWhole : VectorAccess → Type 0
 IsWhole a = a.direction ≡ direction.Store → a.first_only ≡ false
 
 each_whole : (i : AccessInstr) (v : VState) (x : Scalar) → IfSome (access_of i v x) IsWhole
-each_whole (UnitStride op width nf vd rs1 vm) v x = typed_whole v.conf.vtype _ IsWhole (λ t. unit_whole op)
+each_whole (UnitStride op width nf vd rs1 vm) v x = typed_fits v.conf.vtype _ IsWhole (λ t e. unit_whole op)
 each_whole (WholeLoad count w vd rs1) v x = λ e. refl
 each_whole (WholeStore count vd rs1) v x = λ e. refl
-each_whole (MaskAccess d vd rs1) v x = typed_whole v.conf.vtype _ IsWhole (λ t. λ e. refl)
-each_whole _ v x = typed_whole v.conf.vtype _ IsWhole (λ t. λ e. refl)
+each_whole _ v x = typed_fits v.conf.vtype _ IsWhole (λ t e store. refl)
 
 whole_of : (i : AccessInstr) (v : VState) (x : Scalar) (a : VectorAccess) → access_of i v x ≡ Some a → IsWhole a
 whole_of i v x a e = subst (λ (o : Option VectorAccess). IfSome o IsWhole) e (each_whole i v x)
 
 done_is : (d : Direction) (end : MemEnd) → access_end d end ≡ vector_end.Done → end ≡ memory_end.Done
 done_is d memory_end.Done h = refl
-done_is d (memory_end.Fault index addr) h = absurd (cc)
-done_is d (memory_end.Cut index) h = absurd (cc)
+done_is d _ h = absurd (cc)
 
 -- ---- each instruction
 
 abbrev Tells : Instr → HartState → Stepped → Type 0
 Tells i s r = is_counted r.end ≡ true → with_stored (told_moved i s r.state.vector.conf.vl) s.memory ≡ r.state.memory
 
-abbrev VectorTells : Instr → HartState → VectorStepped → Type 0
-VectorTells i s d = d.end ≡ vector_end.Done → with_stored (told_moved i s d.state.vector.conf.vl) s.memory ≡ d.state.memory
-
 -- nothing is stored
 abbrev Stays : HartState → Stepped → Type 0
 Stays s r = is_counted r.end ≡ true → s.memory ≡ r.state.memory
 
 module _ (s : HartState) where
-  refused : (i : Instr) (cause : Cause) (value : ℕ) → Tells i s (faults cause value s)
-  refused i cause value h = absurd (cc)
-
-  jumps_stay : (target : ℕ) (x : Scalar) → Stays s (jumps target x s)
-  jumps_stay target x = of_either (Stays s) (target % 4 == 0) _ _ (λ h. refl) (λ h. refl)
+  either : (b : Bool) (x y : Stepped) → Stays s x → Stays s y → Stays s (cond b x y)
+  either b x y = of_either (Stays s) b x y
 
   csr_stays : (register : Option ControlRegister) (op : CsrOp) (rd source operand word : ℕ) → Stays s (csr_step register op rd source operand word s)
   csr_stays None op rd source operand word = λ h. refl
   csr_stays (Some register) op rd source operand word =
-      of_either (Stays s) (is_write op source && is_read_only register) _ _ (λ h. refl) (of_either (Stays s) (is_write op source) _ _ (λ h. refl) (λ h. refl))
+      either (is_write op source && is_read_only register) _ _ (λ h. refl) (either (is_write op source) _ _ (λ h. refl) (λ h. refl))
 
   write_stays : Stays s (write_call s)
   unfolding write_call
   write_stays =
-      let asked : ℕ = read_register s.scalar 12 in
-      let addr : ℕ = read_register s.scalar 11 in
-      of_either (Stays s) (not (read_register s.scalar 10 == 1)) _ _ (λ h. refl)
-      (of_either (Stays s) (asked == 0) _ _ (λ h. refl)
-      (of_either (Stays s) (output_room s.output == 0) _ _ (λ h. refl)
-      (of_either (Stays s) (can_access access.Load s.memory addr (write_count asked s.output)) _ _ (λ h. refl) (λ h. refl))))
-
-  call_stays : Stays s (environment_call s)
-  unfolding environment_call
-  call_stays =
-      of_either (Stays s) (read_register s.scalar 17 == 93 || read_register s.scalar 17 == 94) _ _ (λ h. refl)
-      (of_either (Stays s) (read_register s.scalar 17 == 64) _ _ write_stays (λ h. refl))
+      either (not (read_register s.scalar 10 == 1)) _ _ (λ h. refl)
+      (either (read_register s.scalar 12 == 0) _ _ (λ h. refl)
+      (either (output_room s.output == 0) _ _ (λ h. refl)
+      (either (can_access access.Load s.memory (read_register s.scalar 11) (write_count (read_register s.scalar 12) s.output)) _ _ (λ h. refl) (λ h. refl))))
 
   scalar_tells : (i : ScalarInstr) → Tells (instr.Scalar i) s (scalar_step i s)
-  scalar_tells (Upper op rd imm) = λ h. refl
-  scalar_tells (Jump rd imm) = jumps_stay _ (with_register rd (sum w64 s.scalar.pc 4) s.scalar)
-  scalar_tells (JumpRegister rd rs1 imm) = jumps_stay _ (with_register rd (sum w64 s.scalar.pc 4) s.scalar)
-  scalar_tells (Branch op rs1 rs2 imm) =
-      of_either (Stays s) (is_taken op (read_register s.scalar rs1) (read_register s.scalar rs2)) _ _ (jumps_stay _ s.scalar) (λ h. refl)
-  scalar_tells (Load op rd rs1 imm) =
-      let addr : ℕ = sum w64 (read_register s.scalar rs1) (i_immediate imm) in
-      of_either (Stays s) (can_access access.Load s.memory addr (byte_len (load_width op))) _ _ (λ h. refl) (λ h. refl)
+  unfolding environment_call
+  scalar_tells (Jump rd imm) = either _ _ _ (λ h. refl) (λ h. refl)
+  scalar_tells (JumpRegister rd rs1 imm) = either _ _ _ (λ h. refl) (λ h. refl)
+  scalar_tells (Branch op rs1 rs2 imm) = either (is_taken op (read_register s.scalar rs1) (read_register s.scalar rs2)) _ _ (either _ _ _ (λ h. refl) (λ h. refl)) (λ h. refl)
+  scalar_tells (Load op rd rs1 imm) = either _ _ _ (λ h. refl) (λ h. refl)
   scalar_tells (Store op rs1 rs2 imm) =
-      let addr : ℕ = sum w64 (read_register s.scalar rs1) (s_immediate imm) in
-      of_either (Tells (instr.Scalar (Store op rs1 rs2 imm)) s) (can_access access.Store s.memory addr (byte_len (store_width op))) _ _
-      (λ h. refl) (refused (instr.Scalar (Store op rs1 rs2 imm)) StoreAccess addr)
-  scalar_tells (Fence rd rs1 ordering) = λ h. refl
-  scalar_tells (System system.Ecall) = call_stays
-  scalar_tells (System system.Ebreak) = λ h. refl
-  scalar_tells (RegisterImmediate op rd rs1 imm) = λ h. refl
-  scalar_tells (ShiftImmediate op rd rs1 shamt) = λ h. refl
-  scalar_tells (ShiftImmediateWord op rd rs1 shamt) = λ h. refl
-  scalar_tells (RegisterRegister op rd rs1 rs2) = λ h. refl
+      of_either (Tells (instr.Scalar (Store op rs1 rs2 imm)) s)
+      (can_access access.Store s.memory (sum w64 (read_register s.scalar rs1) (s_immediate imm)) (byte_len (store_width op))) _ _
+      (λ h. refl) (λ (h : false ≡ true). absurd (cc))
+  scalar_tells (System system.Ecall) =
+      either (read_register s.scalar 17 == 93 || read_register s.scalar 17 == 94) _ _ (λ h. refl)
+      (either (read_register s.scalar 17 == 64) _ _ write_stays (λ h. refl))
+  scalar_tells _ = λ h. refl
 
   controls_tell : (i : CsrInstr) (word : ℕ) → Tells (instr.Csr i) s (csr_executed i word s)
   controls_tell (Register op rd rs1 csr) word = csr_stays (control_register csr) op rd rs1 (read_register s.scalar rs1) word
   controls_tell (Immediate op rd imm csr) word = csr_stays (control_register csr) (csr_form op) rd imm imm word
 
-  operation_tells : (i : VectorInstr) → VectorTells (instr.Vector i) s (operation_step i s)
-  operation_tells i h =
+  operation_stays : (i : VectorInstr) → s.memory ≡ (operation_step i s).state.memory
+  operation_stays i =
       operation_is s (λ d. s.memory ≡ d.state.memory) i (record { sets = λ vtype length. refl; leaves = λ scalar w file saturated. refl; illegal = refl })
 
   loaded_tells : (limit : ℕ) (i : AccessInstr) (a : VectorAccess) → access_of i s.vector s.scalar ≡ Some a → a.direction ≡ direction.Load
@@ -256,49 +226,22 @@ module _ (s : HartState) where
   moved_tells limit i a e direction.Load is h = loaded_tells limit i a e is _
   moved_tells limit i a e direction.Store is h = stored_tells limit i a e is h _
 
-  access_tells : (limit : ℕ) (i : AccessInstr) → VectorTells (instr.Access i) s (access_step limit i (access_of i s.vector s.scalar) s)
+  access_tells : (limit : ℕ) (i : AccessInstr) → (access_step limit i (access_of i s.vector s.scalar) s).end ≡ vector_end.Done
+      → with_stored (told_moved (instr.Access i) s (access_step limit i (access_of i s.vector s.scalar) s).state.vector.conf.vl) s.memory
+      ≡ (access_step limit i (access_of i s.vector s.scalar) s).state.memory
   access_tells limit i =
       of_option (access_of i s.vector s.scalar) (λ o. (access_step limit i o s).end ≡ vector_end.Done
       → with_stored (option_map_or (moved_elements s.vector (access_step limit i o s).state.vector.conf.vl) o []) s.memory ≡ (access_step limit i o s).state.memory)
       (λ e. λ h. refl) (λ a e. moved_tells limit i a e a.direction refl)
 
-  performed_tells : (limit : ℕ) (i : Instr) → VectorTells i s (performed limit i s)
-  unfolding performed
-  performed_tells limit (instr.Vector i) = operation_tells i
-  performed_tells limit (instr.Access i) = access_tells limit i
-  performed_tells limit (instr.Scalar i) = λ h. absurd (cc)
-  performed_tells limit (instr.Csr i) = λ h. absurd (cc)
-
-  vector_tells : (limit : ℕ) (i : Instr) → VectorTells i s (vector_executed limit i s)
-  unfolding vector_executed
-  vector_tells limit i =
-      of_either (VectorTells i s) (is_legal i s.vector.conf.vtype s.vector.vstart) _ _ (performed_tells limit i) (λ h. absurd (cc))
-
-  after_tells : (i : Instr) (ticks : ℕ) (end : VEnd) (word : ℕ) (w : HartState)
-      → (end ≡ vector_end.Done → with_stored (told_moved i s w.vector.conf.vl) s.memory ≡ w.memory) → Tells i s (after_vector ticks end word w)
-  after_tells i ticks vector_end.Done word w is h = is refl
-  after_tells i ticks vector_end.Illegal word w is h = absurd (cc)
-  after_tells i ticks (vector_end.Fault store addr) word w is h = absurd (cc)
-  after_tells i ticks (vector_end.Cut index) word w is h = absurd (cc)
-
-  vector_step_tells : (limit : ℕ) (i : Instr) (word : ℕ) → Tells i s (vector_step limit i word s)
-  vector_step_tells limit i word =
-      let done : VectorStepped = vector_executed limit i s in
-      after_tells i (vector_ticks limit i s) done.end word done.state (vector_tells limit i)
-
-  executed_tells : (limit : ℕ) (i : Instr) (word : ℕ) → Tells i s (executed limit (Some i) word s)
-  unfolding executed
-  executed_tells limit (instr.Scalar i) word = scalar_tells i
-  executed_tells limit (instr.Csr i) word = controls_tell i word
-  executed_tells limit (instr.Vector i) word = vector_step_tells limit (instr.Vector i) word
-  executed_tells limit (instr.Access i) word = vector_step_tells limit (instr.Access i) word
-
-  step_tells : (i : Instr) → scan table (word_of s) ≡ Some i → Tells i s (step 256 s)
-  unfolding step
-  step_tells i is =
-      let word : ℕ = word_of s in
-      of_either (Tells i s) (can_access access.Fetch s.memory s.scalar.pc 4) _ _
-      (subst (λ (o : Option Instr). Tells i s (executed 256 o word s)) (sym is) (executed_tells 256 i word)) (refused i FetchAccess s.scalar.pc)
+  executed_tells : (i : Instr) (word : ℕ) → Tells i s (executed 256 (Some i) word s)
+  unfolding executed performed
+  executed_tells (instr.Scalar i) word = scalar_tells i
+  executed_tells (instr.Csr i) word = controls_tell i word
+  executed_tells (instr.Vector i) word = of_done s (λ v m. s.memory ≡ m) (instr.Vector i) word (λ e h. operation_stays i)
+  executed_tells (instr.Access i) word =
+      of_done s (λ v m. with_stored (told_moved (instr.Access i) s v.conf.vl) s.memory ≡ m) (instr.Access i) word (λ e. access_tells 256 i)
 
 pub memory_is_told : MemoryIsTold
-memory_is_told s i is counted = step_tells s i is counted
+memory_is_told s i is =
+    of_counted s (λ (r : Stepped). with_stored (told_moved i s r.state.vector.conf.vl) s.memory ≡ r.state.memory) (Some i) is (executed_tells s i (word_of s))

@@ -1,32 +1,28 @@
 -- Registers that are told over others: where the bytes differ in some registers alone, telling those is telling all.
-use Rattle.std.proofs.Common.{◌≡◌, ◌∙◌, ◌⊎◌, inl, inr, ap, refl, sym, ℕ, zero, suc, ◌+◌, ◌-◌, ◌*◌, ◌/◌, ◌%◌, ◌<◌, ◌≤◌, Bool, List, [], ◌∷◌, max, min, length, get_or, take, drop, arith}
+use Rattle.std.proofs.Common.{◌≡◌, ◌∙◌, ◌⊎◌, inl, inr, ap, refl, sym, ℕ, zero, suc, ◌+◌, ◌-◌, ◌*◌, ◌<◌, ◌≤◌, List, [], ◌∷◌, max, min, length, get_or, arith}
 use Rattle.std.specs.List.{range_with_len}
 use Rattle.std.specs.Simd.Lanes.{chunk, put_chunk}
 use Rattle.std.proofs.lemmas.Bool.{cases_lt}
 use Rattle.std.proofs.lemmas.Grind.{same_number_lists}
-use Rattle.std.proofs.lemmas.List.{get_or_past, length-map, length-take}
-use Rattle.std.proofs.lemmas.List.FromFn.{length-range_with_len}
+use Rattle.std.proofs.lemmas.List.{get_or_past}
 use Rattle.std.proofs.lemmas.Simd.{get_or-chunk, get_or-put_chunk_above, get_or-put_chunk_at, get_or-put_chunk_below, length-chunk, length-put_chunk}
-use Rattle.rv_model.specs.elements.Elements.{byte_or, written}
-use Rattle.rv_model.specs.vector.Groups.{GroupType, group_of, register_of, registers, with_register_bytes}
+use Rattle.rv_model.specs.vector.Groups.{register_of, with_register_bytes}
+use Rattle.vector_memory.proofs.BlockMoves.{put_same}
 use Rattle.commit_log.specs.Lines.{told_vectors}
 use Rattle.commit_log.specs.Targets.{registers_from}
 use Rattle.commit_log.specs.Told.{with_vectors}
 
 -- ---- registers that are told over others
 
--- bytes are put where they stand
-put_same : (i n : ℕ) (xs : List ℕ) → put_chunk i xs (take n (drop i xs)) ≡ xs
-put_same i n [] = refl
-put_same zero zero (x ∷ xs) = refl
-put_same zero (suc n) (x ∷ xs) = ap (λ (ys : List ℕ). x ∷ ys) (put_same zero n xs)
-put_same (suc i) n (x ∷ xs) = ap (λ (ys : List ℕ). x ∷ ys) (put_same i n xs)
-
 -- registers that nothing has written
 pub same : (file rs : List ℕ) → with_vectors (told_vectors file rs) file ≡ file
 unfolding with_register_bytes register_of
 same file [] = refl
 same file (r ∷ rs) = ap (with_vectors (told_vectors file rs)) (put_same (32 * r) 32 file) ∙ same file rs
+
+-- a file that nothing has changed
+pub unchanged : (file new rs : List ℕ) → new ≡ file → with_vectors (told_vectors new rs) file ≡ new
+unchanged file new rs is = ap (λ (f : List ℕ). with_vectors (told_vectors f rs) file) is ∙ (same file rs ∙ sym is)
 
 -- bytes that differ between two places alone
 record Differs (low high : ℕ) (old new : List ℕ) : Type 0 where
@@ -89,13 +85,3 @@ region_told file new vd count long size kept =
         ]
       ];
     })
-
-pub group_short : (file : List ℕ) (vd emul : ℕ) → length (group_of file vd emul) ≤ 32 * registers emul
-group_short file vd emul = omega (arith, length-take (32 * registers emul) (drop (32 * vd) file))
-
-pub written_short : (file : List ℕ) (g : GroupType) (vd k : ℕ) (changed : ℕ → Bool) (number : ℕ → ℕ)
-    → length (written k changed number (group_of file vd g.emul)) ≤ 32 * registers g.emul
-unfolding written
-written_short file g vd k changed number =
-    let old : List ℕ = group_of file vd g.emul in
-    omega (arith, length-map (range_with_len 0 (length old)) (λ at. byte_or changed number old k (at / k) (at % k)), length-range_with_len 0 (length old), group_short file vd g.emul)

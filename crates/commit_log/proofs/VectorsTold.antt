@@ -1,5 +1,5 @@
 -- That a line tells the vector registers: an instruction changes none but those of its destination.
-use Rattle.std.proofs.Common.{◌≡◌, ◌∙◌, inl, inr, ap, refl, sym, subst, ℕ, ◌*◌, ◌++◌, ◌∷◌, [], Bool, true, cond, List, flat_map, length, map, Some, None}
+use Rattle.std.proofs.Common.{◌≡◌, ◌∙◌, inl, inr, ap, refl, sym, subst, ℕ, ◌*◌, ◌++◌, ◌∷◌, [], Bool, true, cond, List, flat_map, length, Some, None}
 use Rattle.std.specs.List.{filter}
 use Rattle.std.specs.Option.{unwrap_or}
 use Rattle.std.proofs.lemmas.List.{map-append}
@@ -12,7 +12,7 @@ use Rattle.rv_model.specs.declared.step.step_end.Cause.TheVariants.{FetchAccess}
 use Rattle.rv_model.specs.declared.step.vector_end.VEnd.{VEnd}
 use Rattle.rv_model.specs.declared.step.vector_end.VEnd.TheVariants as vector_end
 use Rattle.rv_model.specs.declared.vector.control_register.ControlRegister.{ControlRegister}
-use Rattle.rv_model.specs.declared.vector.control_register.ControlRegister.TheVariants.{Vstart, Vxsat, Vxrm, Vcsr}
+use Rattle.rv_model.specs.declared.vector.control_register.ControlRegister.TheVariants.{Vstart}
 use Rattle.rv_model.specs.declared.vector.state.VState.{VState}
 use Rattle.rv_model.specs.instructions.Table.{scan, table}
 use Rattle.rv_model.specs.legality.Legality.{is_legal, operands}
@@ -30,7 +30,7 @@ use Rattle.commit_log.specs.Lines.{told_vectors}
 use Rattle.commit_log.specs.Targets.{registers_of, vector_targets}
 use Rattle.commit_log.specs.Told.{VectorsAreTold, with_vectors}
 use Rattle.commit_log.proofs.LoadsTold.{access_told}
-use Rattle.commit_log.proofs.VectorRegions.{region_told, same}
+use Rattle.commit_log.proofs.VectorRegions.{region_told, same, unchanged}
 
 -- ---- an operation: it changes no byte outside its destination
 
@@ -57,16 +57,9 @@ first_told (o ∷ os) selected old new long =
     ∙ same new (told_of os))
     (λ e. first_told os selected old new long)
 
--- a step of another instruction
-kept : (file new rs : List ℕ) → new ≡ file → with_vectors (told_vectors new rs) file ≡ new
-kept file new rs is = ap (λ (f : List ℕ). with_vectors (told_vectors f rs) file) is ∙ (same file rs ∙ sym is)
-
 -- no control register is a vector register
 control_file : (r : ControlRegister) (n : ℕ) (v : VState) → (with_control r n v).file ≡ v.file
 control_file Vstart n v = refl
-control_file Vxsat n v = refl
-control_file Vxrm n v = refl
-control_file Vcsr n v = refl
 control_file _ n v = refl
 
 operation_told : (i : VectorInstr) (s : HartState) → length s.vector.file ≡ 1024 → scan table (word_of s) ≡ Some (instr.Vector i)
@@ -77,7 +70,7 @@ operation_told i s long is =
     (λ b. can_access Fetch s.memory s.scalar.pc 4 ≡ b → with_vectors (told_vectors (step 256 s).state.vector.file (vector_targets (instr.Vector i) s.vector.conf.vtype)) s.vector.file ≡ (step 256 s).state.vector.file)
     (λ e h. first_told (unwrap_or (operands (instr.Vector i) s.vector.conf.vtype) []) (changes_in s i) s.vector.file (step 256 s).state.vector.file long
     (steps_keep_others 256 i s long (ap (λ (b : Bool). cond b (scan table (word_of s)) None) h ∙ is)))
-    (λ e h. kept s.vector.file (step 256 s).state.vector.file (vector_targets (instr.Vector i) s.vector.conf.vtype)
+    (λ e h. unchanged s.vector.file (step 256 s).state.vector.file (vector_targets (instr.Vector i) s.vector.conf.vtype)
     (ap (λ (b : Bool). (cond b (executed 256 (scan table (word_of s)) (word_of s) s) (faults FetchAccess s.scalar.pc s)).state.vector.file) h))
     refl
 
@@ -112,7 +105,7 @@ module _ (s : HartState) (i : Instr) where
     full = refl;
   })) [
     | inl t ↦
-        kept s.vector.file (step 256 s).state.vector.file (vector_targets i s.vector.conf.vtype)
+        unchanged s.vector.file (step 256 s).state.vector.file (vector_targets i s.vector.conf.vtype)
         (subst (λ (r : Stepped). r.state.vector.file ≡ s.vector.file) (sym (t.same 256)) t.holds)
     | inr v ↦
         let same_one : v.vector.instr ≡ i = cc (v.vector.is, is) in

@@ -5,7 +5,7 @@ ghost use Rattle.rv_model.specs.legality.Legality.{mask_result};
 ghost use Rattle.rv_model.specs.legality.OperandShapes.{destination, shape_of};
 ghost use Rattle.rv_model.specs.vector.Groups.{registers};
 ghost use Rattle.rv_model.specs.step.MemoryStep.{reads_memory};
-ghost use Rattle.rv_model.specs.step.Targets.{scalar_target, target_of_scalar, target_of_system, target_of_vector};
+ghost use Rattle.rv_model.specs.step.Targets.{scalar_target, target_of_scalar, target_of_vector};
 ghost use Rattle.commit_log.specs.Targets.{registers_from, vector_targets};
 
 use reg_groups::{emul, register_count, registers};
@@ -14,18 +14,6 @@ use rv_model::instructions::operations::{
 };
 use rv_model::{AccessInstr, CsrInstr, Field, Instr, ScalarInstr, Sew, VReg, VType, VectorInstr};
 use vector_memory::unit_direction;
-
-/// The scalar register that ECALL answers in; EBREAK has none.
-#[inline(always)]
-fn target_of_system(op: SystemOp) -> u32
-    ensures value { result ≡ target_of_system op }
-    ensures small { result < 32 }
-{
-    match op {
-        SystemOp::Ecall => 10,
-        SystemOp::Ebreak => 0,
-    }
-}
 
 /// The scalar register that an instruction on scalar registers writes: x0, which never changes, if it writes none. ECALL
 /// answers in x10.
@@ -43,7 +31,9 @@ fn target_of_scalar(instr: &ScalarInstr) -> u32
         | ScalarInstr::ShiftImmediate { rd, .. }
         | ScalarInstr::ShiftImmediateWord { rd, .. }
         | ScalarInstr::RegisterRegister { rd, .. } => rd.number(),
-        ScalarInstr::System { op } => target_of_system(*op),
+        ScalarInstr::System {
+            op: SystemOp::Ecall,
+        } => 10,
         _ => 0,
     }
 }
@@ -215,11 +205,7 @@ fn untyped_targets(instr: &AccessInstr) -> Registers
 {
     match instr {
         AccessInstr::WholeLoad { count, vd, .. } => whole(*count, *vd),
-        AccessInstr::UnitStride { .. }
-        | AccessInstr::Strided { .. }
-        | AccessInstr::Indexed { .. }
-        | AccessInstr::WholeStore { .. }
-        | AccessInstr::MaskAccess { .. } => none(),
+        _ => none(),
     }
 }
 

@@ -39,19 +39,13 @@ pub entry_is_good : (image : List ℕ) (entry : ℕ) → entry ≡ entry_of imag
 unfolding has_fault
 entry_is_good image entry e even = grind (arith, even, e)
 
--- ---- the headers are there
-
-table_there : (image : List ℕ) → has_fault image BadHeaderTable ≡ false → (number : ℕ) → number < header_count image → table_offset image + 56 * (number + 1) ≤ length image
-unfolding has_fault
-table_there image e number l = grind (arith, e, l)
-
 -- ---- an image with no fault
 
 pub sound_headers : (image : List ℕ) → first_fault image ≡ None → HasHeaders image
 unfolding first_fault has_fault
 sound_headers image sound = record {
   file = (let long : has_fault image BadShort ≡ false = none_found (has_fault image) all_faults 0 BadShort sound (omega arith) in grind (arith, long));
-  table = table_there image (none_found (has_fault image) all_faults 7 BadShort sound (omega arith));
+  table = λ number l. (let there : has_fault image BadHeaderTable ≡ false = none_found (has_fault image) all_faults 7 BadShort sound (omega arith) in grind (arith, there, l));
 }
 
 pub no_bad_header : (image : List ℕ) → first_fault image ≡ None

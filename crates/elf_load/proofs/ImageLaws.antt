@@ -6,6 +6,7 @@ use Rattle.std.specs.Ordering.{nat_cmp}
 use Rattle.std.specs.FinMap.{get, len, len-empty, len-insert}
 use Rattle.rv_model.specs.memory.Memory.{Cell, Memory, page_count}
 use Rattle.rv_model.specs.images.Image.{placed_headers, is_touched, cell_of, with_cell, memory_below, all_pages, memory_of_image}
+use Rattle.rv_model.proofs.Choices.{of_bool}
 use Rattle.rv_model.proofs.image_lemmas.Cells.{all_pages_is_page_limit, get-memory_below_outside}
 use Rattle.rv_model.specs.memory.Sizes.{page_size, page_limit}
 use Rattle.elf_load.specs.Pages.{pages_below}
@@ -26,22 +27,16 @@ len-memory_below cells n = len-with_cell (memory_below cells n) n (cells n) (get
 len_in_page : (cells : ℕ → Option Cell) (t : ℕ → Bool) → ((x : ℕ) → is_some (cells x) ≡ t (x / page_size)) → (n k : ℕ) → k ≤ page_size
     → len (memory_below cells (page_size * n + k)) ≡ len (memory_below cells (page_size * n)) + cond (t n) k 0
 len_in_page cells t same n zero l =
-    ap (λ (y : ℕ). len (memory_below cells y)) (omega arith) ∙ none (len (memory_below cells (page_size * n))) (t n)
-  where
-    none : (a : ℕ) (b : Bool) → a ≡ a + cond b 0 0
-    none a true = omega arith
-    none a false = omega arith
+    let size : ℕ = len (memory_below cells (page_size * n)) in
+    ap (λ (y : ℕ). len (memory_below cells y)) (omega arith) ∙ of_bool (t n) (λ b. size ≡ size + cond b 0 0) (λ e. omega arith) (λ e. omega arith)
 len_in_page cells t same n (suc k) l =
     let next : page_size * n + suc k ≡ suc (page_size * n + k) = omega arith in
     let place : (page_size * n + k) / page_size ≡ n = omega arith in
+    let size : ℕ = len (memory_below cells (page_size * n)) in
     ap (λ (y : ℕ). len (memory_below cells y)) next ∙ len-memory_below cells (page_size * n + k)
     ∙ ap (λ (b : Bool). len (memory_below cells (page_size * n + k)) + cond b 1 0) (same (page_size * n + k) ∙ ap t place)
     ∙ ap (λ (y : ℕ). y + cond (t n) 1 0) (len_in_page cells t same n k (omega arith))
-    ∙ more (len (memory_below cells (page_size * n))) k (t n)
-  where
-    more : (a k : ℕ) (b : Bool) → (a + cond b k 0) + cond b 1 0 ≡ a + cond b (suc k) 0
-    more a k true = omega arith
-    more a k false = omega arith
+    ∙ of_bool (t n) (λ b. (size + cond b k 0) + cond b 1 0 ≡ size + cond b (suc k) 0) (λ e. omega arith) (λ e. omega arith)
 
 pub len-memory_below_pages : (cells : ℕ → Option Cell) (t : ℕ → Bool) → ((x : ℕ) → is_some (cells x) ≡ t (x / page_size)) → (n : ℕ) → len (memory_below cells (page_size * n)) ≡ page_size * pages_below t n
 unfolding pages_below memory_below
@@ -50,11 +45,7 @@ len-memory_below_pages cells t same (suc n) =
     let next : page_size * suc n ≡ page_size * n + page_size = omega arith in
     ap (λ (y : ℕ). len (memory_below cells y)) next ∙ len_in_page cells t same n page_size (omega arith)
     ∙ ap (λ (y : ℕ). y + cond (t n) page_size 0) (len-memory_below_pages cells t same n)
-    ∙ whole (pages_below t n) (t n)
-  where
-    whole : (a : ℕ) (b : Bool) → page_size * a + cond b page_size 0 ≡ page_size * (a + cond b 1 0)
-    whole a true = omega arith
-    whole a false = omega arith
+    ∙ of_bool (t n) (λ b. page_size * pages_below t n + cond b page_size 0 ≡ page_size * (pages_below t n + cond b 1 0)) (λ e. omega arith) (λ e. omega arith)
 
 pub is_some-when : (b : Bool) (c : Cell) → is_some (if b then Some c else None) ≡ b
 is_some-when true c = refl

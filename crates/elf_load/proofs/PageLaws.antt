@@ -101,13 +101,11 @@ pages_below_skipped t from (suc page) l none = elim (cases_eq from (suc page)) [
       ∙ omega (arith, pages_below_skipped t from page before (λ q m k. none q m (omega arith)))
 ]
 
-pages_below_more : (t : ℕ → Bool) (page : ℕ) → pages_below t (page + 1) ≡ pages_below t page + cond (t page) 1 0
-unfolding pages_below
-pages_below_more t page = let next : page + 1 ≡ suc page = omega arith in ap (pages_below t) next
-
 pub pages_below_next : (t : ℕ → Bool) (from page : ℕ) → IsFirst t from page → pages_below t (page + 1) ≡ pages_below t from + 1
+unfolding pages_below
 pages_below_next t from page first =
-    pages_below_more t page ∙ ap (λ (b : Bool). pages_below t page + cond b 1 0) first.passes
+    let next : page + 1 ≡ suc page = omega arith in
+    ap (pages_below t) next ∙ ap (λ (b : Bool). pages_below t page + cond b 1 0) first.passes
     ∙ ap (λ (n : ℕ). n + 1) (pages_below_skipped t from page first.start first.skipped)
 
 pub pages_below_le : (t : ℕ → Bool) (m n : ℕ) → m ≤ n → pages_below t m ≤ pages_below t n

@@ -12,6 +12,7 @@ use Rattle.rv_model.specs.declared.memory.Access.TheVariants.{Monitor}
 use Rattle.rv_model.specs.memory.Memory.{Cell, Memory, with_pages, page_count, map_refusal, put_bytes, permits, can_access_byte}
 use Rattle.rv_model.specs.images.Fields.{header_count, program_header}
 use Rattle.rv_model.specs.images.Image.{stack, covers, byte_in, placed_headers, is_touched, permissions_of, cell_of, all_pages, memory_of_image, image_byte}
+use Rattle.rv_model.proofs.Choices.{of_bool}
 use Rattle.rv_model.proofs.memory_lemmas.Memory.{same_memory, get-add_cells_within, get-add_cells_outside, any_page_mapped_none, map_refusal_none, with_byte, get-put_bytes_within, get-put_bytes_outside}
 use Rattle.rv_model.specs.memory.Sizes.{page_size, page_quota}
 use Rattle.elf_load.specs.Headers.{first_headers}
@@ -68,15 +69,12 @@ blank_none image = is_memory_with empty image (λ _. 0) 0 (omega arith) (λ x.
     get-empty nat_cmp x ∙ sym (cells_with-is image (λ _. 0) 0 x false (past_end 0 (x / page_size) _ (omega arith))))
 
 -- no page is left up to another
-blank_same : (image : List ℕ) (from end : ℕ) → from ≤ end → end ≤ all_pages → ((q : ℕ) → from ≤ q → q < end → is_touched (placed_headers image) q ≡ false)
+pub blank_same : (image : List ℕ) (from end : ℕ) → from ≤ end → end ≤ all_pages → ((q : ℕ) → from ≤ q → q < end → is_touched (placed_headers image) q ≡ false)
     → blank_memory image from ≡ blank_memory image end
 blank_same image from end l m none = is_memory_with (blank_memory image from) image (λ _. 0) end m (λ x.
     get-memory_with image (λ _. 0) from x (omega arith)
     ∙ cells_with-is image (λ _. 0) from x _ (either_end from end (x / page_size) (is_touched (placed_headers image) (x / page_size)) l (none (x / page_size)))
     ∙ sym (cells_with-is image (λ _. 0) end x _ refl))
-
-pub blank_all : (image : List ℕ) (from : ℕ) → from ≤ all_pages → ((q : ℕ) → from ≤ q → is_touched (placed_headers image) q ≡ false) → blank_memory image from ≡ blank_memory image all_pages
-blank_all image from l none = blank_same image from all_pages l (omega arith) (λ q m k. none q m)
 
 get-with_page_same : (m : Memory) (page : ℕ) (permissions : Permissions) (x : ℕ) → x / page_size ≡ page → get (with_pages m page 1 permissions) x ≡ Some (record { byte = 0; permissions = permissions })
 unfolding with_pages
@@ -162,11 +160,9 @@ byte_of_more : (image : List ℕ) (headers : List ProgramHeader) (header : Progr
 unfolding image_byte
 byte_of_more image headers header x =
     ap (λ (hs : List ProgramHeader). option_map_or (byte_in image x) (find (covers x) hs) 0) (reverse-append headers (header ∷ []))
-    ∙ split (covers x header) (find (covers x) (reverse headers))
-  where
-    split : (b : Bool) (rest : Option ProgramHeader) → option_map_or (byte_in image x) (cond b (Some header) rest) 0 ≡ cond b (byte_in image x header) (option_map_or (byte_in image x) rest 0)
-    split true rest = refl
-    split false rest = refl
+    ∙ of_bool (covers x header)
+    (λ b. option_map_or (byte_in image x) (cond b (Some header) (find (covers x) (reverse headers))) 0 ≡ cond b (byte_in image x header) (image_byte image headers x))
+    (λ e. refl) (λ e. refl)
 
 pub byte_after : (image : List ℕ) (number x : ℕ)
     → image_byte image (first_placed image (number + 1)) x ≡ cond (covers x (program_header image number)) (byte_in image x (program_header image number)) (image_byte image (first_placed image number) x)
@@ -176,11 +172,7 @@ byte_after image number x =
 -- the stack alone has zeros
 byte_in_stack : (image : List ℕ) (x : ℕ) → image_byte image (first_placed image 0) x ≡ 0
 unfolding first_placed first_headers image_byte byte_in stack
-byte_in_stack image x = split (covers x stack)
-  where
-    split : (b : Bool) → option_map_or (byte_in image x) (cond b (Some stack) None) 0 ≡ 0
-    split true = grind arith
-    split false = refl
+byte_in_stack image x = of_bool (covers x stack) (λ b. option_map_or (byte_in image x) (cond b (Some stack) None) 0 ≡ 0) (λ e. grind arith) (λ e. refl)
 
 -- bytes that are the same everywhere
 same_cell : (image : List ℕ) (bytes other : ℕ → ℕ) (x : ℕ) → bytes x ≡ other x → cells_with image bytes all_pages x ≡ cells_with image other all_pages x

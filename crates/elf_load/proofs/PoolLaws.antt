@@ -14,7 +14,7 @@ use Rattle.elf_load.specs.Pages.{IsFirst, EndsInMemory, first_placed}
 use Rattle.elf_load.specs.Placing.{blank_memory, memory_after}
 use Rattle.elf_load.proofs.PageLaws.{header_ends}
 use Rattle.rv_model.proofs.image_lemmas.Cells.{all_pages_is_page_limit}
-use Rattle.elf_load.proofs.PlacingLaws.{blank_none, blank_all, blank_more, blank_accepted, memory_after_none, memory_after_all}
+use Rattle.elf_load.proofs.PlacingLaws.{blank_none, blank_same, blank_more, blank_accepted, memory_after_none, memory_after_all}
 use Rattle.elf_load.proofs.SegmentLaws.{file_size_fits, file_part_there, may_write, may_write_part, memory_after_other, segment_written}
 use Rattle.user_mem.proofs.UserLaws.{later_memory, same_memory}
 use Rattle.elf_load.proofs.UserLaws.{memory_of_user-after, with_memory-after}
@@ -40,7 +40,7 @@ mapped_more memories pool new user image from page permissions l before low firs
 
 pub mapped_all : (memories pool : List Memory) (user : ℕ) (image : List ℕ) (from : ℕ) → pool ≡ with_memory memories user (blank_memory image from) → from ≤ page_limit
     → ((q : ℕ) → from ≤ q → is_touched (placed_headers image) q ≡ false) → pool ≡ with_memory memories user (blank_memory image all_pages)
-mapped_all memories pool user image from before low none = before ∙ ap (with_memory memories user) (blank_all image from (omega (arith, all_pages_is_page_limit)) none)
+mapped_all memories pool user image from before low none = before ∙ ap (with_memory memories user) (blank_same image from all_pages (omega (arith, all_pages_is_page_limit)) (omega arith) (λ q m k. none q m))
 
 -- ---- a segment
 

@@ -21,19 +21,12 @@ LeavesIf is_laid line s t = (number : ℕ) (others : HartState → Result HartSt
     → after_line number (line_setting line) s others ≡ (if is_laid then others t else Err number)
 
 -- what is left once a line is laid, or refused
-pub laid_more : (number : ℕ) (line : List ℕ) (lines rest : List (List ℕ)) (s t : HartState) (is_laid : Bool) → lines ≡ line ∷ rest
-    → LeavesIf is_laid line s t → is_laid ≡ true → laid number lines s ≡ laid (number + 1) rest t
+pub laid_next : (number : ℕ) (line : List ℕ) (lines rest : List (List ℕ)) (s t : HartState) (is_laid b : Bool) → lines ≡ line ∷ rest
+    → LeavesIf is_laid line s t → is_laid ≡ b → laid number lines s ≡ (if b then laid (number + 1) rest t else Err number)
 unfolding laid
-laid_more number line lines rest s t is_laid e h on =
+laid_next number line lines rest s t is_laid b e h is =
     ap (λ (ls : List (List ℕ)). laid number ls s) e ∙ h number (laid (number + 1) rest)
-    ∙ ap (λ (b : Bool). if b then laid (number + 1) rest t else Err number) on
-
-pub laid_none : (number : ℕ) (line : List ℕ) (lines rest : List (List ℕ)) (s t : HartState) (is_laid : Bool) → lines ≡ line ∷ rest
-    → LeavesIf is_laid line s t → is_laid ≡ false → laid number lines s ≡ Err number
-unfolding laid
-laid_none number line lines rest s t is_laid e h off =
-    ap (λ (ls : List (List ℕ)). laid number ls s) e ∙ h number (laid (number + 1) rest)
-    ∙ ap (λ (b : Bool). if b then laid (number + 1) rest t else Err number) off
+    ∙ ap (λ (b : Bool). if b then laid (number + 1) rest t else Err number) is
 
 -- no line is left
 pub laid_all : (number : ℕ) (lines : List (List ℕ)) (s : HartState) → lines ≡ [] → laid number lines s ≡ Ok s

@@ -1,5 +1,6 @@
 -- A page that was mapped is there, and bytes that are placed one after another
-use Rattle.std.proofs.Common.{◌≡◌, ℕ, suc, ◌+◌, ◌*◌, ◌/◌, ◌<◌, ◌≤◌, Bool, true, cond, List, ◌∷◌, length, get_or, drop, Ok, Err, sym, ap, ◌∙◌, arith, drop-cons}
+use Rattle.std.proofs.Common.{◌≡◌, ℕ, suc, ◌+◌, ◌*◌, ◌/◌, ◌<◌, ◌≤◌, Bool, true, cond, List, ◌∷◌, length, get_or, drop, Ok, sym, ap, ◌∙◌, arith, drop-cons}
+use Rattle.std.specs.Prelude.{Result}
 use Rattle.std.proofs.lemmas.List.{drop_all}
 use Rattle.rv_model.specs.declared.memory.Access.TheVariants.{Monitor}
 use Rattle.rv_model.specs.declared.memory.Permissions.{Permissions}
@@ -28,18 +29,11 @@ begins_with i b bytes l is =
     let next : suc i ≡ i + 1 = omega arith in
     drop-cons bytes i 0 l ∙ ap (λ (n : ℕ). get_or bytes i 0 ∷ drop n bytes) next ∙ ap (λ (x : ℕ). x ∷ drop (i + 1) bytes) (sym is)
 
--- what is left once it is placed
-pub placed_more : (allowed : Permissions) (at i b : ℕ) (bytes : List ℕ) (m n : Memory) → i < length bytes → b ≡ get_or bytes i 0
-    → with_byte allowed at b m ≡ Ok n → placed allowed at (drop i bytes) m ≡ placed allowed (at + 1) (drop (i + 1) bytes) n
+-- what is left once it is placed, or isn't
+pub placed_next : (allowed : Permissions) (at i b : ℕ) (bytes : List ℕ) (m : Memory) (result : Result Memory PlaceFault) → i < length bytes → b ≡ get_or bytes i 0
+    → with_byte allowed at b m ≡ result → placed allowed at (drop i bytes) m ≡ and_then (placed allowed (at + 1) (drop (i + 1) bytes)) result
 unfolding placed
-placed_more allowed at i b bytes m n l is done =
-    ap (λ (bs : List ℕ). placed allowed at bs m) (begins_with i b bytes l is) ∙ ap (and_then (placed allowed (at + 1) (drop (i + 1) bytes))) done
-
--- or where it isn't
-pub placed_none : (allowed : Permissions) (at i b : ℕ) (bytes : List ℕ) (m : Memory) (fault : PlaceFault) → i < length bytes → b ≡ get_or bytes i 0
-    → with_byte allowed at b m ≡ Err fault → placed allowed at (drop i bytes) m ≡ Err fault
-unfolding placed
-placed_none allowed at i b bytes m fault l is done =
+placed_next allowed at i b bytes m result l is done =
     ap (λ (bs : List ℕ). placed allowed at bs m) (begins_with i b bytes l is) ∙ ap (and_then (placed allowed (at + 1) (drop (i + 1) bytes))) done
 
 -- no byte is left

@@ -1,5 +1,5 @@
 -- The step of a load or store, by ticks that are counted from the vector states that it finds and leaves.
-use Rattle.std.proofs.Common.{◌≡◌, ℕ, Bool, true, false, ◌&&◌, cond, Option, Some, None, inl, inr, refl, sym, ◌∙◌, ap, subst, arith}
+use Rattle.std.proofs.Common.{◌≡◌, ℕ, Bool, true, false, ◌&&◌, cond, Option, Some, inl, inr, refl, sym, ◌∙◌, ap, subst, arith}
 use Rattle.std.specs.Prelude.{nat_lt}
 use Rattle.std.proofs.lemmas.Bool.Decides.{nat_tests}
 use Rattle.rv_model.specs.declared.instructions.access.AccessInstr.{AccessInstr}
@@ -15,6 +15,7 @@ use Rattle.rv_model.specs.legality.Legality.{is_legal}
 use Rattle.rv_model.specs.step.Hart.{HartState}
 use Rattle.rv_model.specs.step.MemoryStep.{access_end}
 use Rattle.rv_model.specs.step.Step.{VectorStepped, access_step, accessed, after_vector, performed, vector_ends, vector_executed, vector_step, vector_ticks}
+use Rattle.rv_model.proofs.Choices.{of_option, of_test}
 use Rattle.rv_model.proofs.access_lemmas.Runs.{AllOrShorter, AtEnd}
 use Rattle.rv_model.proofs.step_lemmas.Cuts.{accessed_facts}
 use Rattle.rv_model.proofs.step_lemmas.TicksTaken.{access_ticks, ticks_show}
@@ -71,15 +72,12 @@ module _ (limit : ℕ) (i : AccessInstr) (word : ℕ) (s : HartState) (ticks : �
 
   step_shows : Shows (vector_executed limit (instr.Access i) s) → IsStep (vector_executed limit (instr.Access i) s)
   unfolding vector_executed performed
-  step_shows = named (is_legal (instr.Access i) s.vector.conf.vtype s.vector.vstart) (access_of i s.vector s.scalar) refl refl
-    where
-      named : (b : Bool) (o : Option VectorAccess) → is_legal (instr.Access i) s.vector.conf.vtype s.vector.vstart ≡ b → access_of i s.vector s.scalar ≡ o
-          → Shows (cond b (access_step limit i o s) (vector_ends vector_end.Illegal s)) → IsStep (cond b (access_step limit i o s) (vector_ends vector_end.Illegal s))
-      named false o legal e shows = refl
-      named true None legal e shows = refl
-      named true (Some a) legal e shows =
-          ap (λ (n : ℕ). after_vector n (access_step limit i (Some a) s).end word (access_step limit i (Some a) s).state)
-          (taken limit i a s e legal ∙ sym (shows a e))
+  step_shows =
+      of_test (λ (d : VectorStepped). Shows d → IsStep d) (is_legal (instr.Access i) s.vector.conf.vtype s.vector.vstart) _ _
+      (λ legal. of_option (access_of i s.vector s.scalar) (λ o. Shows (access_step limit i o s) → IsStep (access_step limit i o s)) (λ e shows. refl)
+      (λ a e shows. ap (λ (n : ℕ). after_vector n (access_step limit i (Some a) s).end word (access_step limit i (Some a) s).state)
+      (taken limit i a s e legal ∙ sym (shows a e))))
+      (λ illegal shows. refl)
 
   pub counted : (after : HartState) (end : VEnd) → vector_executed limit (instr.Access i) s ≡ vector_ends end after → Shows (vector_ends end after)
       → vector_step limit (instr.Access i) word s ≡ after_vector ticks end word after

@@ -1,5 +1,5 @@
 -- Nothing is cut where there are as many ticks as a vector has elements at most.
-use Rattle.std.proofs.Common.{◌≡◌, ◌≢◌, ℕ, ◌≤◌, Bool, true, false, Option, Some, refl}
+use Rattle.std.proofs.Common.{◌≡◌, ◌≢◌, ℕ, ◌≤◌, true, false, Option, Some, refl}
 use Rattle.rv_model.specs.declared.instructions.instruction.Instr.{Instr}
 use Rattle.rv_model.specs.declared.instructions.instruction.Instr.TheVariants as instr
 use Rattle.rv_model.specs.declared.step.step_end.StepEnd.TheVariants.{Cut}
@@ -8,6 +8,7 @@ use Rattle.rv_model.specs.step.Hart.{HartState}
 use Rattle.rv_model.specs.step.Step.{fetched, step, touches}
 use Rattle.rv_model.specs.step.Ticks.{is_scalar}
 use Rattle.rv_model.specs.vector.Groups.{IsConfiguration}
+use Rattle.rv_model.proofs.Choices.{of_bool}
 use Rattle.rv_model.proofs.step_lemmas.FetchesResume.{step_uncut}
 use Rattle.rv_model.proofs.step_lemmas.StepTicks.{scalar_steps_take_one_tick}
 
@@ -20,8 +21,6 @@ vector_touches _ h = absurd (cc)
 -- a vector length is known to be one of the vector type where the instruction touches the vector unit
 pub never_cut : (limit : ℕ) (s : HartState) → (touches (fetched s.memory s.scalar.pc) ≡ true → IsConfiguration s.vector.conf) → GROUP_BYTES ≤ limit
     → (step limit s).end ≢ Cut
-never_cut limit s conf enough = named (is_scalar (fetched s.memory s.scalar.pc)) refl
-  where
-    named : (b : Bool) → is_scalar (fetched s.memory s.scalar.pc) ≡ b → (step limit s).end ≢ Cut
-    named true scalar = (scalar_steps_take_one_tick limit s scalar).1
-    named false vector = step_uncut limit s (conf (vector_touches (fetched s.memory s.scalar.pc) vector)) enough
+never_cut limit s conf enough =
+    of_bool (is_scalar (fetched s.memory s.scalar.pc)) (λ b. (step limit s).end ≢ Cut) (λ scalar. (scalar_steps_take_one_tick limit s scalar).1)
+    (λ vector. step_uncut limit s (conf (vector_touches (fetched s.memory s.scalar.pc) vector)) enough)

@@ -1,9 +1,9 @@
 -- The lines of each instruction of a run.
-use Rattle.std.proofs.Common.{◌≡◌, ◌∙◌, ◌+◌, ◌%◌, ◌^◌, ◌++◌, ◌∷◌, [], ℕ, List, ap, append_assoc, arith, length, refl, sym}
+use Rattle.std.proofs.Common.{◌≡◌, ◌∙◌, ◌+◌, ◌%◌, ◌^◌, ◌++◌, ◌∷◌, [], ℕ, List, ap, append_assoc, arith, length, sym}
 use Rattle.std.specs.List.{sum_by}
 use Rattle.std.proofs.lemmas.List.Sums.{sum_by-cons}
 use Rattle.rv_model.specs.step.Hart.{HartState}
-use Rattle.memory_changes.specs.Changes.{LinesOfEach, Place, changes_by, changes_from, one_more, ticks_more, ticks_of}
+use Rattle.memory_changes.specs.Changes.{LinesOfEach, changes_by, changes_from, one_more, ticks_more, ticks_of}
 use Rattle.memory_changes.specs.Recorded.{number_after, ticks_after}
 use Rattle.memory_changes.specs.RecordLaws.{changes_then}
 
@@ -24,22 +24,14 @@ ticks_are t (s ∷ states) =
     let more : t + ticks_of s + sum_by ticks_of states ≡ t + sum_by ticks_of (s ∷ states) = omega (arith, sum_by-cons ticks_of s states) in
     ap (λ (m : ℕ). ticks_after m states) (wrapped t (ticks_of s)) ∙ (ticks_are (t + ticks_of s) states ∙ ap (λ (m : ℕ). m % 2 ^ 64) more)
 
-first_then : (places : List Place) (n t : ℕ) (s : HartState) (states : List HartState)
-    → changes_from places n t (s ∷ states) ≡ changes_by places (one_more n) (ticks_more t s) s ++ changes_from places (one_more n) (ticks_more t s) states
-unfolding changes_from
-first_then places n t s states = refl
-
 pub of_each : LinesOfEach
+unfolding changes_from
 of_each places before s after =
-    let number : one_more (number_after 0 before) ≡ (length before + 1) % 2 ^ 64 =
-    ap one_more (number_is 0 before) ∙ (wrapped (0 + length before) 1 ∙ (let same : 0 + length before + 1 ≡ length before + 1 = omega arith in ap (λ (m : ℕ). m % 2 ^ 64) same)) in
-    let ticks : ticks_more (ticks_after 0 before) s ≡ (sum_by ticks_of before + ticks_of s) % 2 ^ 64 =
-    ap (λ (t : ℕ). ticks_more t s) (ticks_are 0 before)
-    ∙ (wrapped (0 + sum_by ticks_of before) (ticks_of s) ∙ (let same : 0 + sum_by ticks_of before + ticks_of s ≡ sum_by ticks_of before + ticks_of s = omega arith in ap (λ (m : ℕ). m % 2 ^ 64) same)) in
+    let number : one_more (number_after 0 before) ≡ (length before + 1) % 2 ^ 64 = omega (arith, number_is 0 before) in
+    let ticks : ticks_more (ticks_after 0 before) s ≡ (sum_by ticks_of before + ticks_of s) % 2 ^ 64 = omega (arith, ticks_are 0 before) in
     changes_then places 0 0 before (s ∷ after)
     ∙ ap (λ (l : List ℕ). changes_from places 0 0 before ++ l)
-    (first_then places (number_after 0 before) (ticks_after 0 before) s after
-    ∙ (ap (λ (n : ℕ). changes_by places n (ticks_more (ticks_after 0 before) s) s ++ changes_from places n (ticks_more (ticks_after 0 before) s) after) number
-    ∙ ap (λ (t : ℕ). changes_by places ((length before + 1) % 2 ^ 64) t s ++ changes_from places ((length before + 1) % 2 ^ 64) t after) ticks))
+    (ap (λ (n : ℕ). changes_by places n (ticks_more (ticks_after 0 before) s) s ++ changes_from places n (ticks_more (ticks_after 0 before) s) after) number
+    ∙ ap (λ (t : ℕ). changes_by places ((length before + 1) % 2 ^ 64) t s ++ changes_from places ((length before + 1) % 2 ^ 64) t after) ticks)
     ∙ sym (append_assoc (changes_from places 0 0 before) (changes_by places ((length before + 1) % 2 ^ 64) ((sum_by ticks_of before + ticks_of s) % 2 ^ 64) s)
     (changes_from places ((length before + 1) % 2 ^ 64) ((sum_by ticks_of before + ticks_of s) % 2 ^ 64) after))

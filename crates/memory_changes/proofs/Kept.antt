@@ -1,5 +1,5 @@
 -- The changes by one instruction, as they are kept.
-use Rattle.std.proofs.Common.{◌≡◌, ◌∙◌, ◌+◌, ◌%◌, ◌^◌, ◌∷◌, [], ℕ, List, ap, append-nil, flat_map, refl, subst, sym}
+use Rattle.std.proofs.Common.{◌≡◌, ◌∙◌, ◌+◌, ◌%◌, ◌^◌, ◌∷◌, [], ℕ, List, ap, append-nil, flat_map, subst, sym}
 use Rattle.rv_model.specs.declared.step.step_end.StepEnd.{StepEnd}
 use Rattle.rv_model.specs.memory.Memory.{Memory}
 use Rattle.rv_model.specs.step.Hart.{HartState, Stepped, ends_after}
@@ -8,37 +8,23 @@ use Rattle.memory_changes.specs.Changes.{Place, changes_at, changes_by, changes_
 use Rattle.memory_changes.specs.Recorded.{IsNoted, IsRecorded, number_after, ticks_after}
 use Rattle.memory_changes.specs.declared.changes.Changes.{Changes}
 
-one_from : (places : List Place) (number ticks : ℕ) (s : HartState) → changes_by places (one_more number) (ticks_more ticks s) s ≡ changes_from places number ticks (s ∷ [])
-unfolding changes_from
-one_from places number ticks s = sym (append-nil (changes_by places (one_more number) (ticks_more ticks s) s))
-
-one_number : (number : ℕ) (s : HartState) → number_after number (s ∷ []) ≡ one_more number
-unfolding number_after
-one_number number s = refl
-
-one_ticks : (ticks : ℕ) (s : HartState) → ticks_after ticks (s ∷ []) ≡ ticks_more ticks s
-unfolding ticks_after
-one_ticks ticks s = refl
-
 pub kept : {K A : Type 0} (took : K → List ℕ → K → Type 0) (before old new : Changes K A) (s next : HartState) (end : StepEnd) (ticks : ℕ) → IsNoted before s old
     → step 256 s ≡ ends_after ticks end next → new.places ≡ old.places → new.number ≡ one_more old.number → new.ticks ≡ (old.ticks + ticks) % 2 ^ 64
     → ((m : Memory) → old.before.items ≡ flat_map (held m) old.places.items → took old.sink (changes_at new.number new.ticks old.pc m next.memory old.places.items) new.sink)
     → IsRecorded took before (s ∷ []) new
+unfolding changes_from number_after ticks_after
 kept took before old new s next end ticks noted made places number spent lines =
     let u : new.ticks ≡ ticks_more before.ticks s =
     spent ∙ (ap (λ (t : ℕ). (t + ticks) % 2 ^ 64) noted.ticks ∙ ap (λ (o : Stepped). (before.ticks + o.ticks) % 2 ^ 64) (sym made)) in
     let n : new.number ≡ one_more before.number = number ∙ ap one_more noted.number in
     let line : changes_at new.number new.ticks old.pc s.memory next.memory old.places.items ≡ changes_from before.places.items before.number before.ticks (s ∷ []) =
-    ap (λ (k : ℕ). changes_at k new.ticks old.pc s.memory next.memory old.places.items) n
-    ∙ (ap (λ (t : ℕ). changes_at (one_more before.number) t old.pc s.memory next.memory old.places.items) u
-    ∙ (ap (λ (p : ℕ). changes_at (one_more before.number) (ticks_more before.ticks s) p s.memory next.memory old.places.items) noted.pc
-    ∙ (ap (λ (o : Stepped). changes_at (one_more before.number) (ticks_more before.ticks s) s.scalar.pc s.memory o.state.memory old.places.items) (sym made)
-    ∙ (ap (λ them. changes_by them.items (one_more before.number) (ticks_more before.ticks s) s) noted.places
-    ∙ one_from before.places.items before.number before.ticks s)))) in
+    rw (n, u, noted.pc, noted.places)
+    (ap (λ (o : Stepped). changes_at (one_more before.number) (ticks_more before.ticks s) s.scalar.pc s.memory o.state.memory before.places.items) (sym made)
+    ∙ sym (append-nil (changes_by before.places.items (one_more before.number) (ticks_more before.ticks s) s))) in
     record {
       places = places ∙ noted.places;
-      number = n ∙ sym (one_number before.number s);
-      ticks = u ∙ sym (one_ticks before.ticks s);
+      number = n;
+      ticks = u;
       lines = subst (λ (l : List ℕ). took before.sink l new.sink) line
           (subst (λ sink. took sink (changes_at new.number new.ticks old.pc s.memory next.memory old.places.items) new.sink) noted.sink (lines s.memory noted.bytes));
     }

@@ -1,8 +1,9 @@
 -- Places that are read or compared one after another.
-use Rattle.std.proofs.Common.{◌≡◌, ◌<◌, ◌+◌, ◌++◌, ◌∷◌, [], ℕ, List, ap, ◌∙◌, sym, refl, append-nil, length, take, drop, flat_map}
+use Rattle.std.proofs.Common.{◌≡◌, ◌<◌, ◌+◌, ◌++◌, ◌∷◌, [], ℕ, List, ap, ◌∙◌, sym, append-nil, length, take, drop, flat_map}
 use Rattle.std.specs.List.{slice_index_or}
 use Rattle.std.proofs.lemmas.List.{drop_more, take_more}
 use Rattle.std.proofs.lemmas.List.Concat.{flat_map-append}
+use Rattle.std.proofs.Math.Seq.{drop-append_seam, take-append_seam}
 
 -- what the first places give, and one more
 pub first_more : {X : Type 0} (f : X → List ℕ) (xs : List X) (i : ℕ) (d : X) → i < length xs → flat_map f (take i xs) ++ f (slice_index_or xs i d) ≡ flat_map f (take (i + 1) xs)
@@ -16,15 +17,7 @@ left_is f xs i d lt = ap (flat_map f) (drop_more xs i d lt) ∙ flat_map-append 
 
 -- the rest of two lists, and the front, by the length of the first
 pub rest_is : (xs ys : List ℕ) (n : ℕ) → length xs ≡ n → drop n (xs ++ ys) ≡ ys
-rest_is xs ys n is = ap (λ (m : ℕ). drop m (xs ++ ys)) (sym is) ∙ dropped xs ys
-  where
-    dropped : (us vs : List ℕ) → drop (length us) (us ++ vs) ≡ vs
-    dropped [] vs = refl
-    dropped (u ∷ us) vs = dropped us vs
+rest_is xs ys n is = ap (λ (m : ℕ). drop m (xs ++ ys)) (sym is) ∙ drop-append_seam xs ys
 
 pub front_is : (xs ys : List ℕ) (n : ℕ) → length xs ≡ n → take n (xs ++ ys) ≡ xs
-front_is xs ys n is = ap (λ (m : ℕ). take m (xs ++ ys)) (sym is) ∙ taken xs ys
-  where
-    taken : (us vs : List ℕ) → take (length us) (us ++ vs) ≡ us
-    taken [] vs = refl
-    taken (u ∷ us) vs = ap (λ (l : List ℕ). u ∷ l) (taken us vs)
+front_is xs ys n is = ap (λ (m : ℕ). take m (xs ++ ys)) (sym is) ∙ take-append_seam xs ys

@@ -109,22 +109,13 @@ few_pages n entry r h = elim (cases_lt page_quota n) [
 pub placed_next : (c c' : Context) (t t' : Addresses) (v v' : VState) (m m' : Memory) (image : List ℕ) (entry : ℕ) → page_count (memory_of_image image) ≤ page_quota
     → entry ≡ entry_of image → c' ≡ loaded_context entry → t' ≡ [] → v' ≡ initial_vector → m' ≡ memory_of_image image → private_of c' t' v' m' ≡ (loading image None (present c t v m)).next
 placed_next c c' t t' v v' m m' image entry few at context trace vector memory =
-    ap (λ (d : Context). private_of d t' v' m') context
-    ∙ ap (λ (e : ℕ). private_of (loaded_context e) t' v' m') at
-    ∙ ap (λ (u : Addresses). private_of (loaded_context (entry_of image)) u v' m') trace
-    ∙ ap (λ (w : VState). private_of (loaded_context (entry_of image)) [] w m') vector
-    ∙ ap (λ (n : Memory). private_of (loaded_context (entry_of image)) [] initial_vector n) memory
-    ∙ sym (ap (λ (o : Outcome). o.next) (loading_accepted c t v m image few))
+    rw (context, at, trace, vector, memory) (sym (ap (λ (o : Outcome). o.next) (loading_accepted c t v m image few)))
 
 -- and its line is what `load` prints
 pub placed_reply : (c : Context) (t : Addresses) (v : VState) (m m' : Memory) (image : List ℕ) (entry pages user : ℕ) (before after : List ℕ) → page_count (memory_of_image image) ≤ page_quota
     → entry ≡ entry_of image → m' ≡ memory_of_image image → pages ≡ page_count m' → before ≡ [] → after ≡ before ++ text (48 + user) (loaded_line entry pages ∷ []) → after ≡ text (48 + user) (loading image None (present c t v m)).lines
 placed_reply c t v m m' image entry pages user before after few at memory counted clear printed =
-    printed
-    ∙ ap (λ (b : List ℕ). b ++ text (48 + user) (loaded_line entry pages ∷ [])) clear
-    ∙ ap (λ (e : ℕ). text (48 + user) (loaded_line e pages ∷ [])) at
-    ∙ ap (λ (n : ℕ). text (48 + user) (loaded_line (entry_of image) n ∷ [])) (counted ∙ ap page_count memory)
-    ∙ sym (ap (λ (o : Outcome). text (48 + user) o.lines) (loading_accepted c t v m image few))
+    rw (printed, clear, at, counted, memory) (sym (ap (λ (o : Outcome). text (48 + user) o.lines) (loading_accepted c t v m image few)))
 
 -- a machine whose image is too large stays, and the refusal is printed
 pub too_large_next : (c : Context) (t : Addresses) (v : VState) (m m' : Memory) (image : List ℕ) → page_quota < page_count (memory_of_image image) → c.entered ≡ true → m' ≡ m

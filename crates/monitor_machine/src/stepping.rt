@@ -19,7 +19,7 @@ use rv_model::{StepEnd, Stop};
 use std::alloc::Allocator;
 use vector_memory::UserBytes;
 
-/// More ticks than an instruction takes: no memory instruction has more elements.
+/// The most ticks that an instruction takes: a load or store takes one for each element, other instructions one.
 const MAX_TICKS: usize = 256;
 
 /// Why an instruction's end stops the program, if it does.

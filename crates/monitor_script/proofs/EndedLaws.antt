@@ -1,11 +1,12 @@
 -- Bytes of a script come to the lines among them that have ended, and a last line so far.
-use Rattle.std.proofs.Common.{◌≡◌, ℕ, ◌-◌, List, [], ◌∷◌, ◌++◌, length, length-append, take, Bool, true, false, refl, ap, ◌∙◌, sym, subst, append_assoc, append-nil, arith}
+use Rattle.std.proofs.Common.{◌≡◌, ℕ, ◌-◌, List, [], ◌∷◌, ◌++◌, length, length-append, take, refl, ap, ◌∙◌, sym, subst, append_assoc, append-nil, arith}
 use Rattle.std.proofs.lemmas.Bool.{eqb-true}
 use Rattle.std.proofs.Math.Seq.{take-append_seam}
 use Rattle.monitor_machine.specs.MachineState.{MachineState, after_line, line_output}
 use Rattle.rv_model.specs.machine.Setup.{Setup}
 use Rattle.rv_model.specs.machine.Script.{World, after_all, told, told_all, world_after}
 use Rattle.rv_model.specs.text.Lines.{is_newline, pieces}
+use Rattle.rv_model.proofs.Choices.{of_bool}
 use Rattle.rv_model.proofs.text_lemmas.Newlines.{IsLine}
 use Rattle.rv_model.proofs.text_lemmas.Lines.{pieces_at, pieces_of_line}
 use Rattle.monitor_script.specs.EndedLines.{ended_lines}
@@ -67,17 +68,11 @@ at_other m a s b ih =
 leaves : (m : MachineState) (a s : List ℕ) → IsLine a → Leaves m a s (fed m (take 1025 a) s)
 leaves m a [] h = at_end m a h
 leaves m a (b ∷ s) h =
-    let ends = leaves (after_line m a) [] s refl in
-    let goes : IsLine (a ++ b ∷ []) → Leaves m (a ++ b ∷ []) s (fed m (take 1025 (a ++ b ∷ [])) s) = λ k. leaves m (a ++ b ∷ []) s k in
-    by_byte m a s b h ends goes (is_newline b) refl
-  where
-    by_byte : (m : MachineState) (a s : List ℕ) (b : ℕ) → IsLine a → Leaves (after_line m a) [] s (fed (after_line m a) [] s) → (IsLine (a ++ b ∷ []) → Leaves m (a ++ b ∷ []) s (fed m (take 1025 (a ++ b ∷ [])) s)) → (t : Bool) → is_newline b ≡ t → Leaves m a (b ∷ s) (fed m (take 1025 a) (b ∷ s))
-    by_byte m a s b h ends goes true e =
-        let ten : b ≡ 10 = eqb-true b 10 e in
-        subst (λ (f : Fed). Leaves m a (b ∷ s) (and_then f s)) (sym (feed_newline m (take 1025 a) b e))
-        (subst (λ (c : ℕ). Leaves m a (c ∷ s) (and_then (record { machine = after_line m (take 1025 a); line = []; output = line_output m (take 1025 a) }) s)) (sym ten) (at_newline m a s h ends))
-    by_byte m a s b h ends goes false e =
-        subst (λ (f : Fed). Leaves m a (b ∷ s) (and_then f s)) (sym (feed_other m (take 1025 a) b e)) (at_other m a s b (goes (is_line_push a b h e)))
+    of_bool (is_newline b) (λ t. Leaves m a (b ∷ s) (fed m (take 1025 a) (b ∷ s)))
+    (λ e. subst (λ (f : Fed). Leaves m a (b ∷ s) (and_then f s)) (sym (feed_newline m (take 1025 a) b e))
+    (subst (λ (c : ℕ). Leaves m a (c ∷ s) (and_then (record { machine = after_line m (take 1025 a); line = []; output = line_output m (take 1025 a) }) s)) (sym (eqb-true b 10 e))
+    (at_newline m a s h (leaves (after_line m a) [] s refl))))
+    (λ e. subst (λ (f : Fed). Leaves m a (b ∷ s) (and_then f s)) (sym (feed_other m (take 1025 a) b e)) (at_other m a s b (leaves m (a ++ b ∷ []) s (is_line_push a b h e))))
 
 -- a script from its start
 pub from_start_leaves : (m : MachineState) (s : List ℕ) → Leaves m [] s (fed m [] s)
@@ -110,21 +105,13 @@ told_all-push s w ls l =
 pub machine_of_all : (m : MachineState) (s : List ℕ) → after_line (fed m [] s).machine (fed m [] s).line ≡ after_lines m (pieces s)
 machine_of_all m s =
     let t = from_start_leaves m s in
-    ap (after_line (fed m [] s).machine) t.line
-    ∙ after_clipped (fed m [] s).machine t.last
-    ∙ ap (λ (v : MachineState). after_line v t.last) t.machine
-    ∙ ap (λ (w : World). record m { world = w }) (sym (after_all-push m.setup m.world t.before t.last))
-    ∙ ap (after_lines m) (sym t.all)
+    rw (t.line, after_clipped, t.machine)
+    (ap (λ (w : World). record m { world = w }) (sym (after_all-push m.setup m.world t.before t.last)) ∙ ap (after_lines m) (sym t.all))
 
 pub output_of_all : (m : MachineState) (s : List ℕ) → (fed m [] s).output ++ line_output (fed m [] s).machine (fed m [] s).line ≡ lines_output m (pieces s)
 output_of_all m s =
     let t = from_start_leaves m s in
-    ap (λ (x : List ℕ). (fed m [] s).output ++ line_output (fed m [] s).machine x) t.line
-    ∙ ap (λ (x : List ℕ). (fed m [] s).output ++ x) (output_clipped (fed m [] s).machine t.last)
-    ∙ ap (λ (v : MachineState). (fed m [] s).output ++ line_output v t.last) t.machine
-    ∙ ap (λ (x : List ℕ). x ++ line_output (after_lines m t.before) t.last) t.output
-    ∙ sym (told_all-push m.setup m.world t.before t.last)
-    ∙ ap (lines_output m) (sym t.all)
+    rw (t.line, output_clipped, t.machine, t.output) (sym (told_all-push m.setup m.world t.before t.last) ∙ ap (lines_output m) (sym t.all))
 
 -- no text is without a piece
 pub some_piece : (m : MachineState) (s : List ℕ) → pieces s ≡ [] → ⊥

@@ -88,14 +88,7 @@ fed-append m line (c ∷ a) b =
 
 -- a machine that has taken a front of some bytes takes more of them
 pub goes_on : (m0 : MachineState) (line0 whole front read : List ℕ) (m : MachineState) (line : List ℕ) → whole ≡ front ++ read → m ≡ (fed m0 line0 front).machine → line ≡ (fed m0 line0 front).line → InTwo (fed m0 line0 whole) (fed m0 line0 front) (fed m line read)
-goes_on m0 line0 whole front read m line e p l =
-    let t : InTwo (fed m0 line0 (front ++ read)) (fed m0 line0 front) (fed (fed m0 line0 front).machine (fed m0 line0 front).line read) = fed-append m0 line0 front read in
-    let same : fed m line read ≡ fed (fed m0 line0 front).machine (fed m0 line0 front).line read = ap (λ (v : MachineState). fed v line read) p ∙ ap (λ (k : List ℕ). fed (fed m0 line0 front).machine k read) l in
-    record {
-      machine = ap (λ (x : List ℕ). (fed m0 line0 x).machine) e ∙ t.machine ∙ sym (ap (λ (f : Fed). f.machine) same);
-      line = ap (λ (x : List ℕ). (fed m0 line0 x).line) e ∙ t.line ∙ sym (ap (λ (f : Fed). f.line) same);
-      output = ap (λ (x : List ℕ). (fed m0 line0 x).output) e ∙ t.output ∙ ap (λ (x : List ℕ). (fed m0 line0 front).output ++ x) (sym (ap (λ (f : Fed). f.output) same));
-    }
+goes_on m0 line0 whole front read m line e p l = rw (e, p, l) (fed-append m0 line0 front read)
 
 -- one byte more of some bytes
 pub one_more : (m0 : MachineState) (line0 bytes : List ℕ) (i : ℕ) (m : MachineState) (line : List ℕ) → i < length bytes → m ≡ (fed m0 line0 (take i bytes)).machine → line ≡ (fed m0 line0 (take i bytes)).line → InTwo (fed m0 line0 (take (i + 1) bytes)) (fed m0 line0 (take i bytes)) (fed m line (get_or bytes i 0 ∷ []))

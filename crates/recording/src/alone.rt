@@ -6,7 +6,7 @@ use hart::{OneSeat, View, step};
 use rv_model::{OUTPUT_SIZE, Policy, Scalar, StepEnd};
 use vector_memory::UserBytes;
 
-/// More ticks than an instruction takes: no memory instruction has more elements.
+/// The most ticks that an instruction takes: a load or store takes one for each element, other instructions one.
 const MAX_TICKS: usize = 256;
 
 /// The registers, bytes, vector state and output buffer of one user, and what becomes of agnostic elements.

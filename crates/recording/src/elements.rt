@@ -14,6 +14,7 @@ use rv_model::instructions::operations::RegisterCount;
 use rv_model::{GROUP_BYTES, VConf, VLENB};
 
 /// VLMAX, where there is a vector type.
+#[inline(always)]
 fn most(conf: VConf) -> usize
     ensures { result ≡ most conf }
 {
@@ -34,39 +35,18 @@ fn moved(count: RegisterCount, conf: VConf) -> usize
     }
 }
 
-/// Where the elements of an extent end for a vector length: at vl the body ends, at VLMAX the tail.
+/// Where the body of an extent begins and ends, and where its tail ends. Only the bytes of a mask have a tail.
 #[inline(always)]
-fn extent_end(extent: Extent, start: usize, conf: VConf, length: usize) -> usize
-    ensures { result ≡ extent_end extent start conf length }
+fn extent_bounds(extent: Extent, start: usize, conf: VConf) -> (usize, usize, usize)
+    ensures { result ≡ (extent_start extent start, extent_end extent start conf conf.vl, extent_end extent start conf (most conf)) }
 {
+    let vl = usize::from(conf.vl());
     match extent {
-        Extent::MaskBytes => length.div_ceil(8),
-        Extent::Elements { count } => usize::from(count),
-        Extent::Registers { count } => moved(count, conf),
-        Extent::One => 1,
-        Extent::First => usize::from(start < usize::from(conf.vl())),
-    }
-}
-
-/// Where the body of an extent and its tail end. Only that of a mask's bytes has a tail.
-#[inline(always)]
-fn extent_ends(extent: Extent, start: usize, conf: VConf) -> (usize, usize)
-    ensures { result ≡ (extent_end extent start conf conf.vl, extent_end extent start conf (most conf)) }
-{
-    let end = extent_end(extent, start, conf, usize::from(conf.vl()));
-    match extent {
-        Extent::MaskBytes => (end, most(conf).div_ceil(8)),
-        _ => (end, end),
-    }
-}
-
-/// Where the body of an extent begins.
-fn extent_start(extent: Extent, start: usize) -> usize
-    ensures { result ≡ extent_start extent start }
-{
-    match extent {
-        Extent::One | Extent::First => 0,
-        _ => start,
+        Extent::MaskBytes => (start, vl.div_ceil(8), most(conf).div_ceil(8)),
+        Extent::Elements { count } => (start, usize::from(count), usize::from(count)),
+        Extent::Registers { count } => (start, moved(count, conf), moved(count, conf)),
+        Extent::One => (0, 1, 1),
+        Extent::First => (0, usize::from(start < vl), usize::from(start < vl)),
     }
 }
 
@@ -136,8 +116,7 @@ fn with_extent(extent: Extent, found: &Found, conf: VConf, ticks: usize) -> Sums
     ensures { result ≡ carried_out ticks (body (Other extent) found.now.mask found.now.start conf)
         (tail_end (Other extent) found.now.start conf) }
 {
-    let start = extent_start(extent, found.start);
-    let (end, tail_end) = extent_ends(extent, found.start, conf);
+    let (start, end, tail_end) = extent_bounds(extent, found.start, conf);
     let active = active_of_all(start, end);
     counted_once(ticks, start, end, active, tail_end)
 }

@@ -73,16 +73,16 @@ counted found old rows sorted nothing more same = λ asked.
       tail = counted_of found old rows sorted (λ s. s.tail) asked nothing same each.tail;
     }
 
--- the last line, by what a run left
+-- the last line, by what a run left and its sums
+last_is : (ticks times spent : ℕ) (s left : HartState) (end : Option StepEnd) → left ≡ (ran ticks s).state → end ≡ (ran ticks s).end
+    → times ≡ shares (ran ticks s).found (λ sums. sums.times) is_word % 2 ^ 64 → spent ≡ shares (ran ticks s).found (λ sums. sums.ticks) is_word % 2 ^ 64
+    → last_line left.scalar.pc end times spent ≡ end_of ticks s
+last_is ticks times spent s left end left_is stops times_are ticks_are = rw (left_is, stops, times_are, ticks_are) refl
+
 pub end_is : (ticks : ℕ) (s left : HartState) (rows : List Row) (end : Option StepEnd) → AreCountsOf (ran ticks s).found rows → left ≡ (ran ticks s).state
     → end ≡ (ran ticks s).end
     → last_line left.scalar.pc end (total (λ sums. sums.times) is_word rows % 2 ^ 64) (total (λ sums. sums.ticks) is_word rows % 2 ^ 64) ≡ end_of ticks s
-end_is ticks s left rows end counts left_is stops =
-    let words = counts is_word in
-    ap (λ (h : HartState). last_line h.scalar.pc end (total (λ sums. sums.times) is_word rows % 2 ^ 64) (total (λ sums. sums.ticks) is_word rows % 2 ^ 64)) left_is
-    ∙ (ap (λ e. last_line (ran ticks s).state.scalar.pc e (total (λ sums. sums.times) is_word rows % 2 ^ 64) (total (λ sums. sums.ticks) is_word rows % 2 ^ 64)) stops
-    ∙ (ap (λ n. last_line (ran ticks s).state.scalar.pc (ran ticks s).end n (total (λ sums. sums.ticks) is_word rows % 2 ^ 64)) words.times
-    ∙ ap (λ n. last_line (ran ticks s).state.scalar.pc (ran ticks s).end (shares (ran ticks s).found (λ sums. sums.times) is_word % 2 ^ 64) n) words.ticks))
+end_is ticks s left rows end counts left_is stops = last_is ticks _ _ s left end left_is stops (counts is_word).times (counts is_word).ticks
 
 -- ---- all instructions together
 
@@ -118,10 +118,7 @@ end_by_totals ticks times spent old_times old_spent s left end few little no_tim
     let all = (ran ticks s).found in
     let one = wrapped times old_times (sum_by times_of all) (shares all (λ sums. sums.times) is_word) few no_times (same_sum _ _ word_times all) times_are in
     let two = wrapped spent old_spent (sum_by counted_ticks all) (shares all (λ sums. sums.ticks) is_word) little no_ticks (same_sum _ _ word_ticks all) ticks_are in
-    ap (λ (h : HartState). last_line h.scalar.pc end times spent) left_is
-    ∙ (ap (λ e. last_line (ran ticks s).state.scalar.pc e times spent) stops
-    ∙ (ap (λ n. last_line (ran ticks s).state.scalar.pc (ran ticks s).end n spent) one
-    ∙ ap (λ n. last_line (ran ticks s).state.scalar.pc (ran ticks s).end (shares all (λ sums. sums.times) is_word % 2 ^ 64) n) two))
+    last_is ticks times spent s left end left_is stops one two
 
 -- ---- changes
 
@@ -131,10 +128,7 @@ pub changes_told : {F A : Type 0} (took : F → List ℕ → F → Type 0) → (
     → first.number ≡ 0 → first.ticks ≡ 0 → IsRecorded took first found new → told ≡ last → took new.sink told after → took file (changes_from places 0 0 found ++ last) after
 changes_told took more first new file after places found told last sink_is places_are number_is ticks_are recorded last_is end =
     let lines : took first.sink (changes_from places 0 0 found) new.sink =
-    subst (λ (l : List ℕ). took first.sink l new.sink)
-    (ap (λ (them : List Place). changes_from them first.number first.ticks found) places_are
-    ∙ (ap (λ (n : ℕ). changes_from places n first.ticks found) number_is ∙ ap (λ (t : ℕ). changes_from places 0 t found) ticks_are))
-    recorded.lines in
+    let lines = recorded.lines in rw (places_are, number_is, ticks_are) at lines in
     subst (λ f. took f (changes_from places 0 0 found ++ last) after) sink_is
     (more first.sink new.sink after (changes_from places 0 0 found) last lines (subst (λ (l : List ℕ). took new.sink l after) last_is end))
 
@@ -148,9 +142,7 @@ pub log_told : {F : Type 0} (took : F → List ℕ → F → Type 0) → ((a b c
 log_told took more first new file mid after window found told last sink_is window_is number_is text_is logged gathered last_is end =
     let told_all = logged.lines in
     let lines : told_all.written ++ new.text ≡ logged_from window 0 found =
-    told_all.all
-    ∙ (ap (λ (l : List ℕ). l ++ logged_from first.window first.number found) text_is
-    ∙ (ap (λ (w : Window). logged_from w first.number found) window_is ∙ ap (λ (n : ℕ). logged_from window n found) number_is)) in
+    let all = told_all.all in rw (text_is, window_is, number_is) at all in
     let written : took first.sink (logged_from window 0 found) mid =
     subst (λ (l : List ℕ). took first.sink l mid) lines (more first.sink new.sink mid told_all.written new.text told_all.took gathered) in
     subst (λ f. took f (logged_from window 0 found ++ last) after) sink_is

@@ -4,7 +4,6 @@ use Rattle.std.specs.List.{after_first, before_first, position_or_len}
 use Rattle.std.specs.Borrow.{Bor}
 use Rattle.clap.specs.Walk.{Text}
 use Rattle.rv_model.specs.commands.Arguments.{address, permissions}
-use Rattle.rv_model.specs.declared.memory.Permissions.{Permissions}
 use Rattle.vec_recorder.specs.declared.memory_words.MemoryPath.{MemoryPath}
 
 abbrev pub is_colon : ℕ → Bool

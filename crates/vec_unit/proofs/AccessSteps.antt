@@ -18,7 +18,7 @@ use Rattle.rv_model.specs.declared.vector.state.VState.{VState}
 use Rattle.rv_model.specs.declared.vector.types.VType.{VType}
 use Rattle.rv_model.specs.accesses.AccessRuns.{AccessRun, Memory, access_run, directed_run, runs_to}
 use Rattle.rv_model.specs.accesses.VectorAccess.{VectorAccess, access_of, indexed_access, mask_length, strided_access, unit_access, unit_direction, unmasked_access}
-use Rattle.rv_model.specs.elements.Arithmetic.{fills_masked_off, fills_tail}
+use Rattle.rv_model.specs.elements.Arithmetic.{body_of, fills_masked_off, fills_tail}
 use Rattle.rv_model.specs.lending.Accesses.{is_typed_access}
 use Rattle.rv_model.specs.lending.GroupBounds.{SegmentsInside, emul}
 use Rattle.rv_model.specs.legality.Legality.{is_legal, operands}
@@ -26,6 +26,7 @@ use Rattle.rv_model.specs.step.Hart.{HartState}
 use Rattle.rv_model.specs.step.MemoryStep.{access_end, after_access, filled_type, load_fills_masked_off, reads_memory, tail_type, with_tails}
 use Rattle.rv_model.specs.step.Step.{access_step, accessed, performed, vector_ends}
 use Rattle.rv_model.specs.vector.Groups.{GroupType, IsConfiguration, group_type, lmul_eighths, sew_bits, sew_width, vlmax, access_type, register_count}
+use Rattle.rv_model.proofs.Choices.{of_either, of_option}
 use Rattle.rv_model.proofs.vector_lemmas.Lengths.{IsLength}
 use Rattle.rv_model.proofs.access_lemmas.Runs.{run_is}
 use Rattle.rv_model.proofs.legality_lemmas.Accesses.{indexed_inside, strided_inside, unit_inside}
@@ -62,43 +63,28 @@ fields_inside _ t vstart vl legal h = tt
 
 pub tails_inside : (i : AccessInstr) (policy : Policy) (v : VState) → IsConfiguration v.conf
     → is_legal (instr.Access i) v.conf.vtype v.vstart ≡ true → IfSome (filled_by i policy v).tails (IsInside v.conf.vl)
-tails_inside i policy v = under v.conf.vtype
-  where
-    if_filled : (b : Bool) (o : Option Fields) → IfSome o (IsInside v.conf.vl) → IfSome (if b then o else None) (IsInside v.conf.vl)
-    if_filled true o h = h
-    if_filled false o h = tt
-
-    under : (o : Option VType) → IsLength o v.conf.vl → is_legal (instr.Access i) o v.vstart ≡ true
-        → IfSome (option_map_or (filled_under i policy v) o nothing).tails (IsInside v.conf.vl)
-    under None length legal = tt
-    under (Some t) length legal = if_filled _ _ (fields_inside i t v.vstart v.conf.vl legal length.1)
+tails_inside i policy v =
+    of_option v.conf.vtype
+    (λ o. IsLength o v.conf.vl → is_legal (instr.Access i) o v.vstart ≡ true → IfSome (option_map_or (filled_under i policy v) o nothing).tails (IsInside v.conf.vl))
+    (λ e length legal. tt)
+    (λ t e length legal. of_either (λ (o : Option Fields). IfSome o (IsInside v.conf.vl)) (fills_tail policy t (body_of (is_unmasked i) v) && reads_memory (direction_of i))
+    (tail_fields i t) None (fields_inside i t v.vstart v.conf.vl legal length.1) tt)
 
 -- ---- what is filled
 
 -- nothing, under the policy that keeps
 pub keeps : (i : AccessInstr) (v : VState) → filled_by i Keep v ≡ nothing
-keeps i v = under v.conf.vtype
-  where
-    under : (o : Option VType) → option_map_or (filled_under i Keep v) o nothing ≡ nothing
-    under None = refl
-    under (Some t) = refl
+keeps i v = of_option v.conf.vtype (λ o. option_map_or (filled_under i Keep v) o nothing ≡ nothing) (λ e. refl) (λ t e. refl)
 
 -- nothing, where no element is masked off and there is no tail that is filled
 pub fills_nothing : (i : AccessInstr) (policy : Policy) (v : VState) → is_unmasked i ≡ true → ((t : VType) → tail_fields i t ≡ None)
     → filled_by i policy v ≡ nothing
-fills_nothing i policy v unmasked tails = under v.conf.vtype
+fills_nothing i policy v unmasked tails =
+    of_option v.conf.vtype (λ o. option_map_or (filled_under i policy v) o nothing ≡ nothing) (λ e. refl) (λ t e.
+    ap₂ (λ b o. record { masked_off = b; tails = o }) (masked _ _ (is_unmasked i) unmasked) (of_either (λ (o : Option Fields). o ≡ None) _ _ _ (tails t) refl))
   where
     masked : (b c d : Bool) → d ≡ true → (b && (c && not d)) ≡ false
     masked b c d h = grind (arith, common_steps, h)
-
-    none : (b : Bool) (o : Option Fields) → o ≡ None → (if b then o else None) ≡ None
-    none true o h = h
-    none false o h = refl
-
-    under : (o : Option VType) → option_map_or (filled_under i policy v) o nothing ≡ nothing
-    under None = refl
-    under (Some t) =
-        ap₂ (λ b o. record { masked_off = b; tails = o }) (masked _ _ (is_unmasked i) unmasked) (none _ _ (tails t))
 
 -- the access that an instruction is fills what is said by the instruction
 record Fills (i : AccessInstr) (s : HartState) (a : VectorAccess) : Type 0 where
@@ -118,20 +104,14 @@ of_access : (i : AccessInstr) (s : HartState) (a : VectorAccess) → access_of i
 of_access i s a access direction unmasked tails = record {
   access = access;
   direction = direction;
-  masked_off = masked s.vector.conf.vtype;
-  tails = λ end file. filled end file s.vector.conf.vtype;
+  masked_off =
+      of_option s.vector.conf.vtype (λ o. option_map_or (λ t. fills_masked_off s.policy t a.body) o false ≡ (option_map_or (filled_under i s.policy s.vector) o nothing).masked_off)
+      (λ e. refl) (λ t e. ap (λ b. fills_masked_off s.policy t (record a.body { unmasked = b })) unmasked);
+  tails = λ end file.
+      of_option s.vector.conf.vtype
+      (λ o. with_tails (option_and_then (λ t. if reads_memory a.direction && fills_tail s.policy t a.body then tail_type i t else None) o) a end file
+      ≡ with_filled (option_map_or (filled_under i s.policy s.vector) o nothing).tails s.vector.conf.vl end file) (λ e. refl) (λ t e. tails t end file);
 }
-  where
-    masked : (o : Option VType) → option_map_or (λ t. fills_masked_off s.policy t a.body) o false
-        ≡ (option_map_or (filled_under i s.policy s.vector) o nothing).masked_off
-    masked None = refl
-    masked (Some t) = ap (λ b. fills_masked_off s.policy t (record a.body { unmasked = b })) unmasked
-
-    filled : (end : MemEnd) (file : List ℕ) (o : Option VType)
-        → with_tails (option_and_then (λ t. if reads_memory a.direction && fills_tail s.policy t a.body then tail_type i t else None) o) a end file
-        ≡ with_filled (option_map_or (filled_under i s.policy s.vector) o nothing).tails s.vector.conf.vl end file
-    filled end file None = refl
-    filled end file (Some t) = tails t end file
 
 -- the tails of fields, if they are filled
 fields : (reads fills : Bool) (a : VectorAccess) (f : Fields) (g : GroupType) (vl : ℕ) (end : MemEnd) (file : List ℕ)

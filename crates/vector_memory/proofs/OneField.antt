@@ -35,18 +35,8 @@ module _ (m : Memory) (i address size : ℕ) (low : address < 2 ^ 64) where
 
   pub one_loaded : (place : Transfer → ℕ) (file : List ℕ) (at : ℕ) → at ≡ place (field_transfer i address size 0)
       → put_chunk at file (bytes_at m address size) ≡ registers_loaded m place file (moved_segment i address size 1)
-  one_loaded place file at e =
-      let first = place (field_transfer i address size 0) in
-      ap (λ p. put_chunk p file (bytes_at m address size)) e
-      ∙ ap (λ a. put_chunk first file (bytes_at m a size)) (sym same)
-      ∙ ap (λ f. put_chunk first f (bytes_at m ((address + 0 * size) % 2 ^ 64) size)) (loaded_start m place file i address size)
-      ∙ loaded_field m place file i address size 0
+  one_loaded place file at e = cc (e, same, loaded_start m place file i address size, loaded_field m place file i address size 0)
 
   pub one_stored : (place : Transfer → ℕ) (file : List ℕ) (at : ℕ) → at ≡ place (field_transfer i address size 0)
       → put_bytes m address (chunk at size file) ≡ memory_stored m place file (moved_segment i address size 1)
-  one_stored place file at e =
-      let first = place (field_transfer i address size 0) in
-      ap (λ p. put_bytes m address (chunk p size file)) e
-      ∙ ap (λ a. put_bytes m a (chunk first size file)) (sym same)
-      ∙ ap (λ n. put_bytes n ((address + 0 * size) % 2 ^ 64) (chunk first size file)) (stored_start m place file i address size)
-      ∙ stored_field m place file i address size 0
+  one_stored place file at e = cc (e, same, stored_start m place file i address size, stored_field m place file i address size 0)

@@ -1,52 +1,78 @@
 -- The elements that are shown, one index after another.
-use Rattle.std.proofs.Common.{◌≡◌, ◌∙◌, ◌+◌, ◌-◌, ◌≤◌, ◌++◌, [], ℕ, Bool, true, false, List, map, max, ap, cond, refl, arith, append-nil}
+use Rattle.std.proofs.Common.{◌≡◌, ◌∙◌, ◌+◌, ◌-◌, ◌*◌, ◌≤◌, ◌++◌, [], ℕ, false, List, map, ap, refl, sym, subst, arith, add_assoc}
 use Rattle.std.proofs.lemmas.List.{map-append}
 use Rattle.rv_model.specs.accesses.Transfers.{Transfer, transfers}
 use Rattle.rv_model.specs.accesses.VectorAccess.{element_start, plan, unit_direction}
 use Rattle.rv_model.specs.declared.instructions.operations.UnitOp.{UnitOp}
 use Rattle.rv_model.specs.declared.vector.state.VState.{VState}
 use Rattle.rv_model.specs.declared.instructions.operations.Direction.{Direction}
-use Rattle.rv_model.specs.elements.Elements.{Body, is_enabled}
+use Rattle.rv_model.specs.elements.Elements.{Body}
 use Rattle.rv_model.proofs.access_lemmas.Stops.{transfers_more}
 use Rattle.vector_memory.specs.Distances.{moved_by}
-use Rattle.vector_memory.specs.MovedElements.{MovedElement, element_of, elements_before, moved_elements, moved_end}
-use Rattle.vector_memory.specs.SegmentRoom.{operation_access, place_in, segment_transfers, segments_access}
+use Rattle.vector_memory.specs.MovedElements.{HasSeen, MovedElement, element_of, elements_before, moved_elements, moved_end}
+use Rattle.vector_memory.specs.SegmentRoom.{operation_access, place_in, segments_access}
 use Rattle.vector_memory.specs.declared.segments.Segments.{Segments}
 use Rattle.vector_memory.specs.declared.transfers.Transfer.{Transfer as SegmentTransfer}
 
-module _ (d : Direction) (s : Segments) (b : Body) (address : ℕ → ℕ) (file : List ℕ) where
-  abbrev before : ℕ → List MovedElement
-  before = elements_before d s b address file
+-- ---- what a viewer has seen
 
+-- room for a number of elements is room for fewer
+abbrev Fewer : {V : Type 0} → (V → ℕ → Type 0) → Type 0
+Fewer {V} has_room = (v : V) (more count : ℕ) → has_room v (count + more) → has_room v count
+
+pub room_for : {V : Type 0} (has_room : V → ℕ → Type 0) → Fewer has_room → (v : V) (few many : ℕ) → few ≤ many → has_room v many → has_room v few
+room_for has_room fewer v few many h room =
+    let split : many ≡ few + (many - few) = omega (arith, h) in
+    fewer v (many - few) few (subst (has_room v) split room)
+
+module _ {V : Type 0} (saw : V → List MovedElement → V → Type 0) (has_room : V → ℕ → Type 0) (fewer : Fewer has_room) where
+  pub seen_none : (v : V) (most : ℕ) → saw v [] v → HasSeen saw has_room most v [] v
+  seen_none v most none = record { seen = none; left = fewer v most }
+
+  -- the same elements, with more room
+  pub seen_within : (a b : V) (m most : ℕ) (xs zs : List MovedElement) → m ≤ most → zs ≡ xs → HasSeen saw has_room m a xs b → HasSeen saw has_room most a zs b
+  seen_within a b m most xs zs h is one = record {
+    seen = subst (λ (es : List MovedElement). saw a es b) (sym is) one.seen;
+    left = λ count room. one.left count (room_for has_room fewer a (count + m) (count + most) (omega (arith, h)) room);
+  }
+
+  -- some elements, and then others
+  pub seen_more : ((a b c : V) (xs ys : List MovedElement) → saw a xs b → saw b ys c → saw a (xs ++ ys) c)
+      → (a b c : V) (m n most : ℕ) (xs ys zs : List MovedElement) → m + n ≤ most → zs ≡ xs ++ ys
+      → HasSeen saw has_room m a xs b → HasSeen saw has_room n b ys c → HasSeen saw has_room most a zs c
+  seen_more saw_more a b c m n most xs ys zs h is one next =
+      seen_within a c (n + m) most (xs ++ ys) zs (omega (arith, h)) is (record {
+        seen = saw_more a b c xs ys one.seen next.seen;
+        left = λ count room. next.left count (one.left (count + n) (subst (has_room a) (sym (add_assoc count n m)) room));
+      })
+
+-- ---- the elements of segments
+
+module _ (d : Direction) (s : Segments) (b : Body) (address : ℕ → ℕ) (file : List ℕ) where
   abbrev elements : List Transfer → List MovedElement
   elements = map (element_of d (place_in s) file)
 
-  pub none_before : (stop : ℕ) → stop ≤ b.start → before stop ≡ []
-  unfolding transfers
-  none_before stop h =
-      let none : stop - b.start ≡ 0 = omega (arith, h) in
-      ap (λ (n : ℕ). elements (transfers (plan (segments_access s b address) false) b.start n)) none
-
-  more : (i : ℕ) → b.start ≤ i → before (i + 1) ≡ before i ++ elements (plan (segments_access s b address) false i)
-  more i h =
+  -- one index more
+  pub index_more : (i : ℕ) → b.start ≤ i
+      → elements_before d s b address file (i + 1) ≡ elements_before d s b address file i ++ elements (plan (segments_access s b address) false i)
+  index_more i h =
       let each = plan (segments_access s b address) false in
       ap elements (transfers_more each b.start i h) ∙ map-append (element_of d (place_in s) file) (transfers each b.start (i - b.start)) (each i)
 
-  -- one index more
-  pub enabled_more : (i : ℕ) → b.start ≤ i → is_enabled b i ≡ true → before (i + 1) ≡ before i ++ elements (segment_transfers s i (address i))
-  unfolding plan
-  enabled_more i h e = more i h ∙ ap (λ (b : Bool). before i ++ elements (cond b (segment_transfers s i (address i)) [])) e
+  -- what was seen of no index
+  pub seen_at_first : {V : Type 0} (saw : V → List MovedElement → V → Type 0) (has_room : V → ℕ → Type 0) → Fewer has_room → (v : V) (i : ℕ) → i ≤ b.start → saw v [] v
+      → HasSeen saw has_room (8 * (i - b.start)) v (elements_before d s b address file i) v
+  unfolding transfers
+  seen_at_first saw has_room fewer v i h none =
+      let same : i - b.start ≡ 0 = omega (arith, h) in
+      subst (λ (n : ℕ). HasSeen saw has_room (8 * (i - b.start)) v (elements (transfers (plan (segments_access s b address) false) b.start n)) v) (sym same)
+      (seen_none saw has_room fewer v (8 * (i - b.start)) none)
 
-  -- or one that is masked off
-  pub masked_off_more : (i : ℕ) → b.start ≤ i → is_enabled b i ≡ false → before (i + 1) ≡ before i
-  unfolding plan
-  masked_off_more i h e = more i h ∙ ap (λ (b : Bool). before i ++ elements (cond b (segment_transfers s i (address i)) [])) e ∙ append-nil (before i)
-
-  -- all of them
-  pub all_before : (i : ℕ) → b.start ≤ i → i ≤ max b.start b.end → b.end ≤ i → before i ≡ before b.end
-  all_before i low high over =
-      let same : i - b.start ≡ b.end - b.start = omega (arith, low, high, over) in
-      ap (λ (n : ℕ). elements (transfers (plan (segments_access s b address) false) b.start n)) same
+  -- and of as many indices
+  pub seen_as_many : {V : Type 0} (saw : V → List MovedElement → V → Type 0) (has_room : V → ℕ → Type 0) (v w : V) (i j : ℕ) → i - b.start ≡ j - b.start
+      → HasSeen saw has_room (8 * (i - b.start)) v (elements_before d s b address file i) w → HasSeen saw has_room (8 * (j - b.start)) v (elements_before d s b address file j) w
+  seen_as_many saw has_room v w i j =
+      subst (λ (n : ℕ). HasSeen saw has_room (8 * n) v (elements (transfers (plan (segments_access s b address) false) b.start n)) w)
 
 -- those of the access of an operation
 pub operation_elements : (op : UnitOp) (s : Segments) (body : Body) (address : ℕ → ℕ) (v : VState) (left : ℕ)

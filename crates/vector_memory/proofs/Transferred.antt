@@ -1,5 +1,5 @@
 -- The transfer that a load or store at a distance is: its segments have room, and it leaves what the instruction leaves.
-use Rattle.std.specs.Prelude.{Option, Some, None}
+use Rattle.std.specs.Prelude.{IfSome, Option, Some, None}
 use Rattle.std.specs.Option.{option_map}
 use Rattle.std.proofs.Common.{◌≡◌, ℕ, ◌+◌, ◌*◌, ◌<◌, ◌≤◌, ◌%◌, ◌^◌, Bool, true, false, refl, sym, ap, ◌∙◌, subst, arith}
 use Rattle.rv_model.specs.declared.instructions.instruction.Instr.TheVariants as instr
@@ -35,9 +35,6 @@ use Rattle.vector_memory.specs.declared.transfers.Transfer.{Transfer}
 use Rattle.vector_memory.proofs.Room.{element_most, whole_room}
 use Rattle.vector_memory.proofs.Strides.{strides}
 
-same_transfer : (a b : Transfer) → Some a ≡ Some b → a ≡ b
-same_transfer a b h = cc
-
 -- an access of a direction is one of its operation
 pub directed : (d : Direction) (a : VectorAccess)
     → ◌≡◌ {A = VectorAccess} (record a { direction = d; first_only = false })
@@ -51,24 +48,22 @@ not_first_only direction.Store h = absurd (cc)
 
 -- ---- segments in groups of the vector type
 
-module _ (op : UnitOp) (width : Eew) (nf vd : ℕ) (addresses : StridedAddresses) (unmasked : Bool) (v : VState) (t : Transfer) where
-  grouped_fits : (u : Option VType) → grouped op width nf vd addresses unmasked v u ≡ Some t → t.segments.fields ≤ 8
-      → ((k : VType) → u ≡ Some k → SegmentsInside (access_type k width) vd nf v.conf.vl) → Fits v t
-  grouped_fits None is fields inside = absurd (cc)
-  grouped_fits (Some k) is fields inside =
-      let same = same_transfer _ t is in
-      let room = inside k refl in
-      subst (Fits v) same
-      (record {
-        room = record {
-          fields = subst (λ x. x.segments.fields ≤ 8) (sym same) fields;
-          size = element_most (element_width width);
-          inside = room.inside;
-          room = room.holds.room;
-        };
-        count = room.holds.least;
-        length = λ h. refl;
-      })
+-- what an instruction accesses is what its transfer moves, if it has one
+abbrev IsMoved : AccessInstr → VState → Option Transfer → Option VectorAccess → Type 0
+IsMoved i v None a = is_offset_access i ≡ false → a ≡ None
+IsMoved i v (Some t) a = t.addresses.stride < 2 ^ 64 → a ≡ Some (moved_by t v)
+
+abbrev AreFit : VState → Option Transfer → Type 0
+AreFit v o = IfSome o (λ t. t.segments.fields ≤ 8 → Fits v t)
+
+module _ (op : UnitOp) (width : Eew) (nf vd : ℕ) (addresses : StridedAddresses) (unmasked : Bool) (v : VState) where
+  grouped_fits : (u : Option VType) → ((k : VType) → u ≡ Some k → SegmentsInside (access_type k width) vd nf v.conf.vl) → AreFit v (grouped op width nf vd addresses unmasked v u)
+  grouped_fits None inside = tt
+  grouped_fits (Some k) inside = λ fields. let room = inside k refl in record {
+    room = record { fields = fields; size = element_most (element_width width); inside = room.inside; room = room.holds.room };
+    count = room.holds.least;
+    length = λ h. refl;
+  }
 
   -- what the instruction moves under a vector type
   abbrev grouped_access : VType → VectorAccess
@@ -77,16 +72,10 @@ module _ (op : UnitOp) (width : Eew) (nf vd : ℕ) (addresses : StridedAddresses
         first_only = is_first_only op;
       }
 
-  grouped_is : (u : Option VType) (each : VType → VectorAccess)
-      → grouped op width nf vd addresses unmasked v u ≡ Some t → ((k : VType) → each k ≡ grouped_access k)
-      → option_map each u ≡ Some (moved_by t v)
-  grouped_is None each is h = absurd (cc)
-  grouped_is (Some k) each is h = ap Some (h k) ∙ ap (λ y. Some (moved_by y v)) (same_transfer _ t is)
-
-grouped_none : (op : UnitOp) (width : Eew) (nf vd : ℕ) (addresses : StridedAddresses) (unmasked : Bool) (v : VState) (u : Option VType)
-    (each : VType → VectorAccess) → grouped op width nf vd addresses unmasked v u ≡ None → option_map each u ≡ None
-grouped_none op width nf vd addresses unmasked v None each is = refl
-grouped_none op width nf vd addresses unmasked v (Some k) each is = absurd (cc)
+  grouped_is : (i : AccessInstr) (u : Option VType) (each : VType → VectorAccess) → ((k : VType) → addresses.stride < 2 ^ 64 → each k ≡ grouped_access k)
+      → IsMoved i v (grouped op width nf vd addresses unmasked v u) (option_map each u)
+  grouped_is i None each h = λ no. refl
+  grouped_is i (Some k) each h = λ small. ap Some (h k small)
 
 -- under any vector type
 under_type : (u : Option VType) (vl : ℕ) (k : VType) → IsLength u vl → u ≡ Some k → IsLength (Some k) vl
@@ -117,77 +106,64 @@ unfolding is_legal operands
 mask_some d vd rs1 None vstart a h = absurd (cc)
 mask_some d vd rs1 (Some k) vstart a h = refl
 
-strided_below : (op : UnitOp) (width : Eew) (nf vd : ℕ) (addresses : StridedAddresses) (unmasked : Bool) (v : VState) (t : Transfer) (u : Option VType)
-    → grouped op width nf vd addresses unmasked v u ≡ Some t → t.addresses.stride < 2 ^ 64 → addresses.stride < 2 ^ 64
-strided_below op width nf vd addresses unmasked v t None is h = absurd (cc)
-strided_below op width nf vd addresses unmasked v t (Some k) is h = subst (λ y. y.addresses.stride < 2 ^ 64) (sym (same_transfer _ t is)) h
-
-module _ (v : VState) (x : Scalar) (t : Transfer) where
-  pub fits : (i : AccessInstr) → transfer_of i v x ≡ Some t → is_legal (instr.Access i) v.conf.vtype v.vstart ≡ true
-      → IsConfiguration v.conf → t.segments.fields ≤ 8 → Fits v t
-  fits (UnitStride op width nf vd rs1 vm) is legal configured fields =
-      grouped_fits op width nf vd _ vm v t v.conf.vtype is fields
+module _ (v : VState) (x : Scalar) where
+  each_fits : (i : AccessInstr) → is_legal (instr.Access i) v.conf.vtype v.vstart ≡ true → IsConfiguration v.conf → AreFit v (transfer_of i v x)
+  each_fits (UnitStride op width nf vd rs1 vm) legal configured =
+      grouped_fits op width nf vd _ vm v v.conf.vtype
       (λ k typed. unit_inside op width nf vd rs1 vm k v.vstart v.conf.vl
       (subst (λ u. is_legal (instr.Access (UnitStride op width nf vd rs1 vm)) u v.vstart ≡ true) typed legal)
       (under_type v.conf.vtype v.conf.vl k configured typed).1)
-  fits (Strided d width nf vd rs1 rs2 vm) is legal configured fields =
-      grouped_fits (operation d) width nf vd _ vm v t v.conf.vtype is fields
+  each_fits (Strided d width nf vd rs1 rs2 vm) legal configured =
+      grouped_fits (operation d) width nf vd _ vm v v.conf.vtype
       (λ k typed. strided_inside d width nf vd rs1 rs2 vm k v.vstart v.conf.vl
       (subst (λ u. is_legal (instr.Access (Strided d width nf vd rs1 rs2 vm)) u v.vstart ≡ true) typed legal)
       (under_type v.conf.vtype v.conf.vl k configured typed).1)
-  fits (Indexed d order width nf vd rs1 vs2 vm) is legal configured fields = absurd (cc)
-  fits (WholeLoad count width vd rs1) is legal configured fields =
-      subst (Fits v) (same_transfer _ t is)
-      (record {
-        room = whole_room _ count width vd (whole_load_inside count width vd rs1 v.conf.vtype v.vstart legal) refl;
-        count = whole_most count width;
-        length = λ h. absurd (cc);
-      })
-  fits (WholeStore count vd rs1) is legal configured fields =
-      subst (Fits v) (same_transfer _ t is)
-      (record {
-        room = whole_room _ count E8 vd (whole_store_inside count vd rs1 v.conf.vtype v.vstart legal) refl;
-        count = whole_most count E8;
-        length = λ h. absurd (cc);
-      })
-  fits (MaskAccess d vd rs1) is legal configured fields =
-      let below = configuration_below v.conf configured in
-      subst (Fits v) (same_transfer _ t is)
-      (record {
-        room = record { fields = omega arith; size = omega arith; inside = omega (arith, mask_inside d vd rs1 v.conf.vtype v.vstart legal); room = omega (arith, below) };
-        count = omega (arith, below);
-        length = λ h. not_first_only d h;
-      })
+  each_fits (Indexed d order width nf vd rs1 vs2 vm) legal configured = tt
+  each_fits (WholeLoad count width vd rs1) legal configured = λ fields. record {
+    room = whole_room _ count width vd (whole_load_inside count width vd rs1 v.conf.vtype v.vstart legal) refl;
+    count = whole_most count width;
+    length = λ h. absurd (cc);
+  }
+  each_fits (WholeStore count vd rs1) legal configured = λ fields. record {
+    room = whole_room _ count E8 vd (whole_store_inside count vd rs1 v.conf.vtype v.vstart legal) refl;
+    count = whole_most count E8;
+    length = λ h. absurd (cc);
+  }
+  each_fits (MaskAccess d vd rs1) legal configured = let below = configuration_below v.conf configured in λ fields. record {
+    room = record { fields = omega arith; size = omega arith; inside = omega (arith, mask_inside d vd rs1 v.conf.vtype v.vstart legal); room = omega (arith, below) };
+    count = omega (arith, below);
+    length = λ h. not_first_only d h;
+  }
 
-  pub access_is : (i : AccessInstr) → transfer_of i v x ≡ Some t
-      → is_legal (instr.Access i) v.conf.vtype v.vstart ≡ true → t.addresses.stride < 2 ^ 64 → access_of i v x ≡ Some (moved_by t v)
-  access_is (UnitStride op width nf vd rs1 vm) is legal h = grouped_is op width nf vd _ vm v t v.conf.vtype _ is (λ k. refl)
-  access_is (Strided d width nf vd rs1 rs2 vm) is legal h =
-      grouped_is (operation d) width nf vd _ vm v t v.conf.vtype _ is (λ k.
-      ap (λ f. segments d (access_type k width) nf vd vm f v)
-      (sym (strides (read_register x rs1) (read_register x rs2) (strided_below (operation d) width nf vd _ vm v t v.conf.vtype is h)))
+  each_moved : (i : AccessInstr) → is_legal (instr.Access i) v.conf.vtype v.vstart ≡ true → IsMoved i v (transfer_of i v x) (access_of i v x)
+  each_moved (UnitStride op width nf vd rs1 vm) legal = grouped_is op width nf vd _ vm v (UnitStride op width nf vd rs1 vm) v.conf.vtype _ (λ k small. refl)
+  each_moved (Strided d width nf vd rs1 rs2 vm) legal =
+      grouped_is (operation d) width nf vd _ vm v (Strided d width nf vd rs1 rs2 vm) v.conf.vtype _ (λ k small.
+      ap (λ f. segments d (access_type k width) nf vd vm f v) (sym (strides (read_register x rs1) (read_register x rs2) small))
       ∙ directed d (segments d (access_type k width) nf vd vm (λ i. (read_register x rs1 + i * read_register x rs2) % 2 ^ 64) v))
-  access_is (Indexed d order width nf vd rs1 vs2 vm) is legal h = absurd (cc)
-  access_is (WholeLoad count width vd rs1) is legal h = ap (λ y. Some (moved_by y v)) (same_transfer _ t is)
-  access_is (WholeStore count vd rs1) is legal h =
-      ap (λ n. Some (unmasked_access direction.Store n 1 (register_count count) vd rs1 v x)) (sym (store_length count))
-      ∙ ap (λ y. Some (moved_by y v)) (same_transfer _ t is)
-  access_is (MaskAccess d vd rs1) is legal h =
+  each_moved (Indexed d order width nf vd rs1 vs2 vm) legal = λ no. absurd (cc)
+  each_moved (WholeLoad count width vd rs1) legal = λ small. refl
+  each_moved (WholeStore count vd rs1) legal = λ small. ap (λ n. Some (unmasked_access direction.Store n 1 (register_count count) vd rs1 v x)) (sym (store_length count))
+  each_moved (MaskAccess d vd rs1) legal =
       let a = unmasked_access d (mask_length v.conf.vl) 1 1 vd rs1 v x in
-      mask_some d vd rs1 v.conf.vtype v.vstart a legal ∙ ap Some (directed d a) ∙ ap (λ y. Some (moved_by y v)) (same_transfer _ t is)
+      λ small. mask_some d vd rs1 v.conf.vtype v.vstart a legal ∙ ap Some (directed d a)
 
-  pub runs : (i : AccessInstr) (limit : ℕ) (fill : Bool) (m : Memory) → transfer_of i v x ≡ Some t
+  pub fits : (t : Transfer) (i : AccessInstr) → transfer_of i v x ≡ Some t → is_legal (instr.Access i) v.conf.vtype v.vstart ≡ true
+      → IsConfiguration v.conf → t.segments.fields ≤ 8 → Fits v t
+  fits t i is legal configured = subst (AreFit v) is (each_fits i legal configured)
+
+  pub access_is : (t : Transfer) (i : AccessInstr) → transfer_of i v x ≡ Some t
+      → is_legal (instr.Access i) v.conf.vtype v.vstart ≡ true → t.addresses.stride < 2 ^ 64 → access_of i v x ≡ Some (moved_by t v)
+  access_is t i is legal = subst (λ o. IsMoved i v o (access_of i v x)) is (each_moved i legal)
+
+  pub runs : (t : Transfer) (i : AccessInstr) (limit : ℕ) (fill : Bool) (m : Memory) → transfer_of i v x ≡ Some t
       → is_legal (instr.Access i) v.conf.vtype v.vstart ≡ true → t.addresses.stride < 2 ^ 64
       → access_run limit fill i v x m ≡ transfer_run limit fill t v m
   unfolding access_run
-  runs i limit fill m is legal h = ap (λ o. run_or_nothing limit fill o v m) (access_is i is legal h)
+  runs t i limit fill m is legal small = ap (λ o. run_or_nothing limit fill o v m) (access_is t i is legal small)
 
-pub access_none : (v : VState) (x : Scalar) (i : AccessInstr) → transfer_of i v x ≡ None → is_offset_access i ≡ false → access_of i v x ≡ None
-access_none v x (UnitStride op width nf vd rs1 vm) is h = grouped_none op width nf vd _ vm v v.conf.vtype _ is
-access_none v x (Strided d width nf vd rs1 rs2 vm) is h = grouped_none (operation d) width nf vd _ vm v v.conf.vtype _ is
-access_none v x _ is h = absurd (cc)
-
-pub transfers_nothing : (v : VState) (x : Scalar) (i : AccessInstr) (limit : ℕ) (fill : Bool) (m : Memory) → transfer_of i v x ≡ None
-    → is_offset_access i ≡ false → access_run limit fill i v x m ≡ runs_to Done (v.vstart + 1) v m
-unfolding access_run
-transfers_nothing v x i limit fill m is h = ap (λ o. run_or_nothing limit fill o v m) (access_none v x i is h)
+  pub transfers_nothing : (i : AccessInstr) (limit : ℕ) (fill : Bool) (m : Memory) → transfer_of i v x ≡ None
+      → is_legal (instr.Access i) v.conf.vtype v.vstart ≡ true → is_offset_access i ≡ false → access_run limit fill i v x m ≡ runs_to Done (v.vstart + 1) v m
+  unfolding access_run
+  transfers_nothing i limit fill m is legal strided =
+      ap (λ o. run_or_nothing limit fill o v m) (subst (λ o. IsMoved i v o (access_of i v x)) is (each_moved i legal) strided)

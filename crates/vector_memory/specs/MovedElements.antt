@@ -1,5 +1,5 @@
 -- The elements that a vector load or store moves between registers and memory ("V" Vector Extension 1.0, chapter 7).
-use Rattle.std.specs.Prelude.{ℕ, ◌-◌, false, List, map, Option, Some, None, if◌then◌else◌}
+use Rattle.std.specs.Prelude.{ℕ, ◌+◌, ◌-◌, false, List, map, Option, Some, None, if◌then◌else◌}
 use Rattle.std.specs.Simd.Lanes.{chunk}
 use Rattle.rv_model.specs.accesses.Transfers.{Transfer, address_of, transfers}
 use Rattle.rv_model.specs.accesses.VectorAccess.{VectorAccess, element_start, plan}
@@ -37,3 +37,9 @@ moved_elements v vl a =
 abbrev pub elements_before : Direction → Segments → Body → (ℕ → ℕ) → List ℕ → ℕ → List MovedElement
 elements_before d s body address file stop =
     map (element_of d (place_in s) file) (transfers (plan (segments_access s body address) false) body.start (stop - body.start))
+
+-- a viewer received these elements between two of its states, and used room for at most so many
+pub record HasSeen {V : Type 0} (saw : V → List MovedElement → V → Type 0) (has_room : V → ℕ → Type 0) (most : ℕ) (old : V)
+    (elements : List MovedElement) (new : V) : Type 0 where
+  pub seen : saw old elements new
+  pub left : (count : ℕ) → has_room old (count + most) → has_room new count

@@ -1,17 +1,18 @@
 -- Loads and stores of segments at offsets ("V" Vector Extension 1.0, sections 7.6 and 7.8).
-use Rattle.std.specs.Prelude.{ℕ, ◌+◌, ◌%◌, ◌^◌, Option, Some, None}
+use Rattle.std.specs.Prelude.{ℕ, ◌≡◌, ◌+◌, ◌%◌, ◌^◌, Option, Some, None}
 use Rattle.rv_model.specs.declared.instructions.access.AccessInstr.{AccessInstr}
 use Rattle.rv_model.specs.declared.instructions.access.AccessInstr.TheVariants.{Indexed}
+use Rattle.rv_model.specs.declared.instructions.operations.UnitOp.TheVariants as unit
 use Rattle.rv_model.specs.declared.scalar.Scalar.{Scalar}
 use Rattle.rv_model.specs.declared.vector.state.VState.{VState}
 use Rattle.rv_model.specs.declared.vector.types.VType.{VType}
 use Rattle.rv_model.specs.elements.Arithmetic.{body_of, group_element}
 use Rattle.rv_model.specs.accesses.VectorAccess.{VectorAccess}
-use Rattle.rv_model.specs.lending.GroupBounds.{emul}
+use Rattle.rv_model.specs.lending.GroupBounds.{HasRoom as GroupHasRoom, IsInside, emul}
 use Rattle.rv_model.specs.scalar.Registers.{read_register}
 use Rattle.rv_model.specs.vector.Groups.{element_width, group_type, registers, sew_bits, sew_width, width_bytes}
 use Rattle.vector_memory.specs.Distances.{operation}
-use Rattle.vector_memory.specs.SegmentRoom.{operation_access}
+use Rattle.vector_memory.specs.SegmentRoom.{HasRoom, operation_access}
 use Rattle.vector_memory.specs.declared.indexed.IndexedTransfer.{IndexedTransfer}
 
 -- the transfer that a load or store at offsets is, under a vector type
@@ -40,3 +41,10 @@ offset_addresses t v i = (t.base + group_element (record { width = sew_width (el
 -- what it moves
 abbrev pub moved_at : IndexedTransfer → VState → VectorAccess
 moved_at t v = operation_access t.op t.segments (body_of t.unmasked v) (offset_addresses t v)
+
+-- what the code asks of one: its segments and its offsets have room
+pub record OffsetsFit (v : VState) (t : IndexedTransfer) : Type 0 where
+  pub op : t.op ≡ unit.FaultOnlyFirst → ⊥
+  pub room : HasRoom t.segments v.conf.vl
+  pub inside : IsInside t.first t.emul
+  pub offsets : GroupHasRoom (sew_width (element_width t.width)) t.emul v.conf.vl

@@ -2,12 +2,9 @@
 ghost use Rattle.std.specs.Prelude.{◌≡◌, ◌+◌, ◌*◌, ◌%◌, ◌^◌, ℕ};
 ghost use Rattle.rv_model.specs.accesses.VectorAccess.{unit_direction};
 ghost use Rattle.rv_model.specs.elements.Arithmetic.{body_of, group_element};
-ghost use Rattle.rv_model.specs.lending.GroupBounds.{HasRoom as GroupHasRoom, IsInside};
-ghost use Rattle.rv_model.specs.vector.Groups.{element_width, sew_width};
 ghost use Rattle.vector_memory.specs.MovedElements.{elements_before};
-ghost use Rattle.vector_memory.specs.Offsets.{offset_addresses};
+ghost use Rattle.vector_memory.specs.Offsets.{OffsetsFit, offset_addresses};
 ghost use Rattle.vector_memory.specs.Runs.{RunLeaves, segments_run};
-ghost use Rattle.vector_memory.specs.SegmentRoom.{HasRoom};
 
 use crate::addresses::Indexed;
 use crate::moves::Moves;
@@ -43,10 +40,7 @@ impl IndexedTransfer {
         memory: &mut M,
         state: &mut VState,
     ) -> MemEnd
-        requires op { ¬ (self.now.op ≡ UnitOp.FaultOnlyFirst) }
-        requires room { HasRoom self.now.segments state.old.conf.vl }
-        requires inside { IsInside self.now.first self.now.emul }
-        requires offsets { GroupHasRoom (sew_width (element_width self.now.width)) self.now.emul state.old.conf.vl }
+        requires fits { OffsetsFit state.old self.now }
         ensures run { RunLeaves (segments_run self.now.op extent.limit extent.fill_masked_off self.now.segments
             (body_of self.now.unmasked state.old)
             (offset_addresses self.now state.old)
@@ -70,9 +64,7 @@ impl IndexedTransfer {
     /// Shows each element that it moves.
     #[inline(always)]
     pub(crate) fn show<V: Viewer>(&self, state: &VState, viewer: &mut V)
-        requires room { HasRoom self.now.segments state.now.conf.vl }
-        requires inside { IsInside self.now.first self.now.emul }
-        requires offsets { GroupHasRoom (sew_width (element_width self.now.width)) self.now.emul state.now.conf.vl }
+        requires fits { OffsetsFit state.now self.now }
         requires viewer { V.has_room viewer.old (8 * GROUP_BYTES) }
         ensures seen { V.saw viewer.old (elements_before (unit_direction self.now.op) self.now.segments
             (body_of self.now.unmasked state.now) (offset_addresses self.now state.now) state.now.file state.now.conf.vl)

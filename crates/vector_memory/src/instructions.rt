@@ -10,7 +10,7 @@ ghost use Rattle.rv_model.specs.vector.Groups.{IsConfiguration, element_width, s
 ghost use Rattle.vector_memory.specs.AccessKinds.{is_offset_access, is_segment_access};
 ghost use Rattle.vector_memory.specs.Distances.{grouped, operation, transfer_of, whole};
 ghost use Rattle.vector_memory.specs.MovedElements.{moved_elements};
-ghost use Rattle.vector_memory.specs.Offsets.{indexed_of};
+ghost use Rattle.vector_memory.specs.Offsets.{OffsetsFit, indexed_of, moved_at};
 ghost use Rattle.vector_memory.specs.Runs.{RunLeaves};
 
 use crate::addresses::Strided;
@@ -203,9 +203,18 @@ fn is_indexed(access: &AccessInstr) -> bool
 
 /// The transfer that a load or store at offsets is, under a vector type; its elements have the width that the type has.
 #[inline(always)]
-fn indexed_of(access: &AccessInstr, vtype: VType, scalar: &Scalar) -> Option<IndexedTransfer>
+fn indexed_of(
+    access: &AccessInstr,
+    vtype: VType,
+    state: &VState,
+    scalar: &Scalar,
+) -> Option<IndexedTransfer>
+    requires vtype { state.now.conf.vtype ≡ Some vtype }
+    requires length { state.now.conf.vl ≤ vlmax vtype }
+    requires legal { IsTrue (is_legal (Instr.Access access.now) (Some vtype) state.now.vstart) }
     ensures value { result ≡ indexed_of access.now vtype scalar.now }
-    ensures fields { IfSome result (λ t. t.segments.fields ≤ 8) }
+    ensures fits { IfSome result (OffsetsFit state.now) }
+    ensures moves { IfSome result (λ t. access_of access.now state.now scalar.now ≡ Some (moved_at t state.now)) }
 {
     match *access {
         AccessInstr::Indexed {
@@ -252,7 +261,7 @@ fn run_offsets<M: UserBytes>(
         result state.new (M.memory memory.new) }
     ensures others { memory.new ≡ M.with_memory memory.old (M.memory memory.new) }
 {
-    let Some(transfer) = indexed_of(access, vtype, scalar) else {
+    let Some(transfer) = indexed_of(access, vtype, state, scalar) else {
         return MemEnd::Done;
     };
     transfer.run_segments(extent, memory, state)
@@ -370,7 +379,7 @@ fn show_offsets<V: Viewer>(
         (option_map_or (moved_elements state.now left) (access_of access.now state.now scalar.now) []) viewer.new }
     ensures room { (count : ℕ) → V.has_room viewer.old (count + 8 * GROUP_BYTES) → V.has_room viewer.new count }
 {
-    let Some(transfer) = indexed_of(access, vtype, scalar) else {
+    let Some(transfer) = indexed_of(access, vtype, state, scalar) else {
         return;
     };
     transfer.show(state, viewer);

@@ -2,7 +2,7 @@
 ghost use Rattle.std.specs.Prelude.{◌≡◌, ◌+◌, ◌*◌, ◌-◌, ◌≤◌, ◌<◌, ◌++◌, ◌∷◌, [], ℕ, List, length, map};
 ghost use Rattle.rv_model.specs.accesses.VectorAccess.{unit_direction};
 ghost use Rattle.rv_model.specs.declared.vector.sizes.TheConstants.{GROUP_BYTES};
-ghost use Rattle.vector_memory.specs.MovedElements.{MovedElement, element_of, elements_before, moved_element};
+ghost use Rattle.vector_memory.specs.MovedElements.{HasSeen, MovedElement, element_of, elements_before, moved_element};
 ghost use Rattle.vector_memory.specs.SegmentRoom.{HasRoom, place_in, segment_transfers};
 
 use crate::addresses::Addresses;
@@ -19,8 +19,8 @@ pub trait Viewer {
     // Whether the viewer has room for a number of elements.
     ghost has_room: { Self → ℕ → Type 0 };
 
-    /// Receives an element: whether it is loaded or stored, its address, and its 1 to 8 bytes in the registers, which a
-    /// load is about to replace.
+    /// Receives an element: whether it is loaded or stored, its address, and its bytes in the registers before the
+    /// instruction, at most 8.
     fn see(&mut self, direction: Direction, address: u64, bytes: &[u8])
         requires size { length bytes.now ≤ 8 }
         requires room { has_room self.old 1 }
@@ -61,9 +61,8 @@ impl Segments {
     )
         requires room { HasRoom self.now (index + 1) }
         requires viewer { V.has_room viewer.old self.now.fields }
-        ensures seen { V.saw viewer.old
+        ensures { HasSeen V.saw V.has_room self.now.fields viewer.old
             (map (element_of direction (place_in self.now) file.now) (segment_transfers self.now index address)) viewer.new }
-        ensures left { (count : ℕ) → V.has_room viewer.old (count + self.now.fields) → V.has_room viewer.new count }
     {
         for field in 0..self.fields {
             let at = self.place(index, field);
@@ -78,9 +77,8 @@ impl<A: Addresses> Moves<'_, A> {
     #[inline(always)]
     pub(crate) fn show<V: Viewer>(&self, op: UnitOp, file: &VFile, viewer: &mut V)
         requires { V.has_room viewer.old (8 * GROUP_BYTES) }
-        ensures seen { V.saw viewer.old (elements_before (unit_direction op) self.now.segments self.now.body
-            (A.address self.now.addresses) file.now self.now.body.end) viewer.new }
-        ensures left { (count : ℕ) → V.has_room viewer.old (count + 8 * GROUP_BYTES) → V.has_room viewer.new count }
+        ensures { HasSeen V.saw V.has_room (8 * GROUP_BYTES) viewer.old (elements_before (unit_direction op)
+            self.now.segments self.now.body (A.address self.now.addresses) file.now self.now.body.end) viewer.new }
     {
         let direction = unit_direction(op);
         for index in self.body.start()..self.body.end() {

@@ -23,7 +23,7 @@ use Rattle.rv_model.proofs.memory_lemmas.Memory.{length-bytes_at}
 abbrev pub Beside : ℕ → ℕ → ℕ → Type 0
 Beside b at size = (b < at) ⊎ (at + size ≤ b)
 
-abbrev Misses : (Transfer → ℕ) → ℕ → Transfer → Type 0
+abbrev pub Misses : (Transfer → ℕ) → ℕ → Transfer → Type 0
 Misses place b t = Beside b (place t) t.size
 
 pub put_beside : (file : List ℕ) (at : ℕ) (bytes : List ℕ) (b : ℕ) → Beside b at (length bytes) → get_or (put_chunk at file bytes) b 0 ≡ get_or file b 0
@@ -95,19 +95,23 @@ element_place a field i = VLENB * (a.register + field * a.field_registers) + i *
 abbrev pub loaded_to : Memory → VectorAccess → Bool → List ℕ → ℕ → List ℕ
 loaded_to m a fill file stop = registers_loaded m (element_start a) file (transfers (plan a fill) a.body.start (stop - a.body.start))
 
+-- the transfers up to an index miss a byte that their elements miss
+pub all_missed : (a : VectorAccess) (fill : Bool) (stop b : ℕ) → ((field i : ℕ) → field < a.fields → i < stop → Beside b (element_place a field i) a.size)
+    → AllByRecursion (Misses (element_start a) b) (transfers (plan a fill) a.body.start (stop - a.body.start))
+all_missed a fill stop b beside =
+    all_transfers (Misses (element_start a) b) (plan a fill) a.body.start (stop - a.body.start)
+    (λ i low high. all_planned (Misses (element_start a) b) a fill i (λ t is. of t i is (omega (arith, low, high))))
+  where
+    of : (t : Transfer) (i : ℕ) → IsOf i a.size a.fields t → i < stop → Misses (element_start a) b t
+    of t i is l =
+        let at : element_start a t ≡ element_place a t.field i = ap (λ (n : ℕ). VLENB * (a.register + t.field * a.field_registers) + n * a.size) is.0 in
+        let size : t.size ≡ a.size = is.2 in
+        elim (beside t.field i is.1 l) [ inl below ↦ inl (omega (arith, at, below)) | inr above ↦ inr (omega (arith, at, above, size)) ]
+
 module _ (m : Memory) (a : VectorAccess) (fill : Bool) (file : List ℕ) (stop : ℕ) where
   pub byte_kept : (b : ℕ) → ((field i : ℕ) → field < a.fields → i < stop → Beside b (element_place a field i) a.size)
       → get_or (loaded_to m a fill file stop) b 0 ≡ get_or file b 0
-  byte_kept b beside =
-      missed m (element_start a) b (transfers (plan a fill) a.body.start (stop - a.body.start)) file
-      (all_transfers (Misses (element_start a) b) (plan a fill) a.body.start (stop - a.body.start)
-      (λ i low high. all_planned (Misses (element_start a) b) a fill i (λ t is. of t i is (omega (arith, low, high)))))
-    where
-      of : (t : Transfer) (i : ℕ) → IsOf i a.size a.fields t → i < stop → Misses (element_start a) b t
-      of t i is l =
-          let at : element_start a t ≡ element_place a t.field i = ap (λ (n : ℕ). VLENB * (a.register + t.field * a.field_registers) + n * a.size) is.0 in
-          let size : t.size ≡ a.size = is.2 in
-          elim (beside t.field i is.1 l) [ inl below ↦ inl (omega (arith, at, below)) | inr above ↦ inr (omega (arith, at, above, size)) ]
+  byte_kept b beside = missed m (element_start a) b _ file (all_missed a fill stop b beside)
 
   pub length_kept : length (loaded_to m a fill file stop) ≡ length file
   length_kept = length-loaded m (element_start a) (transfers (plan a fill) a.body.start (stop - a.body.start)) file

@@ -25,7 +25,7 @@ byte_of_own x h =
     rw (one_bit (x / 1), one_bit (x / 2), one_bit (x / 4), one_bit (x / 8), one_bit (x / 16), one_bit (x / 32), one_bit (x / 64), one_bit (x / 128))
     (omega (arith, h))
 
-mask_bit_in : (bytes : List ℕ) (q j : ℕ) → j < 8 → mask_bit bytes (8 * q + j) ≡ (get_or bytes q 0 / 2 ^ j % 2 == 1)
+pub mask_bit_in : (bytes : List ℕ) (q j : ℕ) → j < 8 → mask_bit bytes (8 * q + j) ≡ (get_or bytes q 0 / 2 ^ j % 2 == 1)
 mask_bit_in bytes q j h =
     let at : (8 * q + j) / 8 ≡ q = omega (arith, h) in
     let shift : (8 * q + j) % 8 ≡ j = omega (arith, h) in

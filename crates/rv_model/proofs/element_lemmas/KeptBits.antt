@@ -1,5 +1,5 @@
 -- Bits of the register file that a write of elements, or of bits, doesn't change.
-use Rattle.std.proofs.Common.{◌≡◌, ◌∙◌, ◌⊎◌, inl, inr, ap, refl, sym, ℕ, zero, suc, ◌+◌, ◌-◌, ◌*◌, ◌/◌, ◌%◌, ◌^◌, ◌==◌, ◌<◌, ◌≤◌, Bool, true, false, cond, List, length, get_or, drop, arith, length-drop, zero-add}
+use Rattle.std.proofs.Common.{◌≡◌, ◌∙◌, ◌⊎◌, inl, inr, ap, refl, subst, sym, ℕ, suc, ◌+◌, ◌-◌, ◌*◌, ◌/◌, ◌%◌, ◌^◌, ◌==◌, ◌<◌, ◌≤◌, Bool, true, false, cond, List, length, get_or, drop, arith, length-drop, zero-add}
 use Rattle.std.specs.Int.{from_bool}
 use Rattle.std.proofs.lemmas.Bool.{cases_lt}
 use Rattle.std.proofs.lemmas.List.{length-take}
@@ -11,6 +11,7 @@ use Rattle.std.specs.Simd.Lanes.{put_chunk}
 use Rattle.rv_model.specs.elements.Elements.{bit_or, byte_of_bits, byte_or, byte_with_bits, mask_bit, written, written_bits}
 use Rattle.rv_model.specs.lending.Writes.{Writes}
 use Rattle.rv_model.specs.vector.Groups.{GroupType, group_of, registers, width_bytes, with_group}
+use Rattle.rv_model.proofs.element_lemmas.Bits.{mask_bit_in}
 use Rattle.rv_model.proofs.element_lemmas.Widths.{bytes_positive, whole_bytes}
 use Rattle.rv_model.proofs.element_lemmas.Writes.{written_are}
 
@@ -27,20 +28,22 @@ group_length file vd emul long =
     (omega (arith, whole), omega (arith, whole, rest))
 
 module _ (file bytes : List ℕ) (vd emul : ℕ) (long : length file ≡ 1024) (size : length bytes ≡ length (group_of file vd emul)) where
-  by_bytes : (byte : ℕ) → (32 * vd ≤ byte → byte - 32 * vd < length (group_of file vd emul) → get_or bytes (byte - 32 * vd) 0 ≡ get_or (group_of file vd emul) (byte - 32 * vd) 0)
-      → get_or (with_group file vd bytes) byte 0 ≡ get_or file byte 0
-  by_bytes byte kept = let place : ℕ = byte - 32 * vd in elim (cases_lt byte (32 * vd)) [
-    | inl below ↦ get_or-put_chunk_below (32 * vd) file bytes byte 0 below
+  -- a property of the byte at a place holds after the write if it holds before, and the write keeps it in the group
+  by_place : (P : ℕ → Type 0) (byte : ℕ) → P (get_or file byte 0)
+      → (32 * vd ≤ byte → byte - 32 * vd < length (group_of file vd emul) → P (get_or (group_of file vd emul) (byte - 32 * vd) 0) → P (get_or bytes (byte - 32 * vd) 0))
+      → P (get_or (with_group file vd bytes) byte 0)
+  by_place P byte old kept = let place : ℕ = byte - 32 * vd in elim (cases_lt byte (32 * vd)) [
+    | inl below ↦ subst P (sym (get_or-put_chunk_below (32 * vd) file bytes byte 0 below)) old
     | inr from ↦ elim (cases_lt place (length (group_of file vd emul))) [
-      | inr past ↦ get_or-put_chunk_above (32 * vd) file bytes byte 0 (omega (arith, from, past, size))
+      | inr past ↦ subst P (sym (get_or-put_chunk_above (32 * vd) file bytes byte 0 (omega (arith, from, past, size)))) old
       | inl inside ↦
           let lengths = group_length file vd emul long in
           let at : 32 * vd + place ≡ byte = omega (arith, from) in
           let small : place < 32 * registers emul = omega (arith, inside, lengths.0) in
           let put : get_or (put_chunk (32 * vd) file bytes) (32 * vd + place) 0 ≡ get_or bytes place 0 =
           get_or-put_chunk_at (32 * vd) file bytes place 0 (omega (arith, inside, size)) (omega (arith, inside, size, lengths.1, long)) in
-          ap (λ (m : ℕ). get_or (put_chunk (32 * vd) file bytes) m 0) (sym at) ∙ put ∙ kept from inside
-          ∙ get_or-chunk (32 * vd) (32 * registers emul) file place 0 small ∙ ap (λ (m : ℕ). get_or file m 0) at
+          subst P (sym put ∙ ap (λ (m : ℕ). get_or (put_chunk (32 * vd) file bytes) m 0) at)
+          (kept from inside (subst P (sym (get_or-chunk (32 * vd) (32 * registers emul) file place 0 small ∙ ap (λ (m : ℕ). get_or file m 0) at)) old))
     ]
   ]
 
@@ -71,11 +74,11 @@ bytes_kept file g vd changed number byte long unchanged =
     let k : ℕ = width_bytes g.width in
     let group : List ℕ = group_of file vd g.emul in
     let w : Writes k changed number group (written k changed number group) = written_are k changed number group (bytes_positive g.width) in
-    by_bytes file (written k changed number group) vd g.emul long w.same_length byte (λ from inside.
+    by_place file (written k changed number group) vd g.emul long w.same_length (λ (b : ℕ). b ≡ get_or file byte 0) byte refl (λ from inside old.
     let j : ℕ = byte - 32 * vd in
     let e : k * (j / k) + j % k ≡ j = div-add-mod j k in
     sym (ap (λ (m : ℕ). get_or (written k changed number group) m 0) e) ∙ w.bytes (j / k) (j % k) (mod-lt j (bytes_positive g.width)) (omega (arith, e, inside))
-    ∙ (ap (λ (b : Bool). byte_or (λ (x : ℕ). b) number group k (j / k) (j % k)) (unchanged from inside) ∙ ap (λ (m : ℕ). get_or group m 0) e))
+    ∙ (ap (λ (b : Bool). byte_or (λ (x : ℕ). b) number group k (j / k) (j % k)) (unchanged from inside) ∙ ap (λ (m : ℕ). get_or group m 0) e) ∙ old)
 
 pub elements_kept : (file : List ℕ) (g : GroupType) (vd count : ℕ) (changed : ℕ → Bool) (number : ℕ → ℕ) (n : ℕ) → length file ≡ 1024 → registers g.emul ≤ count
     → Unchanged vd count (bits g.width) changed n
@@ -100,15 +103,8 @@ is_one false = refl
 module _ (f : ℕ → Bool) where
   bit_by : from_bool (f 0) ≤ 1 → from_bool (f 1) ≤ 1 → from_bool (f 2) ≤ 1 → from_bool (f 3) ≤ 1 → from_bool (f 4) ≤ 1 → from_bool (f 5) ≤ 1
       → from_bool (f 6) ≤ 1 → from_bool (f 7) ≤ 1 → (r : ℕ) → r < 8 → byte_of_bits f / 2 ^ r % 2 ≡ from_bool (f r)
-  bit_by h0 h1 h2 h3 h4 h5 h6 h7 zero h = omega (arith, h0, h1, h2, h3, h4, h5, h6, h7)
-  bit_by h0 h1 h2 h3 h4 h5 h6 h7 (suc zero) h = omega (arith, h0, h1, h2, h3, h4, h5, h6, h7)
-  bit_by h0 h1 h2 h3 h4 h5 h6 h7 (suc (suc zero)) h = omega (arith, h0, h1, h2, h3, h4, h5, h6, h7)
-  bit_by h0 h1 h2 h3 h4 h5 h6 h7 (suc (suc (suc zero))) h = omega (arith, h0, h1, h2, h3, h4, h5, h6, h7)
-  bit_by h0 h1 h2 h3 h4 h5 h6 h7 (suc (suc (suc (suc zero)))) h = omega (arith, h0, h1, h2, h3, h4, h5, h6, h7)
-  bit_by h0 h1 h2 h3 h4 h5 h6 h7 (suc (suc (suc (suc (suc zero))))) h = omega (arith, h0, h1, h2, h3, h4, h5, h6, h7)
-  bit_by h0 h1 h2 h3 h4 h5 h6 h7 (suc (suc (suc (suc (suc (suc zero)))))) h = omega (arith, h0, h1, h2, h3, h4, h5, h6, h7)
-  bit_by h0 h1 h2 h3 h4 h5 h6 h7 (suc (suc (suc (suc (suc (suc (suc zero))))))) h = omega (arith, h0, h1, h2, h3, h4, h5, h6, h7)
   bit_by h0 h1 h2 h3 h4 h5 h6 h7 (suc (suc (suc (suc (suc (suc (suc (suc r)))))))) h = absurd (omega (arith, h))
+  bit_by h0 h1 h2 h3 h4 h5 h6 h7 _ h = omega (arith, h0, h1, h2, h3, h4, h5, h6, h7)
 
   bit_is : (r : ℕ) → r < 8 → (byte_of_bits f / 2 ^ r % 2 == 1) ≡ f r
   bit_is r h =
@@ -125,29 +121,12 @@ bits_kept file vd count changed bit n long fits unchanged =
     let lengths = group_length file vd 8 long in
     let q : ℕ = n / 8 in
     let r : ℕ = n % 8 in
-    elim (cases_lt q (32 * vd)) [
-      | inl below ↦ same_bit (with_group file vd new) file n (get_or-put_chunk_below (32 * vd) file new q 0 below)
-      | inr from ↦ elim (cases_lt (q - 32 * vd) (length group)) [
-        | inr past ↦ same_bit (with_group file vd new) file n (get_or-put_chunk_above (32 * vd) file new q 0 (omega (arith, from, past, size)))
-        | inl inside ↦
-            let j : ℕ = q - 32 * vd in
-            let at : 32 * vd + j ≡ q = omega (arith, from) in
-            let small : j < 32 = omega (arith, inside, lengths.0) in
-            let low : r < 8 = omega arith in
-            let place : (n - 256 * vd) / 1 ≡ 8 * j + r = omega (arith, from) in
-            let here : changed (8 * j + r) ≡ false =
-            sym (ap changed place) ∙ unchanged (omega (arith, from)) (omega (arith, from, inside, lengths.0, fits)) in
-            let put : get_or (with_group file vd new) q 0 ≡ f j =
-            ap (λ (m : ℕ). get_or (put_chunk (32 * vd) file new) m 0) (sym at)
-            ∙ get_or-put_chunk_at (32 * vd) file new j 0 (omega (arith, inside, size)) (omega (arith, inside, size, lengths.1, long))
-            ∙ get_or-map-range_with_len f 0 (length group) j j 0 inside (zero-add j) in
-            let old : get_or group j 0 ≡ get_or file q 0 = get_or-chunk (32 * vd) 32 file j 0 small ∙ ap (λ (m : ℕ). get_or file m 0) at in
-            let quotient : (8 * j + r) / 8 ≡ j = omega (arith, low) in
-            let rest : (8 * j + r) % 8 ≡ r = omega (arith, low) in
-            ap (λ (b : ℕ). b / 2 ^ r % 2 == 1) put ∙ bit_is (λ i. bit_or changed bit group (8 * j + i)) r low
-            ∙ ap (λ (b : Bool). cond b (bit (8 * j + r)) (mask_bit group (8 * j + r))) here
-            ∙ ap (λ (k : ℕ). get_or group k 0 / 2 ^ ((8 * j + r) % 8) % 2 == 1) quotient
-            ∙ ap (λ (k : ℕ). get_or group j 0 / 2 ^ k % 2 == 1) rest
-            ∙ ap (λ (b : ℕ). b / 2 ^ r % 2 == 1) old
-      ]
-    ]
+    by_place file new vd 8 long size (λ (b : ℕ). (b / 2 ^ r % 2 == 1) ≡ mask_bit file n) q refl (λ from inside old.
+    let j : ℕ = q - 32 * vd in
+    let low : r < 8 = omega arith in
+    let place : (n - 256 * vd) / 1 ≡ 8 * j + r = omega (arith, from) in
+    let here : changed (8 * j + r) ≡ false =
+    sym (ap changed place) ∙ unchanged (omega (arith, from)) (omega (arith, from, inside, lengths.0, fits)) in
+    let put : get_or new j 0 ≡ f j = get_or-map-range_with_len f 0 (length group) j j 0 inside (zero-add j) in
+    ap (λ (b : ℕ). b / 2 ^ r % 2 == 1) put ∙ bit_is (λ i. bit_or changed bit group (8 * j + i)) r low
+    ∙ ap (λ (b : Bool). cond b (bit (8 * j + r)) (mask_bit group (8 * j + r))) here ∙ mask_bit_in group j r low ∙ old)

@@ -55,10 +55,7 @@ extends_sign E64 n h = extended n (2 ^ 64) h (lit≤ tt) (nat_lt n (2 ^ 63))
 -- twice the positive half is the whole
 pub half : (w : Width) → 2 ^ hbits w + 2 ^ hbits w ≡ 2 ^ bits w
 half w8 = refl
-half w16 = refl
-half w32 = refl
-half w64 = refl
-half w128 = refl
+half _ = refl
 
 pub half_positive : (w : Width) → 0 < 2 ^ hbits w
 half_positive w = omega (arith, half w, power_positive w)
@@ -66,11 +63,8 @@ half_positive w = omega (arith, half w, power_positive w)
 -- ---- numbers of 128 bits
 
 narrowed : (w : Width) → bits w ≤ 64 → (x : ℕ) → x % 2 ^ 64 % 2 ^ bits w ≡ x % 2 ^ bits w
-narrowed w8 h x = omega arith
-narrowed w16 h x = omega arith
-narrowed w32 h x = omega arith
-narrowed w64 h x = omega arith
 narrowed w128 h x = absurd (omega (arith, h))
+narrowed _ h x = omega arith
 
 -- the low bits of the low half of a signed number are what is left of it
 pub low_bits_of_half : (w : Width) → bits w ≤ 64 → (z : ℤ) → mag z < 2 ^ 127 → cast_unsigned w128 z % 2 ^ 64 % 2 ^ bits w ≡ wrap w z

@@ -59,11 +59,9 @@ first_result_is width vd policy t body result file =
   where
     same_set : (p a some : Bool) (e : ℕ) → (some && (eqb e 0 || (p && (a && some)))) ≡ one_changes p a some e
     same_set true true true e = grind (arith, nat_tests)
-    same_set true false true e = grind (arith, nat_tests)
-    same_set false a true e = grind (arith, nat_tests)
-    same_set true true false e = grind (arith, nat_tests)
-    same_set true false false e = grind (arith, nat_tests)
-    same_set false a false e = grind (arith, nat_tests)
+    same_set _ true true e = grind (arith, nat_tests)
+    same_set _ _ true e = grind (arith, nat_tests)
+    same_set _ _ _ e = grind (arith, nat_tests)
 
     none : (e : ℕ) → in_range 0 0 e ≡ false
     none e = grind (arith, nat_tests)
@@ -75,8 +73,7 @@ first_result_is width vd policy t body result file =
         → cond (eqb e 0) result (ones width) ≡ cond (in_range 0 (from_bool some) e && true) result (ones width)
     same_number p a true e h = ap (λ b. cond b result (ones width)) (same_first e)
     same_number true true false e h = let no : false ≡ true = rw (none e) at h in absurd (cc)
-    same_number true false false e h = let no : false ≡ true = rw (none e) at h in absurd (cc)
-    same_number false a false e h = let no : false ≡ true = rw (none e) at h in absurd (cc)
+    same_number _ _ _ e h = let no : false ≡ true = rw (none e) at h in absurd (cc)
 
 -- a loop over the fields
 pub no_tail_filled : (g : GroupType) (vd vl : ℕ) (file : List ℕ) → tails_filled g vd 0 vl file ≡ file

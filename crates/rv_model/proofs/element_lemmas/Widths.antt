@@ -1,6 +1,6 @@
 -- The widths of elements in bits and in bytes.
 use Rattle.std.proofs.Common.{◌≡◌, ℕ, ◌*◌, ◌/◌, ◌^◌, ◌<◌, arith, refl, lit<}
-use Rattle.std.specs.Int.{Width, w8, w16, w32, w64, w128}
+use Rattle.std.specs.Int.{Width, w8}
 use mir.Val.{bits}
 use Rattle.rv_model.specs.declared.vector.sizes.TheConstants.{VLEN, VLENB}
 use Rattle.rv_model.specs.declared.vector.types.Sew.{Sew}
@@ -11,26 +11,17 @@ use Rattle.rv_model.specs.vector.Groups.{lmul_eighths, sew_bits, vlmax, width_by
 -- an element has at least one byte
 pub bytes_positive : (w : Width) → 0 < width_bytes w
 bytes_positive w8 = lit< tt
-bytes_positive w16 = lit< tt
-bytes_positive w32 = lit< tt
-bytes_positive w64 = lit< tt
-bytes_positive w128 = lit< tt
+bytes_positive _ = lit< tt
 
 -- it has whole bytes
 pub whole_bytes : (w : Width) → bits w ≡ 8 * width_bytes w
 whole_bytes w8 = refl
-whole_bytes w16 = refl
-whole_bytes w32 = refl
-whole_bytes w64 = refl
-whole_bytes w128 = refl
+whole_bytes _ = refl
 
 -- 2 to it is at least one
 pub power_positive : (w : Width) → 0 < 2 ^ bits w
 power_positive w8 = lit< tt
-power_positive w16 = lit< tt
-power_positive w32 = lit< tt
-power_positive w64 = lit< tt
-power_positive w128 = lit< tt
+power_positive _ = lit< tt
 
 -- as many elements, by the bytes of a register
 elements_by_bytes : (s : Sew) (n : ℕ) → n * VLENB / sew_bits s ≡ n * VLEN / (8 * sew_bits s)

@@ -176,7 +176,7 @@ module _ (limit : ℕ) (i : AccessInstr) (a : VectorAccess) (s : HartState) (lon
 
 -- ---- steps
 
-access_keeps : (limit : ℕ) (i : AccessInstr) (o : Option VectorAccess) (s : HartState) → length s.vector.file ≡ 1024 → AccessKeeps i o s (access_step limit i o s).state.vector.file (access_step limit i o s).state.memory
+pub access_keeps : (limit : ℕ) (i : AccessInstr) (o : Option VectorAccess) (s : HartState) → length s.vector.file ≡ 1024 → AccessKeeps i o s (access_step limit i o s).state.vector.file (access_step limit i o s).state.memory
 access_keeps limit i None s long = record { registers = refl; memory = refl }
 access_keeps limit i (Some a) s long = direction_keeps limit i a s long a.direction refl
 

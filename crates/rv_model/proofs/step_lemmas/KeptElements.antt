@@ -9,9 +9,9 @@ use Rattle.std.specs.Prelude.{[]}
 use Rattle.rv_model.specs.declared.instructions.instruction.Instr.TheVariants as instr
 use Rattle.rv_model.specs.declared.instructions.operations.MaskUnaryOp.TheVariants.{Scan, Viota}
 use Rattle.rv_model.specs.declared.instructions.operations.PermuteOp.{PermuteOp}
-use Rattle.rv_model.specs.declared.instructions.operations.PermuteOp.TheVariants.{Vrgatherei16, Vslidedown, Vslide1down, Vslideup}
+use Rattle.rv_model.specs.declared.instructions.operations.PermuteOp.TheVariants.{Vslideup}
 use Rattle.rv_model.specs.declared.instructions.operations.VectorOp.{VectorOp}
-use Rattle.rv_model.specs.declared.instructions.operations.VectorOp.TheVariants.{Binary, CarryOut, Compare, FixedPoint, NarrowShift, Clip, Widen, WideSource, MultiplyAdd, WidenMultiplyAdd, Reduce, WidenReduce, Permute}
+use Rattle.rv_model.specs.declared.instructions.operations.VectorOp.TheVariants.{CarryOut, Compare, Widen, WideSource, WidenMultiplyAdd, Reduce, WidenReduce, Permute}
 use Rattle.rv_model.specs.declared.instructions.source.Source.{Source}
 use Rattle.rv_model.specs.declared.instructions.vector.VectorInstr.{VectorInstr}
 use Rattle.rv_model.specs.declared.instructions.vector.VectorInstr.TheVariants.{Arith, Carry, Move, WholeMove, MaskLogic, Compress, Extend, MaskToScalar, MaskUnary, ElementIndex, MoveToVector}
@@ -146,26 +146,19 @@ module _ (s : HartState) (long : length s.vector.file ≡ 1024) where
       fewer_results (group_type t) vd _ b (permute_body Vslideup source s.scalar b) (fills_masked_off s.policy t b) (fills_tail s.policy t b) _ (omega arith)
       (λ e. less (in_body (permute_body Vslideup source s.scalar b) e) (in_body b e) (is_enabled b e) (fills_masked_off s.policy t b) (fills_tail s.policy t b && nat_le b.end e)
       (later b.start _ b.end e))
-  permute_stays t Vrgatherei16 source vd vs2 vm b = results (group_type t) vd _ b _ _ _ (omega arith)
-  permute_stays t Vslidedown source vd vs2 vm b = results (group_type t) vd _ b _ _ _ (omega arith)
-  permute_stays t Vslide1down source vd vs2 vm b = results (group_type t) vd _ b _ _ _ (omega arith)
   permute_stays t _ source vd vs2 vm b = results (group_type t) vd _ b _ _ _ (omega arith)
 
   arith_stays : (t : VType) (op : VectorOp) (source : Source) (vd vs2 : ℕ) (vm : Bool) (b : Body) → ArithStays t op source vd vs2 vm b
   unfolding shape_operands
-  arith_stays t (Binary op) source vd vs2 vm b = results (group_type t) vd _ b _ _ _ (omega arith)
-  arith_stays t (MultiplyAdd op) source vd vs2 vm b = results (group_type t) vd _ b _ _ _ (omega arith)
   arith_stays t (Compare op) source vd vs2 vm b = bits_of vd _ b _ (omega arith)
   arith_stays t (CarryOut op) source vd vs2 vm b = bits_of vd _ b _ (omega arith)
   arith_stays t (Widen op) source vd vs2 vm b = results (wide_type t) vd _ b _ _ _ (omega arith)
   arith_stays t (WideSource op) source vd vs2 vm b = results (wide_type t) vd _ b _ _ _ (omega arith)
   arith_stays t (WidenMultiplyAdd op) source vd vs2 vm b = results (wide_type t) vd _ b _ _ _ (omega arith)
-  arith_stays t (NarrowShift op) source vd vs2 vm b = results (group_type t) vd _ b _ _ _ (omega arith)
-  arith_stays t (FixedPoint op) source vd vs2 vm b = results (group_type t) vd _ b _ _ _ (omega arith)
-  arith_stays t (Clip op) source vd vs2 vm b = results (group_type t) vd _ b _ _ _ (omega arith)
   arith_stays t (Reduce op) source vd vs2 vm b = first _ vd _ b _ _ (omega arith)
   arith_stays t (WidenReduce op) source vd vs2 vm b = first _ vd _ b _ _ (omega arith)
   arith_stays t (Permute op) source vd vs2 vm b = permute_stays t op source vd vs2 vm b
+  arith_stays t _ source vd vs2 vm b = results (group_type t) vd _ b _ _ _ (omega arith)
 
   typed_stays : (i : VectorInstr) (t : VType) (b : Body)
       → Unless (written_of (option_map_or (λ os. os) (operands (instr.Vector i) (Some t)) [])) (changes i t s.policy b) (typed_over i b t s).state.vector.file

@@ -1,5 +1,5 @@
 use Rattle.std.proofs.Common.{ap, arith, refl, rules, sym, ◌≡◌, ◌∙◌}
-use Rattle.std.specs.Prelude.{None, Some}
+use Rattle.std.specs.Prelude.{None}
 use Rattle.rv_model.specs.commands.Arguments.{address as address_of, permissions as permissions_of}
 use Rattle.vec_recorder.proofs.MemoryWordLaws.{divided_once, divided_twice, no_address, no_permissions, undivided}
 use Rattle.vec_recorder.proofs.memory_words.memory_path.Goals as goal

@@ -14,7 +14,7 @@ returns-in_default-transfer_of-clause-run g c =
     let a = c.args in
     leaves _
     (transfers_nothing a.state.now a.scalar.now a.access.now a.extent.limit a.extent.fill_masked_off (g.M.UserBytes.memory a.memory.now)
-    (sym c.transfer_of.ensures.value ∙ c.in_default-transfer_of.is) (sym c.is_indexed.ensures ∙ c.if-is_indexed.false))
+    (sym c.transfer_of.ensures.value ∙ c.in_default-transfer_of.is) c.requires.legal (sym c.is_indexed.ensures ∙ c.if-is_indexed.false))
 
 pub returns-clause-run : goal.returns-clause-run
 returns-clause-run g c =

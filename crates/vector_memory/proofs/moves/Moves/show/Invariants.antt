@@ -1,6 +1,6 @@
-use Rattle.std.proofs.Common.{◌+◌, ◌-◌, ◌*◌, ◌≤◌, ℕ, max}
+use Rattle.std.proofs.Common.{◌-◌, ◌*◌, ◌≤◌, max}
 use Rattle.rv_model.specs.accesses.VectorAccess.{unit_direction}
-use Rattle.vector_memory.specs.MovedElements.{elements_before}
+use Rattle.vector_memory.specs.MovedElements.{HasSeen, elements_before}
 use Rattle.vector_memory.proofs.moves.Moves.show.Given as goal
 
 abbrev pub invariant-loop-index : goal.invariant-loop-index
@@ -9,6 +9,6 @@ invariant-loop-index g l =
     record {
       low : m.body.start ≤ l.index;
       high : l.index ≤ max m.body.start m.body.end;
-      seen : g.V.Viewer.saw l.fn.viewer (elements_before (unit_direction l.fn.op) m.segments m.body (g.A.Addresses.address m.addresses) l.file l.index) l.viewer;
-      left : (count : ℕ) → g.V.Viewer.has_room l.fn.viewer (count + 8 * (l.index - m.body.start)) → g.V.Viewer.has_room l.viewer count;
+      shown : HasSeen g.V.Viewer.saw g.V.Viewer.has_room (8 * (l.index - m.body.start)) l.fn.viewer
+          (elements_before (unit_direction l.fn.op) m.segments m.body (g.A.Addresses.address m.addresses) l.file l.index) l.viewer;
     }
