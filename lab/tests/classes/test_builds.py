@@ -11,7 +11,7 @@ import pytest
 
 from support.class_tabs import Served, Tab, served
 from support.left_out import NO_SANDBOX, leave_out
-from support.places import EXAMPLES
+from support.places import DATA, EXAMPLES
 from vecmon_lab import LabError
 from vecmon_lab.classes.builds import Builds
 from vecmon_lab.compilers.sandbox import sandboxed_compiler
@@ -109,7 +109,7 @@ async def test_a_stock_assembler(tmp_path: pathlib.Path, builds: Builds) -> None
         assert "error" not in await tab.ask("again") and len(tab.view["state"]["starts"]) == 4
         assert tab.view["against"] == []
         told = await tab.ask("listings", text=EMPTY, language=C, other=0)
-        assert "by options that the page has" in told["error"]
+        assert "options from the page's list" in told["error"]
 
 
 LOOPS = """\
@@ -135,7 +135,7 @@ async def test_a_step_of_a_line(tmp_path: pathlib.Path, builds: Builds) -> None:
 
     async with served(tmp_path / "class", builds=builds) as room:
         tab = await room.sit("A1")
-        assert "lines are stepped where" in (await tab.ask("step-line"))["error"]
+        assert "only a stopped program" in (await tab.ask("step-line"))["error"]
         await tab.ask("source", text=LOOPS, language=plain)
         starts = tab.view["state"]["starts"]
 
@@ -153,6 +153,22 @@ async def test_a_step_of_a_line(tmp_path: pathlib.Path, builds: Builds) -> None:
             await tab.ask("step-line")
         assert tab.view["stop"].startswith("exit 2")
         await room.check_replay()
+
+
+async def test_breakpoints_of_an_inlined_function(tmp_path: pathlib.Path, builds: Builds) -> None:
+    """They stop in the copy that runs; the function isn't static, so it has another one, which comes first."""
+    text = (DATA / "images" / "prefix_sums.c").read_text("ascii")
+    async with served(tmp_path / "class", builds=builds) as room:
+        tab = await room.sit("A1")
+        await tab.ask("source", text=text, language=C)
+        state = tab.view["state"]
+        [start] = [int(address, 16) for address, names in state["labels"].items() if "main" in names]
+        first, last = state["stops"]["10"]
+        assert int(first, 16) < start < int(last, 16)
+        await tab.do(*(f"break {address}" for address in (first, last)))
+        assert (await run(tab))[0] == f"break pc={int(last, 16):016x}"
+    async with served(tmp_path / "class") as room:
+        assert (await room.sit("A1")).view["state"]["stops"]["10"] == [first, last]
 
 
 async def test_messages(tmp_path: pathlib.Path, builds: Builds) -> None:

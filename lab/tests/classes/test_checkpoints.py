@@ -58,7 +58,7 @@ async def begin_script(room: Served) -> bytes:
     await other.do("step 1")
     first = machine.session.script
     (room.folder / "A.2.script").write_text("1 ent")  # as a server leaves it that is killed while it writes
-    with pytest.MonkeyPatch.context() as patch, pytest.raises(LabError, match="notes beside the script aren't saved"):
+    with pytest.MonkeyPatch.context() as patch, pytest.raises(LabError, match="notes of the script aren't saved"):
         patch.setattr(machine, "keep", lambda notes: False)  # as where the disk is full
         await machine.begin_script()
     await room.check_replay()
@@ -82,6 +82,7 @@ async def test_a_class_goes_on_in_another_script(tmp_path: pathlib.Path) -> None
         assert await tab.do("state") == [["state stopped pc=0000000000010000"]] and tab.view["share"]["used"] == 20
         assert room.members
         room.members.keep()
+        room.members.store.flush()
         store = Store(room.folder, find_program(), is_reading=True)  # while the class runs
         assert solo(store, "A2") == [f"2 {line}" for line in (*SUM_LINES, "step 1")]
         own = [f"1 {line}" for line in (*LOOP, "go", "stop", "go", "stop")]

@@ -156,7 +156,7 @@ async def test_what_a_good_answer_takes_is_told(room: Served) -> None:
     told = await check(tab, "doubles", (OURS / "doubles" / "good.s").read_text())
     assert told["taken"] == told["good"] == {"instructions": 10, "work": 69}  # 8 and 3 of 8 elements
     long = await check(tab, "doubles", (OURS / "doubles" / "reference.s").read_text())
-    assert long["cases"] == [False, True, True, False, True] or "takes more than 30 instructions" in long["reason"]
+    assert long["cases"] == [False, True, True, False, True] and "takes more than 30 instructions" in long["reason"]
 
 
 async def test_what_else_is_given_is_told(room: Served) -> None:
@@ -315,12 +315,14 @@ async def test_bad_exercises_are_told(tmp_path: pathlib.Path, square: pathlib.Pa
             Class(Store(tmp_path / "class", find_program()), 5.0, exercises=folders)
         return str(raised.value)
 
-    assert "nosuch is no exercise" in begin(pathlib.Path("nosuch"))
+    assert (
+        begin(pathlib.Path("strlen"), pathlib.Path("filtre")) == "exercise 'filtre' not found; did you mean 'filter'?"
+    )
     assert "an exercise has a name of its own" in begin(square, square)
     assert "an exercise has a name of its own" in begin(square.rename(tmp_path / "a b"))
     (tmp_path / "a b").rename(square)
     (square / "reference.s").write_text("j .\n")
-    assert begin(square).endswith("100,000 ticks, of which an instruction takes one or more; it is at line 1")
+    assert begin(square).endswith("100,000 ticks (an instruction takes at least one); it is at line 1")
 
 
 async def test_a_seat_answers_in_c(tmp_path: pathlib.Path, sandboxed_clang: Compiler, square: pathlib.Path) -> None:

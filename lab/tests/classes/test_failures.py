@@ -165,17 +165,34 @@ async def test_a_script_that_is_answered_otherwise(tmp_path: pathlib.Path, progr
     async with served(folder) as room:
         await (await room.sit("A1")).do(*LOOP, "step 1")
     script = (folder / "A.script").read_bytes()
-    for changed in (script.replace(b"step 1", b"step 3"), script[: script.rindex(b"1 step")], b""):
-        (folder / "A.script").write_bytes(changed)
-        with pytest.raises(BadFolder, match="otherwise than before|has lost lines"):
-            Class(Store(folder, program), 5.0)
+    assert script.splitlines() == [*(f"1 {line}".encode() for line in (*LOOP, "step 1")), b"1 out "]
+    for changed, told in (
+        (
+            script.replace(b"step 1", b"step 3"),
+            "its first 7 lines are answered otherwise than before: it, or an image, was changed",
+        ),
+        (script[: script.rindex(b"1 step")], "it has 5 lines, and had 7: the last 2 are lost"),
+        (b"", "it has 0 lines, and had 7: the last 7 are lost"),
+    ):
+        copy = tmp_path / str(len(changed))
+        shutil.copytree(folder, copy)
+        (copy / "A.script").write_bytes(changed)
+        members = Class(Store(copy, program), 5.0)
+        assert members.store.lost == [f"A.script: {told}"] and members.rooms["A"].session.script == changed
+        assert told in members.store.loss
+        members.keep()
+        members.end()
+        members = Class(Store(copy, program), 5.0)  # whose notes are of the script as it is now
+        assert not members.store.lost
+        members.end()
     (folder / "A.script").write_bytes(script + b"1 step 1\n")  # not covered by the digest
     async with served(folder) as room:
         assert (await room.sit("A1")).view["state"]["pc"] == "10000"
     for broken in (b"9 enter\n", b"1 \xff\n", b"\n"):
         (folder / "A.script").write_bytes(script + broken)
-        with pytest.raises(LabError):
-            Class(Store(folder, program), 5.0)
+        members = Class(Store(folder, program), 5.0)
+        assert members.store.lost[0].startswith("A.script is damaged behind line 7, and A.script.damaged")
+        members.end()
 
 
 async def test_a_replay_that_differs_stops_the_class(tmp_path: pathlib.Path) -> None:
@@ -226,6 +243,7 @@ async def test_what_is_kept_at_the_end_is_of_one_moment(tmp_path: pathlib.Path) 
     room = members.rooms["A"]
     await room.lines(room.seats.users["1"], Lines("", [*LOOP, "go"], 0, []), [])
     members.keep()
+    members.store.flush()
     kept, process = notes.read_text(), room.session.process
     assert process
     os.kill(process, signal.SIGSTOP)
@@ -235,11 +253,13 @@ async def test_what_is_kept_at_the_end_is_of_one_moment(tmp_path: pathlib.Path) 
     clock.cancel()
     await asyncio.sleep(0.1)
     members.keep()
+    members.store.flush()
     assert room.is_busy() and notes.read_text() == kept
     os.kill(process, signal.SIGCONT)
     with pytest.raises(asyncio.CancelledError):
         await clock
     members.keep()
+    members.store.flush()
     told = json.loads(notes.read_text())
     assert (told["lines"], told["answers"]) == (len(LOOP) + 2, room.session.digest)
     members.end()
@@ -368,13 +388,10 @@ async def test_a_taken_port_is_told_before_the_class_is_carried_out_again(tmp_pa
     async with process(tmp_path / "class") as room:
         await (await room.sit("A1")).do("enter")
         assert await room.end() == 0
-    (tmp_path / "class" / "A.json").write_text('{"lines": 5, "answers": ""}')
     with socket.create_server(("127.0.0.1", 0)) as taken:
         port = taken.getsockname()[1]
         told = f"vecmon-lab: 127.0.0.1, port {port}: Address already in use; --port names another port\n"
         assert refused(tmp_path / "class", "--port", port) == told
-    told = "vecmon-lab: the script of machine A has lost lines: it had 5\n"
-    assert refused(tmp_path / "class", "--port", port) == told
 
 
 @pytest.mark.parametrize(

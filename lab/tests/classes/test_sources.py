@@ -7,6 +7,7 @@ import pytest
 import pytest_asyncio
 
 from support.class_tabs import Served, served
+from vecmon_lab.classes.view import Class
 
 pytestmark = pytest.mark.asyncio
 LOOP = "loop:   addi t0, t0, 1   # counts\n        li a0, 5\n        j loop\n"
@@ -21,7 +22,7 @@ async def room(tmp_path: pathlib.Path) -> AsyncIterator[Served]:
 async def test_again(room: Served) -> None:
     """A new machine has the source of this one, and its breakpoints; a machine without a source has none again."""
     tab = await room.sit("A3")
-    assert "no source" in (await tab.ask("again"))["error"] and not tab.view["again"]
+    assert "no loaded source" in (await tab.ask("again"))["error"] and not tab.view["again"]
     assert (await tab.ask("source", text="nop\n nop 5\n"))["mistakes"] and not tab.view["again"]
     assert (await tab.ask("source", text=LOOP))["mistakes"] == [] and tab.view["again"]
     await tab.do("break 10004", "break 10008", "unbreak 10008", "step 2")
@@ -46,12 +47,19 @@ async def test_what_is_typed_is_the_seats(room: Served) -> None:
     """A draft is in other tabs and in a new one, and before the teacher who looks; others see nothing of it."""
     tab, other, teacher = await room.sit("A3"), await room.sit("A3"), await room.sit("teacher")
     stranger = await room.sit("A4")
-    assert tab.view["source"] == {"text": "", "language": 0, "number": 0, "stands": True, "versions": []}
+    assert tab.view["source"] == {
+        "text": "",
+        "language": 0,
+        "number": 0,
+        "exercise": "",
+        "stands": True,
+        "versions": [],
+    }
     await teacher.ask("shoulder", seat="A3")
     await tab.ask("draft", text="nop\r\n\tadd \u00e9", number=0)
     for each in (other, teacher):
         await each.until(lambda view: view["source"]["text"] == "nop\r\n\tadd \u00e9")
-    kept = {"text": "nop\r\n\tadd \u00e9", "language": 0, "number": 1, "stands": False, "versions": []}
+    kept = {"text": "nop\r\n\tadd \u00e9", "language": 0, "number": 1, "exercise": "", "stands": False, "versions": []}
     assert (await room.sit("A3")).view["source"] == kept
     await stranger.do("enter")
     assert "nop" not in str(stranger.view)
@@ -93,6 +101,55 @@ async def test_a_source_that_is_given(room: Served) -> None:
     assert (await room.check_replay())[0] == b""
 
 
+def keep(members: Class) -> None:
+    """Brings the class's folder up to date, and waits for the disk."""
+    members.keep()
+    members.store.flush()
+
+
+async def test_a_source_that_is_taken_back(room: Served) -> None:
+    """A blank source is refused. Where a student has changed the given source, taking it back changes nothing."""
+    tab, other, teacher = await room.sit("A1"), await room.sit("A2"), await room.sit("teacher")
+    await tab.ask("draft", text="mine", number=0)
+    await other.ask("draft", text="yours", number=0)
+    for blank in ("", " \n\t"):
+        assert "the source to give is empty" in (await teacher.ask("give", seat="", text=blank))["error"]
+    assert tab.view["source"]["text"] == "mine"
+    assert (await teacher.ask("give", seat="", text="all"))["replaced"] == 2
+    for each in (tab, other):
+        await each.until(lambda view: view["source"]["text"] == "all")
+    await other.ask("draft", text="all, changed", number=other.view["source"]["number"])
+    assert (await room.sit("teacher")).view["given"] == {"seat": "", "replaced": 2}
+    assert (await teacher.ask("take-back", seat=""))["replaced"] == 1 and teacher.view["given"] == {}
+    await tab.until(lambda view: view["source"]["text"] == "mine")
+    assert other.view["source"]["text"] == "all, changed"
+    assert [each["why"] for each in tab.view["source"]["versions"]] == ["typed", "given", "typed"]
+    assert (await teacher.ask("take-back", seat=""))["replaced"] == 0
+    assert "no such request" in (await tab.ask("take-back", seat=""))["error"]
+
+
+async def test_messages_stay_until_closed(tmp_path: pathlib.Path) -> None:
+    """They survive a restart of the server; a seat closes its own alone."""
+    folder = tmp_path / "class"
+    async with served(folder) as room:
+        tab, teacher = await room.sit("A1"), await room.sit("teacher")
+        await teacher.ask("write", seat="", text="Save your work.")
+        await teacher.ask("write", seat="A1", text="Come to me.")
+        await tab.until(lambda view: len(view["notices"]) == 2)
+    async with served(folder) as room:
+        tab, again, other = await room.sit("A1"), await room.sit("A1"), await room.sit("A2")
+        first, second = tab.view["notices"]
+        assert [first["text"], second["text"]] == ["Save your work.", "Come to me."]
+        await tab.ask("close-notice", number=first["number"])
+        await again.until(lambda view: view["notices"] == [second])
+        assert [notice["text"] for notice in other.view["notices"]] == ["Save your work."]
+        await tab.ask("close-notice", number=second["number"])
+        assert "error" in await tab.ask("close-notice", number="1")
+    async with served(folder) as room:
+        tab, other = await room.sit("A1"), await room.sit("A2")
+        assert tab.view["notices"] == [] and len(other.view["notices"]) == 1
+
+
 async def test_versions_are_kept(room: Served, monkeypatch: pytest.MonkeyPatch) -> None:
     """Writes are versions, and each half minute of typing; the last 50 of a seat stand in the folder."""
     tab, members = await room.sit("A1"), room.members
@@ -101,13 +158,13 @@ async def test_versions_are_kept(room: Served, monkeypatch: pytest.MonkeyPatch) 
         "mistakes"
     ]
     await tab.ask("source", text="nop 5")
-    members.keep()
+    keep(members)
     told = tab.view["source"]["versions"]
     assert [(each["number"], each["why"]) for each in told] == [(1, "written"), (2, "written")]
     assert (room.folder / "A1.s").read_text() == "nop 5"
     assert (room.folder / "sources" / "A1.1.written.s").read_text() == "nop"
     await tab.ask("draft", text="typed", number=tab.view["source"]["number"])
-    members.keep()
+    keep(members)
     assert (room.folder / "A1.s").read_text() == "typed" and len(tab.view["source"]["versions"]) == 2
     monkeypatch.setattr("vecmon_lab.classes.sources.TYPING_SECONDS", 0)
     members.keep()
@@ -115,7 +172,7 @@ async def test_versions_are_kept(room: Served, monkeypatch: pytest.MonkeyPatch) 
     members.keep()
     for number in range(60):
         await tab.ask("source", text=f"# {number}")
-    members.keep()
+    keep(members)
     assert [each["number"] for each in tab.view["source"]["versions"]] == list(range(14, 64))
     assert len(list((room.folder / "sources").iterdir())) == 50
     assert "error" in await tab.ask("version", number=13)
@@ -148,15 +205,17 @@ async def test_a_full_disk(room: Served, monkeypatch: pytest.MonkeyPatch) -> Non
     tab, teacher, members = await room.sit("A1"), await room.sit("teacher"), room.members
     assert members
 
-    def refuse(path: pathlib.Path, data: bytes) -> int:
+    def refuse(path: pathlib.Path, data: bytes) -> None:
         raise OSError(28, "No space left on device")
 
     with monkeypatch.context() as full:
-        full.setattr(pathlib.Path, "write_bytes", refuse)
+        full.setattr("vecmon_lab.classes.durable.replace_file", refuse)
         await tab.ask("source", text="nop")
+        keep(members)
         members.keep()
         await teacher.until(lambda view: "A1.s isn't saved: No space left on device" in view["trouble"])
         assert (await tab.ask("version", number=1))["text"] == "nop"
+    keep(members)
     members.keep()
     await teacher.until(lambda view: view["trouble"] == "")
     assert (room.folder / "sources" / "A1.1.written.s").read_text() == "nop"

@@ -6,17 +6,20 @@ import pathlib
 import shutil
 import socket
 import stat
-import subprocess
 import sys
 from collections.abc import Iterator
 from typing import Any
 
 import pytest
 
-from support.class_tabs import SECONDS, process
+from support.class_tabs import LOOP, served
 from support.places import SUM
 from vecmon_lab.__main__ import main
+from vecmon_lab.classes.folder_report import folder_report
+from vecmon_lab.classes.kept import attempt
 from vecmon_lab.classes.store import BadFolder, ScriptFile, Store
+from vecmon_lab.classes.teacher_view import teacher_view
+from vecmon_lab.classes.view import Class, Tab
 from vecmon_lab.machine.session import ProgramGone
 
 
@@ -56,9 +59,6 @@ def test_another_program_or_image(store: Store, program: pathlib.Path, tmp_path:
             Store(store.folder, program, images)
     with pytest.raises(BadFolder, match="begun with --quantum 50"):
         Store(store.folder, program, quantum=51)
-    store.images["sum"].write_bytes(b"another")
-    with pytest.raises(BadFolder, match="begun with other images"):
-        Store(store.folder, program)
     Store(tmp_path / "copy", other).close()
 
 
@@ -79,8 +79,13 @@ def test_folders_that_are_no_class(tmp_path: pathlib.Path, program: pathlib.Path
         folder = tmp_path / "class"
         Store(folder, program).close()
         (folder / name).write_text(text, "latin-1")
-        with pytest.raises(BadFolder, match="isn't what a server wrote"):
-            Store(folder, program)
+        again = Store(folder, program)
+        assert len(again.lost) == 1 and again.lost[0].startswith(f"{name} is damaged, and is now {name}.damaged: ")
+        assert (folder / f"{name}.damaged").read_text("latin-1") == text
+        again.close()
+        again = Store(folder, program)
+        assert not again.lost
+        again.close()
         shutil.rmtree(folder)
 
 
@@ -122,6 +127,137 @@ def test_a_script_file(tmp_path: pathlib.Path) -> None:
     file.close()
 
 
+JUNK = [b"", b"{}", b"null", b"\xff\0\x80junk", b'{"lines": "5"}', b"[" * 100_000]
+
+
+@pytest.mark.parametrize("junk", JUNK, ids=range(len(JUNK)))
+@pytest.mark.asyncio
+async def test_a_damaged_file_of_each_kind(tmp_path: pathlib.Path, program: pathlib.Path, junk: bytes) -> None:
+    """A class opens with what it can read, sets the damaged file aside, and says which; to check it changes nothing."""
+    whole = tmp_path / "whole"
+    async with served(whole, {"sum": SUM}) as room:
+        await (await room.sit("A1")).do(*LOOP, "step 1")
+        await (await room.sit("A2")).ask("name", name="Ada")
+        assert room.members
+        await (await room.sit("teacher")).ask("write", seat="A3", text="Read page 5")
+        assert room.members.store.write("answers/A1.doubles.1.json", attempt()) and not room.members.store.loss
+    script = (whole / "A.script").read_bytes()
+    for name in ("class.json", "codes.json", "names.json", "notices.json", "A.json", "answers/A1.doubles.1.json"):
+        folder = tmp_path / name.replace("/", "_")
+        shutil.copytree(whole, folder)
+        (folder / name).write_bytes(junk)
+        whole_ones = {"names.json": [b"{}", b'{"lines": "5"}'], "notices.json": [b"{}"]}  # as there may be
+        is_damaged = junk not in whole_ones.get(name, [])
+        before = {path: path.read_bytes() for path in folder.rglob("*") if path.is_file()}
+        report, has_lost = folder_report(folder, program)
+        assert (
+            has_lost == is_damaged and any(line.startswith(f"lost: {name} is damaged") for line in report) == is_damaged
+        )
+        assert {path: path.read_bytes() for path in folder.rglob("*") if path.is_file()} == before
+        members = Class(Store(folder, program), 5.0)
+        assert [sentence.split(",")[0] for sentence in members.store.lost] == [f"{name} is damaged"] * is_damaged
+        assert members.rooms["A"].session.script == script and members.store.images["sum"].exists()
+        assert (f"{name} is damaged" in teacher_view(members, Tab("teacher"))["trouble"]) == is_damaged
+        members.end()
+        assert not is_damaged or (folder / f"{name}.damaged").read_bytes() == junk
+
+
+def test_a_damaged_script(tmp_path: pathlib.Path, program: pathlib.Path) -> None:
+    """The machine goes on at the last good line, and the script as it was found is kept."""
+    folder = tmp_path / "class"
+    Store(folder, program).close()
+    for damaged, lines, sentence in (
+        (
+            b"1 enter\n1 step\0\n1 go\n",
+            1,
+            "is damaged behind line 1, and A.script.damaged is a copy of it: the last 13 bytes",
+        ),
+        (b"1 enter\n1 st", 1, "is damaged behind line 1: the last 4 bytes are lost"),
+        (b"1 enter\n1 ", 1, "is damaged behind line 1: the last 2 bytes are lost"),
+        (bytes(4096), 0, "is damaged behind line 0: the last 4,096 bytes are lost"),
+    ):
+        (folder / "A.script").write_bytes(damaged)
+        (folder / "A.json").unlink(missing_ok=True)
+        members = Class(Store(folder, program), 5.0)
+        assert sentence in members.store.lost[0] and len(members.store.lost) == 1
+        assert members.rooms["A"].session.lines == lines == (folder / "A.script").read_bytes().count(b"\n")
+        members.end()
+    assert (folder / "A.script.damaged").read_bytes() == b"1 enter\n1 step\0\n1 go\n"
+
+
+def test_what_cannot_be_opened(tmp_path: pathlib.Path, program: pathlib.Path) -> None:
+    folder = tmp_path / "class"
+    Store(folder, program).close()
+    for name in ("class.json", "codes.json"):
+        (folder / name).write_bytes(b"")
+    (folder / "A.script").write_bytes(b"\0")
+    for is_reading in (False, True):
+        with pytest.raises(BadFolder, match="copy the folder back from a backup, or name another folder"):
+            Store(folder, program, is_reading=is_reading)
+    assert (folder / "class.json").read_bytes() == b""
+    (folder / "A.script").write_bytes(b"1 enter\n")
+    members = Class(Store(folder, program), 5.0)
+    assert len(members.store.lost) == 2 and members.rooms["A"].session.lines == 1
+    members.end()
+
+
+def test_a_lost_answer_leaves_the_others_their_numbers(tmp_path: pathlib.Path, program: pathlib.Path) -> None:
+    answers = tmp_path / "class" / "answers"
+    Store(tmp_path / "class", program).close()
+    answers.mkdir()
+    for number in (1, 3):
+        told = {"time": number, "text": f"# {number}", "suffix": "s", "told": {"cases": [number == 3] * 5}}
+        (answers / f"A1.doubles.{number}.json").write_text(json.dumps(told))
+    members = Class(Store(tmp_path / "class", program), 5.0, exercises=[pathlib.Path("doubles")])
+    progress = members.checks.exercises.progress("A1", "doubles")
+    assert progress.tries == [(1, 0), (0, 0), (3, 5)] and progress.first == 3
+    assert [members.checks.answer("A1", "doubles", number).text for number in (1, 2, 3)] == ["# 1", "", "# 3"]
+    members.end()
+
+
+@pytest.mark.asyncio
+async def test_an_image_that_is_damaged(tmp_path: pathlib.Path, program: pathlib.Path) -> None:
+    """The class opens without it, and loads it again once it is named; to check changes nothing."""
+    folder = tmp_path / "class"
+    path = folder / "images" / "sum.elf"
+    async with served(folder, {"sum": SUM}) as room:
+        assert (await (await room.sit("A1")).do("enter", "load sum"))[-1][0].startswith("loaded")
+    for damage, state in ((b"junk", "damaged, and is now images/sum.elf.damaged"), (None, "lost")):
+        if damage is None:
+            path.unlink(missing_ok=True)
+        else:
+            path.write_bytes(damage)
+        report, has_lost = folder_report(folder, program)
+        assert has_lost and any(line.startswith(f"lost: images/sum.elf is {state[:4]}") for line in report)
+        assert not (folder / "images" / "sum.elf.damaged").exists() or damage is None
+        async with served(folder) as room:
+            teacher, tab = await room.sit("teacher"), await room.sit("A1")
+            assert (
+                f"images/sum.elf is {state}: no machine loads it" in teacher.view["trouble"] and not tab.view["images"]
+            )
+            assert (await tab.do("load sum"))[-1][0].startswith("E")
+    assert (folder / "images" / "sum.elf.damaged").read_bytes() == b"junk"
+    again = Store(folder, program, {"sum": SUM})
+    assert path.read_bytes() == SUM.read_bytes() and "it is a copy of" in again.lost[0]
+    again.close()
+
+
+@pytest.mark.asyncio
+async def test_a_damaged_program_of_a_seat(tmp_path: pathlib.Path, program: pathlib.Path) -> None:
+    """What a compiler made of the source in a seat's machine: the seat has no listing of it, which is reported."""
+    folder = tmp_path / "class"
+    Store(folder, program).close()
+    (folder / "A2.written.O2.c").write_text("int main(void) { return 0; }")
+    for damage in (b"", b"{}", b"junk"):
+        (folder / "A2.written.json").write_bytes(damage)
+        members = Class(Store(folder, program), 5.0)
+        sentence = (
+            "A2.written.*: the source of the seat's machine isn't listed, since the compiler's output can't be read"
+        )
+        assert members.store.lost == [sentence] and f"lost: {sentence}" in folder_report(folder, program)[0]
+        members.end()
+
+
 def test_what_the_command_refuses(
     tmp_path: pathlib.Path, program: pathlib.Path, monkeypatch: pytest.MonkeyPatch, capsys: pytest.CaptureFixture[str]
 ) -> None:
@@ -154,15 +290,3 @@ def test_what_the_command_refuses(
         assert "there is no seat" in failed("solo", str(folder), seat)
     assert "has no class" in failed("solo", str(tmp_path / "nowhere"), "A1")
     assert not (tmp_path / "nowhere").exists()
-
-
-@pytest.mark.asyncio
-async def test_a_warning_where_the_address_is_no_loopback(tmp_path: pathlib.Path) -> None:
-    for host, warns in (("0.0.0.0", True), ("127.0.0.1", False)):
-        async with process(tmp_path / host, "--host", host, stderr=subprocess.PIPE) as room:
-            with socket.create_connection(("127.0.0.1", room.port), SECONDS):
-                pass
-            assert await room.end() == 0
-            assert room.server and room.server.stderr
-            told = (await room.server.stderr.read()).decode()
-            assert ("nothing is encrypted" in told) == warns, told

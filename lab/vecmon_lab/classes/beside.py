@@ -4,11 +4,13 @@ import asyncio
 import contextlib
 import os
 import pathlib
+import signal
 import sys
 from asyncio.subprocess import PIPE
 from collections.abc import Iterator
 
 from .. import LabError
+from ..compilers.failures import ToolError
 
 LAB = pathlib.Path(__file__).resolve().parents[2]
 
@@ -28,11 +30,15 @@ def alone(seat: str, busy: set[str], refusal: LabError) -> Iterator[None]:
 class Beside:
     """Places for so many processes at once: who comes later waits."""
 
-    def __init__(self, places: int) -> None:
-        self._places = asyncio.Semaphore(places)
+    def __init__(self, places: int, seconds: float | None = None) -> None:
+        """seconds: how long a process may take, counted from when it gets its place; None for no limit"""
+        self._places, self._seconds = asyncio.Semaphore(places), seconds
 
     async def run(self, module: str, *words: str, script: bytes = b"") -> bytes:
-        """What a module puts out, given words and its input. Raises LabError where it fails."""
+        """The output of a module, given arguments and its input.
+
+        Raises LabError where it fails, and ToolError where it can't start, is killed, or takes too long.
+        """
         command = (sys.executable, "-PB", "-m", f"vecmon_lab.{module}", *words)  # nothing of the folder it is called in
         environment = os.environ | {"PYTHONPATH": str(LAB)}
         async with self._places:
@@ -41,13 +47,18 @@ class Beside:
                     *command, stdin=PIPE, stdout=PIPE, stderr=PIPE, env=environment, start_new_session=True
                 )
             except OSError as error:
-                raise LabError(f"{sys.executable} can't be started: {error.strerror}") from error
+                raise ToolError(f"{sys.executable} can't be started: {error.strerror}") from error
             try:
-                told, complaint = await child.communicate(script)
+                async with asyncio.timeout(self._seconds):
+                    told, complaint = await child.communicate(script)
+            except TimeoutError as error:
+                raise ToolError(f"{module} took more than {self._seconds:g} s") from error
             finally:
                 with contextlib.suppress(ProcessLookupError):
                     child.kill()
                 await child.wait()
+        if child.returncode and child.returncode < 0:
+            raise ToolError(f"the process of {module} was ended by the signal {signal.Signals(-child.returncode).name}")
         if child.returncode:
             last = complaint.decode("utf-8", "replace").strip().rpartition("\n")[2]
             raise LabError(last.partition("Error: ")[2] or last)

@@ -13,25 +13,31 @@ import re
 import sys
 import time
 from collections.abc import Callable, Iterable, Iterator, Mapping, Sequence
+from operator import itemgetter
 from typing import TypedDict
 
 from .. import LabError
 from ..assembler.source import SourceError
 from ..compilers.compiled import CompiledProgram
+from ..compilers.failures import ToolError
 from ..exercises.answer import settled
-from ..exercises.check import Told
+from ..exercises.check import Told, failed_check
 from ..exercises.exercise import Exercise, read_exercise
 from ..exercises.taken import Taken
 from .beside import Beside
 from .builds import Builds
+from .kept import attempt, texts
 from .languages import SourceText
 from .names import local_time
 from .requests import BadRequest
 from .store import BadFolder, Store
-from .progress import Exercises, SeatResult, Try, source_of, starts_of
+from .progress import MOST_TRIES, Exercises, SeatResult, Try, source_of, starts_of
 
 EXERCISES, ANSWERS = "exercises.json", "answers"
-PLACES, SECONDS = 16, 12.0  # checks at once, and how long one may take
+LOST = "this answer is lost, and counts as a try in which nothing passes"
+WITHOUT = "the class has no exercises but those that --exercise and --course name"
+PLACES, SECONDS = 16, 12.0  # checks at once, and how long one may take from when it has its place
+RUNS = 2  # of a check that fails on the server's side
 
 ExerciseTable = TypedDict("ExerciseTable", {"title": str, "of": int, "seats": dict[str, SeatResult]})
 
@@ -46,8 +52,8 @@ class Checks:
 
         `tell` is called with the names of seats that have news. Raises LabError and OSError for a bad exercise.
         """
-        self._store, self._tell, self._beside, self._builds = store, tell, Beside(PLACES), builds
-        kept = [pathlib.Path(path) for path in store.read(EXERCISES, dict[str, str]).values()]
+        self._store, self._tell, self._beside, self._builds = store, tell, Beside(PLACES, SECONDS), builds
+        kept = [pathlib.Path(path) for path in store.read(EXERCISES, texts, WITHOUT).values()]
         found: dict[str, Exercise] = {}
         for folder in list(folders) or kept:
             exercise = settled(store.program, read_exercise(folder))  # so that a mistake is told now
@@ -63,8 +69,11 @@ class Checks:
         self._lessons: dict[str, bytes] = {}  # before exercises, by name
         self._good: dict[str, Taken] = {}  # what good answers take, as far as that was told
         self._making = asyncio.Lock()
-        for seat, name, _, done in sorted(_found(store)):
-            self.exercises.progress(seat, name).add(done)
+        for seat, name, number, done in sorted(found_answers(store), key=itemgetter(0, 1, 2)):
+            progress = self.exercises.progress(seat, name)
+            while len(progress.tries) < number - 1:
+                progress.add(attempt())  # one that was lost: the others keep their numbers
+            progress.add(done)
 
     def begin(self, seat: str, name: str, source: SourceText) -> None:
         """Begins to check an answer. Raises BadRequest where there is no such exercise, or a check is under way."""
@@ -103,7 +112,7 @@ class Checks:
         if not 1 <= number <= len(self.exercises.progress(seat, name).tries):
             raise BadRequest("there is no such answer")
         file = _file(seat, name, number)
-        return source_of(self._unsaved.get(file) or self._store.read(file, Try))
+        return source_of(self._unsaved.get(file) or self._store.read(file, attempt, LOST))
 
     def keep(self) -> None:
         """Brings the folder up to date, as far as the disk takes it."""
@@ -127,61 +136,68 @@ class Checks:
                 yield seat, names.get(seat, ""), name, it["tries"], passed, it["best"], exercise["of"], when
 
     async def _check(self, seat: str, name: str, source: SourceText) -> None:
-        """Checks an answer, keeps it, and tells."""
+        """Checks an answer, saves it if it counts as a try, and wakes the tabs."""
         try:
-            compiled = await self._compiled(seat, source)
-            told: Told = json.loads(await self._run(name, "check", source.text, compiled))
-        except LabError as error:  # of which only the teacher is told more
-            print(f"vecmon-lab: a check of {name}: {error}", file=sys.stderr)
-            cases = [False] * len(self.exercises.by_name[name].cases)
-            told = {"cases": cases, "reason": "it can't be checked, or takes too long"}
+            told = await self._told(seat, name, source)
         finally:
             del self.exercises.busy[seat]
-        progress = self.exercises.progress(seat, name)
-        done = Try(time=int(time.time()), text=source.text, suffix=source.suffix, told=told)
+        if "failure" in told:
+            print(f"vecmon-lab: a check of {name} of seat {seat} failed: {told['failure']}", file=sys.stderr)
         if "good" in told:
             self._good[name] = told["good"]
-        if progress.add(done):
-            self._unsaved[_file(seat, name, len(progress.tries))] = done
+        done = Try(time=int(time.time()), text=source.text, suffix=source.suffix, told=told)
+        if self.exercises.take(seat, name, done):
+            self._unsaved[_file(seat, name, len(self.exercises.progress(seat, name).tries))] = done
             self.keep()
         self._tell([seat])
 
+    async def _told(self, seat: str, name: str, source: SourceText) -> Told:
+        """The result of a check. What fails on the server's side is run once more, and its failure is the result then."""
+        cause = ""
+        for _ in range(RUNS):
+            try:
+                compiled = await self._compiled(seat, source)
+                told: Told = json.loads(await self._run(name, "check", source.text, compiled))
+                return told
+            except (LabError, OSError, ValueError) as error:
+                cause = f"{error}" or type(error).__name__
+        return failed_check(cause)
+
     async def _compiled(self, seat: str, source: SourceText) -> CompiledProgram | None:
-        """What a compiler makes of a seat's source, if that is in C. What it can't be given is a mistake."""
+        """The program of a seat's source, if that is in C. A source that the compiler can't take has a mistake. Raises ToolError."""
         if source.choice is None:
             return None
         try:
             return await self._builds.compile(seat, source.text, source.choice, is_answer=True)
+        except ToolError:
+            raise
         except LabError as error:
             return CompiledProgram([], {}, [], 0, [SourceError(0, 0, f"{error}")])
 
     async def _run(self, name: str, what: str, text: str = "", compiled: CompiledProgram | None = None) -> bytes:
-        """What the process puts out that checks a text, or makes a lesson. Raises LabError."""
+        """The output of the process that checks a text, or makes a lesson. Raises LabError."""
         given = pickle.dumps((self.exercises.by_name[name], text, compiled, self._good.get(name)))
-        made = self._beside.run("exercises.check", str(self._store.program), what, script=given)
-        try:
-            return await asyncio.wait_for(made, SECONDS)
-        except asyncio.TimeoutError as error:
-            raise LabError(f"it takes more than {SECONDS:g} s") from error
+        return await self._beside.run("exercises.check", str(self._store.program), what, script=given)
 
 
 def kept_answers(store: Store, seat: str) -> dict[str, SourceText]:
     """What a seat has answered by exercise, as the folder has it: the last try that passed; where none has, the last one."""
     answers, passed = dict[str, SourceText](), set[str]()
-    for of, name, _, done in sorted(_found(store)):
+    for of, name, _, done in sorted(found_answers(store), key=itemgetter(0, 1, 2)):
         cases = done["told"].get("cases", [])
         is_passed = bool(cases) and all(cases)
-        if of == seat and (is_passed or name not in passed):
+        if cases and of == seat and (is_passed or name not in passed):
             answers[name] = source_of(done)
             passed |= {name} if is_passed else set()
     return answers
 
 
-def _found(store: Store) -> Iterator[tuple[str, str, int, Try]]:
+def found_answers(store: Store) -> Iterator[tuple[str, str, int, Try]]:
     """The tries that the folder has: the seat, the exercise, the number of the try, and the try itself."""
     for path in (store.folder / ANSWERS).glob("*.json"):
-        if parts := re.fullmatch(r"([A-L][1-8])\.([\w-]+)\.(\d+)\.json", path.name):
-            yield parts[1], parts[2], int(parts[3]), store.read(f"{ANSWERS}/{path.name}", Try)
+        parts = re.fullmatch(r"([A-L][1-8])\.([\w-]+)\.([1-9]\d{0,3})\.json", path.name, re.ASCII)
+        if parts and int(parts[3]) <= MOST_TRIES:
+            yield parts[1], parts[2], int(parts[3]), store.read(f"{ANSWERS}/{path.name}", attempt, LOST)
 
 
 def _file(seat: str, name: str, number: int) -> str:

@@ -9,49 +9,99 @@ from urllib.parse import urlsplit
 
 from .. import LabError
 from ..arguments import between
+from ..exercises.exercise import with_course
 from ..machine.program import find_program, images_of
 from .builds import builds_by
 from .codes import LETTERS
+from .folder_report import folder_report
 from .names import NAMES
-from .server import HOST, listening, serve
-from .store import Store, forget
+from .store import Store, forget, renew_teacher
 from .view import Class
 
 
 def add_arguments(parser: argparse.ArgumentParser) -> None:
     """The words of `vecmon-lab class`."""
-    parser.add_argument("folder", metavar="DIR", type=pathlib.Path, help="keeps the class; made if it isn't there")
+    parser.add_argument(
+        "folder", metavar="DIR", type=pathlib.Path, help="the folder of the class, created if necessary"
+    )
     parser.add_argument("images", metavar="NAME=PATH", nargs="*", default=[], help="images that students load by name")
-    parser.add_argument("--host", default="127.0.0.1", help="the address to serve at; 0.0.0.0 is a whole network")
+    parser.add_argument("--host", default="127.0.0.1", help="the address to serve at; 0.0.0.0 serves all networks")
     port = between(0, 65535)
-    parser.add_argument("--port", metavar="P", type=port, default=8765, help="0 is one that is free; else %(default)s")
+    parser.add_argument(
+        "--port", metavar="P", type=port, default=8765, help="the port; 0 takes a free one; by default %(default)s"
+    )
     parser.add_argument("--address", metavar="URL", type=_address, help="where students reach the class")
-    parser.add_argument("--name", action="append", default=[], help="a host name that the page is opened under as well")
+    told = "serve HTTPS with this certificate and its private key, both PEM files"
+    parser.add_argument("--tls", nargs=2, metavar=("CERT", "KEY"), type=pathlib.Path, help=told)
+    parser.add_argument("--name", action="append", default=[], help="another host name of the page")
     machines = between(1, len(LETTERS))
-    parser.add_argument("--machines", metavar="N", type=machines, help="eight seats each, 1 to 12; else 1")
-    told = "an exercise of the lab's, or the folder of one's own, for all seats; several are several options"
+    parser.add_argument(
+        "--machines",
+        metavar="N",
+        type=machines,
+        help="the number of machines with eight seats each, 1 to 12; by default 1",
+    )
+    told = "an exercise for all seats: a name of the course, or a folder; repeatable"
     folder = pathlib.Path
     parser.add_argument("--exercise", metavar="NAME|DIR", type=folder, action="append", default=[], help=told)
-    parser.add_argument("--cc", metavar="NAME", help="the compiler of sources in C, as clang-19")
+    parser.add_argument("--course", action="store_true", help="all exercises of the course, before those of --exercise")
+    parser.add_argument("--cc", metavar="NAME", help="the compiler of sources in C, such as clang-19")
     most = between(1, 512)
-    parser.add_argument("--image-size", metavar="KB", type=most, default=64, help="the most of a source in C; else 64")
-    parser.add_argument("--quantum", metavar="N", type=int, help="the ticks of a slice, 1 to 1000; else 100")
-    told = "a new machine's clock is off until the teacher turns it on"
+    parser.add_argument(
+        "--image-size",
+        metavar="KB",
+        type=most,
+        default=64,
+        help="maximum of nonzero kilobytes of a program; by default 64",
+    )
+    parser.add_argument("--quantum", metavar="N", type=int, help="ticks of a slice, 1 to 1000; by default 100")
+    told = "start new machines with the clock off"
     parser.add_argument("--no-clock", action="store_true", help=told)
-    told = "a second process follows each machine, and takes its place where it is gone"
+    told = "keep a second process for each machine, which replaces a failed one"
     parser.add_argument("--spare", action="store_true", help=told)
     parser.add_argument("--forget", action="store_true", help="delete the names that DIR keeps, and serve nothing")
+    told = "give the teacher a new code, and serve nothing; seats keep theirs"
+    parser.add_argument("--renew-teacher", action="store_true", help=told)
+    told = "report the state of DIR, and serve nothing; the status is 1 if a file is damaged"
+    parser.add_argument("--check", action="store_true", help=told)
     patience = between(1, 3600)
-    parser.add_argument("--patience", metavar="S", type=patience, default=10, help="seconds of silence; else 10")
+    parser.add_argument(
+        "--patience",
+        metavar="S",
+        type=patience,
+        default=10,
+        help="replace a vecmon that is silent for S seconds; by default 10",
+    )
 
 
 def run(arguments: argparse.Namespace) -> int:
-    """Serves until it is told to end. Raises LabError and OSError for a bad folder, image or address."""
+    """Serves a class until SIGINT or SIGTERM, or does what an option asks for instead; returns the exit status.
+
+    Raises LabError and OSError for a bad folder, image, certificate or address.
+    """
     os.umask(0o077)
     if arguments.forget:
         forget(arguments.folder, NAMES)
-        return 0
+    elif arguments.renew_teacher:
+        renew_teacher(arguments.folder)
+    elif arguments.check:
+        lines, has_lost = folder_report(arguments.folder, find_program())
+        print(*lines, sep="\n")
+        return int(has_lost)
+    else:
+        _serve(arguments)
+    return 0
+
+
+def _serve(arguments: argparse.Namespace) -> None:
+    """Serves a class until SIGINT or SIGTERM. Raises as `run` does."""
+    from .server import listening, serve  # these need aiohttp; --help doesn't
+    from .tls import tls_context
+
     images, host = images_of(arguments.images), arguments.host
+    tls = tls_context(*arguments.tls) if arguments.tls else None
+    if tls and (arguments.address or "https:").startswith("http:"):
+        raise LabError(f"--tls serves HTTPS, so the address of the class begins with https://: {arguments.address}")
     store = Store(arguments.folder, find_program(), images, arguments.quantum, arguments.machines)
     try:
         doors = listening(host, arguments.port)  # before the class is carried out again, which may take a while
@@ -59,17 +109,19 @@ def run(arguments: argparse.Namespace) -> int:
         store.close()
         raise
     builds = builds_by(arguments.cc, arguments.image_size << 10)
-    members = Class(
-        store, arguments.patience, _tell, not arguments.no_clock, arguments.spare, arguments.exercise, builds
-    )
+    exercises = with_course(arguments.exercise) if arguments.course else arguments.exercise
+    members = Class(store, arguments.patience, _tell, not arguments.no_clock, arguments.spare, exercises, builds)
+    for sentence in store.lost:
+        print(f"vecmon-lab: warning: {sentence}", file=sys.stderr)
     members.address = arguments.address or ""
     hosts = {*arguments.name, urlsplit(members.address).hostname or host}
-    asyncio.run(serve(members, host, doors, hosts))
-    return 0
+    asyncio.run(serve(members, host, doors, hosts, tls=tls))
 
 
 def _address(text: str) -> str:
     """An address of the class, with a slash at its end. Raises ArgumentTypeError."""
+    from .server import HOST
+
     scheme, _, host = text.removesuffix("/").partition("://")
     if scheme not in ("http", "https") or not HOST.fullmatch(host):
         raise argparse.ArgumentTypeError(f"{text} isn't http:// or https://, a host, and a port or none")

@@ -30,7 +30,7 @@ class Comparisons:
     def ask(self, seat: str, source: SourceText, other: int) -> str:
         """What opens the page of a source by its own options and by others. Raises BadRequest."""
         if not source.suffix.endswith(".c") or not 0 <= other < len(self._others):
-            raise BadRequest("listings stand side by side of a source in C, by options that the page has")
+            raise BadRequest("side-by-side listings need a source in C, and options from the page's list")
         ticket = new_code()
         self._asked = dict([*self._asked.items(), (ticket, (seat, source, other))][-MOST:])
         return ticket

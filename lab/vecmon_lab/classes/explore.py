@@ -13,7 +13,6 @@ from ..lessons.lesson import add_compiler
 from ..machine.program import find_program
 from .builds import builds_by
 from .languages import LANGUAGES, SourceText
-from .server import listening, serve
 from .store import Store
 from .view import Class
 
@@ -23,15 +22,19 @@ PATIENCE = 10.0  # seconds of silence
 
 def add_arguments(parser: argparse.ArgumentParser) -> None:
     """The words of `vecmon-lab explore`."""
-    told = "a source in C (.c) or assembler (.s) to begin with"
+    told = "a source in C (.c) or assembler (.s)"
     parser.add_argument("source", metavar="FILE", type=pathlib.Path, help=told)
-    parser.add_argument("--port", metavar="P", type=between(0, 65535), default=0, help="else one that is free")
+    parser.add_argument(
+        "--port", metavar="P", type=between(0, 65535), default=0, help="the port; by default a free one"
+    )
     add_compiler(parser)
-    parser.add_argument("--quantum", metavar="N", type=int, help="the ticks of a slice, 1 to 1000; else 100")
+    parser.add_argument("--quantum", metavar="N", type=int, help="ticks of a slice, 1 to 1000; by default 100")
 
 
 def run(arguments: argparse.Namespace) -> int:
     """Serves until it is told to end. Raises LabError and OSError for a bad source, or where nothing can be compiled."""
+    from .server import listening, serve  # which needs aiohttp; --help doesn't
+
     os.umask(0o077)
     source = read(arguments.source, arguments.options)
     builds = builds_by(arguments.cc, is_needed=arguments.source.suffix == ".c")

@@ -16,7 +16,7 @@ from .shared_machine import Answers
 Logs = dict[str, list[str]]
 SourceView = TypedDict(
     "SourceView",
-    {"text": str, "language": int, "number": int, "stands": bool, "versions": list[Version]},
+    {"text": str, "language": int, "number": int, "exercise": str, "stands": bool, "versions": list[Version]},
     total=False,
 )
 
@@ -35,6 +35,7 @@ class Message(TypedDict, total=False):
     text: str
     language: int
     listings: str
+    replaced: int
     error: str
     done: Answers
     words: list[str]
@@ -89,6 +90,7 @@ def source_view(source: SeatSource, seat: Seat) -> SourceView:
         "text": source.own.text,
         "language": source.own.language,
         "number": source.number,
+        "exercise": source.exercise,
         "stands": source.own == seat.written,
         "versions": source.versions,
     }

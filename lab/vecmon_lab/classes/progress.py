@@ -13,9 +13,12 @@ from .languages import NUMBERS, C, SourceText
 from .requests import BadRequest
 
 MOST_TRIES = 200  # of a seat at an exercise
+MOST_FAILURES = 50  # of checks, which the teacher is shown
 
 Try = TypedDict("Try", {"time": int, "text": str, "suffix": NotRequired[str], "told": Told})
 """An answer: when, in seconds since 1970; the source, and that of its language, else `s`; and the result of its check."""
+CheckFailure = TypedDict("CheckFailure", {"seat": str, "exercise": str, "time": int, "cause": str})
+"""A check that failed twice on the server's side: the seat, the exercise, the time in seconds since 1970, and the cause."""
 Start = TypedDict("Start", {"text": str, "language": int})
 SeatResult = TypedDict("SeatResult", {"tries": int, "passed": int, "best": int, "time": int})
 """Of a seat at an exercise: tries; which passed first, or 0; the most cases that passed; when it passed, or the last."""
@@ -78,11 +81,13 @@ class Exercises:
     """Exercises by name, the sources that each may start with, and the progress of each seat.
 
     busy: the exercise by seat whose answer is checked, or made a lesson of
+    failures: the last checks that failed on the server's side, in order; for the teacher alone
     """
 
     def __init__(self, exercises: Mapping[str, Exercise], starts: Mapping[str, list[Start]]) -> None:
         self.by_name, self._starts, self.busy = exercises, starts, dict[str, str]()
         self._progress: dict[tuple[str, str], Progress] = {}
+        self.failures: list[CheckFailure] = []
 
     def exercise(self, name: str) -> Exercise:
         """The exercise of a name. Raises BadRequest."""
@@ -105,6 +110,13 @@ class Exercises:
             raise BadRequest("a check of this seat is under way")
         if len(self.progress(seat, name).tries) >= MOST_TRIES:
             raise BadRequest(f"this seat has tried it {MOST_TRIES} times")
+
+    def take(self, seat: str, name: str, done: Try) -> bool:
+        """Takes up the result of a check; returns whether it counts as a try. The cause of a failed check is the teacher's."""
+        if cause := done["told"].pop("failure", ""):
+            failure = CheckFailure(seat=seat, exercise=name, time=done["time"], cause=cause)
+            self.failures = [*self.failures, failure][-MOST_FAILURES:]
+        return self.progress(seat, name).add(done)
 
     def failed(self, seat: str, name: str, source: SourceText) -> Callable[[int], list[str]]:
         """Return a function from a program's entry address to the commands that set up the case that failed first.

@@ -43,9 +43,13 @@ class Lines:
 
 @dataclass(frozen=True)
 class Source:
-    """A source for a new machine of the student's; None for that of the machine that there is."""
+    """A source for a new machine of the student's; None for that of the machine that there is.
+
+    number: that the seat's source had where it was typed; -1 where the request doesn't say it
+    """
 
     source: SourceText | None
+    number: int = -1
 
 
 @dataclass(frozen=True)
@@ -103,10 +107,22 @@ class ShowCodes(_OfSeat):
 
 @dataclass(frozen=True)
 class Draft:
-    """The source that a student types, and the number that it had."""
+    """The source that a student types, and the number that it had.
+
+    exercise: the one that it was typed for; "" for the open one; is_kept: whether it becomes a version
+    """
 
     source: SourceText
     number: int
+    exercise: str
+    is_kept: bool
+
+
+@dataclass(frozen=True)
+class OpenExercise:
+    """The exercise whose source a seat's tabs show."""
+
+    exercise: str
 
 
 @dataclass(frozen=True)
@@ -121,6 +137,17 @@ class Give(_OfSeat):
     """A source for a seat; "" for all."""
 
     source: SourceText
+
+
+class TakeBack(_OfSeat):
+    """The source that the teacher gave a seat last is taken back; "" for all."""
+
+
+@dataclass(frozen=True)
+class CloseNotice:
+    """A message of the teacher's that the student has read."""
+
+    number: int
 
 
 @dataclass(frozen=True)
@@ -141,7 +168,7 @@ class TryCase(_OfExercise):
 
 @dataclass(frozen=True)
 class ReadAnswer(_OfSeat):
-    """The answer of a seat to an exercise, the first of which has the number 1."""
+    """The answer of a seat to an exercise, the first of which has the number 1; "" for the student's own seat."""
 
     exercise: str
     number: int
@@ -165,8 +192,11 @@ class Reset(_OfSeat):
     """That a seat's machine is taken away."""
 
 
-StudentRequest = Lines | Source | StepLine | Draft | ReadVersion | SetName | Compare | Check | TryCase
-TeacherRequest = Give | Write | Reset | SetClock | SetRights | Renew | LookOver | PutOnWall | ShowCodes | ReadAnswer
+SeatsRequest = Source | StepLine | Draft | OpenExercise | ReadVersion | Check | TryCase
+StudentRequest = Lines | SeatsRequest | SetName | CloseNotice | Compare
+TeacherRequest = (
+    Give | TakeBack | Write | Reset | SetClock | SetRights | Renew | LookOver | PutOnWall | ShowCodes | ReadAnswer
+)
 Request = StudentRequest | TeacherRequest
 
 _LIMITS = {"on": (0, 1), "slices": (1, 1000), "ms": (10, 10_000), "limit": (100_000, 10**12)}  # of a clock's settings
@@ -182,10 +212,13 @@ _OF_ALL: Mapping[str, Reader] = {
 _OF_STUDENTS: Mapping[str, Reader] = {
     **_OF_ALL,
     "lines": lambda it: _lines(it, is_teacher=False),
-    "source": lambda it: Source(_source(it)),
+    "source": lambda it: Source(_source(it), _number(it) if "number" in it else -1),
     "again": lambda it: Source(None),
     "step-line": lambda it: StepLine(),
-    "draft": lambda it: Draft(_source(it), _number(it)),
+    "draft": lambda it: Draft(_source(it), _number(it), _name(it, "exercise"), bool(it.get("keep"))),
+    "open": lambda it: OpenExercise(_name(it, "exercise")),
+    "answer": lambda it: ReadAnswer("", _name(it, "exercise"), _number(it)),
+    "close-notice": lambda it: CloseNotice(_number(it)),
     "listings": lambda it: Compare(_source(it), _number(it, "other")),
     "check": lambda it: Check(_name(it, "exercise"), _source(it)),
     "case": lambda it: TryCase(_name(it, "exercise"), _source(it)),
@@ -194,7 +227,8 @@ _OF_TEACHERS: Mapping[str, Reader] = {
     **_OF_ALL,
     "lines": lambda it: _lines(it, is_teacher=True),
     "answer": lambda it: ReadAnswer(_name(it, "seat"), _name(it, "exercise"), _number(it)),
-    "give": lambda it: Give(_name(it, "seat"), _source(it)),
+    "give": lambda it: Give(_name(it, "seat"), _given(it)),
+    "take-back": lambda it: TakeBack(_name(it, "seat")),
     "write": lambda it: Write(_name(it, "seat"), _sentence(it)),
     "reset": lambda it: Reset(_name(it, "seat")),
     "clock": lambda it: SetClock(_name(it, "machine"), _settings(it)),
@@ -253,6 +287,14 @@ def _source(message: JsonObject) -> SourceText:
     return SourceText(text.encode("utf-8", "replace").decode(), int(language))
 
 
+def _given(message: JsonObject) -> SourceText:
+    """The source of a message for students, which isn't blank."""
+    source = _source(message)
+    if not source.text.strip():
+        raise BadRequest("the source to give is empty: type one, or copy a seat's")
+    return source
+
+
 def _sentence(message: JsonObject) -> str:
     """The sentence of a message."""
     text = message.get("text")
@@ -265,7 +307,7 @@ def _number(message: JsonObject, name: str = "number") -> int:
     """The number that a message has by a name."""
     number = message.get(name)
     if not isinstance(number, int):
-        raise BadRequest("sources, versions, answers and options have whole numbers")
+        raise BadRequest("sources, versions, answers, messages and options have whole numbers")
     return number
 
 

@@ -22,7 +22,8 @@ from .requests import BadRequest, Lines
 from .scripts import Scripts
 from .seats import Seat
 from .shared_machine import Answers, MakeProgram, Mistakes, Result, SharedMachine, Steps, Turn, own_lines
-from .store import Notes, ScriptFile
+from .kept import Notes
+from .store import ScriptFile
 
 WATCH_SECONDS = 0.5  # between looks at a program that runs
 UNSEEN_SECONDS = 60.0  # after which a program that runs is stopped, if nobody looks at it
@@ -64,14 +65,14 @@ class Room:
         """Whether somebody has the machine."""
         return self.thread.lock.locked()
 
-    def restore(self, notes: Notes, progress: Callable[[str], object]) -> None:
-        """Brings the machine to where an earlier server left it. Raises BadFolder where it answers otherwise.
+    def restore(self, notes: Notes, progress: Callable[[str], object], lose: Callable[[str], object]) -> None:
+        """Brings the machine to where an earlier server left it. Raises BadFolder where it takes no script.
 
-        progress: is told how far that is, a sentence at a time
+        progress: is told how far that is, a sentence at a time; lose: is called with sentences on lines that are lost
         """
         self.session.progress = lambda percent: progress(rebuilding(self.letter, percent))
         past, self.scripts.set_up = Past(notes.scripts[-1]), notes.scripts
-        for block in self.scripts.file.replay(self.session, notes):
+        for block in self.scripts.file.replay(self.session, notes, lose):
             past.add(*block)
         past.tell(self.seats)
         self.seats.take(self.seats.look(self.session, [], DIGITS))

@@ -93,8 +93,8 @@ class Scripts:
                 raise LabError("there is no room for another script")
             file = self.file.successor(len(set_up), heir.script)
             if not self._save(heir, set_up):
-                file.close()
-                raise LabError("the notes beside the script aren't saved")
+                file.discard()
+                raise LabError("the notes of the script aren't saved")
         except BaseException:
             heir.close()
             raise

@@ -35,7 +35,7 @@ class Seat:
     state, shown: all that is known of the user, and what pages show of it
     written, program: the source that stands in the machine, and its program
     named: what pages show of that source: its labels, and its line for each word, by address; of one in C also where
-        instructions of its lines begin, and its variables
+        instructions of its lines begin, the addresses of their breakpoints, and its variables
     stop, line, answer: the last stop, command and line of an answer, without the digit
     output: the last of what the program has put out, in hexadecimal digits, in blocks by number
     stands, is_stuck, since: how its program stands, in a few words beside the state's `run`; whether its student may need
@@ -91,7 +91,9 @@ class Seat:
         self.written, self.program = source, program
         self.named = {"labels": program.names(), "lines": program.source_lines(source.text)}
         if isinstance(program, CompiledProgram) and program.rows:
-            self.named.update({"starts": program.line_starts(), "variables": program.variables})
+            self.named.update(
+                {"starts": program.line_starts(), "stops": program.line_stops(), "variables": program.variables}
+            )
 
     def list_program(self, program: Program) -> None:
         """Has instructions and variables of a program shown that a compiler made, in place of all that lines name."""

@@ -10,6 +10,7 @@ import re
 import resource
 import signal
 import socket
+import ssl
 import subprocess
 import sys
 import weakref
@@ -27,6 +28,7 @@ from .room import Room
 from .store import BadFolder, script_name
 from .tab_requests import TabRequests
 from .tab_socket import CLOSED, READ_SECONDS, TabSocket
+from .tls import LAST_SECONDS, TlsSite
 from .view import Class, Tab
 
 MESSAGE_BYTES = 400_000
@@ -34,6 +36,7 @@ PATIENCE = 10.0  # seconds for a first request, and for a tab's code
 UNKNOWN = 500  # connections without a whole request, and sockets without a code
 SOCKETS = 8  # of a seat; of the teacher twice as many
 WRONG_CODE_SECONDS = 0.5
+KEEP_SECONDS = 0.3  # between looks at what is to be saved; the disk has it as long after that, and so within a second
 HEADERS = {
     "Cache-Control": "no-store",
     "Referrer-Policy": "no-referrer",
@@ -210,9 +213,19 @@ def listening(host: str, port: int) -> list[socket.socket]:
         raise LabError(f"{host}, port {port}: {reason}{hint}") from error
 
 
+def is_loopback(host: str) -> bool:
+    """Whether only this computer reaches a host."""
+    try:
+        return ipaddress.ip_address(host).is_loopback
+    except ValueError:
+        return host == "localhost"
+
+
 @contextlib.asynccontextmanager
-async def served(members: Class, doors: Iterable[socket.socket], names: set[str]) -> AsyncIterator[int]:
-    """Serves a class at sockets that listen; the port of the first. Ends it behind."""
+async def served(
+    members: Class, doors: Iterable[socket.socket], names: set[str], tls: ssl.SSLContext | None = None
+) -> AsyncIterator[int]:
+    """Serves a class at sockets that listen, by HTTPS if there is a context for it; the port of the first. Ends it behind."""
     logging.getLogger("aiohttp.server").addFilter(_is_ours)
     server = Server(members, {socket.gethostname(), *names})
     runner = web.AppRunner(server.application(), access_log=None, keepalive_timeout=15.0, lingering_time=2.0)
@@ -220,7 +233,8 @@ async def served(members: Class, doors: Iterable[socket.socket], names: set[str]
     tasks = []
     try:
         for door in doors:
-            await web.SockSite(runner, door, shutdown_timeout=2.0).start()
+            plain = web.SockSite(runner, door, shutdown_timeout=LAST_SECONDS)
+            await (TlsSite(runner, door, tls, UNKNOWN, PATIENCE) if tls else plain).start()
         rooms = members.rooms.values()
         work = [
             server.sweep(runner),
@@ -240,7 +254,14 @@ async def served(members: Class, doors: Iterable[socket.socket], names: set[str]
         await runner.cleanup()
 
 
-async def serve(members: Class, host: str, doors: Iterable[socket.socket], names: set[str], who: str = TEACHER) -> None:
+async def serve(
+    members: Class,
+    host: str,
+    doors: Iterable[socket.socket],
+    names: set[str],
+    who: str = TEACHER,
+    tls: ssl.SSLContext | None = None,
+) -> None:
     """Serves a class at a host's sockets until SIGINT or SIGTERM, and prints the address of somebody's page.
 
     Raises BadFolder once the program was replaced or taken away, as with its package.
@@ -251,8 +272,13 @@ async def serve(members: Class, host: str, doors: Iterable[socket.socket], names
     ended, loop = asyncio.Event(), asyncio.get_running_loop()
     for sign in (signal.SIGINT, signal.SIGTERM):
         loop.add_signal_handler(sign, ended.set)
-    async with served(members, doors, {host, *names}) as port:
-        _announce(host, port, "page" if who != TEACHER else who, members.codes.codes[who])
+    members.is_unencrypted = tls is None and not is_loopback(host)
+    async with served(members, doors, {host, *names}, tls) as port:
+        whose = "page" if who != TEACHER else who
+        print(f"{whose}: {_address(host, port, 'https' if tls else 'http')}#{members.codes.codes[who]}", flush=True)
+        if members.is_unencrypted:
+            warning = f"codes travel unencrypted, and all computers that reach {host} can use them: use a network that you trust"
+            print(f"vecmon-lab: warning: {warning}, or --tls (docs/CLASS_ADMIN.md)", file=sys.stderr)
         missed = 0  # looks that found no program; after one, it may just be installed anew
         while not ended.is_set():
             missed = 0 if members.store.check_program() else missed + 1
@@ -275,19 +301,14 @@ def _is_ours(record: logging.LogRecord) -> bool:
 
 async def _keep(members: Class) -> None:
     while True:
-        await asyncio.sleep(1)
-        members.keep()
+        await asyncio.sleep(KEEP_SECONDS)
+        members.keep(with_counts=False)
 
 
-def _announce(host: str, port: int, whose: str, code: str) -> None:
-    """Prints the address of the teacher, or of the one page, and a warning where others than this computer's users can come."""
+def _address(host: str, port: int, scheme: str) -> str:
+    """The address of the class, with a slash at its end."""
     shown = f"[{host}]" if ":" in host else host
-    if host in ("0.0.0.0", "::"):
-        shown = socket.gethostname()
-    print(f"{whose}: http://{shown}:{port}/#{code}", flush=True)
-    if host not in ("127.0.0.1", "::1", "localhost"):
-        warning = f"whoever reaches {host} reaches the class, and nothing is encrypted"
-        print(f"vecmon-lab: warning: {warning}: use it in a network that you trust (docs/CLASS.md)", file=sys.stderr)
+    return f"{scheme}://{socket.gethostname() if host in ('0.0.0.0', '::') else shown}:{port}/"
 
 
 def _transcript(command: list[str], script: bytes) -> bytes:

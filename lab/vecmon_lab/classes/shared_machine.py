@@ -108,7 +108,7 @@ class SharedMachine:
         if source is None:
             source, program, breaks = seat.written, seat.program, sorted(seat.sight.breaks)
         if program is None:
-            raise BadRequest("no source stands in this machine, so none can be written again")
+            raise BadRequest("this machine has no loaded source to restart")
         warnings = program.warnings if isinstance(program, CompiledProgram) else []
         if program.mistakes:
             return program.mistakes, warnings
@@ -154,7 +154,7 @@ class SharedMachine:
         """
         yield TakeSeat()
         if not isinstance(seat.program, CompiledProgram) or seat.state["run"] != "stopped":
-            raise BadRequest("lines are stepped where the program of a compiled source stands still")
+            raise BadRequest("only a stopped program of a compiled source can step a line")
         self._check_share(seat, [f"{seat.digit} step {LINE_BLOCKS}"] * LINE_BLOCKS)
         yield Turn(partial(self._step_line, seat, seat.program), seat)
 

@@ -7,7 +7,7 @@ from collections import deque
 from collections.abc import Iterator, Sequence
 
 from .. import LabError
-from ..guest.guest import MOST_SLICES
+from ..guest.runner import MOST_SLICES
 from ..machine.answers import Granted, is_refusal, read
 from ..machine.lines import DIGITS, words_of
 from ..machine.program import find_program
@@ -19,14 +19,17 @@ PATIENCE = 30.0
 
 def add_arguments(parser: argparse.ArgumentParser) -> None:
     """The words of `vecmon-lab solo`."""
-    told = "the folder of a class, which may be served now"
+    told = "the folder of a class, which may be running"
     parser.add_argument("folder", metavar="DIR", type=pathlib.Path, help=told)
     parser.add_argument("seat", metavar="SEAT", help="A1 to L8")
 
 
 def run(arguments: argparse.Namespace) -> int:
     """Prints the script, when it has given the same lines. Raises LabError where there is none."""
-    script = solo(Store(arguments.folder, find_program(), is_reading=True), arguments.seat)
+    store = Store(arguments.folder, find_program(), is_reading=True)
+    script = solo(store, arguments.seat)
+    for sentence in store.lost:
+        print(f"vecmon-lab: warning: {sentence}", file=sys.stderr)
     sys.stdout.writelines(f"{line}\n" for line in script)
     return 0
 

@@ -2,14 +2,19 @@
 
 A3.s: the text, a second or two after it was typed; A3.written.s: that which stands in the machine, or nothing;
 A3.written.json: what a compiler made of it
+A3.exercise: the name of the exercise that is open; drafts/A3.doubles.s: the source of an exercise, of which A3.s is a copy
+while it is open
 sources/A3.17.typed.s: version 17, and why it is one: it was typed, written into memory, or given; its time is the file's
+sources/A3.18.typed@doubles.s: version 18, of the exercise `doubles`
 A source that is compiled has the suffix .O2.c, which names its options, or .stock.s, in place of .s.
 """
 
 import re
 import time
+from collections.abc import Sequence
 from typing import TypedDict
 
+from .. import LabError
 from ..assembler.source import Program, read_source
 from ..compilers.compiled import CompiledProgram, read_compiled_program
 from ..compilers.debug import MOST_BYTES
@@ -17,46 +22,94 @@ from .languages import LANGUAGES, NUMBERS, SourceText
 from .requests import BadRequest
 from .text_store import TextStore
 
-MADE = "written.json"
+MADE, OPEN, DRAFTS = "written.json", "exercise", "drafts"
 MOST_VERSIONS = 50
 TYPING_SECONDS = 30.0  # after which what is typed becomes a version
 
-Version = TypedDict("Version", {"number": int, "time": int, "why": str, "language": int})
-"""A version: its time in seconds since 1970, why there is one, `typed`, `written` or `given`, and its language."""
+Version = TypedDict("Version", {"number": int, "time": int, "why": str, "language": int, "exercise": str})
+"""A version: its time in seconds since 1970, why there is one, `typed`, `written` or `given`, its language, and its exercise,
+or "" for none."""
 
 
 class SeatSource:
     """The source of one seat, for all its tabs.
 
     own, number: as it is, and how often it has changed since the server began; versions: the last ones, in order
+    exercise: the one that is open, whose source is `own`; "" for none. Each exercise has a source.
     """
 
     def __init__(self, name: str, store: TextStore) -> None:
         self._name, self._store, self.number = name, store, 0
-        self.versions = self._found()
-        self.own = self._saved = kept_source(store, name)
-        self.written = self._saved_written = kept_source(store, f"{name}.written")
         self._unsaved: dict[int, SourceText] = {}  # versions by number
-        self._newest = self.version(self.versions[-1]["number"]) if self.versions else SourceText()
+        self._left: dict[str, SourceText] = {}  # sources of exercises that aren't open, unless they are saved
+        self.versions = self._found()
+        self.exercise = kept_exercise(store, name)
+        self.own = kept_source(store, self._place(self.exercise))
+        self._saved = (self.exercise, self.own)
+        self.written = self._saved_written = kept_source(store, f"{name}.written")
+        self._gift: tuple[SourceText, SourceText] | None = None  # the teacher's last one, and the own before it
+        self._newest = self._newest_of(self.exercise)
         self._since = time.time()  # when the text began to differ from the newest version
 
-    def draft(self, source: SourceText, number: int) -> None:
-        """Takes up one that was typed where the source had this number; it is a version alone where it has another."""
-        if number == self.number:
-            self._change(source)
+    def settle(self, exercises: Sequence[str]) -> None:
+        """Opens the first of a class's exercises where none of them is open; a source without an exercise becomes its source."""
+        if not exercises or self.exercise in exercises:
+            return
+        if self.exercise or kept_source(self._store, self._place(exercises[0])).text:
+            self.open(exercises[0])
         else:
-            self._add_version(source, "typed")
+            self.exercise = exercises[0]
 
-    def write(self, source: SourceText) -> None:
-        """Takes up one that is written into memory."""
+    def open(self, exercise: str) -> None:
+        """Opens an exercise with its source as it was left, or an empty one; that of the exercise before stays with it."""
+        if exercise == self.exercise:
+            return
+        if not self.exercise:
+            self._add_version(self.own, "typed")
+        self._left[self.exercise] = self.own
+        left = self._left.pop(exercise, None) or kept_source(self._store, self._place(exercise))
+        self.own = left if left.text else SourceText("", self.own.language)
+        self.exercise, self.number, self._gift = exercise, self.number + 1, None
+        self._newest, self._since = self._newest_of(exercise), time.time()
+
+    def draft(self, source: SourceText, number: int, exercise: str = "", is_kept: bool = False) -> None:
+        """Takes up one that was typed where the source had this number; it is a version alone where it has another.
+
+        exercise: the one that it was typed for, "" for the open one; is_kept: whether it becomes a version, since the page
+        replaces it next
+        """
+        exercise = exercise or self.exercise
+        is_current = number == self.number and exercise == self.exercise
+        if is_current:
+            self._change(source)
+        if source.text and (is_kept or not is_current):
+            self._add_version(source, "typed", exercise)
+
+    def write(self, source: SourceText, number: int = -1) -> None:
+        """Takes up one that is written into memory. What is there becomes a version where it has another number than this."""
+        if number != self.number and self.own != source and self.own.text:
+            self._add_version(self.own, "typed")
         self._change(source)
         self._add_version(source, "written")
 
-    def give(self, source: SourceText) -> None:
-        """Takes up the teacher's; the student's own becomes a version."""
-        self._add_version(self.own, "typed")
+    def give(self, source: SourceText) -> bool:
+        """Takes up the teacher's; the student's own becomes a version. Returns whether it replaces another text."""
+        before = self.own
+        self._add_version(before, "typed")
         self._change(source)
         self._add_version(source, "given")
+        self._gift = (source, before)
+        return before.text not in ("", source.text)
+
+    def take_back(self) -> bool:
+        """Takes back what the teacher gave last, unless it was changed since; returns whether the own source is back."""
+        gift, self._gift = self._gift, None
+        if gift is None or self.own != gift[0] or gift[0] == gift[1]:
+            return False
+        self._change(gift[1])
+        if gift[1].text:
+            self._add_version(gift[1], "typed")
+        return True
 
     def version(self, number: int) -> SourceText:
         """A version. Raises BadRequest."""
@@ -74,8 +127,10 @@ class SeatSource:
         before = self.versions
         if self.own != self._newest and time.time() - self._since >= TYPING_SECONDS:
             self._add_version(self.own, "typed")
-        if self.own != self._saved and self._write(self._name, self.own):
-            self._saved = self.own
+        for exercise in [each for each, source in self._left.items() if self._write(self._place(each), source)]:
+            del self._left[exercise]
+        if (self.exercise, self.own) != self._saved and self._write_own():
+            self._saved = (self.exercise, self.own)
         if self.written != self._saved_written:
             told = program.told.decode("utf-8", "replace") if isinstance(program, CompiledProgram) else ""
             is_saved = self._store.write_text(f"{self._name}.{MADE}", told)
@@ -86,6 +141,23 @@ class SeatSource:
             if number in self._unsaved and self._store.write_text(self._file(version), self._unsaved[number].text):
                 del self._unsaved[number]
         return self.versions is not before
+
+    def _write_own(self) -> bool:
+        """Saves the source, and of which exercise it is, which is the last file; whether that succeeded."""
+        is_written = self._write(self._place(self.exercise), self.own)
+        if is_written and self.exercise:
+            is_written = self._write(self._name, self.own)
+            return is_written and self._store.write_text(f"{self._name}.{OPEN}", self.exercise)
+        return is_written
+
+    def _place(self, exercise: str) -> str:
+        """The name of an exercise's source in the folder, without its suffix."""
+        return f"{DRAFTS}/{self._name}.{exercise}" if exercise else self._name
+
+    def _newest_of(self, exercise: str) -> SourceText:
+        """The newest version of an exercise; an empty source if there is none."""
+        numbers = [version["number"] for version in self.versions if version["exercise"] == exercise]
+        return self.version(numbers[-1]) if numbers else SourceText()
 
     def _write(self, name: str, source: SourceText) -> bool:
         """Keeps a source by a name in place of the one that was kept by it; whether that went well."""
@@ -100,30 +172,33 @@ class SeatSource:
             self._since = time.time() if self.own == self._newest else self._since
             self.own, self.number = source, self.number + 1
 
-    def _add_version(self, source: SourceText, why: str) -> None:
-        """Adds a version, unless it is as the newest one, and drops the oldest where there are too many."""
-        if source == self._newest:
+    def _add_version(self, source: SourceText, why: str, exercise: str | None = None) -> None:
+        """Adds a version of the open exercise, or of another, unless it is as its newest one; drops the oldest of too many."""
+        exercise = self.exercise if exercise is None else exercise
+        if source == (self._newest if exercise == self.exercise else self._newest_of(exercise)):
             return
         number = self.versions[-1]["number"] + 1 if self.versions else 1
-        version = Version(number=number, time=int(time.time()), why=why, language=source.language)
+        version = Version(number=number, time=int(time.time()), why=why, language=source.language, exercise=exercise)
         self.versions = [*self.versions, version]
-        self._unsaved[number] = self._newest = source
+        self._unsaved[number] = source
+        self._newest = source if exercise == self.exercise else self._newest
         while len(self.versions) > MOST_VERSIONS:
             oldest, *self.versions = self.versions
             self._unsaved.pop(oldest["number"], None)
             self._store.remove(self._file(oldest))
 
     def _file(self, version: Version) -> str:
-        return f"sources/{self._name}.{version['number']}.{version['why']}.{LANGUAGES[version['language']].suffix}"
+        why = f"{version['why']}@{version['exercise']}" if version["exercise"] else version["why"]
+        return f"sources/{self._name}.{version['number']}.{why}.{LANGUAGES[version['language']].suffix}"
 
     def _found(self) -> list[Version]:
         """The versions that the folder has."""
         found = []
         for file, when in self._store.files(f"sources/{self._name}.*"):
-            parts = re.fullmatch(r"sources/\w+\.(\d+)\.(typed|written|given)\.(.+)", file)
-            if parts and parts[3] in NUMBERS:
-                number = int(parts[1])
-                found.append(Version(number=number, time=int(when), why=parts[2], language=NUMBERS[parts[3]]))
+            parts = re.fullmatch(r"sources/\w+\.(\d+)\.(typed|written|given)(?:@([\w-]+))?\.(.+)", file)
+            if parts and parts[4] in NUMBERS:
+                number, language, exercise = int(parts[1]), NUMBERS[parts[4]], parts[3] or ""
+                found.append(Version(number=number, time=int(when), why=parts[2], language=language, exercise=exercise))
         return sorted(found, key=lambda version: version["number"])[-MOST_VERSIONS:]
 
 
@@ -137,9 +212,18 @@ def kept_source(store: TextStore, name: str) -> SourceText:
     return SourceText(store.read_text(file), language)
 
 
+def kept_exercise(store: TextStore, seat: str) -> str:
+    """The exercise that was open at a seat; "" for none."""
+    name = store.read_text(f"{seat}.{OPEN}")
+    return name if re.fullmatch(r"[\w-]{1,40}", name, re.ASCII) else ""
+
+
 def kept_program(store: TextStore, seat: str) -> tuple[SourceText, Program]:
     """The source that stands in a seat's machine, which may be an empty one, and its program. Raises LabError."""
     source = kept_source(store, f"{seat}.written")
-    if source.choice is None:
-        return source, read_source(source.text)
-    return source, read_compiled_program(store.read_text(f"{seat}.{MADE}").encode("utf-8"), MOST_BYTES)
+    try:
+        if source.choice is None:
+            return source, read_source(source.text)
+        return source, read_compiled_program(store.read_text(f"{seat}.{MADE}").encode("utf-8"), MOST_BYTES)
+    except LabError as error:
+        raise LabError(f"{seat}.written.*: the source of the seat's machine isn't listed, since {error}") from error

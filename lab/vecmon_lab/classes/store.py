@@ -7,6 +7,7 @@ A.script, A.2.script ..: a machine's scripts, each of which begins where the one
 A.json: which lines of them set the machine up; how many of the last one's were answered by a digest, and what the
     teacher has set
 images/NAME.elf: the images, as they were when the class began
+A.json.damaged: a file that was damaged, under another name
 lock: held by the server that serves the class
 """
 
@@ -16,94 +17,96 @@ import json
 import os
 import pathlib
 import re
-import shutil
 import threading
-from collections.abc import Callable, Iterator, Mapping, Sequence
-from dataclasses import asdict, dataclass, field, replace
+import time
+from collections.abc import Callable, Iterator, Mapping
+from dataclasses import asdict, replace
+from fnmatch import fnmatchcase
 from typing import TypeVar
 
 from .. import LabError
 from ..machine.program import digest_of
-from ..machine.session import BadLine, Block, OutOfStep, Session
-from .codes import LETTERS, Codes
+from ..machine.session import BadLine, Block, OutOfStep, Session, recorded_lines
+from .codes import LETTERS, TEACHER, Codes, new_code
+from .durable import Flusher, replace_file, sync_folder
+from .kept import SCRIPT_NAME, Facts, Notes, codes
 
 
 class BadFolder(LabError):
     """The folder can't keep this class; the text says why."""
 
 
-@dataclass(frozen=True)
-class Facts:
-    """What a class is begun with: the digest of the program, and those of the images by name."""
-
-    program: str = ""
-    quantum: int = 100
-    machines: int = 1
-    images: Mapping[str, str] = field(default_factory=dict)
-
-
-@dataclass(frozen=True)
-class Notes:
-    """What is kept beside a machine's last script: how many lines were answered by a digest, the clock, rights;
-    and of each script how many lines at its beginning set the machine up, as the one before left it."""
-
-    lines: int = 0
-    answers: str = ""
-    clock: Mapping[str, int] = field(default_factory=dict)
-    own_slices: bool = True
-    scripts: Sequence[int] = field(default_factory=lambda: [0])
-
-
 Kept = TypeVar("Kept")
+SHOWN = 5  # sentences on damaged files that pages show
+MOST_ASIDE = 10_000  # copies of a damaged file
+NEWLINE = b"\n"
 
 
 class ScriptFile:
-    """A script on the disk: each line is appended before the machine is asked.
+    """A script on the disk: each line is appended before the machine is asked, and flushed to the disk soon.
 
-    Where the disk takes nothing, lines wait in memory and follow later; `trouble` says so. For one thread at a time.
+    Where the disk takes nothing, lines wait in memory and follow later; `trouble` says so. For one thread at a time, but
+    `sync`, which another thread may call.
     """
 
-    def __init__(self, folder: pathlib.Path, machine: str, number: int = 1) -> None:
-        """Opens a machine's script of this number, and cuts off a last line without its newline; `kept` has the rest."""
-        self._folder, self._machine = folder, machine
+    def __init__(self, folder: pathlib.Path, machine: str, number: int = 1, flusher: Flusher | None = None) -> None:
+        """Opens a machine's script of this number, and cuts off what no session recorded; `kept` has the lines before.
+
+        flusher: calls `sync` after changes; without one nothing does but `close`
+        """
+        self._folder, self._machine, self._flusher = folder, machine, flusher
+        self._sync_turn, self._is_open, self._is_named = threading.Lock(), True, False
         path = folder / script_name(machine, number)
         self._file = os.open(path, os.O_RDWR | os.O_CREAT, 0o600)
-        data = path.read_bytes()
-        self.kept = data[: data.rfind(b"\n") + 1]
-        self.trouble = ""
+        self.kept = recorded_lines(path.read_bytes())
+        self._path, self._write_trouble, self._sync_trouble = path, "", ""
         self._waiting = bytearray()
         self._saved = len(self.kept)
         os.ftruncate(self._file, self._saved)
 
-    def replay(self, session: Session, notes: Notes) -> Iterator[Block]:
-        """Carries out what was kept: its lines and their answers. Raises BadFolder where it is answered otherwise.
+    def replay(self, session: Session, notes: Notes, lose: Callable[[str], object]) -> Iterator[Block]:
+        """Executes the lines that were kept: these and their answers. Raises BadFolder where they can't be.
 
-        Notes have the digest of its first answers; lines behind them were written shortly before a server was killed.
+        Notes have the digest of the first answers; lines behind them were written shortly before a server was killed.
+        lose: is called with a sentence where lines are missing, or are answered otherwise than before
         """
         *answered, later = self.kept.split(b"\n", notes.lines)
         if len(answered) < notes.lines:
-            raise BadFolder(f"the script of machine {self._machine} has lost lines: it had {notes.lines}")
-        others = f"machine {self._machine} answers the first {notes.lines} lines otherwise than before"
+            lose(
+                f"it has {len(answered):,} lines, and had {notes.lines:,}: the last {notes.lines - len(answered):,} are lost"
+            )
+            later = b""
         try:
             yield from session.do_blocks(self.kept[: len(self.kept) - len(later)])
+            if notes.answers and len(answered) == notes.lines and session.digest != notes.answers:
+                lose(
+                    f"its first {notes.lines:,} lines are answered otherwise than before: it, or an image, was changed"
+                )
+            yield from session.do_blocks(later)
         except (BadLine, OutOfStep) as error:
-            raise BadFolder(others) from error
-        if notes.lines and session.digest != notes.answers:
-            raise BadFolder(others)
-        yield from session.do_blocks(later)
+            raise BadFolder(f"machine {self._machine} doesn't take its script: {error}") from error
 
     def successor(self, number: int, script: bytes) -> "ScriptFile":
         """The file of the machine's script of this number, which is on the disk as a whole then. Raises OSError."""
-        with (self._folder / script_name(self._machine, number)).open("wb") as file:
-            file.write(script)
-            file.flush()
-            os.fsync(file.fileno())
-        return ScriptFile(self._folder, self._machine, number)
+        replace_file(self._folder / script_name(self._machine, number), script)
+        sync_folder(self._folder)
+        return ScriptFile(self._folder, self._machine, number, self._flusher)
+
+    def discard(self) -> None:
+        """Closes the file, and removes it: another script continues."""
+        self.close()
+        with contextlib.suppress(OSError):
+            os.unlink(self._path)
 
     @property
     def is_saved(self) -> bool:
         """Whether nothing waits."""
         return not self._waiting
+
+    @property
+    def trouble(self) -> str:
+        """Why lines aren't saved; empty if all are."""
+        return self._write_trouble or self._sync_trouble
 
     def append(self, line: str) -> None:
         """Writes a line."""
@@ -116,10 +119,29 @@ class ScriptFile:
         if size < self._saved:
             os.ftruncate(self._file, size)
             self._saved = size
+            self._flush_soon()
+
+    def sync(self) -> None:
+        """Flushes to the disk what was appended, and the file's name at first. Raises OSError; `trouble` reports it too."""
+        with self._sync_turn:
+            if not self._is_open:
+                return
+            try:
+                os.fsync(self._file)
+                if not self._is_named:
+                    sync_folder(self._folder)
+                self._is_named, self._sync_trouble = True, ""
+            except OSError as error:
+                self._sync_trouble = f"the script isn't saved: {error.strerror}"
+                raise
 
     def close(self) -> None:
-        """Closes the file."""
-        os.close(self._file)
+        """Flushes and closes the file."""
+        with contextlib.suppress(OSError):
+            self.sync()
+        with self._sync_turn:
+            self._is_open = False
+            os.close(self._file)
 
     def catch_up(self) -> None:
         """Writes what waits, if the disk takes it."""
@@ -128,9 +150,14 @@ class ScriptFile:
                 written = os.pwrite(self._file, self._waiting, self._saved)
                 self._saved += written
                 del self._waiting[:written]
-            self.trouble = ""
+                self._flush_soon()
+            self._write_trouble = ""
         except OSError as error:
-            self.trouble = f"the script isn't saved: {error.strerror}"
+            self._write_trouble = f"the script isn't saved: {error.strerror}"
+
+    def _flush_soon(self) -> None:
+        if self._flusher:
+            self._flusher.flush_soon(self)
 
 
 class Store:
@@ -151,17 +178,22 @@ class Store:
         be more machines than before. Raises BadFolder, OSError, and ProgramGone where the program refuses the images.
         """
         self.folder, self.program = folder, program
-        self.troubles: dict[str, str] = {}  # by the name of what wasn't saved when it was tried last
+        self.lost: list[str] = []  # sentences on damaged files
         self._is_reading = is_reading
+        self._flusher: Flusher | None = None
         if is_reading:
             self._open(images, quantum, machines)
             return
         folder.mkdir(mode=0o700, parents=True, exist_ok=True)
-        if strangers := {path.name for path in folder.iterdir()} - {"lock", "images"}:
-            if "class.json" not in strangers:
-                raise BadFolder(f"{folder} has no class, but other files, {min(strangers)} among them")
+        if strangers := {path.name for path in folder.iterdir() if path.suffix != ".new"} - {"lock", "images"}:
+            if not any(name in ("class.json", "codes.json") or SCRIPT_NAME.fullmatch(name) for name in strangers):
+                named = f"{min(strangers)} among them: name an empty folder, or one that isn't there"
+                raise BadFolder(f"{folder} has no class, but other files, {named}")
         folder.chmod(0o700)
+        with contextlib.suppress(OSError):  # a folder above that may not be read
+            sync_folder(folder.parent)
         self._lock = _locked(folder)
+        self._flusher = Flusher(folder)
         try:
             self._open(images, quantum, machines)
         except BaseException:
@@ -169,23 +201,75 @@ class Store:
             raise
 
     def _open(self, images: Mapping[str, pathlib.Path], quantum: int | None, machines: int | None) -> None:
-        kept = self.read("class.json", Facts)
+        kept = self._kept_facts(quantum, machines)
         if self._is_reading and not kept.program:
             raise BadFolder(f"{self.folder} has no class")
         facts = self._facts(kept, images, quantum, machines) if kept.program else self._begin(images, quantum, machines)
         self._program_digest = facts.program
         self.quantum = facts.quantum
         self.machines = LETTERS[: facts.machines]
-        self.images = {name: self._image(name) for name in facts.images}
-        self.codes = Codes(self.machines, self.read("codes.json", dict[str, str]))
-        begun: dict[str, Mapping[str, object]] = {"class.json": asdict(facts), "codes.json": self.codes.codes}
-        if not self._is_reading and not all(self.write(name, value) for name, value in begun.items()):
+        restored = (
+            name for name, digest in facts.images.items() if self._restore_image(name, digest, images.get(name))
+        )
+        self.images = {name: self._image(name) for name in restored}
+        self.codes = Codes(self.machines, self.read("codes.json", codes, "all seats and the teacher have new codes"))
+        begun: dict[str, Mapping[str, object]] = {"codes.json": self.codes.codes, "class.json": asdict(facts)}
+        if not self._is_reading and not all(self.write_now(name, value) for name, value in begun.items()):
             raise BadFolder(self.trouble)
 
     def close(self) -> None:
-        """Leaves the folder to others."""
-        if not self._is_reading:
+        """Brings to the disk what waits, and leaves the folder to others."""
+        if self._flusher:
+            self._flusher.end()
             os.close(self._lock)
+
+    def flush(self) -> None:
+        """Brings to the disk now what waits, as far as the disk takes it; the caller waits for the disk."""
+        if self._flusher:
+            self._flusher.flush()
+
+    def script_file(self, machine: str, number: int) -> ScriptFile:
+        """A machine's script of this number, to append to; of a damaged one the lines before the damage."""
+        self.check_script(machine, number)
+        return ScriptFile(self.folder, machine, number, self._flusher)
+
+    def notes(self, machine: str) -> Notes:
+        """A machine's notes, whose last script is there with the lines that set the machine up."""
+        name = f"{machine}.json"
+        is_there, notes = (self.folder / name).exists(), self.read(f"{machine}.json", Notes, "the clock is set anew")
+        if not is_there or self._is_lost(name):
+            last = max(1, *self._numbers(machine), 1)
+            notes = replace(notes, scripts=[0] * last, lines=len(self._lines(machine, last)))
+        scripts = list(notes.scripts)
+        while len(scripts) > 1 and len(self._lines(machine, len(scripts))) < max(1, scripts[-1]):
+            last_name = script_name(machine, len(scripts))
+            self.lose(f"{last_name} has lost lines that set the machine up: it goes on as the script before left it")
+            scripts.pop()
+        if len(scripts) < len(notes.scripts):
+            notes = replace(notes, scripts=scripts, lines=len(self._lines(machine, len(scripts))), answers="")
+        return notes
+
+    def check_script(self, machine: str, number: int) -> None:
+        """Sets a copy of a script aside that has more behind its lines than a torn one, and reports what is lost."""
+        name = script_name(machine, number)
+        data = (self.folder / name).read_bytes() if (self.folder / name).exists() else b""
+        lines = recorded_lines(data)
+        rest = data[len(lines) :]
+        if not rest:
+            return
+        aside = self._set_aside(name, data) if b"\n" in rest else ""
+        self.lose(
+            f"{name} is damaged behind line {lines.count(NEWLINE):,}{aside}: the last {len(rest):,} bytes are lost"
+        )
+
+    def count_lines(self, machine: str, number: int) -> int:
+        """How many lines of a machine's script aren't damaged."""
+        return len(self._lines(machine, number))
+
+    def lose(self, sentence: str) -> None:
+        """Notes that something was lost, once."""
+        if sentence not in self.lost:
+            self.lost.append(sentence)
 
     def session(self, patience: float) -> Session:
         """A new machine of this class, of which each process has the program that the class was begun with."""
@@ -194,10 +278,9 @@ class Store:
 
     def scripts(self, machine: str) -> Iterator[tuple[bytes, bytes]]:
         """A machine's scripts: of each the lines that set the machine up, and those behind them that were answered."""
-        notes = self.read(f"{machine}.json", Notes)
+        notes = self.notes(machine)
         for number, begin in enumerate(notes.scripts, 1):
-            path = self.folder / script_name(machine, number)
-            lines = path.read_bytes().splitlines(keepends=True) if path.exists() else []
+            lines = self._lines(machine, number)
             end = notes.lines if number == len(notes.scripts) else len(lines)
             yield b"".join(lines[:begin]), b"".join(lines[begin:end])
 
@@ -210,52 +293,146 @@ class Store:
             return False
         raise BadFolder(f"the class has ended, since {self.program} is another program now")
 
-    def read(self, name: str, kind: Callable[..., Kept]) -> Kept:
-        """What was kept, which is of this kind; what that is without words if there is nothing."""
+    def read(self, name: str, kind: Callable[..., Kept], loss: str = "") -> Kept:
+        """What was kept, which is of this kind; what that is without words if there is nothing.
+
+        A damaged file is set aside under another name, and `lost` has a sentence with `loss`, what that means.
+        """
         try:
-            return kind(**json.loads((self.folder / name).read_text("utf-8")))
+            return self._read(name, kind)
         except FileNotFoundError:
             return kind()
-        except (ValueError, TypeError) as error:
-            raise BadFolder(f"{self.folder / name} isn't what a server wrote") from error
+        except ValueError:
+            aside = self._set_aside(name)
+            self.lose(f"{name} is damaged{aside}" + (f": {loss}" if loss else ""))
+            return kind()
+
+    @property
+    def loss(self) -> str:
+        """What was lost, for a page: the first few sentences; empty if nothing was."""
+        more = len(self.lost) - SHOWN
+        told = [*self.lost[:SHOWN], *([f"and {more} more, which the terminal lists"] if more > 0 else [])]
+        return f"Lost before the class was started: {'; '.join(told)}." if told else ""
 
     @property
     def trouble(self) -> str:
         """Why something isn't saved; empty if all is."""
-        return next(iter(self.troubles.values()), "")
+        return "".join(list(self._flusher.troubles.values())[:1]) if self._flusher else ""
 
     def files(self, pattern: str) -> Iterator[tuple[str, float]]:
-        """The names that match a pattern, and their times."""
+        """The names that match a pattern, and their times; of those that wait for the disk the present time."""
+        waiting = self._flusher.all_waiting() if self._flusher else {}
         for path in self.folder.glob(pattern):
-            yield path.relative_to(self.folder).as_posix(), path.stat().st_mtime_ns / 1e9
+            name = path.relative_to(self.folder).as_posix()
+            try:
+                when = path.stat().st_mtime_ns / 1e9
+            except FileNotFoundError:  # it was replaced or removed meanwhile
+                continue
+            if name not in waiting:
+                yield name, when
+        yield from (
+            (name, time.time()) for name, is_there in waiting.items() if is_there and fnmatchcase(name, pattern)
+        )
 
     def read_text(self, name: str) -> str:
         """A text that was kept; empty if there is none."""
-        path = self.folder / name
-        return path.read_bytes().decode("utf-8", "replace") if path.exists() else ""
+        try:
+            return self._data(name).decode("utf-8", "replace")
+        except FileNotFoundError:
+            return ""
 
     def write(self, name: str, value: Mapping[str, object]) -> bool:
-        """Keeps an object, as a whole or not at all; whether that went well. `trouble` says why not."""
+        """Keeps an object, which is on the disk soon, as a whole or not at all. `trouble` says why it isn't."""
         return self.write_text(name, json.dumps(value, indent=1))
 
+    def write_now(self, name: str, value: Mapping[str, object]) -> bool:
+        """As `write`, and the caller waits for the disk; whether that went well."""
+        self.write(name, value)
+        self.flush()
+        return self._flusher is not None and self._flusher.is_saved(name)
+
     def write_text(self, name: str, text: str) -> bool:
-        """Keeps a text as `write` does an object."""
-        new = self.folder / f"{name}.new"
-        try:
-            new.parent.mkdir(exist_ok=True)
-            new.write_bytes(text.encode("utf-8", "replace"))
-            new.replace(self.folder / name)
-        except OSError as error:
-            self.troubles[name] = f"{name} isn't saved: {error.strerror}"
-            return False
-        self.troubles.pop(name, None)
-        return True
+        """Keeps a text as `write` does an object; whether this class may."""
+        if self._flusher:
+            self._flusher.replace(name, text.encode("utf-8", "replace"))
+        return self._flusher is not None
 
     def remove(self, name: str) -> None:
         """Keeps it no more, whether it was saved or not."""
-        self.troubles.pop(name, None)
-        with contextlib.suppress(OSError):
-            (self.folder / name).unlink()
+        if self._flusher:
+            self._flusher.remove(name)
+
+    def _data(self, name: str) -> bytes:
+        """The data of a file as it was kept last, also where that waits for the disk. Raises FileNotFoundError."""
+        waiting = self._flusher.waiting(name) if self._flusher else None
+        return (self.folder / name).read_bytes() if waiting is None else waiting
+
+    def _read(self, name: str, kind: Callable[..., Kept]) -> Kept:
+        """As `read`. Raises FileNotFoundError, and ValueError where the file is damaged."""
+        try:
+            values = json.loads(self._data(name).decode("utf-8"))
+            if values == {} and (kind() != {} or name == "codes.json"):  # of names and exercises there may be none
+                raise ValueError(f"{name} has nothing")
+            return kind(**values)
+        except (TypeError, AttributeError, RecursionError) as error:
+            raise ValueError(f"{name} isn't what a server wrote") from error
+
+    def _is_readable(self, name: str, kind: Callable[..., object]) -> bool:
+        """Whether a file is there, and isn't damaged."""
+        try:
+            self._read(name, kind)
+            return True
+        except (FileNotFoundError, ValueError):
+            return False
+
+    def _is_lost(self, name: str) -> bool:
+        """Whether a damaged file of this name was found."""
+        return any(sentence.startswith(f"{name} ") for sentence in self.lost)
+
+    def _set_aside(self, name: str, copied: bytes | None = None) -> str:
+        """Renames a damaged file, or copies it; how that is reported. A class that is only read stays as it is."""
+        if self._is_reading:
+            return ""
+        names = (f"{name}.damaged{number}" for number in ("", *(f"-{number}" for number in range(2, MOST_ASIDE))))
+        aside = next(each for each in names if not (self.folder / each).exists())
+        if copied is None:
+            os.replace(self.folder / name, self.folder / aside)
+        else:
+            replace_file(self.folder / aside, copied)
+        sync_folder((self.folder / name).parent)
+        return f", and is now {aside}" if copied is None else f", and {aside} is a copy of it"
+
+    def _lines(self, machine: str, number: int) -> list[bytes]:
+        """The lines of a machine's script, as far as they aren't damaged; none where it isn't there."""
+        path = self.folder / script_name(machine, number)
+        return recorded_lines(path.read_bytes()).splitlines(keepends=True) if path.exists() else []
+
+    def _numbers(self, machine: str) -> list[int]:
+        """The numbers of a machine's scripts that are there."""
+        found = [SCRIPT_NAME.fullmatch(path.name) for path in self.folder.glob(f"{machine}.*script")]
+        return [int(parts[2] or 1) for parts in found if parts]
+
+    def _kept_facts(self, quantum: int | None, machines: int | None) -> Facts:
+        """What the class was begun with. Where that is damaged, it is taken from the other files. Raises BadFolder."""
+        name, is_there = "class.json", (self.folder / "class.json").exists()
+        if self._is_readable(name, Facts):
+            return self.read(name, Facts)
+        numbers = {letter: self._numbers(letter) for letter in LETTERS}
+        has_lines = any(self._lines(letter, number) for letter in LETTERS for number in numbers[letter])
+        kept = self._read("codes.json", codes) if self._is_readable("codes.json", codes) else {}
+        if not has_lines and not (kept and is_there):
+            if is_there:
+                what = "no script has a line, and class.json and codes.json are damaged"
+                raise BadFolder(f"{self.folder}: {what}: copy the folder back from a backup, or name another folder")
+            return Facts()
+        state = f"damaged{self._set_aside(name)}" if is_there else "lost"
+        self.lose(f"{name} is {state}: program, quantum and images are taken to be as they are now")
+        seats = {seat[0] for seat in kept if re.fullmatch("[A-L][1-8]", seat)}
+        most = max(
+            LETTERS.index(letter) + 1 for letter in LETTERS if letter in seats or numbers[letter] or letter == "A"
+        )
+        images = {path.stem: digest_of(path) for path in sorted((self.folder / "images").glob("*.elf"))}
+        return Facts(digest_of(self.program), quantum or 100, max(most, machines or 1), images)
 
     def _image(self, name: str) -> pathlib.Path:
         return self.folder / "images" / f"{name}.elf"
@@ -267,21 +444,34 @@ class Store:
                 raise BadFolder(f"image {name}: a name has 1 to 32 letters, digits, dots, underscores and hyphens")
         with Session(self.program, images, quantum=quantum):
             pass  # the program takes them
-        (self.folder / "images").mkdir(exist_ok=True)
         for name, path in images.items():
-            shutil.copyfile(path, self._image(name))
+            replace_file(self._image(name), path.read_bytes())
+        if images:
+            sync_folder(self.folder / "images")
         digests = {name: digest_of(self._image(name)) for name in images}
         return Facts(digest_of(self.program), quantum or 100, machines or 1, digests)
+
+    def _restore_image(self, name: str, digest: str, image: pathlib.Path | None) -> bool:
+        """Copies an image anew that is damaged or isn't there, if the image of the start is named; whether it is there then."""
+        path = self._image(name)
+        if path.exists() and digest_of(path) == digest:
+            return True
+        state = f"damaged{self._set_aside(f'images/{path.name}')}" if path.exists() else "lost"
+        if self._is_reading or image is None:
+            self.lose(f"images/{path.name} is {state}: no machine loads it until the class is started with {name}=PATH")
+            return False
+        replace_file(path, image.read_bytes())
+        sync_folder(path.parent)
+        self.lose(f"images/{path.name} was {state}: it is a copy of {image} now")
+        return True
 
     def _facts(
         self, kept: Facts, images: Mapping[str, pathlib.Path], quantum: int | None, machines: int | None
     ) -> Facts:
-        """What the class was begun with, compared with what is there and what is named now."""
+        """What the class was begun with, compared with what is named now."""
         if digest_of(self.program) != kept.program:
             raise BadFolder(f"{self.folder} was begun with another program than {self.program}")
-        named = {name: digest_of(path) for name, path in images.items()}
-        there = {name: digest_of(self._image(name)) for name in kept.images}
-        if there != kept.images or images and named != there:
+        if images and {name: digest_of(path) for name, path in images.items()} != kept.images:
             raise BadFolder(f"{self.folder} was begun with other images")
         if quantum not in (None, kept.quantum):
             raise BadFolder(f"{self.folder} was begun with --quantum {kept.quantum}")
@@ -295,7 +485,25 @@ def forget(folder: pathlib.Path, name: str) -> None:
     lock = _locked(folder)
     for each in (name, f"{name}.new"):
         (folder / each).unlink(missing_ok=True)
+    sync_folder(folder)
     os.close(lock)
+
+
+def renew_teacher(folder: pathlib.Path) -> None:
+    """Gives the teacher of a class that isn't served a new code; all others keep theirs. Raises BadFolder."""
+    if not (folder / "class.json").exists():
+        raise BadFolder(f"{folder} has no class")
+    lock = _locked(folder)
+    try:
+        kept = codes(**json.loads((folder / "codes.json").read_bytes()))
+        if TEACHER not in kept:
+            raise ValueError("there are no codes")
+        replace_file(folder / "codes.json", json.dumps(kept | {TEACHER: new_code()}, indent=1).encode())
+        sync_folder(folder)
+    except (FileNotFoundError, TypeError, ValueError, RecursionError) as error:
+        raise BadFolder(f"{folder}/codes.json is missing or damaged: the next start gives all new codes") from error
+    finally:
+        os.close(lock)
 
 
 def _locked(folder: pathlib.Path) -> int:

@@ -1,6 +1,5 @@
 """A student's requests at one seat, as steps at the machine, and what the student's page shows."""
 
-import contextlib
 from collections.abc import Callable, Mapping
 
 from .. import LabError
@@ -8,14 +7,11 @@ from ..exercises.check import mistakes_told
 from .languages import LANGUAGES, SourceText
 from .messages import Message, shown, source_view
 from .progress import Exercises
-from .requests import Check, Draft, Lines, ReadVersion, Source, StepLine, TryCase
+from .requests import Check, Draft, Lines, OpenExercise, ReadVersion, SeatsRequest, Source, StepLine, TryCase
 from .seats import Seat
 from .shared_machine import SEAT_BYTES, SharedMachine, Steps
 from .sources import SeatSource, kept_program
 from .text_store import TextStore
-
-SeatRequest = Source | StepLine | Draft | ReadVersion | Check | TryCase
-"""A student's request that needs nothing but the seat. Lines are the operator's as well: `SharedMachine.lines`."""
 
 
 Checker = Callable[[str, str, SourceText], None]
@@ -32,29 +28,41 @@ class Student:
         self.machine, self.seat, self.exercises = machine, seat, exercises
         self.source = SeatSource(seat.name, texts)
         self._texts, self._check = texts, check
+        self.source.settle([*exercises.by_name])
 
-    def restore(self) -> None:
-        """Brings back which source is in the seat's machine, where its text is kept."""
-        with contextlib.suppress(LabError):
+    def restore(self) -> str:
+        """Brings back which source is in the seat's machine, where its text is kept; why that fails, else an empty text."""
+        try:
             source, program = kept_program(self._texts, self.seat.name)
-            if source.text:
-                self.seat.take(source, program)
-                self.seat.list_program(program)
+        except LabError as error:
+            return str(error)
+        if source.text:
+            self.seat.take(source, program)
+            self.seat.list_program(program)
+        return ""
 
     def keep(self) -> bool:
         """Keeps the source where it has changed; whether there is a new version."""
         self.source.written = self.seat.written
         return self.source.keep(self.seat.program)
 
-    def execute(self, request: SeatRequest) -> Steps[Message]:
-        """Executes a request; what its answer has of its own. Raises BadRequest."""
+    def execute(self, request: SeatsRequest) -> Steps[Message]:
+        """Executes a request; what its answer has of its own. Raises BadRequest.
+
+        Lines are the operator's as well: `SharedMachine.lines`.
+        """
         match request:
-            case Source(source):
-                return (yield from self._write(source))
+            case Source(source, number):
+                return (yield from self._write(source, number))
             case StepLine():
                 yield from self.machine.step_line(self.seat)
-            case Draft(source, number):
-                self.source.draft(source, number)
+            case Draft(source, number, name, is_kept):
+                if name:
+                    self.exercises.exercise(name)
+                self.source.draft(source, number, name, is_kept)
+            case OpenExercise(name):
+                self.exercises.exercise(name)
+                self.source.open(name)
             case ReadVersion(number):
                 return text_of(self.source.version(number))
             case Check(name, source):
@@ -68,10 +76,10 @@ class Student:
                 return told
         return {}
 
-    def _write(self, source: SourceText | None, is_answer: bool = False) -> Steps[Message]:
+    def _write(self, source: SourceText | None, number: int = -1, is_answer: bool = False) -> Steps[Message]:
         """Starts the machine anew with a source, or with the one that is there; the mistakes that it has."""
         if source:
-            self.source.write(source)
+            self.source.write(source, number)
         mistakes, warnings = yield from self.machine.write(self.seat, source, is_answer)
         if mistakes:
             self.seat.stand(f"{len(mistakes)} mistake{'s' * (len(mistakes) > 1)} in the source", True)

@@ -7,10 +7,11 @@ from .. import LabError
 from .codes import TEACHER, WALL
 from .messages import Message, add_words, request_of
 from .names import checked_name
-from .requests import BadRequest, Check, Compare, Draft, JsonObject, Lines, ReadVersion, Request, SetName, Source
-from .requests import StepLine, TryCase, read_request
+from .requests import BadRequest, Check, CloseNotice, Compare, Draft, JsonObject, Lines, OpenExercise, ReadAnswer
+from .requests import ReadVersion, Request, SetName, Source, StepLine, TryCase, read_request
 from .seats import Seat
 from .shared_machine import Answers
+from .student import text_of
 from .teacher import execute_teachers
 from .teacher_view import teacher_view, wall_view
 from .view import Class, Tab
@@ -84,9 +85,15 @@ class TabRequests:
                 return {"do": done, "look": await members.rooms[seat.name[0]].lines(seat, request, done)}
             case SetName(seat_name, name):
                 members.set_name(members.seat(seat_name if is_teacher else tab.who).name, checked_name(name))
+            case CloseNotice(number):
+                members.close_notice(tab.who, number)
             case Compare(source, other):
                 return {"listings": members.comparisons.ask(tab.who, source, other)}
-            case Source() | StepLine() | Draft() | ReadVersion() | Check() | TryCase():
+            case ReadAnswer(seat_name, name, number):
+                return text_of(
+                    members.checks.answer(members.seat(seat_name if is_teacher else tab.who).name, name, number)
+                )
+            case Source() | StepLine() | Draft() | OpenExercise() | ReadVersion() | Check() | TryCase():
                 seen = tab.shoulder.name if tab.shoulder else ""  # whose versions a teacher reads
                 student = members.student(seen if is_teacher else tab.who)
                 return await members.rooms[student.seat.name[0]].run(student.seat, student.execute(request))

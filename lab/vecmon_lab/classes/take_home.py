@@ -17,6 +17,7 @@ from ..lessons.page import lesson_page
 from ..lessons.script import Script, Step, add_line, read_assembled, read_compiled
 from ..machine.lines import words_of
 from .checks import kept_answers
+from .kept import texts
 from .languages import SourceText
 from .live import is_servers
 from .names import NAMES
@@ -67,7 +68,7 @@ def archive(store: Store, seat: str) -> bytes:
 
 def _played(store: Store, seat: str, lines: Sequence[str], own: SourceText) -> dict[str, str | bytes]:
     """Of what was done at a machine: the script, the lesson of it, and the images that it loads, by name."""
-    name = store.read(NAMES, dict[str, str]).get(seat)
+    name = store.read(NAMES, texts).get(seat)
     script = Script(f"Seat {seat}, {name}" if name else f"Seat {seat}", steps_of(lines))
     with contextlib.suppress(LabError):  # a source that isn't finished
         written, program = kept_program(store, seat)

@@ -9,30 +9,34 @@ from .requests import (
     Give,
     LookOver,
     PutOnWall,
-    ReadAnswer,
     Renew,
     Reset,
     SetClock,
     SetRights,
     ShowCodes,
+    TakeBack,
     TeacherRequest,
     Write,
 )
 from .sheet import pictures
-from .student import text_of
 from .view import Class, Tab
 
 
 async def execute_teachers(members: Class, tab: Tab, request: TeacherRequest) -> Message:
     """Executes a request of a teacher's tab; what its answer has of its own. Raises BadRequest."""
     match request:
-        case ReadAnswer(seat_name, name, number):
-            return text_of(members.checks.answer(members.seat(seat_name).name, name, number))
         case Give(name, source):
-            for seat in members.seats(name):
-                members.students[seat.name].source.give(source)
+            replaced = [members.students[seat.name].source.give(source) for seat in members.seats(name)]
             members.note(members.seats(name), "The teacher gave a source. Your own is kept, as a version.")
+            members.given = name, sum(replaced)
+            return {"replaced": sum(replaced)}
+        case TakeBack(name):
+            members.given = None
+            back = [seat for seat in members.seats(name) if members.students[seat.name].source.take_back()]
+            members.note(back, "The teacher took a source back. Your own is in the editor again.")
+            return {"replaced": sum(members.students[seat.name].source.own.text != "" for seat in back)}
         case Write(name, text):
+            members.notices.add([seat.name for seat in members.seats(name)], text)
             members.note(members.seats(name), f"The teacher: {text}")
         case Reset(name):
             seat, room = members.seat(name), members.rooms[name[0]]
@@ -43,7 +47,7 @@ async def execute_teachers(members: Class, tab: Tab, request: TeacherRequest) ->
         case SetRights(machine, own_slices):
             members.room(machine).set_rights(own_slices)
         case Renew(name):
-            members.renew(name if name == WALL else members.seat(name).name)
+            await members.renew(name if name == WALL else members.seat(name).name)
             return {"codes": members.codes.shown(name)}
         case LookOver(name):
             tab.shoulder = members.seat(name) if name else None

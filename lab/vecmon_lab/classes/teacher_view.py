@@ -8,6 +8,7 @@ from ..machine.session import SCRIPT_BYTES
 from ..page.state import State
 from .checks import ExerciseTable
 from .languages import LANGUAGES
+from .progress import CheckFailure
 from .messages import SourceView, shown, source_view
 from .room import Room
 from .seats import Seat
@@ -47,6 +48,13 @@ class MachineView(TypedDict):
     trouble: str
 
 
+class Given(TypedDict, total=False):
+    """The source that was given last and can be taken back: to which seat, "" for all, and how many had another text."""
+
+    seat: str
+    replaced: int
+
+
 class TeacherView(TypedDict):
     """What the teacher's page shows."""
 
@@ -56,12 +64,15 @@ class TeacherView(TypedDict):
     wall: str
     address: str
     exercises: dict[str, ExerciseTable]
+    failures: list[CheckFailure]
     state: State
     source: SourceView
     images: list[str]
     quantum: int
     languages: list[str]
     no_c: str
+    unencrypted: bool
+    given: Given
     trouble: str
 
 
@@ -80,15 +91,18 @@ def teacher_view(members: Class, tab: Tab) -> TeacherView:
         "share": SEAT_BYTES,
         "images": list(members.store.images),
         "quantum": members.store.quantum,
-        "trouble": members.store.trouble,
+        "trouble": " ".join(filter(None, [members.store.trouble, members.store.loss])),
         "shoulder": tab.shoulder.name if tab.shoulder else "",
         "state": shown(tab.shoulder) if tab.shoulder else {},
         "wall": members.wall.name if members.wall else "",
         "address": members.address,
         "languages": [language.name for language in LANGUAGES],
         "no_c": members.builds.no_c,
+        "unencrypted": members.is_unencrypted,
+        "given": {"seat": members.given[0], "replaced": members.given[1]} if members.given else {},
         "source": source_view(members.students[tab.shoulder.name].source, tab.shoulder) if tab.shoulder else {},
         "exercises": members.checks.table(),
+        "failures": members.checks.exercises.failures,
     }
 
 

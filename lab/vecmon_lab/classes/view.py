@@ -1,9 +1,11 @@
 """A class without its transport: its machines, students, codes and names, which its folder keeps, and the tabs that are open."""
 
 import asyncio
+import math
 import pathlib
+import time
 from collections.abc import Callable, Iterable, Mapping, Sequence
-from dataclasses import asdict
+from dataclasses import asdict, replace
 from functools import partial
 
 from .. import LabError
@@ -14,11 +16,15 @@ from .codes import TEACHER, WALL
 from .comparisons import Comparisons
 from .messages import Updates
 from .names import NAMES, as_csv, local_time
+from .notices import NOTICES, Notices
 from .requests import BadRequest
 from .room import Room
 from .seats import Seat
-from .store import Notes, ScriptFile, Store
+from .kept import Notes, texts
+from .store import Store, script_name
 from .student import Student
+
+COUNTS_SECONDS = 1.0  # between notes of a machine that only count more lines
 
 
 class Tab:
@@ -54,24 +60,31 @@ class Class:
         self.has_spares, self.builds = has_spares, builds or Builds()
         self.comparisons = Comparisons(self.builds, store.program)
         self.store, self.codes = store, store.codes
-        self.names = store.read(NAMES, dict[str, str])  # by seat
+        self.names = store.read(NAMES, texts, "the names at the seats are lost")  # by seat
+        self.notices = Notices(store)
         self.address = ""  # where students reach the class, with a slash at its end
+        self.is_unencrypted = False  # on the way to other computers
         self.wall: Seat | None = None  # the seat that it shows
+        self.given: tuple[
+            str, int
+        ] | None = None  # the seat that was given a source last, "" for all; and editors that had another
         self.tabs: set[Tab] = set()
         self.rooms: dict[str, Room] = {}
         self.students: dict[str, Student] = {}
-        self._kept: dict[str, Notes] = {}
+        self._kept: dict[str, tuple[Notes, float]] = {}  # and when they were kept
+        self._trouble = ""  # as pages have it
         makers, self._packers, self._packing = Beside(1), Beside(2), set[str]()
         try:
             self.checks = Checks(store, exercises, self.tell, self.builds)
             for letter in store.machines:
-                notes = store.read(f"{letter}.json", Notes)
-                file = ScriptFile(store.folder, letter, len(notes.scripts))
+                notes = store.notes(letter)
+                file = store.script_file(letter, len(notes.scripts))
                 self.rooms[letter] = room = Room(letter, store.session(patience), file, makers)
                 room.changed, room.watched, room.keep = self.tell, self._watched, partial(self._keep, letter)
                 room.compile = self.builds.compile
                 room.set_clock({"on": clock})
-                room.restore(notes, progress)
+                name = script_name(letter, len(notes.scripts))
+                room.restore(notes, progress, lambda sentence: store.lose(f"{name}: {sentence}"))
                 self._seat_students(room)
         except BaseException:
             self.end()
@@ -83,9 +96,11 @@ class Class:
             room.end()
         self.store.close()
 
-    def keep(self) -> None:
-        """Keeps what has changed beside each script, and brings scripts up to date where the disk was full."""
-        trouble = self.store.trouble
+    def keep(self, with_counts: bool = True) -> None:
+        """Keeps what has changed beside each script, and brings scripts up to date where the disk was full.
+
+        with_counts: also notes that only count more lines; else those are kept once a second
+        """
         for student in self.students.values():
             if student.keep():
                 self.tell([student.seat.name])
@@ -97,19 +112,19 @@ class Class:
             if room.trouble != before:
                 self.tell(room.seats.names())
             notes = room.notes()
-            if room.scripts.file.is_saved and self._kept.get(room.letter) != notes:
-                self._keep(room.letter, notes)
+            if room.scripts.file.is_saved and self._are_due(room.letter, notes, with_counts):
+                self.store.write(f"{room.letter}.json", asdict(notes))
+                self._kept[room.letter] = notes, time.monotonic()
         self.checks.keep()
-        for name, kept in (("codes.json", self.codes.codes), (NAMES, self.names)):
-            if name in self.store.troubles:
-                self.store.write(name, kept)
-        if self.store.trouble != trouble:
+        if self.store.trouble != self._trouble:
+            self._trouble = self.store.trouble
             self.tell([])
 
     async def take_home(self, seat: str) -> bytes:
         """The archive that a student takes home. Raises LabError where there is none, or it is being made already."""
         with alone(seat, self._packing, LabError("it is being made already")):
             self.keep()
+            await asyncio.to_thread(self.store.flush)
             return await self._packers.run("classes.take_home", f"{self.store.folder}", f"{self.store.program}", seat)
 
     def seat(self, name: str) -> Seat:
@@ -137,6 +152,7 @@ class Class:
         room = self.rooms[student.seat.name[0]]
         more = {
             "name": self.names.get(student.seat.name, ""),
+            "notices": self.notices.of(student.seat.name),
             "images": list(self.store.images),
             "clock": room.clock.settings.on,
             "own_slices": room.own_slices,
@@ -161,23 +177,29 @@ class Class:
         for seat in seats:
             self.rooms[seat.name[0]].note(seat, f"!{sentence}")
 
+    def close_notice(self, seat: str, number: int) -> None:
+        """Closes a message of the teacher's, in all tabs of a seat."""
+        self.notices.close(seat, number)
+        self.tell([seat])
+
     def set_name(self, seat: str, name: str) -> None:
         """Keeps the name of whoever sits at a seat, or that nobody does."""
         self.names = {each: kept for each, kept in (self.names | {seat: name}).items() if kept}
         self.store.write(NAMES, self.names)
         self.tell([seat])
 
-    def renew(self, name: str) -> None:
-        """Gives a seat, or the wall, a new code, and ends its tabs."""
+    async def renew(self, name: str) -> None:
+        """Gives a seat, or the wall, a new code, and ends its tabs; returns once the disk has the code, or refuses it."""
         self.codes.renew(name)
         for tab in self.tabs:
             tab.is_open = tab.is_open and tab.who != name
-        self.tell([name])
         self.store.write("codes.json", self.codes.codes)
+        await asyncio.to_thread(self.store.flush)
+        self.tell([name])
 
     def table(self) -> bytes:
         """Who sits where, and how each stands, as CSV."""
-        rows: list[Sequence[object]] = [("seat", "name", "state", "how it stands", "since", "bytes of the script")]
+        rows: list[Sequence[object]] = [("seat", "name", "state", "details", "since", "bytes of the script")]
         for seat in self.seats(""):
             name, since = self.names.get(seat.name, ""), local_time(seat.since)
             rows.append((seat.name, name, seat.state["run"], seat.stands, since, seat.used))
@@ -192,14 +214,18 @@ class Class:
         for seat in room.seats.users.values():
             student = Student(room.machine, seat, self.store, self.checks.exercises, self.checks.begin)
             self.students[seat.name] = student
-            student.restore()
+            if cause := student.restore():
+                self.store.lose(cause)
 
     def _keep(self, letter: str, notes: Notes) -> bool:
-        """Keeps what stands beside a machine's script; whether that went well."""
-        is_kept = self.store.write(f"{letter}.json", asdict(notes))
-        if is_kept:
-            self._kept[letter] = notes
-        return is_kept
+        """Keeps notes on the disk before the machine goes on in another script; whether that went well."""
+        return self.store.write_now(f"{letter}.json", asdict(notes))
+
+    def _are_due(self, letter: str, notes: Notes, with_counts: bool) -> bool:
+        """Whether notes are to be kept: they differ, and not only in their counts, or these are to be kept now."""
+        kept, since = self._kept.get(letter, (Notes(), -math.inf))
+        with_counts = with_counts or time.monotonic() - since >= COUNTS_SECONDS
+        return kept != (notes if with_counts else replace(notes, lines=kept.lines, answers=kept.answers))
 
     def _watched(self) -> set[str]:
         """The names of seats that somebody looks at: with a tab, over the shoulder, or on a wall."""

@@ -1,0 +1,192 @@
+"""A class by HTTPS: its certificate, which is made as CLASS.md says, connections, and warnings where there is none."""
+
+import asyncio
+import json
+import pathlib
+import re
+import shlex
+import socket
+import ssl
+import subprocess
+from collections.abc import AsyncIterator
+from contextlib import asynccontextmanager
+
+import aiohttp
+import pytest
+
+from support.class_tabs import LOOP, SECONDS, Tab, command, process
+from support.places import TOP
+from vecmon_lab import LabError
+from vecmon_lab.__main__ import arguments_of
+from vecmon_lab.classes import server
+from vecmon_lab.classes.command import run
+from vecmon_lab.classes.store import BadFolder, Store, renew_teacher
+from vecmon_lab.classes.tls import tls_context
+from vecmon_lab.classes.view import Class
+from vecmon_lab.machine.program import find_program
+
+pytestmark = pytest.mark.asyncio
+Pair = tuple[pathlib.Path, pathlib.Path]
+"""The files of a certificate and its key."""
+
+
+@pytest.fixture(scope="module")
+def pair(tmp_path_factory: pytest.TempPathFactory) -> Pair:
+    """A certificate for 127.0.0.1, made by the command of CLASS_ADMIN.md."""
+    folder = tmp_path_factory.mktemp("tls")
+    text = (TOP / "docs" / "CLASS_ADMIN.md").read_text()
+    found = re.search(r"^(openssl req (?:.*\\\n)*.*)$", text, re.MULTILINE)
+    assert found
+    words = shlex.split(found[1].replace("192.168.1.20", "127.0.0.1").replace("\\\n", " "))
+    subprocess.run(words, cwd=folder, check=True, capture_output=True)
+    assert (folder / "key.pem").stat().st_mode & 0o77 == 0
+    return folder / "cert.pem", folder / "key.pem"
+
+
+@asynccontextmanager
+async def served(folder: pathlib.Path, pair: Pair) -> AsyncIterator[tuple[int, aiohttp.ClientSession]]:
+    """A class that is served by HTTPS: its port, and a client that trusts its certificate, and no other."""
+    members = Class(Store(folder, find_program()), SECONDS)
+    doors = server.listening("127.0.0.1", 0)
+    trusting = aiohttp.TCPConnector(ssl=ssl.create_default_context(cafile=pair[0]))
+    async with (
+        server.served(members, doors, {"127.0.0.1"}, tls_context(*pair)) as port,
+        aiohttp.ClientSession(connector=trusting) as session,
+    ):
+        yield port, session
+
+
+async def test_a_seat_by_https(tmp_path: pathlib.Path, pair: Pair) -> None:
+    """Page and socket; a client that doesn't trust the certificate has neither, nor has one without TLS."""
+    async with served(tmp_path / "class", pair) as (port, session):
+        async with session.get(f"https://127.0.0.1:{port}/") as page:
+            assert page.status == 200 and f"wss://127.0.0.1:{port}" in page.headers["Content-Security-Policy"]
+        code = json.loads((tmp_path / "class" / "codes.json").read_text())["A1"]
+        socket = await session.ws_connect(
+            f"wss://127.0.0.1:{port}/socket", headers={"Origin": f"https://127.0.0.1:{port}"}
+        )
+        await socket.send_json({"code": code})
+        tab = Tab(socket)
+        assert (await tab.receive())["who"] == "A1"
+        assert (await tab.do(*LOOP, "step 2"))[-1] == ["stepped 2 pc=0000000000010000"]
+        async with aiohttp.ClientSession() as other:
+            with pytest.raises(aiohttp.ClientConnectorCertificateError):
+                await other.get(f"https://127.0.0.1:{port}/")
+            with pytest.raises(aiohttp.ClientConnectionError):
+                await other.get(f"http://127.0.0.1:{port}/")
+
+
+async def test_silent_connections_are_closed(
+    tmp_path: pathlib.Path, pair: Pair, monkeypatch: pytest.MonkeyPatch
+) -> None:
+    """Of too many the oldest, and all in time; meanwhile the page is served."""
+    monkeypatch.setattr(server, "UNKNOWN", 5)
+    monkeypatch.setattr(server, "PATIENCE", 3.0)
+    async with served(tmp_path / "class", pair) as (port, session):
+        silent = [await asyncio.open_connection("127.0.0.1", port) for _ in range(12)]
+        for reader, _ in silent[:6]:
+            assert await asyncio.wait_for(reader.read(), SECONDS) == b""
+        assert not silent[-1][0].at_eof()
+        async with session.get(f"https://127.0.0.1:{port}/") as page:
+            assert page.status == 200
+        for reader, writer in silent:
+            assert await asyncio.wait_for(reader.read(), SECONDS) == b""
+            writer.close()
+
+
+def openssl(folder: pathlib.Path, words: str) -> None:
+    """Runs a command of openssl's in a folder."""
+    subprocess.run(["openssl", *words.split()], cwd=folder, check=True, capture_output=True)
+
+
+async def test_bad_certificates_and_keys(tmp_path: pathlib.Path, pair: Pair) -> None:
+    """Each is refused with one sentence that names the file."""
+    certificate, key = pair
+    openssl(tmp_path, f"x509 -in {certificate} -signkey {key} -days -1 -out old.pem")
+    openssl(tmp_path, "genpkey -algorithm RSA -pkeyopt rsa_keygen_bits:2048 -out rsa.pem")
+    openssl(tmp_path, "genpkey -algorithm EC -pkeyopt ec_paramgen_curve:P-256 -out other.pem")
+    openssl(tmp_path, f"pkey -in {key} -aes256 -passout pass:secret -out encrypted.pem")
+    (tmp_path / "junk.pem").write_bytes(b"\0" * 100)
+    refused = {
+        (tmp_path / "old.pem", key): "old.pem isn't valid: certificate has expired",
+        (certificate, tmp_path / "rsa.pem"): f"rsa.pem isn't the private key of the certificate {certificate}",
+        (certificate, tmp_path / "other.pem"): f"other.pem isn't the private key of the certificate {certificate}",
+        (certificate, tmp_path / "encrypted.pem"): "encrypted.pem is encrypted: openssl pkey",
+        (certificate, tmp_path / "junk.pem"): "can't be used as certificate and private key: one isn't in PEM form",
+        (key, certificate): "can't be used as certificate and private key: one isn't in PEM form",
+        (tmp_path / "none.pem", key): "No such file or directory",
+        (certificate, tmp_path): "Is a directory",
+    }
+    for files, sentence in refused.items():
+        with pytest.raises((LabError, OSError), match=re.escape(sentence)) as told:
+            tls_context(*files)
+        assert "\n" not in str(told.value)
+
+
+async def test_a_refused_certificate_serves_nothing(tmp_path: pathlib.Path, pair: Pair) -> None:
+    """One line and status 2, before the folder is made; also of an address without TLS, which links would have."""
+    openssl(tmp_path, f"x509 -in {pair[0]} -signkey {pair[1]} -days -1 -out old.pem")
+    old = ["--tls", f"{tmp_path / 'old.pem'}", f"{pair[1]}"]
+    for words in (old, ["--tls", *map(str, pair), "--address", "http://10.0.0.1:8765/"]):
+        done = subprocess.run(
+            command(tmp_path / "class", *words), cwd=TOP, capture_output=True, text=True, timeout=SECONDS
+        )
+        assert (done.returncode, done.stdout, done.stderr.count("\n")) == (2, "", 1), done.stderr
+        assert done.stderr.startswith("vecmon-lab: ") and not (tmp_path / "class").exists()
+
+
+@pytest.mark.parametrize(
+    "words, is_warned",
+    [
+        (["--host", "0.0.0.0"], True),
+        (["--host", "0.0.0.0", "--tls"], False),
+        ([], False),
+        (["--host", "127.0.0.2"], False),
+    ],
+)
+async def test_codes_that_travel_unencrypted(
+    tmp_path: pathlib.Path, pair: Pair, words: list[str], is_warned: bool
+) -> None:
+    """The terminal and the teacher's page say so, where other computers can reach the class and there is no TLS."""
+    call = command(tmp_path / "class", *words, *(map(str, pair) if "--tls" in words else ()))
+    process = await asyncio.create_subprocess_exec(*call, cwd=TOP, stdout=subprocess.PIPE, stderr=subprocess.PIPE)
+    assert process.stdout
+    found = re.fullmatch(
+        rb"teacher: (https?)://\S+:(\d+)/#(\S+)\n", await asyncio.wait_for(process.stdout.readline(), SECONDS)
+    )
+    assert found and (found[1] == b"https") == ("--tls" in words)
+    scheme, host = found[1].decode(), "127.0.0.2" if "127.0.0.2" in words else "127.0.0.1"
+    tls = ssl.create_default_context(cafile=pair[0])
+    async with aiohttp.ClientSession() as session:
+        socket = await session.ws_connect(f"{scheme}://{host}:{int(found[2])}/socket", ssl=tls, max_msg_size=0)
+        await socket.send_json({"code": found[3].decode()})
+        tab = Tab(socket)
+        await tab.receive()
+        assert tab.view["unencrypted"] == is_warned
+    process.terminate()
+    _, told = await asyncio.wait_for(process.communicate(), SECONDS)
+    assert (b"warning: codes travel unencrypted" in told) == is_warned, told
+    assert process.returncode == 0 and told.count(b"\n") == is_warned
+
+
+async def test_a_new_code_for_the_teacher(tmp_path: pathlib.Path) -> None:
+    """Seats and the wall keep theirs; the class is there, isn't served, and has its codes."""
+    folder = tmp_path / "class"
+    with pytest.raises(BadFolder, match="has no class"):
+        renew_teacher(folder)
+    async with process(folder) as room:
+        before = room.codes
+        with pytest.raises(BadFolder, match="is served by another server"):
+            renew_teacher(folder)
+        assert await room.end() == 0
+    assert run(arguments_of(["class", "--renew-teacher", str(folder)])) == 0
+    async with process(folder) as room:
+        after = room.codes
+        assert after["teacher"] != before["teacher"] and after == before | {"teacher": after["teacher"]}
+        assert (await room.sit("A1")).view["seat"] == "A1" and (await room.sit("teacher")).view["machines"]
+        assert await room.end() == 0
+    for damage in (b"", b"{}", b"\xff", b'{"A1": 1}'):
+        (folder / "codes.json").write_bytes(damage)
+        with pytest.raises(BadFolder, match="codes.json is missing or damaged"):
+            renew_teacher(folder)
+        assert (folder / "codes.json").read_bytes() == damage

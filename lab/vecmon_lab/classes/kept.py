@@ -1,0 +1,80 @@
+"""What the folder of a class keeps as JSON, checked as it is read: a damaged file raises ValueError or TypeError."""
+
+import re
+from collections.abc import Mapping, Sequence
+from dataclasses import dataclass, field
+
+from .codes import LETTERS
+from .progress import Try
+from .requests import Settings
+
+MOST = 2**31  # more than any count
+SCRIPT_NAME = re.compile(r"([A-L])(?:\.([2-9]|[1-9][0-9]+))?\.script")
+
+
+@dataclass(frozen=True)
+class Facts:
+    """What a class is begun with: the digest of the program, and those of the images by name."""
+
+    program: str = ""
+    quantum: int = 100
+    machines: int = 1
+    images: Mapping[str, str] = field(default_factory=dict)
+
+    def __post_init__(self) -> None:
+        is_whole = type(self.program) is str and _is_count(self.quantum) and 1 <= self.quantum <= 1000
+        if not is_whole or not _is_count(self.machines) or not 1 <= self.machines <= len(LETTERS):
+            raise ValueError("no facts of a class")
+        texts(**self.images)
+
+
+@dataclass(frozen=True)
+class Notes:
+    """What is kept beside a machine's last script: how many lines were answered by a digest, the clock, rights;
+    and of each script how many lines at its beginning set the machine up, as the one before left it."""
+
+    lines: int = 0
+    answers: str = ""
+    clock: Mapping[str, int] = field(default_factory=dict)
+    own_slices: bool = True
+    scripts: Sequence[int] = field(default_factory=lambda: [0])
+
+    def __post_init__(self) -> None:
+        is_whole = type(self.answers) is str and type(self.own_slices) is bool and bool(self.scripts)
+        if not is_whole or not all(map(_is_count, (self.lines, *self.scripts))):
+            raise ValueError("no notes of a machine")
+        clock = Settings(**self.clock)  # type: ignore[arg-type]
+        if type(clock.on) is not bool or not all(_is_count(it) and it for it in (clock.slices, clock.ms, clock.limit)):
+            raise ValueError("no settings of a clock")
+
+
+def texts(**values: str) -> dict[str, str]:
+    """Texts by name."""
+    if not all(isinstance(value, str) and "\0" not in value for value in values.values()):
+        raise ValueError("not all are texts")
+    "".join(values.values()).encode("utf-8")  # which a surrogate alone has none of
+    return values
+
+
+def codes(**values: str) -> dict[str, str]:
+    """Codes by the seats that they open."""
+    if not all(re.fullmatch("[!-~]{8,64}", code) for code in texts(**values).values()):
+        raise ValueError("not all are codes")
+    return values
+
+
+def attempt(**values: object) -> Try:
+    """A try; without values one that was lost, in which nothing passes."""
+    if not values:
+        return Try(time=0, text="", told={"cases": [], "reason": "the answer was lost"})
+    time, text, suffix, told = (values.get(key) for key in ("time", "text", "suffix", "told"))
+    if type(time) is int and isinstance(text, str) and isinstance(suffix, str | None) and isinstance(told, dict):
+        cases, number = told.get("cases"), told.get("number", 0)
+        if isinstance(cases, list) and all(type(each) is bool for each in cases) and number in range(len(cases) or 1):
+            return Try(time=time, text=text, suffix=suffix or "s", told=told)  # type: ignore[typeddict-item]
+    raise ValueError("no try")
+
+
+def _is_count(value: object) -> bool:
+    """Whether it is a number that counts something."""
+    return type(value) is int and 0 <= value < MOST

@@ -1,0 +1,142 @@
+"""HTTPS for a class: its certificate and key are checked before anything is served, and TLS handshakes are limited."""
+
+import asyncio
+import contextlib
+import pathlib
+import socket
+import ssl
+from collections import deque
+from collections.abc import Callable
+from typing import cast
+
+from aiohttp import web
+
+from .. import LabError
+
+LAST_SECONDS = 2.0  # of connections once the server ends
+FLIGHTS = 20  # more than a handshake has, of both sides
+ACCEPT_PAUSE = 1.0  # seconds, where the process may have no more files
+WRONG_KEY = ("KEY_VALUES_MISMATCH", "KEY_TYPE_MISMATCH", "NO_CERTIFICATE_ASSIGNED")
+
+
+def tls_context(certificate: pathlib.Path, key: pathlib.Path) -> ssl.SSLContext:
+    """Return the context of a server with this certificate and its private key, both in PEM form.
+
+    The certificate's file may have the certificates of its issuers behind it. Raises OSError where a file isn't readable, and
+    LabError where the key is another certificate's, or the certificate isn't valid now.
+    """
+    context = ssl.create_default_context(ssl.Purpose.CLIENT_AUTH)
+
+    def refuse_encrypted() -> str:
+        raise LabError(f"{key} is encrypted: openssl pkey -in {key} -out NEW writes a key that isn't")
+
+    try:
+        for path in (certificate, key):
+            path.read_bytes()  # whose error names the file
+        context.load_cert_chain(certificate, key, refuse_encrypted)
+    except ssl.SSLError as error:
+        if error.reason in WRONG_KEY:
+            raise LabError(f"{key} isn't the private key of the certificate {certificate}") from error
+        cause = error.reason.replace("_", " ").lower() if error.reason else "one isn't in PEM form"
+        raise LabError(f"{certificate} and {key} can't be used as certificate and private key: {cause}") from error
+    _check_validity(context, certificate)
+    return context
+
+
+def _check_validity(context: ssl.SSLContext, certificate: pathlib.Path) -> None:
+    """Connects a client in memory that trusts this certificate. Raises LabError where the client refuses it."""
+    client = ssl.create_default_context(cafile=certificate)
+    client.verify_flags |= ssl.VERIFY_X509_PARTIAL_CHAIN  # the certificate itself is trusted, whoever issued it
+    client.check_hostname = False
+    to_server, to_client = ssl.MemoryBIO(), ssl.MemoryBIO()
+    sides = [client.wrap_bio(to_client, to_server), context.wrap_bio(to_server, to_client, server_side=True)]
+    try:
+        for number in range(FLIGHTS):
+            with contextlib.suppress(ssl.SSLWantReadError):
+                sides[number % 2].do_handshake()
+    except ssl.SSLCertVerificationError as error:
+        raise LabError(f"{certificate} isn't valid: {error.verify_message}") from error
+    except ssl.SSLError as error:
+        raise LabError(f"{certificate} can't be used: {error}") from error
+
+
+class HandshakeServer:
+    """Accepts connections at a socket, and serves each one after its TLS handshake: what a site needs of a server."""
+
+    def __init__(
+        self,
+        door: socket.socket,
+        make: Callable[[], asyncio.Protocol],
+        context: ssl.SSLContext,
+        most: int,
+        seconds: float,
+    ) -> None:
+        """make: returns the protocol of a connection; most, seconds: of handshakes at once, and the limit of one"""
+        self.sockets = (door,)
+        self._make, self._context, self._most, self._seconds = make, context, most, seconds
+        self._handshakes: deque[asyncio.Task[None]] = deque()  # the oldest first; some have ended
+        self._accepting = asyncio.create_task(self._accept(door))
+
+    def close(self) -> None:
+        """Accepts nothing more, and gives up the handshakes under way."""
+        for task in (self._accepting, *self._handshakes):
+            task.cancel()
+
+    async def wait_closed(self) -> None:
+        """Returns when all of that has ended, and closes the socket."""
+        await asyncio.gather(self._accepting, *self._handshakes, return_exceptions=True)
+        self.sockets[0].close()
+
+    async def _accept(self, door: socket.socket) -> None:
+        """Accepts connections for ever. Of too many handshakes the oldest is given up."""
+        door.setblocking(False)
+        while True:
+            try:
+                connection, _ = await asyncio.get_running_loop().sock_accept(door)
+            except OSError:
+                await asyncio.sleep(ACCEPT_PAUSE)
+                continue
+            self._handshakes = deque(task for task in self._handshakes if not task.done())
+            self._handshakes.append(asyncio.create_task(self._shake(connection)))
+            if len(self._handshakes) > self._most:
+                self._handshakes.popleft().cancel()
+
+    async def _shake(self, connection: socket.socket) -> None:
+        """Has a connection served after its handshake, for which memory is allocated once the client has sent something."""
+        with contextlib.suppress(OSError):  # of a client that sends nothing, speaks no TLS, or goes away
+            async with asyncio.timeout(self._seconds):
+                await _readable(connection)
+                await asyncio.get_running_loop().connect_accepted_socket(self._make, connection, ssl=self._context)
+
+
+async def _readable(connection: socket.socket) -> None:
+    """Returns when a connection has something to read; one that is waited for in vain is closed."""
+    loop, is_readable = asyncio.get_running_loop(), asyncio.Event()
+    loop.add_reader(connection, is_readable.set)
+    try:
+        await is_readable.wait()
+    except BaseException:
+        loop.remove_reader(connection)
+        connection.close()
+        raise
+    loop.remove_reader(connection)
+
+
+class TlsSite(web.SockSite):
+    """A site by HTTPS, whose handshakes are limited; aiohttp limits neither their number nor their time."""
+
+    __slots__ = ("_limits",)
+
+    def __init__(
+        self, runner: web.BaseRunner, door: socket.socket, context: ssl.SSLContext, most: int, seconds: float
+    ) -> None:
+        """most, seconds: of handshakes at once, and the limit of one"""
+        super().__init__(runner, door, ssl_context=context, shutdown_timeout=LAST_SECONDS)
+        self._limits = most, seconds
+
+    async def start(self) -> None:
+        """Begins to serve."""
+        await web.BaseSite.start(self)
+        assert self._runner.server and self._ssl_context
+        server = HandshakeServer(self._sock, self._runner.server, self._ssl_context, *self._limits)
+        self._server = cast(asyncio.AbstractServer, server)
