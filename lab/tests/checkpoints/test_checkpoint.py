@@ -68,7 +68,7 @@ def test_the_state_that_cannot_be_had(program: pathlib.Path) -> None:
     for more, number in ((0, 7), (1, 7), (2, 9)):
         script = begin + b"* slices 1\n" * more
         assert checkpoint(opening, script, {}).number == number
-    with pytest.raises(NoCheckpoint, match="its next slice stops it there"):
+    with pytest.raises(NoCheckpoint, match="about to stop at its breakpoint"):
         whole_checkpoint(opening, begin + b"* slices 1\n", {})
     with pytest.raises(NoCheckpoint, match="no line"):
         checkpoint(opening, b"", {})

@@ -6,11 +6,12 @@ import re
 import struct
 import subprocess
 import sys
+from bisect import bisect_right
 
 import pytest
 
 from support.commands import Lab
-from support.places import EXAMPLES
+from support.places import DATA, EXAMPLES
 from vecmon_lab import LabError
 from vecmon_lab.compilers import compiler
 from vecmon_lab.compilers.compiled import program_of
@@ -86,8 +87,28 @@ def test_where_lines_begin() -> None:
         (0x24, "vecmon.h:5", ""),
         (0x28, "source.c:3", "f"),
     ]
-    program = program_of({"entry": 0, "segments": [], "symbols": {}, "rows": rows, "variables": []})
+    image = {"entry": 0, "segments": [], "symbols": {}, "rows": rows, "variables": []}
+    program = program_of(image)
     assert program.line_starts() == {"10": 4, "20": 0, "28": 3}
+    assert program.line_stops() == {"3": ["10", "28"], "4": ["10"]}, "an image of version 1.0 has none"
+    program = program_of({**image, "stops": {"source.c:3": [0x28, 0x10], "f": [0x28]}})
+    assert (program.line_stops(), program.entries) == ({"3": ["10", "28"]}, {"f": [0x28]})
+
+
+def test_where_breakpoints_of_lines_are(clang: Compiler) -> None:
+    """A line that is inlined has an address in each copy, and a function's name too."""
+    text = (DATA / "images" / "prefix_sums.c").read_text("ascii")
+    program = compile_c(text, clang, 0, KERNELS)
+    ranges = [program.labels[name] for name in ("prefix_bad", "prefix_good", "largest_bad", "main", "put")]
+    assert ranges == sorted(ranges), "so each function ends where the next one begins"
+    functions = ["prefix_bad", "prefix_good", "largest_bad", "main"]
+    inside = {
+        number: [functions[bisect_right(ranges, at) - 1] for at in stops] for number, stops in program.stops.items()
+    }
+    assert inside[10] == inside[17] == ["prefix_bad", "main"] and inside[26] == ["prefix_good"]
+    assert inside[43] == ["largest_bad", "main"] and inside[54] == ["main"] and 20 in inside and 8 not in inside
+    assert [program.line_at(at) for at in program.stops[10]] == [10, 10]
+    assert [bisect_right(ranges, at) for at in program.entries["prefix_bad"]] == [1, 4]
 
 
 def test_a_function_that_was_inlined_is_named(clang: Compiler) -> None:

@@ -72,7 +72,7 @@ def test_explore_and_check_tell_that_the_sandbox_does_not_start(no_namespaces: C
     status, told, _ = lab("check")
     assert (
         status == 0
-        and f"C: others' sources aren't compiled: the sandbox of compilers doesn't start: {WORDS}" in told.decode()
+        and f"class, explore and grade: not available: the sandbox of compilers doesn't start: {WORDS}" in told.decode()
     )
 
 
@@ -89,10 +89,8 @@ def test_the_sandbox_starts(sandboxed_clang: Compiler, capsys: pytest.CaptureFix
     check_start(sandboxed_clang)
     if os.geteuid():
         print_compilers()
-        assert (
-            capsys.readouterr().out
-            == f"C: {sandboxed_clang.name}; its sandbox starts, so that others' sources are compiled too\n"
-        )
+        told = capsys.readouterr().out
+        assert sandboxed_clang.name in told and told.endswith("grade: it starts\n")
 
 
 @pytest.mark.parametrize(

@@ -8,6 +8,7 @@ from collections.abc import Iterator
 
 import pytest
 
+from support.console import CONSOLE, carried_out, shown
 from support.images import make_image
 from support.places import EXAMPLES, SQUARES, STOCK, SUM, SUM_DWARF4, SUM_DWARF5, TOP, TOURS
 from support.sources import ARGUMENTS
@@ -15,7 +16,6 @@ from support.terminal import END, INTERRUPT, UP, WHERE, Terminal
 from vecmon_lab.console.show import Screen, change_rows, memory_rows, register_rows
 from vecmon_lab.machine.answers import ControlRegisters, Memory, ScalarRegisters, VectorRegister, read
 
-CONSOLE = [sys.executable, "-m", "vecmon_lab", "console"]
 STRIP_MINED = EXAMPLES / "strip_mined.s"
 X = [9, 2, 7, 1, 8, 3, 6, 4, 5, 1, 12, 3, 20]  # of that source
 Y = [100 + 3 * x if x > 4 else 100 for x in X]
@@ -31,19 +31,6 @@ loop:   addi t0, t0, 1
         .data
 text:   .ascii "ready\\n"
 """
-
-
-def carried_out(lines: list[str] | bytes, *words: object) -> subprocess.CompletedProcess[bytes]:
-    """A console that reads these lines from a pipe."""
-    given = lines if isinstance(lines, bytes) else "".join(f"{line}\n" for line in lines).encode()
-    return subprocess.run([*CONSOLE, *map(str, words)], cwd=TOP, input=given, capture_output=True)
-
-
-def shown(lines: list[str] | bytes, *words: object) -> list[str]:
-    """What it shows, when all has gone well."""
-    run = carried_out(lines, *words)
-    assert (run.returncode, run.stderr) == (0, b"")
-    return run.stdout.decode("ascii").splitlines()
 
 
 @pytest.fixture
@@ -99,7 +86,7 @@ def test_arguments_of_an_image(program: pathlib.Path, tmp_path: pathlib.Path) ->
 def test_what_each_step_changes() -> None:
     told = shown(["break next", "run", "step 6", "vreg v9", "peek y", "vreg v8 8"], STRIP_MINED)
     assert told[0] == "=> 10000  addi x10, x0, 13"
-    assert told[2] == "A breakpoint stands at 0x10018; its instruction is the next one."
+    assert told[2] == "Stopped at the breakpoint at 0x10018; its instruction is the next one."
     steps = told[told.index("=> 10018 next  vsetvli x5, x10, e32, m1, ta, mu") + 1 :]
     loaded = ",".join(f"{value:08x}" for value in X[:8])
     assert steps[:12] == [
@@ -124,12 +111,12 @@ def test_what_each_step_changes() -> None:
 
 @pytest.mark.by_command("console")
 def test_the_session_of_the_manual() -> None:
-    page = (TOP / "docs" / "LAB.md").read_text("utf-8")
+    page = (TOP / "docs" / "DEBUGGING.md").read_text("utf-8")
     session = page[
-        page.index("$ vecmon-lab console ") : page.index("\n```\n\nA line is one of the monitor")
+        page.index("$ vecmon-lab console ") : page.index("\n```\n\nA line is a [monitor command]")
     ].splitlines()
     typed = [line.removeprefix("vecmon> ") for line in session if line.startswith("vecmon> ")]
-    assert len(typed) > 5 and session[0].split()[-1] == str(STRIP_MINED.relative_to(TOP))
+    assert len(typed) > 5 and session[0].split()[-1] == STRIP_MINED.name
     assert shown(typed, STRIP_MINED) == [line for line in session[1:] if not line.startswith("vecmon> ")]
 
 
@@ -143,12 +130,12 @@ def test_what_lines_change_is_no_change_of_a_step() -> None:
 def test_output_without_a_newline(tmp_path: pathlib.Path) -> None:
     source = FOREVER.replace("j loop", "ebreak").replace("ready\\n", "ready!")
     (tmp_path / "ends.s").write_text(source)
-    assert shown(["run"], tmp_path / "ends.s")[1:3] == ["ready!", "An ebreak stands at 0x1001c."]
+    assert shown(["run"], tmp_path / "ends.s")[1:3] == ["ready!", "Stopped at the ebreak at 0x1001c."]
 
 
 def test_steps_stop_at_a_breakpoint_as_those_of_the_machine() -> None:
     told = shown(["break next+4", "step 40", "step 40", "1 regs"], STRIP_MINED)
-    stops = [place for place, line in enumerate(told) if line.startswith("A breakpoint stands at 0x1001c")]
+    stops = [place for place, line in enumerate(told) if line.startswith("Stopped at the breakpoint at 0x1001c")]
     assert len(stops) == 2 and told[-9] == "1 pc 000000000001001c"
 
 
@@ -166,8 +153,9 @@ def test_a_source_in_place_of_an_image_and_back() -> None:
         told[1:3] == ["=> 10000  addi x10, x0, 13", "ok"] and "=> 10018 next  vsetvli x5, x10, e32, m1, ta, mu" in told
     )
     again = told[told.index("loaded pc=0000000000011190 pages=7") + 1 :]
-    assert again[0] == "=> 11190 _start  addi x2, x2, -16" and again[1] == "there is no symbol next"
-    assert again[2].split()[:5] == ["11190", *"13 01 01 ff".split()] and again[3] == "328350"
+    assert again[0] == "1 breakpoint was removed, since the program is another one: 10018"
+    assert again[1:3] == ["=> 11190 _start  addi x2, x2, -16", "there is no symbol next"]
+    assert again[3].split()[:5] == ["11190", *"13 01 01 ff".split()] and again[4] == "328350"
 
 
 def test_a_symbol_with_something_behind_it() -> None:
@@ -208,15 +196,15 @@ def test_a_user_who_is_absent_or_runs() -> None:
     assert told[4:8] == [
         "=> 10000  ebreak",
         "running pc=0000000000010000",
-        *["E07: the user's program runs, and has to be stopped first"] * 2,
+        *["E07: the user's program is running: stop it first"] * 2,
     ]
-    assert told[8:] == ["An ebreak stands at 0x10000.", "=> 10000  ebreak"] * 2
+    assert told[8:] == ["Stopped at the ebreak at 0x10000.", "=> 10000  ebreak"] * 2
 
 
 def test_a_breakpoint_where_the_ticks_of_a_round_end(tmp_path: pathlib.Path) -> None:
     (tmp_path / "ticks.s").write_text("li t0, 499999\nloop: addi t0, t0, -1\nbnez t0, loop\nhere: nop\nebreak\n")
     for lines in (["break here", "run"], ["break here", "go", "run"]):
-        assert shown(lines, tmp_path / "ticks.s")[-2].startswith("A breakpoint stands at 0x10010")
+        assert shown(lines, tmp_path / "ticks.s")[-2].startswith("Stopped at the breakpoint at 0x10010")
 
 
 @pytest.mark.parametrize(
@@ -296,7 +284,7 @@ def test_images_that_are_refused(tmp_path: pathlib.Path) -> None:
 
 def test_source_lines_where_the_image_tells_them() -> None:
     assert shown(["step"], SUM_DWARF4)[0] == "=> 11190 _start  addi x2, x2, -16  (sum.c:30)"
-    assert "-gdwarf-4 helps" in shown([], SUM_DWARF5)[0]
+    assert shown([], SUM_DWARF5) == ["=> 11190 _start  addi x2, x2, -16  (sum.c:30)"]
 
 
 def test_until_a_register_changes_or_an_address_comes() -> None:
@@ -310,7 +298,7 @@ def test_until_a_register_changes_or_an_address_comes() -> None:
     ]
     assert told[7] == "The program was stopped at 0x1002c." and "      x5/t0=5  x7/t2=20" in told[8]
     assert told[-5] == "=> 1002c next+0x14  vse32.v v9, (x12)"
-    assert told[-4:] == ["An ebreak stands at 0x10044.", "=> 10044 next+0x2c  ebreak"] * 2
+    assert told[-4:] == ["Stopped at the ebreak at 0x10044.", "=> 10044 next+0x2c  ebreak"] * 2
     lines = ["leave", "until a0", "until 10000", "enter", "map 10000 1 rwx", "asm 10000 jal x0, 0", "setpc 10000"]
     lines += [*(f"break {address:x}" for address in range(0x20000, 0x20040, 4)), "until 10004", "break 10000"]
     assert (
@@ -318,7 +306,7 @@ def test_until_a_register_changes_or_an_address_comes() -> None:
         == ["E05: the user has not entered"] * 2
     )
     told = shown([*lines, "unbreak 20000", "break 10000", "until a0", "until 10000", "1 breaks"])
-    stands = ["A breakpoint stands at 0x10000; its instruction is the next one.", "=> 10000  jal x0, 0"]
+    stands = ["Stopped at the breakpoint at 0x10000; its instruction is the next one.", "=> 10000  jal x0, 0"]
     assert told[-5:-1] == stands * 2
     assert [line[:4] for line in told if line.startswith("E12")] == ["E12:"] * 2
     assert told[-1].split()[:3] == ["1", "breaks", f"{0x10000:016x}"]
@@ -336,11 +324,11 @@ def test_back_by_instructions_and_to_a_write() -> None:
         "x10/a0=d" in told[at - 3]
         and told[at + 1] == "   11040  64 00 00 00 64 00 00 00 64 00 00 00 64 00 00 00  d...d...d...d..."
     )
-    assert [line for line in told if line.endswith("before.")] == ["This is the begin: there is nothing before."] * 2
+    assert [line for line in told if line.endswith("before.")] == ["This is the start: there is nothing before."] * 2
     nobody = told.index("No instruction has changed what lies at 11040 y.")
-    assert told[nobody + 1] == "This is the begin: there is nothing before."
+    assert told[nobody + 1] == "This is the start: there is nothing before."
     assert stands[4:] == ["10000  addi x10, x0, 13", "10004  auipc x11, 1", "10000  addi x10, x0, 13"]
-    assert shown(["back", "leave", "back"], STRIP_MINED)[-1] == "This is the begin: there is nothing before."
+    assert shown(["back", "leave", "back"], STRIP_MINED)[-1] == "This is the start: there is nothing before."
 
 
 def test_breakpoints_with_conditions() -> None:
@@ -355,13 +343,13 @@ def test_breakpoints_with_conditions() -> None:
     ]
     told = shown([*lines, "unbreak next+0x14", "break next+0x14", "breaks"], STRIP_MINED)
     assert told[4:7] == ["10018 next if vl == 8", "1002c next+0x14 if x10 < 6", "10040 next+0x28 if a0 != a0"]
-    stops = [line[23:30] for line in told if line.startswith("A breakpoint")]
+    stops = [line[29:36] for line in told if line.startswith("Stopped at the breakpoint")]
     assert stops == ["0x10018", "0x1002c"]  # where vl is 8, in the second round; then a0 is 5
     assert told[-3:] == ["10018 next if vl == 8", "1002c next+0x14", "10040 next+0x28 if a0 != a0"]
     loaded = shown(["break _start+8 if a0 == 0", "load", "break _start+8", "breaks"], SUM)
-    assert loaded[-2:] == ["ok", "11198 _start+0x8"]
+    assert loaded[-2:] == ["E13: there already is a breakpoint", "11198 _start+0x8 if a0 == 0"]
     again = shown(["break next if a0 == d", f"source {STRIP_MINED}", "break next", "breaks"], STRIP_MINED)
-    assert again[-1] == "10018 next"
+    assert again[-1] == "10018 next if a0 == d", "the program is the same"
 
 
 @pytest.mark.parametrize(
@@ -372,9 +360,9 @@ def test_breakpoints_with_conditions() -> None:
         ("break next if v8 == 5", "there is no symbol v8"),
         ("break next if a0 == -5", "-5 is no register, no symbol and no value, which has hexadecimal digits alone"),
         ("break none if a0 == 5", "there is no symbol none"),
-        ("break 2 if a0 == 5", "E04: 2 isn't divisible by 4: the last digit is 0, 4, 8 or c; the form is break ADDR"),
+        ("break 0x2 if a0 == 5", "E04: 2 isn't divisible by 4: the last digit is 0, 4, 8 or c; the form is break ADDR"),
         ("until", "the form is until PLACE"),
-        ("until 2", "E04: 2 isn't divisible by 4: the last digit is 0, 4, 8 or c; the form is break ADDR"),
+        ("until 0x2", "E04: 2 isn't divisible by 4: the last digit is 0, 4, 8 or c; the form is break ADDR"),
         ("until none", "there is no symbol none"),
         ("list zz", "there is no symbol zz"),
         ("list 0", "no source line is known of 0"),
@@ -399,7 +387,7 @@ def test_the_source_around_a_line(tmp_path: pathlib.Path) -> None:
     assert rows == told[-20:-10] and not any(row.startswith("=>") for row in told[-10:-6])
     image = tmp_path / "sum"
     image.write_bytes(SUM_DWARF4.read_bytes())
-    assert shown(["list"], image)[1:] == ["the source sum.c lies neither beside sum nor here"]
+    assert shown(["list"], image)[1:] == ["the source sum.c is neither next to sum nor here"]
     (tmp_path / "sum.c").write_bytes((STOCK / "sum.c").read_bytes())
     told = shown(["list"], image)[1:]
     assert told[4] == "=>   30  {" and [int(row[2:7]) for row in told] == [*range(26, 36)]
@@ -525,9 +513,9 @@ def test_completion_pasted_lines_and_the_bar(tmp_path: pathlib.Path) -> None:
         console.type(" ne\t")
         console.expect("xt")
         console.type("\r")
-        console.expect("E13: no breakpoint stands there")
+        console.expect("E13: there is no breakpoint")
         console.type("\x1b[200~break next+4\nrun\npolicy ones\x1b[201~\r")
-        console.expect("A breakpoint stands at 0x1001c")
+        console.expect("Stopped at the breakpoint at 0x1001c")
         console.expect("ok")
         console.expect("pc 1001c next+0x4   vtype e32,m1,ta,mu   vl 8   policy ones")
         console.type("quit\r")

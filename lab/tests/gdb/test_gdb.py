@@ -15,7 +15,7 @@ import pytest
 
 from support.images import make_image
 from support.left_out import NO_GDB, leave_out
-from support.places import EXAMPLES, SQUARES, STOCK, SUM, SUM_DWARF4, SUM_DWARF5, TOP
+from support.places import EXAMPLES, PREFIX_SUMS, SQUARES, STOCK, SUM, SUM_DWARF4, SUM_DWARF5, TOP
 from support.sources import ARGUMENTS, COUNTDOWN
 from support.terminal import MOST_SECONDS
 from vecmon_lab.compilers.compiler import Compiler
@@ -387,6 +387,12 @@ def gdb() -> Callable[..., str]:
     return said
 
 
+def test_gdb_stops_in_an_inlined_function(gdb: Callable[..., str]) -> None:
+    """gdb itself sets a breakpoint in each copy."""
+    told = gdb(PREFIX_SUMS[1], "break prefix_bad", "break prefix_sums.c:10", "continue", "print/x $pc", "continue")
+    assert told.count(" (2 locations)") == 2 and "$1 = 0x11354" in told and "Breakpoint 1.2, prefix_bad (" in told
+
+
 @pytest.mark.parametrize("image", [SUM_DWARF4, SUM_DWARF5])
 def test_gdb_with_source_lines(gdb: Callable[..., str], image: pathlib.Path) -> None:
     commands = ["break 22", "continue", "next", "print $v10.w", "print $vl", "print/x $vtype", "delete"]
@@ -400,7 +406,7 @@ def test_gdb_with_source_lines(gdb: Callable[..., str], image: pathlib.Path) -> 
 
 @pytest.mark.by_command("gdb")
 def test_the_session_of_the_manual(gdb: Callable[..., str]) -> None:
-    page = (TOP / "docs" / "LAB.md").read_text("utf-8")
+    page = (TOP / "docs" / "DEBUGGING.md").read_text("utf-8")
     begin = page.index("(gdb) target remote | vecmon-lab gdb sum")
     session = page[begin : page.index("(gdb) quit", begin)].splitlines()
     rest = gdb(SUM_DWARF4, *typed_in(page, "sum")).expandtabs()
@@ -418,8 +424,9 @@ def test_gdb_with_a_source_in_c(gdb: Callable[..., str], clang: Compiler) -> Non
 
 
 def test_a_bug_found_backwards(gdb: Callable[..., str], clang: Compiler, tmp_path: pathlib.Path) -> None:
-    page = (TOP / "docs" / "LAB.md").read_text("utf-8")
-    (command,) = re.findall(r"^\$ (clang-19 (?:.*\\\n)*.* -o above above\.c)$", page, re.MULTILINE)
+    page = (TOP / "docs" / "DEBUGGING.md").read_text("utf-8")
+    profile = (TOP / "docs" / "RUNNING.md").read_text("utf-8")
+    (command,) = re.findall(r"^\$ (clang-19 (?:.*\\\n)*.* -o above above\.c)$", profile, re.MULTILINE)
     words = command.replace("\\\n", " ").replace("above", "histogram").replace("clang-19", clang.name).split()
     shutil.copy(EXAMPLES / "searches/histogram.c", tmp_path)
     subprocess.run(words, cwd=tmp_path, check=True)

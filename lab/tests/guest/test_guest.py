@@ -44,12 +44,9 @@ def test_ticks_run_out_and_go_on() -> None:
 def test_a_program_that_runs_for_ever_is_interrupted(program: pathlib.Path, tmp_path: pathlib.Path) -> None:
     make_image(program, tmp_path / "forever", FOREVER)
     with started(tmp_path / "forever") as guest:
-        assert guest.go(is_interrupted=lambda: guest.ticks == 3_000_000) is None
-        assert (guest.ticks, guest.pc, guest.ask("state")) == (
-            3_000_000,
-            0x10000,
-            [Position("state stopped", 0x10000)],
-        )
+        assert guest.go(is_interrupted=lambda: guest.ticks >= 3_000_000) is None
+        assert 3_000_000 <= guest.ticks <= 4_000_000 and guest.pc == 0x10000
+        assert guest.ask("state") == [Position("state stopped", 0x10000)]
 
 
 def test_full_buffers_are_emptied(program: pathlib.Path, tmp_path: pathlib.Path) -> None:
@@ -57,7 +54,7 @@ def test_full_buffers_are_emptied(program: pathlib.Path, tmp_path: pathlib.Path)
     parts: list[bytes] = []
     with started(tmp_path / "writes", write=parts.append) as guest:
         assert guest.go(100_000) is None and guest.output() == b""
-    assert b"".join(parts) == b"1234567\n" * 5000 and len(parts) == 40
+    assert b"".join(parts) == b"1234567\n" * 5000 and max(map(len, parts)) < 1024
     with started(tmp_path / "writes") as guest:
         for _ in range(2000):
             assert guest.step() is None

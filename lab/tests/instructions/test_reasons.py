@@ -301,13 +301,13 @@ def test_reasons(program: pathlib.Path) -> None:
 
 
 STOPS = [
-    ("1 stepped 3 pc=000000000001000c", "Instructions carried out: 3. The next one is at 0x1000c."),
+    ("1 stepped 3 pc=000000000001000c", "Instructions executed: 3. The next one is at 0x1000c."),
     ("running pc=0000000000010000", "The program runs, from 0x10000 on."),
     ("8 stopped pc=0000000000010000", "The program was stopped at 0x10000."),
     ("1 state running pc=0000000000010000", "The program runs, and is at 0x10000."),
     ("1 state stopped pc=0000000000010008", "The program is stopped at 0x10008."),
-    ("1 break pc=0000000000010004", "A breakpoint stands at 0x10004; its instruction is the next one."),
-    ("1 ebreak pc=0000000000010008", "An ebreak stands at 0x10008."),
+    ("1 break pc=0000000000010004", "Stopped at the breakpoint at 0x10004; its instruction is the next one."),
+    ("1 ebreak pc=0000000000010008", "Stopped at the ebreak at 0x10008."),
     ("1 exit 3 pc=0000000000010008", "The program has ended with status 3, at 0x10008."),
     (
         "1 outfull pc=0000000000010008",

@@ -17,7 +17,7 @@ import vecmon_lab
 from support.places import EXAMPLES, SQUARES_DWARF5, TOP
 from vecmon_lab import CallStopped, Kernel, LabError, Placed, PoliciesDiffer
 from vecmon_lab.compilers.compiler import Compiler
-from vecmon_lab.guest.guest import Guest
+from vecmon_lab.guest.runner import Runner
 from vecmon_lab.kernels import kernel as kernels
 
 SOURCE = """
@@ -150,7 +150,7 @@ def test_each_call_begins_anew(kernel: Kernel, monkeypatch: pytest.MonkeyPatch) 
 
 def test_an_interrupt(kernel: Kernel) -> None:
     with pytest.MonkeyPatch.context() as patch:
-        patch.setattr(Guest, "_slices", lambda *_: signal.raise_signal(signal.SIGINT))
+        patch.setattr(Runner, "_grant", lambda *_: signal.raise_signal(signal.SIGINT))
         with pytest.raises(KeyboardInterrupt):
             kernel.call("stays")
     assert kernel.call("counts").value == 0x31
@@ -167,7 +167,7 @@ def test_output(kernel: Kernel) -> None:
     "symbol, told",
     [
         ("ends", "The program has ended with status 7, at "),
-        ("halts", "halts: ebreak: An ebreak stands at "),
+        ("halts", "halts: ebreak: Stopped at the ebreak at "),
         ("stays", "stays: the ticks ran out at "),
     ],
 )
@@ -256,7 +256,7 @@ def test_the_example(clang: Compiler, tmp_path: pathlib.Path) -> None:
     command = [sys.executable, "-B", "-m", "pytest", "-q", "-p", "no:cacheprovider", "-c", "/dev/null", str(folder)]
     run = subprocess.run(command, cwd=tmp_path, capture_output=True, text=True, check=False)
     assert run.returncode == 0 and "2 passed" in run.stdout, run.stdout
-    page = (TOP / "docs" / "LAB.md").read_text("utf-8")
+    page = (TOP / "docs" / "TESTING.md").read_text("utf-8")
     paths = sorted(folder.glob("*.[cp]*"))
     assert {path.suffix for path in paths} == {".c", ".py"}
     for path in paths:

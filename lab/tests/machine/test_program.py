@@ -122,8 +122,8 @@ def test_words_behind_an_image_are_the_program_s(command: str, words: list[str],
 @pytest.mark.parametrize("word", ["--against", "--in=file", "-o"])
 def test_an_option_behind_an_image_is_told(capsys: pytest.CaptureFixture[str], word: str) -> None:
     start.arguments_of(["profile", "image", "--tick", word, "--against-it"])
-    told = f"vecmon-lab: {word} behind image is the program's own; "
-    assert capsys.readouterr() == ("", f"{told}options of vecmon-lab profile stand before image\n")
+    told = f"vecmon-lab: {word} after image is an argument of the program; "
+    assert capsys.readouterr() == ("", f"{told}options of vecmon-lab profile go before image\n")
     start.arguments_of(["profile", "--", "image", word])
     assert capsys.readouterr() == ("", "")
 

@@ -220,7 +220,7 @@ def test_an_interrupt(begin: Callable[[str], tuple[Timeline, Guest]]) -> None:
     """A round takes 258 ticks, and so slices end within the store."""
     timeline, guest = begin(ROUNDS)
     polls = itertools.count()
-    assert timeline.go(lambda: next(polls) > 2) is None
+    assert timeline.go(lambda: next(polls) > 9) is None
     pc, rounds, *_ = state(guest)
     assert rounds > 1000 and timeline.back(3) and state(guest)[:2] == (pc, rounds - 1)
     assert timeline.back(3 * (rounds - 2)) and state(guest)[:2] == (pc, 1)
@@ -262,18 +262,27 @@ def test_accesses(begin: Callable[[str], tuple[Timeline, Guest]], kind: str, byt
 def test_where_there_is_no_way_back(
     begin: Callable[[str], tuple[Timeline, Guest]], monkeypatch: pytest.MonkeyPatch
 ) -> None:
-    """A write of 256 bytes takes four instructions, and the buffer has 1,024; 1,000 ticks are more than 999."""
-    timeline, guest = begin(WRITES_MUCH)
-    assert timeline.go(never) == Stop("ebreak", 0x10024)
-    with pytest.raises(LabError, match="writes more than its buffer takes"):
-        timeline.back()
-    assert state(guest)[:2] == (0x10024, 0)
+    """1,000 ticks are more than 999."""
     timeline, guest = begin(COUNTDOWN)
     assert timeline.go(never) == Stop("ebreak", 0x10018)
     monkeypatch.setattr("vecmon_lab.replay.timeline.MOST_BACK", 999)
     with pytest.raises(LabError, match="no way back into a run of more than 200,000,000 ticks"):
         timeline.back()
     assert state(guest) == (0x10018, 0, 3, 1)
+
+
+@pytest.mark.parametrize("steps", [0, 41])
+def test_more_output_than_the_buffer_holds(begin: Callable[[str], tuple[Timeline, Guest]], steps: int) -> None:
+    """Four instructions, nine rounds of four that write 256 bytes each, and one more: run, or stepped, and taken back."""
+    timeline, guest = begin(WRITES_MUCH)
+    for _ in range(steps):
+        assert timeline.step() is None
+    assert timeline.go(never) == Stop("ebreak", 0x10024)
+    assert timeline.back() and state(guest)[:2] == (0x10020, 0)
+    assert timeline.back(4) and state(guest)[:2] == (0x10010, 1)
+    assert guest.told("regs", ScalarRegisters).x[10] == 256
+    assert timeline.go(never) == Stop("ebreak", 0x10024) and timeline.back(37) and state(guest)[:2] == (0x10010, 9)
+    assert not timeline.back(5) and state(guest)[:2] == (0x10000, 0)
 
 
 def test_output_on_the_way(begin: Callable[[str], tuple[Timeline, Guest]]) -> None:

@@ -131,5 +131,5 @@ def test_a_recorder_that_is_not_there(monkeypatch: pytest.MonkeyPatch) -> None:
     with pytest.raises(LabError, match="^there is no program none; counts and runs need it, "):
         record(Beginning(SUM))
     monkeypatch.setenv("VECMON_RECORD", "/bin/true")
-    with pytest.raises(LabError, match="^vecmon-record tells no counts: "):
+    with pytest.raises(LabError, match="^vecmon-record prints no counts: "):
         record(Beginning(SUM))

@@ -34,7 +34,7 @@ def test_counts_are_read() -> None:
     "text", ["", "exit 0", "at 0 0 1 1 0 0\nexit 0 pc=0000000000000000 1 1\n", "hello 1 1", "ok 1 1"]
 )
 def test_what_is_no_counts(text: str) -> None:
-    with pytest.raises(LabError, match="^vecmon-record tells no counts: "):
+    with pytest.raises(LabError, match="^vecmon-record prints no counts: "):
         read_counts(text)
 
 

@@ -47,7 +47,7 @@ def test_a_status_of_its_own(lab: Lab, program: pathlib.Path, tmp_path: pathlib.
 @pytest.mark.parametrize(
     "source, status, told",
     [
-        ("nop\nebreak", 133, "10004: ebreak: An ebreak stands at 0x10004."),
+        ("nop\nebreak", 133, "10004: ebreak: Stopped at the ebreak at 0x10004."),
         ("jr zero", 139, f"0: No instruction can be fetched at 0x0: {NOT_THERE} x."),
         ("li t0, 2\njr t0", 139, f"{JUMP}: The jump or branch at 0x10004 goes to 0x2, which isn't divisible by 4."),
         (".word 0", 139, f"{ZERO} The word is 0, as in memory where nothing was written."),

@@ -1,4 +1,4 @@
-"""The programs of docs/LAB.md with a mistake each: that they have it, and that the commands of that page show where."""
+"""The programs of docs/DEBUGGING.md with a mistake each: that they have it, and that the commands of that page show where."""
 
 import pathlib
 import subprocess

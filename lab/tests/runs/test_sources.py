@@ -1,4 +1,4 @@
-"""Sources in C in place of images, as docs/LAB.md has it: of kernels, beside images of its commands, and with mistakes."""
+"""Sources in C in place of images, as docs/RUNNING.md has it: of kernels, beside images of its commands, and with mistakes."""
 
 import pathlib
 import shutil
@@ -23,7 +23,7 @@ def images(tmp_path_factory: pytest.TempPathFactory, monkeypatch: pytest.MonkeyP
 
 def test_a_kernel(lab: Lab, clang: Compiler, tmp_path: pathlib.Path) -> None:
     """Beside an image by the page's command; of 45 pixels 32 have room in a round, so six instructions have 19 in the tail."""
-    page = (DOCS / "LAB.md").read_text("utf-8").partition("### A source in place of an image")[2]
+    page = (DOCS / "RUNNING.md").read_text("utf-8").partition("### C sources instead of images")[2]
     command = page.partition("$ clang-19 ")[2].partition("\n```")[0]
     words = command.replace("\\\n", "").replace("$runtime", f"{RUNTIME}").replace("=lld-19", "=lld").split()
     shutil.copy(GREY, tmp_path)

@@ -207,8 +207,8 @@ def test_the_program_for_qemu_is_what_its_texts_say(session: Session) -> None:
     [
         (["vadd.vw"], "there is no instruction vadd.vw: docs/INSTRUCTIONS.md lists them, and all means each one"),
         ([".word"], "there is no instruction .word: docs/INSTRUCTIONS.md lists them, and all means each one"),
-        (["all", "vadd.vv"], "all stands alone: it means each instruction"),
-        (["vadd.vv", "all"], "all stands alone: it means each instruction"),
+        (["all", "vadd.vv"], "all means each instruction: give no other name"),
+        (["vadd.vv", "all"], "all means each instruction: give no other name"),
         (["add", "--cases", "0"], "--cases takes a number from 1 up"),
     ],
 )

@@ -43,7 +43,7 @@ def whole_checkpoint(opening: Opening, script: bytes, images: Mapping[str, pathl
         with opening() as session:
             carry_out(session, script)
             if any(_stops_at_once(session, machine, digit) for digit in waiting):
-                raise NoCheckpoint("a program stands at a breakpoint, and its next slice stops it there")
+                raise NoCheckpoint("a running program is about to stop at its breakpoint")
     fresh = {digit: fresh_memory(opening, user) for digit, user in machine.users.items()}
     lines = "".join(f"{line}\n" for line in lines_of(machine, fresh)).encode("ascii")
     with opening() as session:

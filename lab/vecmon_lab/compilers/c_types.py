@@ -2,7 +2,7 @@
 
 from typing import TYPE_CHECKING
 
-from .entries import entry_at, name_of
+from ..guest.entries import entry_at, name_of
 
 if TYPE_CHECKING:
     from elftools.dwarf.die import DIE

@@ -5,16 +5,17 @@ import json
 import math
 import re
 from collections.abc import Callable, Iterable, Iterator, Mapping, Sequence
-from dataclasses import dataclass, replace
+from dataclasses import dataclass, field, replace
 from itertools import groupby, islice
 from typing import Any
 
 from .. import LabError
 from ..assembler.source import Program, SourceError
+from ..guest.entries import NAME_LETTERS
 from ..guest.guest import STACK_END, STACK_POINTER, pokes
 from ..instructions.accesses import PAGE_BYTES, ROW_BYTES
 from .compiler import OWN_SOURCES
-from .debug import MESSAGE_LETTERS, MOST_BYTES, MOST_MESSAGES, MOST_ROWS, MOST_SEGMENTS, MOST_SYMBOLS
+from .debug import MESSAGE_LETTERS, MOST_BYTES, MOST_MESSAGES, MOST_ROWS, MOST_SEGMENTS, MOST_STOPS, MOST_SYMBOLS
 from .failures import ToolError
 from .variables import Variable, read_variables
 
@@ -34,11 +35,15 @@ class CompiledProgram(Program):
     told: what it was read from
     rows: where instructions of a line of the source begin, with that line (0 for none) and the function that was inlined
     there, in rising order; warnings: what the compiler warned of; variables: those of the source
+    stops: the addresses of a line's breakpoints, by its number; entries: where functions and their inlined copies are
+    entered, by name
     """
 
     rows: Sequence[tuple[int, int, str]] = ()
     warnings: Sequence[SourceError] = ()
     variables: Sequence[Variable] = ()
+    stops: Mapping[int, Sequence[int]] = field(default_factory=dict)
+    entries: Mapping[str, Sequence[int]] = field(default_factory=dict)
     told: bytes = b""
 
     def check(self, name: str) -> None:
@@ -63,6 +68,10 @@ class CompiledProgram(Program):
         numbers = {address: number for address, number, _ in self.rows}  # of several at an address the last one
         told = zip(numbers.items(), [None, *numbers.values()])
         return {f"{address:x}": number for (address, number), before in told if number != before}
+
+    def line_stops(self) -> dict[str, list[str]]:
+        """The addresses of each line's breakpoints, by its number."""
+        return {f"{number}": [f"{address:x}" for address in addresses] for number, addresses in self.stops.items()}
 
     def source_lines(self, text: str) -> dict[str, str]:
         """The number and the text of the line that instructions are of, by the address of their first word."""
@@ -98,7 +107,7 @@ def read_compiled_program(told: bytes, most: int = IMAGE_BYTES) -> CompiledProgr
         program.names()  # so that what is in bad form is told here
         return replace(program, told=told)
     except (ValueError, TypeError, LookupError, AttributeError, RecursionError) as error:
-        raise LabError("what the compiler made can't be read") from error
+        raise LabError("the compiler's output can't be read") from error
 
 
 def program_of(
@@ -121,7 +130,8 @@ def program_of(
     rows = [(int(address), _own_line(line), str(inlined)) for address, line, inlined in image["rows"][:MOST_ROWS]]
     labels = dict(islice(dict(image["symbols"]).items(), MOST_SYMBOLS))
     variables = read_variables(image["variables"])
-    return CompiledProgram(lines, labels, [], int(image["entry"]), [], rows, warnings, variables)
+    stops, entries = _stops(image.get("stops"), rows)
+    return CompiledProgram(lines, labels, [], int(image["entry"]), [], rows, warnings, variables, stops, entries)
 
 
 def variable_rows(variables: Sequence[Sequence[Any]]) -> list[int]:
@@ -132,6 +142,23 @@ def variable_rows(variables: Sequence[Sequence[Any]]) -> list[int]:
         for first in (int(each[4], 16) for each in locations if each[2] == "memory" and not each[3]):
             rows |= dict.fromkeys(range(first // ROW_BYTES * ROW_BYTES, first + min(size, PAGE_BYTES), ROW_BYTES))
     return list(rows)
+
+
+def _stops(
+    told: Mapping[str, Sequence[int]] | None, rows: Sequence[tuple[int, int, str]]
+) -> tuple[dict[int, list[int]], dict[str, list[int]]]:
+    """The addresses of breakpoints by line, and by function. Images of version 1.0 have none, so a line's are where it begins."""
+    stops, entries = dict[int, list[int]](), dict[str, list[int]]()
+    for name, addresses in islice((told or {}).items(), MOST_ROWS):
+        places = sorted({int(address) for address in islice(addresses, MOST_STOPS)})
+        if number := _own_line(name):
+            stops[number] = places
+        else:
+            entries[name[:NAME_LETTERS]] = places
+    for (address, number, _), before in zip(rows if told is None else (), [0, *(number for _, number, _ in rows)]):
+        if number not in (0, before):
+            stops.setdefault(number, []).append(address)
+    return stops, entries
 
 
 def _own_line(line: str) -> int:

@@ -5,17 +5,19 @@ from collections.abc import Iterator
 from itertools import islice
 from typing import TYPE_CHECKING, NamedTuple, TypedDict
 
-from ..guest.symbols import Symbols, source_rows
+from ..guest.entries import NAME_LETTERS
+from ..guest.source_lines import copies_in, innermost, line_addresses, source_rows
+from ..guest.symbols import Symbols
 from ..machine.image import rights_of
-from .entries import NAME_LETTERS, name_of, ranges_of
+from .compiler import OWN_SOURCES
 from .variables import Variable, variables_of
 
 if TYPE_CHECKING:
-    from elftools.dwarf.dwarfinfo import DWARFInfo
     from elftools.elf.elffile import ELFFile
 
 MOST_MESSAGES, MESSAGE_LETTERS = 100, 400  # of a compiler's
 MOST_SEGMENTS, MOST_BYTES, MOST_SYMBOLS, MOST_ROWS = 64, 1 << 20, 2000, 20_000
+MOST_STOPS = 64  # addresses of a line or a function
 _CODE = 4  # SHF_EXECINSTR: the section has instructions
 
 
@@ -38,12 +40,16 @@ class LineRow(NamedTuple):
 
 
 class Image(TypedDict):
-    """An image, as it is answered."""
+    """An image, as it is answered.
+
+    stops: the addresses of breakpoints, by a line of the source, as `source.c:12`, or by the name of a function in it
+    """
 
     entry: int
     segments: list[Segment]
     symbols: dict[str, int]
     rows: list[LineRow]
+    stops: dict[str, list[int]]
     variables: list[Variable]
 
 
@@ -57,12 +63,14 @@ def image_of(path: pathlib.Path) -> Image:
     symbols = list(Symbols.read(path).addresses.items())
     with path.open("rb") as file:
         elf = ELFFile(file)
+        rows, stops = _rows(elf)
         code = [section["sh_addr"] for section in elf.iter_sections() if section["sh_flags"] & _CODE]
         return {
             "entry": elf.header["e_entry"] or dict(symbols).get("_start", min(code, default=0)),
             "segments": list(_segments(elf)),
             "symbols": {name[:NAME_LETTERS]: address for name, address in symbols[:MOST_SYMBOLS]},
-            "rows": _rows(elf),
+            "rows": rows,
+            "stops": stops,
             "variables": variables_of(elf),
         }
 
@@ -80,26 +88,22 @@ def _segments(elf: "ELFFile") -> Iterator[Segment]:
             yield Segment(segment["p_vaddr"], rights_of(segment["p_flags"]), segment["p_memsz"], segment.data().hex())
 
 
-def _rows(elf: "ELFFile") -> list[LineRow]:
-    """The rows of the line tables, by addresses; none where those are damaged."""
-    rows = []
+def _rows(elf: "ELFFile") -> tuple[list[LineRow], dict[str, list[int]]]:
+    """The rows of the line tables, by addresses, and where breakpoints of lines and functions of the source are; none if those are damaged."""
     try:
-        inlined = sorted(_inlined(elf.get_dwarf_info())) if elf.has_dwarf_info() else []
-        for address, line in islice(source_rows(elf), MOST_ROWS):
-            names = [name for _, low, high, name in inlined if low <= address < high]
-            rows.append(LineRow(address, line[:NAME_LETTERS], names[-1] if names else ""))
+        told, copies = [*islice(source_rows(elf), MOST_ROWS)], [*copies_in(elf)]
     except Exception:  # pylint: disable=broad-except  # damaged data makes pyelftools raise what its parts do
-        return []
-    return sorted(rows, key=lambda row: (row.address, row.line != ""))
+        return [], {}
+    copy_at = innermost((row.address for row in told), copies)
+    inlined = {address: copy.name for address, copy in copy_at.items() if copy.called}
+    rows = [LineRow(row.address, row.line[:NAME_LETTERS], inlined.get(row.address, "")) for row in told]
+    stops = {line: at[:MOST_STOPS] for line, at in line_addresses(told, copies).items() if _is_own(line)}
+    for copy in copies:
+        if _is_own(copy.declared):
+            stops.setdefault(copy.name, []).extend(copy.entries)
+    return sorted(rows, key=lambda row: (row.address, row.line != "")), stops
 
 
-def _inlined(debug: "DWARFInfo") -> Iterator[tuple[int, int, int, str]]:
-    """Where functions are inlined: how deep in others, from and to which address, and their names."""
-    for unit in debug.iter_CUs():
-        waiting = [(unit.get_top_DIE(), 0)]
-        while waiting:
-            entry, depth = waiting.pop()
-            waiting += [(child, depth + 1) for child in entry.iter_children()]
-            if entry.tag == "DW_TAG_inlined_subroutine":
-                name = name_of(entry)
-                yield from ((depth, low, high, name) for low, high in ranges_of(debug, unit, entry))
+def _is_own(line: str) -> bool:
+    """Whether a line, as `source.c:12`, is of the source."""
+    return line.rpartition(":")[0] in OWN_SOURCES

@@ -1,15 +1,18 @@
-"""A line about C for `vecmon-lab check`: the compiler, and whether its sandbox starts."""
+"""Lines about C for `vecmon-lab check`: the compilers, and whether their sandbox starts."""
 
 from .. import LabError
-from .compiler import find_compiler
+from .compiler import find_compilers
 from .sandbox import sandboxed_compiler
 
 
 def print_compilers() -> None:
-    """Prints which compiler there is for C, and why others' sources aren't compiled, if they aren't."""
+    """Print which compilers there are for C, and why sources of others aren't compiled, if they aren't."""
+    names = [each.name if each.has_vectors else f"{each.name} (without intrinsics)" for each in find_compilers()]
+    missing = "not installed: sudo apt install clang-19 lld-19"
+    print(f"compilers for sources in C: {', '.join(names) or missing}")
     try:
-        name = find_compiler(None).name
-        sandboxed_compiler(name)
-        print(f"C: {name}; its sandbox starts, so that others' sources are compiled too")
+        sandboxed_compiler(None)
+        told = "it starts"
     except LabError as error:
-        print(f"C: others' sources aren't compiled: {error}")
+        told = f"not available: {error}"
+    print(f"sandbox for sources in C in class, explore and grade: {told}")

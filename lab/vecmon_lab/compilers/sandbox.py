@@ -23,7 +23,7 @@ from .sandbox_files import LAB, PLACE, TRUE, elftools, sandbox_files
 SECONDS, ANSWER_BYTES, FOLDER_BYTES = 20, 4 << 20, 64 << 20  # by the clock; of the answer; of all files in /tmp
 COMPLAINT_BYTES = 4096  # of standard error, the last ones
 PROCESSES = 32  # and threads
-REMEDIES = "CLASS.md, `Where the sandbox doesn't start`, says what helps"
+REMEDIES = "CLASS_ADMIN.md, `Where the sandbox doesn't start`, says what helps"
 MODULE = ("-m", "vecmon_lab.compilers.inside")
 
 _SPACES = ("--unshare-ipc", "--unshare-pid", "--unshare-net", "--unshare-uts", "--unshare-cgroup-try")

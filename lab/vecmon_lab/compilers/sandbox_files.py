@@ -21,12 +21,11 @@ LAB = pathlib.Path(__file__).resolve().parents[2]
 PLACE = "/lab"  # where Python finds the modules within
 MODULES = (
     "vecmon_lab/__init__.py",
-    *(f"vecmon_lab/compilers/{name}.py" for name in ("__init__", "c_types", "compiler", "debug", "entries")),
+    *(f"vecmon_lab/compilers/{name}.py" for name in ("__init__", "c_types", "compiler", "debug")),
     *(f"vecmon_lab/compilers/{name}.py" for name in ("failures", "inside", "locations", "variables")),
     "vecmon_lab/compilers/runtime/runtime.c",
     "vecmon_lab/compilers/runtime/vecmon.h",
-    "vecmon_lab/guest/__init__.py",
-    "vecmon_lab/guest/symbols.py",
+    *(f"vecmon_lab/guest/{name}.py" for name in ("__init__", "entries", "jumps", "source_lines", "symbols")),
     "vecmon_lab/machine/__init__.py",
     "vecmon_lab/machine/image.py",
 )

@@ -7,7 +7,7 @@ from typing import TYPE_CHECKING, Any, NamedTuple
 
 from .c_types import declaration, shape
 from .compiler import C_SOURCE
-from .entries import NAME_LETTERS, entry_at, name_of, ranges_of
+from ..guest.entries import NAME_LETTERS, entry_at, name_of, ranges_of
 from .locations import CODE_END, MOST_BYTES, Location, Sum, location
 
 if TYPE_CHECKING:

@@ -11,6 +11,7 @@ from collections.abc import Callable, Iterator
 from .. import LabError
 from ..arguments import add_program
 from ..guest.guest import QUANTUM, Guest, started
+from ..guest.runner import Reporter
 from ..guest.symbols import Symbols
 from ..lessons.lesson import SOURCE_SUFFIXES
 from ..machine.program import find_program
@@ -23,7 +24,7 @@ MARK = "vecmon> "
 
 def add_arguments(parser: argparse.ArgumentParser) -> None:
     """The words of `vecmon-lab console`."""
-    told = "an image, or a source in C (.c) or assembler (.s, .S); without one there is no program yet"
+    told = "an image, or a source in C (.c) or assembler (.s, .S); without one, there is no program"
     add_program(parser, told, is_needed=False)
 
 
@@ -56,15 +57,17 @@ def _console(arguments: argparse.Namespace, screen: Screen) -> Iterator[Console]
     """A console at a machine of its own with what is named. Raises LabError where a source is given words or input."""
     path: pathlib.Path | None = arguments.image
     if path is not None and path.suffix not in SOURCE_SUFFIXES:
-        words = [path.name, *arguments.words]
-        with started(path, arguments=words, file=arguments.input, write=screen.write) as guest:
-            symbols = Symbols.read(path)
+        words, symbols = [path.name, *arguments.words], Symbols.read(path)
+        report = Reporter(lambda address: console.names.symbols.place(address))
+        with started(path, arguments=words, file=arguments.input, write=screen.write, report=report) as guest:
             screen.say(*filter(None, [symbols.trouble]))
-            yield Console(guest, screen, symbols)
+            console = Console(guest, screen, symbols)
+            yield console
         return
     if arguments.words or arguments.input:
         raise LabError("words and an input are for an image alone")
-    guest = Guest(Session(find_program(), quantum=QUANTUM), write=screen.write)
+    report = Reporter(lambda address: console.names.symbols.place(address))
+    guest = Guest(Session(find_program(), quantum=QUANTUM), write=screen.write, report=report)
     with contextlib.ExitStack() as stack:
         stack.callback(lambda: guest.session.close())  # which is another one, where it went back
         guest.ask("enter")

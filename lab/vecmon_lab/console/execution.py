@@ -3,7 +3,7 @@
 import itertools
 import re
 import threading
-from collections.abc import Iterable, Iterator, Sequence
+from collections.abc import Collection, Iterable, Iterator, Sequence
 
 from .. import LabError
 from ..assembler.commands import refusal_in_words
@@ -39,21 +39,24 @@ class Execution:
         """Runs the program to its next stop, or until Ctrl-C."""
         self._tell_run(self._go())
 
-    def until(self, place: str) -> None:
-        """As `run`, also to an address."""
-        address = int(place, 16) if re.fullmatch(DIGITS, place) else -1
+    def until(self, places: Sequence[str]) -> None:
+        """As `run`, also to one of these addresses."""
         _, told = self._guest.ask("stop", "breaks")
-        is_new = not isinstance(told, Addresses) or address not in told.addresses
-        line = f"{self._guest.user} break {place}"
-        answer = read(self._guest.session.do(line)) if is_new else told
-        if isinstance(answer, Refused):
-            self._screen.say(*refusal_in_words(line, answer), kind="refused")
-            return
+        there = told.addresses if isinstance(told, Addresses) else ()
+        numbers = {place: int(place, 16) if re.fullmatch(DIGITS, place) else -1 for place in places}
+        new = [place for place, address in numbers.items() if address not in there]
+        lines = [f"{self._guest.user} break {place}" for place in new]
         try:
-            stop = self._go(address)
+            for line in lines:
+                answer = read(self._guest.session.do(line))
+                if isinstance(answer, Refused):
+                    self._screen.say(*refusal_in_words(line, answer), kind="refused")
+                    return
+            stop = self._go(numbers.values())
         finally:
-            self._guest.ask(*([f"unbreak {place}"] if is_new else []))
-        self._tell_run(None if is_new and stop == Stop("break", address) else stop)
+            self._guest.ask(*(f"unbreak {place}" for place in new))
+        is_there = stop is not None and stop.kind == "break" and stop.pc in (numbers[place] for place in new)
+        self._tell_run(None if is_there else stop)
 
     def until_changed(self, name: str) -> None:
         """Steps to the instruction that changes a register, which is shown with what it changed, or to another stop."""
@@ -106,12 +109,12 @@ class Execution:
             line, text = self._names.symbols.line(pc), self._stepper.fetch(pc)[1]
             self._screen.say(f"=> {self._names.place(pc)}  {text}" + (f"  ({line})" if line else ""))
 
-    def _go(self, address: int = -1) -> Stop | None:
-        """Runs the program to a stop; to a breakpoint only where its condition holds, or it is at an address."""
+    def _go(self, addresses: Collection[int] = ()) -> Stop | None:
+        """Runs the program to a stop; to a breakpoint only where its condition holds, or it is at one of these addresses."""
         self._guest.ask("stop")  # it may have gone on in slices of the operator's
         while True:
             stop = self._guest.go(None, self.interrupt.is_set)
-            if stop is None or stop.kind != "break" or stop.pc == address or self._conditions.hold(stop.pc):
+            if stop is None or stop.kind != "break" or stop.pc in addresses or self._conditions.hold(stop.pc):
                 return stop
             if self.interrupt.is_set():
                 return None
@@ -139,7 +142,7 @@ class Execution:
     def _tell_back(self, is_there: bool | None) -> None:
         """Shows what differs from the later instant, and the next instruction."""
         if is_there is False:
-            self._screen.say("This is the begin: there is nothing before.")
+            self._screen.say("This is the start: there is nothing before.")
         self._tell_changes()
 
     def _tell_changes(self) -> None:

@@ -16,7 +16,6 @@ from ..machine.answers import (
     Addresses,
     Answer,
     ControlRegisters,
-    Done,
     Listing,
     Loaded,
     Memory,
@@ -28,13 +27,20 @@ from ..machine.answers import (
 from ..machine.lines import check_text, is_look
 from ..machine.program import find_program
 from ..machine.session import Session
-from .conditions import REGISTERS, Condition, Conditions
+from .breakpoints import Breakpoints
+from .conditions import REGISTERS, Conditions
 from .execution import Execution
 from .listing import SourceListing
 from .names import DIGITS, VECTORS, Names, state_of
+from .places import Places
 from .show import Screen, control_row, memory_rows, register_rows
 
 STEPS = [str(number) for number in range(1, 257)]  # that the machine takes
+HELP_ON_PLACES = {
+    "break": ["  ADDR may be a function or a line, as sum.c:12, and a condition may follow: break ADDR if a0 == 5"],
+    "unbreak": ["  ADDR may be a function or a line, as sum.c:12"],
+}
+"""Arguments that the console takes in addition to those of the monitor, by command."""
 
 
 class Console:
@@ -47,6 +53,9 @@ class Console:
         self.names = Names(guest, self._stepper, symbols)
         self.execution = Execution(guest, self._stepper, screen, self.names, self._conditions)
         self._source = SourceListing(self.names)
+        places = Places(self.names, self._source)
+        self._breakpoints = Breakpoints(guest, screen, self.names, places, self._conditions)
+        self._program: Sequence[str] = ["load", "image"]  # what brought the program in
 
     def do(self, entry: str) -> None:
         """Carries out the lines of an entry, up to the one during which Ctrl-C comes; that stops the program alone."""
@@ -65,10 +74,12 @@ class Console:
         commands = [line[2:] for line in script.steps[0].lines]
         with Session(find_program()) as trial:
             send(Guest(trial), commands, script)
+        kept, is_same, self._program = self._breakpoints.all(), commands == self._program, commands
         self._guest.ask("stop", "leave", *commands)
         self.names.symbols = Symbols.of_labels(script.labels)
         self._source.own = path, {each.address: each.line for each in script.statements.values()}
         self._conditions.by_address.clear()
+        self._breakpoints.begin_anew(kept, is_same)
         self.execution.look()
 
     def bar(self) -> str:
@@ -84,24 +95,27 @@ class Console:
         try:
             match self.names.words(line):
                 case ["help", *name]:
-                    self._screen.say(*help_on(" ".join(name)))
+                    self._screen.say(*help_on(" ".join(name)), *HELP_ON_PLACES.get(" ".join(name), []))
                 case ["quit"]:
                     self.is_open = False
                 case ["run"]:
                     self._run(self.execution.run)
                 case ["until", place] if place in REGISTERS or place in VECTORS:
                     self._run(partial(self.execution.until_changed, place))
-                case ["until", place]:
-                    self.execution.until(place)
-                case ["break", text] if " if " in text:
-                    self._break_if(*text.split(" if ", 1))
+                case ["until", word]:
+                    self._until(word)
+                case ["break", text]:
+                    self._breakpoints.set(text)
+                case ["unbreak", word]:
+                    self._breakpoints.remove(word)
                 case ["back", number] if re.fullmatch("[1-9][0-9]{0,17}", number):
                     self.execution.back(int(number))
                 case ["back", where] if found := re.fullmatch(r"to +write +(\S+)", where):
                     self.execution.back_to_write(self.names.named(found[1], "ADDR"))
                 case ["changes"]:
                     self._screen.say(*self.execution.changes or ["nothing has changed"], kind="changed")
-                case ["list", address]:
+                case ["list", word]:
+                    address = self._breakpoints.find(word).addresses[0]
                     at = int(address, 16) if re.fullmatch(DIGITS, address) else -1
                     self._screen.say(*self._source.rows(at, state_of(self._guest)[1]))
                 case ["source", path]:
@@ -124,6 +138,7 @@ class Console:
         if not has_user:
             check_text(" ".join(words))
         line = " ".join(words if has_user else [str(self._guest.user), *words])
+        kept = self._breakpoints.all() if words[0] == "load" else {}
         lines = self._guest.session.do(line)
         answer = read(lines)
         if isinstance(answer, Loaded) and line[0] == str(self._guest.user):
@@ -137,6 +152,10 @@ class Console:
             self._screen.say(*lines if has_user else self._shown(answer, lines))
         if isinstance(answer, Loaded):
             self.names.symbols, self._source.own = self._image_symbols, None
+            self._breakpoints.begin_anew(kept, words == self._program)
+            self._program = words[has_user:]
+        elif words[has_user] in ("enter", "leave") and not isinstance(answer, Refused):
+            self._program = []
         if words[0] in ("load", "setpc"):
             self.execution.tell_place()
         return answer
@@ -157,7 +176,8 @@ class Console:
             case Listing(words):
                 return [f"{self.names.place(word.address)}  {word.text}" for word in words]
             case Addresses(name, addresses):
-                texts = {at: self._conditions.text(at) for at in addresses if name == "breaks"}
+                own = addresses if name == "breaks" else []
+                texts = {at: _behind(self.names.symbols.line(at)) + self._conditions.text(at) for at in own}
                 return [f"{self.names.place(address)}{texts.get(address, '')}" for address in addresses]
         return [line[2:] for line in lines]
 
@@ -168,9 +188,14 @@ class Console:
         else:
             run()
 
-    def _break_if(self, place: str, text: str) -> None:
-        """Sets a breakpoint with a condition."""
-        address = self.names.named(place.strip(), "ADDR")
-        condition = Condition.read(text, lambda word: self.names.named(word, "VALUE"))
-        if isinstance(self._monitor(["break", address]), Done):
-            self._conditions.by_address[int(address, 16)] = condition
+    def _until(self, word: str) -> None:
+        """Runs the program to a place, each address of which ends the run."""
+        place = self._breakpoints.find(word)
+        self._breakpoints.check_room(word, place)
+        self._screen.say(*filter(None, [place.taken]))
+        self.execution.until(place.addresses)
+
+
+def _behind(line: str) -> str:
+    """A line behind a place, as listings have it."""
+    return f"  ({line})" if line else ""

@@ -43,4 +43,4 @@ class SourceListing:
         for folder in (path.parent, pathlib.Path(), RUNTIME):
             if (folder / name).is_file():
                 return folder / name, int(number)
-        raise LabError(f"the source {name} lies neither beside {path.name} nor here")
+        raise LabError(f"the source {name} is neither next to {path.name} nor here")

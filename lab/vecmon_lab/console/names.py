@@ -17,6 +17,7 @@ DIGITS = "[0-9a-fA-F]+"
 LEFT_OUT = {"dis": "{pc:x} {number}", "load": "image", "peek": "ADDR 16", "step": "1", "vreg": "vN {sew}"}
 LEFT_OUT |= {"list": "{pc:x}", "back": "1"}
 PLACES = ("ADDR", "VALUE", "PLACE")  # arguments that may be a symbol; the last one may also be a register
+AS_TYPED = ("break", "unbreak", "until", "list")  # of which the console itself finds the places
 VECTORS = {f"v{number}": number for number in range(32)}
 CHOICES = {kind: words.split() for kind, words in read_table("choices")} | {"COMMAND": list(COMMANDS)}
 
@@ -31,7 +32,11 @@ class Names:
     def choices(self, kind: str) -> Iterable[str]:
         """The words that may take the place of a word of a command's form."""
         registers = [*REGISTERS, *VECTORS] if kind == "PLACE" else []
-        return [*self.symbols.addresses, *registers] if kind in PLACES else CHOICES.get(kind, [])
+        return (
+            [*{*self.symbols.addresses, *self.symbols.source.functions}, *registers]
+            if kind in PLACES
+            else CHOICES.get(kind, [])
+        )
 
     def words(self, line: str) -> list[str]:
         """The words of a line as the monitor takes them: with what may be left out, and with names as what they name."""
@@ -41,6 +46,8 @@ class Names:
         vtype, (_, pc) = self._stepper.registers.control.vtype, state_of(self._guest)
         number, sew = min(8, (PAGE_BYTES - pc % PAGE_BYTES) // 4), ControlRegisters(vtype=vtype & 0x3F).sew
         words += LEFT_OUT.get(name, "").format(pc=pc, number=number, sew=sew).split()[len(words) - 1 :]
+        if name in AS_TYPED:
+            return words
         return words[:1] + [self.named(word, kind) for word, kind in zip(words[1:], [*form[1:], ""])]
 
     def named(self, word: str, kind: str) -> str:
@@ -51,11 +58,21 @@ class Names:
             return word
         name, _, offset = word.partition("+")
         address = self.symbols.addresses.get(name)
+        if len(places := self.symbols.places_of.get(name, ())) > 1:
+            raise self.ambiguous(name, sorted(places))
         if address is None and re.fullmatch("[A-Za-z_.$][A-Za-z0-9_.$]*", name) and not re.fullmatch(DIGITS, name):
             raise LabError(f"there is no symbol {name}")
         if address is None or not re.fullmatch(f"(0x)?{DIGITS}", offset or "0"):
             return word.removeprefix("0x")
         return f"{address + int(offset or '0', 16):x}"
+
+    def ambiguous(self, name: str, addresses: Iterable[int]) -> LabError:
+        """The error for a name of several places."""
+        lines = ((f"{address:x}", self.symbols.line(address)) for address in addresses)
+        places = [f"{address} ({line})" if line else address for address, line in lines]
+        return LabError(
+            f"{name} names {len(places)} places: {', '.join(places)}; name one as FILE:LINE or by its address"
+        )
 
     def place(self, address: int) -> str:
         """An address, with the symbol before it."""

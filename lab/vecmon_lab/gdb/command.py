@@ -15,6 +15,8 @@ from .. import LabError
 from ..arguments import add_program
 from ..assembler.commands import refusal_in_words
 from ..guest.guest import Guest, started
+from ..guest.runner import Reporter
+from ..guest.symbols import Symbols
 from ..instructions.accesses import LINE_BYTES
 from ..machine.answers import (
     CONTROL,
@@ -56,9 +58,8 @@ def add_arguments(parser: argparse.ArgumentParser) -> None:
 def run(arguments: argparse.Namespace) -> int:
     """Answers gdb until it goes away. Raises LabError and OSError where the image isn't taken."""
     link, words = Link(), [arguments.image.name, *arguments.words]
-    with started(
-        arguments.image, arguments=words, file=arguments.input, write=lambda data: link.send(f"O{data.hex()}")
-    ) as guest:
+    report, write = Reporter(Symbols.read(arguments.image).place), lambda data: link.send(f"O{data.hex()}")
+    with started(arguments.image, arguments=words, file=arguments.input, write=write, report=report) as guest:
         target = Target(guest, link, arguments.image)
         with contextlib.suppress(EOFError, BrokenPipeError):
             while target.is_attached:

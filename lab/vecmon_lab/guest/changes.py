@@ -6,6 +6,7 @@ from dataclasses import dataclass
 from fractions import Fraction
 
 from ..instructions.accesses import PAGE_BYTES, REGISTER_BYTES, Span, stored_spans, vector_instruction
+from ..instructions.calls import ECALL
 from ..instructions.words import LOAD_FP, OP_V, STORE_FP, SYSTEM, Operand
 from ..machine.answers import (
     CONTROL,
@@ -22,7 +23,6 @@ from .guest import Guest
 
 WORDS_AT_ONCE = 16  # that a look shows
 NAMES = [*(f"x{number}" for number in range(32)), *CONTROL]  # of scalar and control registers
-ECALL = 0x73  # the word
 CONTROLLING = (OP_V, SYSTEM, LOAD_FP, STORE_FP)  # opcodes of what may write control registers
 NO_REGISTER = (0x63, 0x23, 0x0F, OP_V, LOAD_FP, STORE_FP)  # those of what writes no scalar register, but for
 OP_VSET, OP_MVV, FROM_VECTOR = 7, 2, 0b010000  # funct3 of vset; that of vmv.x.s, vcpop and vfirst, and their funct6
@@ -143,6 +143,7 @@ class Stepper:
         word, text = self.fetch(pc)
         if word == ECALL:
             self.guest.empty_buffer()
+            self.guest.runner.look(pc, before.x)
         instruction = vector_instruction(word, before.control.vtype)
         targets = [operand for operand in instruction.operands if operand.noun == "destination"] if instruction else []
         looks, spans = _looks(word, targets), list[Span]()

@@ -11,10 +11,8 @@ from .. import LabError, mistakes_in
 from ..instructions.accesses import LINE_BYTES
 from ..instructions.reasons import describe_stop
 from ..machine.answers import (
-    Addresses,
     Answer,
     ControlRegisters,
-    Granted,
     Listing,
     Loaded,
     Memory,
@@ -29,12 +27,12 @@ from ..machine.answers import (
 from ..machine.program import check_flags, find_program, image_refusal
 from ..machine.session import TOGETHER, Session
 from .input import input_of
+from .runner import OUTPUT_BYTES, SAFE_STEPS, Report, Reporter, Runner
 
 IMAGE_BYTES, ARGUMENT_BYTES = 4_194_304, 8192  # of a file; of the stack's 16 KiB
-QUANTUM, MOST_SLICES = 1000, 1000  # the longest slices, as the program is alone; and how many one line grants
+QUANTUM = 1000  # the ticks of the longest slices, as the program is alone
 MOST_STEPS, MOST_ROUNDS = 256, 1000  # of one line; and how many such lines are sent before their answers are looked at
-OUTPUT_BYTES, WRITE_BYTES = 1024, 256  # that the buffer holds; and that a call writes at most
-PACES = ((MOST_STEPS, OUTPUT_BYTES - WRITE_BYTES), (OUTPUT_BYTES // WRITE_BYTES, OUTPUT_BYTES))
+PACES = ((MOST_STEPS, OUTPUT_BYTES - 1), (SAFE_STEPS, OUTPUT_BYTES))
 """Steps at once, and with how many bytes of output all calls have found room behind them; the last ones always find it."""
 
 STACK_POINTER, STACK_END, STACK_BYTES = 0x7FFF_EFC0, 0x7FFF_F000, 0x4000  # as `load` leaves them
@@ -48,15 +46,27 @@ class Guest:
     pc: where it stands, by what `start`, `go` and `step` were answered, or `regs` to a `Stepper`
     ticks: how many of them `go` has granted, in whole slices
     laid: the commands that `start` gave behind `load`, without the policy
+    write: is given what the program writes
+    runner: what `go` does
     """
 
-    def __init__(self, session: Session, user: int = 1, write: Callable[[bytes], object] | None = None) -> None:
-        """A user of a session. `write` is given what the program writes, as it comes; else `output` answers it."""
+    def __init__(
+        self,
+        session: Session,
+        user: int = 1,
+        write: Callable[[bytes], object] | None = None,
+        report: Report | None = None,
+    ) -> None:
+        """A user of a session. `write` is given what the program writes, as it comes; else `output` answers it.
+
+        report: is given calls that aren't supported; without it they are printed on standard error, each once
+        """
         self.session, self.user = session, user
         self.pc = self.ticks = 0
         self.laid: Sequence[str] = ()
         self._kept: list[bytes] = []
-        self._hands_on, self._write = write is not None, write or self._kept.append
+        self.write = write or self._kept.append
+        self.runner = Runner(self, report or Reporter())
 
     def ask(self, *commands: str) -> list[Answer]:
         """The answer to each command. Some dozens go to the machine together."""
@@ -110,30 +120,53 @@ class Guest:
     def go(self, ticks: int | None = None, is_interrupted: Callable[[], bool] = lambda: False) -> Stop | None:
         """The program runs to a stop; None where so many ticks, rounded up to slices, ran out, or it is interrupted.
 
-        `is_interrupted` is asked between some slices. A full output buffer is emptied, and the program goes on.
+        `is_interrupted` is asked between some slices. No call finds too little room for its output.
         """
-        breaks = self.told("breaks", Addresses).addresses
-        left = None if ticks is None else -(-ticks // self.session.quantum)
-        while left != 0 and not is_interrupted():
-            self.ask("go")
-            stop, left = self._run_on(left, is_interrupted)
-            stop = stop or self._halt(breaks)
+        return self.runner.go(None if ticks is None else -(-ticks // self.session.quantum), is_interrupted)
+
+    def execute(self, number: int, looks: Sequence[str] = ()) -> tuple[Stop | None, list[Answer]]:
+        """Executes instructions, 256 at most, and looks; the stop that ended them, and the answers to the looks.
+
+        No call finds too little room for its output: where one may have, they are executed again in smaller parts.
+        """
+        size, pc, stop, at_once = self.session.size, self.pc, None, 1
+        if not self.runner.has_doubtful():
+            stop, (output, *answers) = self.step_between([], ["out", *looks], number)
+            data = output.data if isinstance(output, Output) else b""
+            if len(data) < OUTPUT_BYTES:
+                self.hand_on(data)
+                return stop, answers
+            self.go_back(size, pc)
+            stop, at_once = None, SAFE_STEPS
+        self.pc = self.told("state", Position).pc
+        while number > 0 and stop is None:
+            self.runner.look(self.pc)
+            stop = self.step_between([], [], min(at_once, number))[0]
             self.empty_buffer()
-            if stop and stop.kind != "outfull":
-                return stop
-        return None
+            number -= at_once
+        return stop, self.ask(*looks)
+
+    def go_back(self, size: int, pc: int) -> None:
+        """Goes back to where the script had so many bytes, and the program counter this value: in another session."""
+        session = self.session.rewound(self.session.script[:size])
+        self.session.close()
+        self.session, self.pc = session, pc
 
     def step(self) -> Stop | None:
         """Carries out one instruction; the stop, if it stops instead. The output buffer is emptied before."""
         self.empty_buffer()
+        if self.runner.has_doubtful():
+            self.runner.look(self.pc)
         return self.step_between([], [])[0]
 
-    def step_between(self, before: Sequence[str], after: Sequence[str]) -> tuple[Stop | None, list[Answer]]:
+    def step_between(
+        self, before: Sequence[str], after: Sequence[str], number: int = 1
+    ) -> tuple[Stop | None, list[Answer]]:
         """As `step`, with looks before and after it that go to the machine together; and the answers to all looks.
 
-        The stop may be `outfull`, at an ecall.
+        The stop may be `outfull`, at an ecall. number: of instructions, 1 to 256
         """
-        answers = self.ask(*before, "step 1", *after)
+        answers = self.ask(*before, f"step {number}", *after)
         told = answers.pop(len(before))
         if not isinstance(told, Position | Stop):
             raise LabError(f"the machine answers {told}")
@@ -148,7 +181,7 @@ class Guest:
         while instructions:
             part = min(instructions, MOST_ROUNDS * at_once)
             outputs = [answer.data for answer in self.ask(*stepping(part, at_once)) if isinstance(answer, Output)]
-            self._hand_on(b"".join(outputs))
+            self.hand_on(b"".join(outputs))
             if max(map(len, outputs)) > most:
                 return False
             instructions -= part
@@ -157,7 +190,7 @@ class Guest:
 
     def empty_buffer(self) -> None:
         """Takes what the program has written out of the machine's buffer."""
-        self._hand_on(self.told("out", Output).data)
+        self.hand_on(self.told("out", Output).data)
 
     def output(self) -> bytes:
         """What the program has written since this was asked last; nothing where `write` is given it, now at least."""
@@ -186,38 +219,10 @@ class Guest:
         text = self.word_at(stop.pc)[1]
         return ": ".join(filter(None, [f"{stop.pc:x} {place}".rstrip(), text, self.explain(stop)]))
 
-    def _hand_on(self, data: bytes) -> None:
+    def hand_on(self, data: bytes) -> None:
         """Hands on what the program has written, if anything, or keeps it."""
         if data:
-            self._write(data)
-
-    def _run_on(self, left: int | None, is_interrupted: Callable[[], bool]) -> tuple[Stop | None, int | None]:
-        """Grants slices to a stop, to the last one, or until output is to be handed on; the stop, how many are left."""
-        while True:
-            granted, stop = self._slices(MOST_SLICES if left is None else min(left, MOST_SLICES))
-            left = None if left is None else left - granted
-            if stop or left == 0 or self._hands_on or is_interrupted():
-                return stop, left
-
-    def _slices(self, number: int) -> tuple[int, Stop | None]:
-        """Grants slices; how many they were, and the stop that ended them."""
-        granted = read(self.session.do(f"* slices {number}"))
-        assert isinstance(granted, Granted)
-        self.ticks += granted.slices * self.session.quantum
-        if not granted.stops:
-            return granted.slices, None
-        ((_, stop),) = granted.stops
-        self.pc = stop.pc
-        return granted.slices, stop
-
-    def _halt(self, breaks: Sequence[int]) -> Stop | None:
-        """Stops the running program. Where its next slice would stop it at a breakpoint, that is granted first."""
-        while breaks and self.told("state", Position).pc in breaks:
-            _, stop = self._slices(1)
-            if stop:
-                return stop
-        self.pc = self.told("stop", Position).pc
-        return None
+            self.write(data)
 
 
 @contextlib.contextmanager
@@ -229,13 +234,14 @@ def started(
     arguments: Sequence[str] = (),
     file: pathlib.Path | None = None,
     write: Callable[[bytes], object] | None = None,
+    report: Report | None = None,
 ) -> Iterator[Guest]:
     """The guest that an image is loaded for, on a machine of its own, until the context ends. file: its input.
 
     Raises LabError and OSError where the image can't be read or is refused, or there is no program.
     """
     check_image(path)
-    guest = Guest(Session(find_program(), {"image": path}, quantum=quantum), write=write)
+    guest = Guest(Session(find_program(), {"image": path}, quantum=quantum), write=write, report=report)
     try:
         with mistakes_in(path):
             guest.start("image", policy, arguments, input_of(path, file) if file else {})

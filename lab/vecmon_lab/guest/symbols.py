@@ -3,9 +3,11 @@
 import bisect
 import functools
 import pathlib
-from collections.abc import Iterator, Mapping, Sequence
+from collections.abc import Collection, Iterator, Mapping, Sequence
 from dataclasses import dataclass, field
 from typing import TYPE_CHECKING
+
+from .source_lines import SourceLines
 
 if TYPE_CHECKING:
     from elftools.elf.elffile import ELFFile
@@ -22,12 +24,14 @@ class Symbols:
 
     addresses: of each name
     sizes: of each name, 0 where the file doesn't tell it
+    places_of: all addresses of each name, which several files may have
     path: the file, whose source lines are read when one is asked for
     """
 
     addresses: Mapping[str, int] = field(default_factory=dict)
     path: pathlib.Path | None = None
     sizes: Mapping[str, int] = field(default_factory=dict)
+    places_of: Mapping[str, Collection[int]] = field(default_factory=dict)
     _places: Sequence[tuple[int, int, str]] = ()  # addresses in rising order, each with its section's end, and its name
 
     @classmethod
@@ -44,7 +48,10 @@ class Symbols:
         addresses = {name: address for address, _, _, name, _ in ranked}
         # of several symbols at an address the last one names it
         places = {address: (address, end, name) for address, _, end, name, _ in found if address < end}
-        return cls(addresses, path, {name: size for *_, name, size in ranked}, list(places.values()))
+        places_of = dict[str, set[int]]()
+        for address, _, _, name, _ in found:
+            places_of.setdefault(name, set()).add(address)
+        return cls(addresses, path, {name: size for *_, name, size in ranked}, places_of, list(places.values()))
 
     @classmethod
     def of_labels(cls, labels: Mapping[str, Sequence[str]]) -> "Symbols":
@@ -54,7 +61,7 @@ class Symbols:
         places = sorted((int(digits, 16), names) for digits, names in labels.items())
         end = (max((address for address, _ in places), default=0) | PAGE_BYTES - 1) + 1
         addresses = {name: address for address, names in places for name in names}
-        return cls(addresses, None, {}, [(address, end, names[-1]) for address, names in places])
+        return cls(addresses, None, {}, {}, [(address, end, names[-1]) for address, names in places])
 
     def place(self, address: int) -> str:
         """An address by the last symbol at or before it in its section, as `main+0x8`; "" where there is none."""
@@ -74,29 +81,17 @@ class Symbols:
 
     def line(self, address: int) -> str:
         """The source line of an instruction, as `sum.c:12`; "" where the file doesn't tell it."""
-        rows, _ = self._rows
-        at = bisect.bisect_right(rows, address, key=lambda row: row[0]) - 1
-        return rows[at][1] if at >= 0 else ""
+        return self.source.at(address)
 
     @property
     def trouble(self) -> str:
         """Why source lines can't be read though the file has some, in a line; "" where nothing is wrong."""
-        return self._rows[1]
+        return self.source.trouble
 
     @functools.cached_property
-    def _rows(self) -> tuple[list[tuple[int, str]], str]:
-        """Where instructions of a source line begin, in rising order, and what is wrong. After code stands ""."""
-        if self.path is None:
-            return [], ""
-        with self.path.open("rb") as file:
-            from elftools.elf.elffile import ELFFile
-
-            try:
-                rows = sorted(source_rows(ELFFile(file)), key=lambda row: (row[0], row[1] != ""))
-            except Exception as error:  # pylint: disable=broad-except  # as above; KeyError for clang's DWARF 5
-                reason = f"{type(error).__name__} {error}".strip()
-                return [], f"pyelftools can't read the source lines of {self.path.name} ({reason}); -gdwarf-4 helps"
-        return rows, ""
+    def source(self) -> SourceLines:
+        """The source lines of the file."""
+        return SourceLines(self.path)
 
 
 def _symbols(elf: "ELFFile") -> Iterator[tuple[int, int, int, str, int]]:
@@ -114,19 +109,3 @@ def _symbols(elf: "ELFFile") -> Iterator[tuple[int, int, int, str, int]]:
             start, end = bounds.get(index, (0, 0))
             end = end if start <= symbol["st_value"] < end else 0
             yield symbol["st_value"], rank, end, symbol.name, symbol["st_size"]
-
-
-def source_rows(elf: "ELFFile") -> Iterator[tuple[int, str]]:
-    """The address of each row of the line tables, and its file and line; "" at the end of a sequence."""
-    if not elf.has_dwarf_info():
-        return
-    debug = elf.get_dwarf_info()
-    for unit in debug.iter_CUs():
-        program = debug.line_program_for_CU(unit)
-        if program is None:
-            continue
-        first = 0 if program.header["version"] >= 5 else 1
-        names = [pathlib.PurePath(entry.name.decode("utf-8", "replace")).name for entry in program["file_entry"]]
-        for state in (entry.state for entry in program.get_entries() if entry.state is not None):
-            tells = state.line and not state.end_sequence  # line 0 is no line
-            yield state.address, f"{names[state.file - first]}:{state.line}" if tells else ""

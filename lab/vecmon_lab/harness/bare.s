@@ -1,4 +1,4 @@
-# The environment of a core in machine mode: a handler of traps; tohost takes twice the status, plus 1. Nothing is put out.
+# The environment of a core in machine mode: a handler of traps; tohost takes twice the status, plus 1. There is no output.
 environment_begin:      li t0, 0x600
                         .word 0x3002a073                # csrs mstatus, t0: the vector unit is on
                         la t0, handler

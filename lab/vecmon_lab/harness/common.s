@@ -1,4 +1,4 @@
-# What programs share: the vector state, a digest of memory, and the report. The block of a state is that of on_qemu.py.
+# Code that programs share: the vector state, a digest of memory, and the report. The block of a state is that of on_qemu.py.
 # from the block at s5
 load_vectors:           for n at in 0 8, 1 16: ld t{n}, {at}(s5)
                         vsetvl x0, t0, t1
@@ -32,7 +32,7 @@ copy:                   ld t0, 0(a1)
                         addi a2, a2, -1
                         bnez a2, copy
                         ret
-# puts out the words of the signature, and the number in s2; ends with it
+# prints the signature and the number in s2, and exits with it
 report:                 la a0, begin_signature
                         la a3, end_signature
                         la a2, text

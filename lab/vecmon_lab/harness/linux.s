@@ -9,7 +9,7 @@ environment_begin:      la a0, stack_of_signals
                         li a7, 134                      # rt_sigaction, of SIGILL, SIGTRAP, SIGBUS and SIGSEGV
                         for signal in 4, 5, 7, 11: li a0, {signal}; ecall
                         ret
-# a0: the signal; a1: what is told of it; a2: the registers then
+# a0: the signal; a1: its information; a2: the registers then
 handler:                la t0, running
                         ld t0, 0(t0)
                         beqz t0, astray

@@ -1,4 +1,4 @@
-# The environment of vecmon: what faults ends the program, so nothing has to be prepared.
+# The environment of vecmon: a fault ends the program, so there is no handler.
 environment_begin:
 environment_open:
 environment_close:      ret

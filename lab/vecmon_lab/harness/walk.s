@@ -28,7 +28,7 @@ digest_next:            bnez s4, digest_vectors
                         csrw vstart, t0
                         load x30, x31
                         jalr x0, 4(x31)
-# a fault, of which the environment has told
+# a fault that the environment has reported
 finish:                 la x30, found
                         mv s6, x30
                         call save_vectors

@@ -20,9 +20,10 @@ from ..exercises.answer import Answer, read_answer
 from ..guest.changes import Stepper
 from ..guest.guest import MOST_STEPS, QUANTUM, STACK_END, Guest, peeks, pokes
 from ..guest.notebook import registers_html
+from ..guest.runner import Reporter
 from ..guest.symbols import Symbols
 from ..instructions.accesses import PAGE_BYTES
-from ..machine.answers import Memory, Output, Refused, ScalarRegisters, Stop
+from ..machine.answers import Memory, Refused, ScalarRegisters, Stop
 from ..machine.program import find_program
 from ..machine.session import Session
 from ..runs.beginning import beginning_at
@@ -118,6 +119,7 @@ class Kernel(contextlib.AbstractContextManager["Kernel"]):
         self._begin.append(f"set x1 {RETURN:x}")
         if "__global_pointer$" in self._symbols.addresses:
             self._begin.append(f"set x3 {self._symbols.addresses['__global_pointer$']:x}")
+        self._report = Reporter(self._symbols.place)
         self._guest = self._opened()
         self._is_stopped = True  # and not left by an interrupt where it may run
 
@@ -167,7 +169,7 @@ class Kernel(contextlib.AbstractContextManager["Kernel"]):
 
     def _opened(self) -> Guest:
         """A guest on a machine of its own, who has entered."""
-        guest = Guest(Session(find_program(), self._images, quantum=QUANTUM))
+        guest = Guest(Session(find_program(), self._images, quantum=QUANTUM), report=self._report)
         guest.ask("enter")
         return guest
 
@@ -180,21 +182,18 @@ class Kernel(contextlib.AbstractContextManager["Kernel"]):
             self._guest = self._opened()
         guest, self._is_stopped = self._guest, False
         before = [*self._begin, f"policy {policy}", *lines, f"setpc {self._symbols.addresses[symbol]:x}"]
-        looks = ["regs", *(look for place in places for look in peeks(place.address, len(place.data))), "out"]
-        answers, counts = guest.ask(*(before if counted else ())), None
-        if counted:
-            counts = record(beginning_at(guest, self._images.get("image"), [f"1 {line}" for line in before]), ticks)
-        answers += guest.ask(*before[len(answers) :], f"step {MOST_STEPS}", *looks)
-        for command, answer in zip(before, answers):
+        looks = ["regs", *(look for place in places for look in peeks(place.address, len(place.data)))]
+        for command, answer in zip(before, guest.ask(*before)):
             if isinstance(answer, Refused):
                 raise LabError(f"{symbol}: {command[:60]}: {refusal_in_words(f'1 {command}', answer)[-1]}")
-        found = answers[len(before) :]
-        stop = next((each for each in found if isinstance(each, Stop) and each.kind != "outfull"), None)
-        output = b"".join(each.data for each in found if isinstance(each, Output))
+        counts = None
+        if counted:
+            counts = record(beginning_at(guest, self._images.get("image"), [f"1 {line}" for line in before]), ticks)
+        stop, found = guest.execute(MOST_STEPS, looks)
         if stop is None:
             stop = guest.go(ticks)
-            output += guest.output()
-            found = guest.ask(*looks[:-1])
+            found = guest.ask(*looks)
+        output = guest.output()
         self._is_stopped = True
         if stop is None or stop.pc != RETURN:
             raise self._stopped(symbol if policy == "keep" else f"{symbol} under {policy}", stop, places)

@@ -19,16 +19,32 @@ from .program import check_is_vecmon
 from .replay import DIFFERS, Copy, Progress, Replayer, ReplayDiffers
 from .script import Block, Checkpoint, Script
 
-__all__ = ["BadLine", "Block", "Checkpoint", "OutOfStep", "ProgramGone", "ReplayDiffers", "ScriptFull", "Session"]
+__all__ = [
+    "BadLine",
+    "Block",
+    "Checkpoint",
+    "OutOfStep",
+    "ProgramGone",
+    "ReplayDiffers",
+    "ScriptFull",
+    "Session",
+    "recorded_lines",
+]
 
 SCRIPT_BYTES = 15_000_000  # a process takes 16,777,216 bytes at most, and lines that look need room as well
 WEIGHTY_BYTES, WEIGHTY_SECONDS = 1_000_000, 1.0  # of lines that a new process carries out again
 TOGETHER = 40  # lines that go to the program at once: each has to fit into its pipe
-_RECORDED = re.compile(rb"(?:[1-8*] [ -~]{0,1022}+\n)*+")
+_OTHER_LINE = re.compile(rb"^(?![1-8*] [ -~]{0,1022}\n)", re.MULTILINE)  # than a session records, or the end
 
 
 class ScriptFull(LabError):
     """The script has no room for a line that does."""
+
+
+def recorded_lines(script: bytes) -> bytes:
+    """The lines at the beginning of a script that a session records, up to one that is torn or damaged."""
+    other = _OTHER_LINE.search(script)
+    return script[: other.start()] if other else script
 
 
 class Session(contextlib.AbstractContextManager["Session"]):
@@ -141,7 +157,7 @@ class Session(contextlib.AbstractContextManager["Session"]):
 
     def do_blocks(self, script: bytes) -> Iterator[Block]:
         """As `do_script`, in blocks as they come: for whoever does nothing with most lines."""
-        if not _RECORDED.fullmatch(script):
+        if len(recorded_lines(script)) < len(script):
             raise BadLine("a script has lines that no session records")
         began = time.monotonic()
         for block in self._replayer.piped(self._process or self._replay(), script, self._tell):

@@ -9,7 +9,8 @@ from operator import itemgetter
 from .. import LabError
 from ..checkpoints.machine_state import carry_out, pages_of
 from ..compilers.compiled import maps
-from ..guest.guest import OUTPUT_BYTES, Guest, stepping
+from ..guest.guest import MOST_STEPS, Guest, stepping
+from ..guest.runner import OUTPUT_BYTES, SAFE_STEPS
 from ..machine.answers import Addresses, Position, Stop
 from ..runs.beginning import Beginning, beginning_at
 from .legs import Leg, Legs
@@ -20,7 +21,6 @@ FEW = 16  # instructions that are carried out on the machine itself before the r
 FIRST_TICKS, MOST_TICKS, LEAST_TICKS = 256, 1 << 20, 4  # that the recorder is given; of the least, all output has room
 MOST_BACK = 200_000_000  # ticks of a leg: a script takes no more steps
 TOO_FAR = f"there is no way back into a run of more than {MOST_BACK:,} ticks"
-TOO_MUCH = "there is no way back: the program writes more than its buffer takes, within 256 instructions"
 
 
 class Timeline:
@@ -136,12 +136,13 @@ class Timeline:
     def _rewind(self, place: int, count: int) -> None:
         """Goes back to an instant of the leg at a place. Breakpoints stay as they are."""
         guest, breaks = self._guest, self._breaks()
-        session = guest.session.rewound(self._script(self._legs.legs[place]))
         full = f"{guest.user} out {OUTPUT_BYTES} ", f"{guest.user} outfull "
-        for _, answer in session.do_script(self._lines(*stepping(count), "out")):
-            if answer[0].startswith(full):  # a call may have found less room than it needs
-                session.close()
-                raise LabError(TOO_MUCH)
+        for at_once in (MOST_STEPS, SAFE_STEPS):
+            session = guest.session.rewound(self._script(self._legs.legs[place]))
+            answers = [answer[0] for _, answer in session.do_script(self._lines(*stepping(count, at_once), "out"))]
+            if at_once == SAFE_STEPS or not any(answer.startswith(full) for answer in answers):
+                break
+            session.close()  # a call may have found less room than it needs
         guest.session.close()
         guest.session = session
         guest.ask(*(f"break {address:x}" for address in breaks))

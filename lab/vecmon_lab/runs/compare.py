@@ -6,11 +6,12 @@ import itertools
 import pathlib
 from collections.abc import Iterator, Sequence
 from concurrent.futures import ThreadPoolExecutor
-from dataclasses import replace
+from dataclasses import dataclass, replace
 from random import Random
 
 from ..arguments import add_image
 from ..guest.guest import STACK_BYTES, STACK_END, Guest, started
+from ..guest.runner import Reporter
 from ..guest.symbols import Symbols
 from ..instructions.accesses import REGISTER_BYTES
 from ..machine.answers import Stop
@@ -24,8 +25,28 @@ POLICIES, QUANTUMS = ("keep", "ones"), (1000, 7, 1)
 LOADED, ONES = "as loaded", "under ones"  # names of runs
 FILLED = {"filled": 0, "filled anew": 0xFF}  # others, and which bits are turned round there
 SHOWN_BYTES = 40
-Outcome = tuple[Stop | None, str, bytes]
-"""How a run ended, if it did; that in words, and what it wrote."""
+MOST_BYTES = 1 << 20  # of output, behind which a run in slices goes on no longer
+
+
+@dataclass(frozen=True)
+class Outcome:
+    """How a run ended.
+
+    stop: none where its ticks ran out, or it wrote more than MOST_BYTES
+    end: that in words
+    has_exact_ticks: whether it has used up as many ticks as another run that has no end
+    """
+
+    stop: Stop | None
+    end: str
+    output: bytes
+    has_exact_ticks: bool
+
+    def is_like(self, other: "Outcome") -> bool:
+        """Whether two runs end in the same way; of runs without an end, which had more ticks or less, as far as both go."""
+        if self.stop or other.stop or self.has_exact_ticks and other.has_exact_ticks:
+            return (self.stop, self.end, self.output) == (other.stop, other.end, other.output)
+        return self.output.startswith(other.output) or other.output.startswith(self.output)
 
 
 def add_arguments(parser: argparse.ArgumentParser) -> None:
@@ -43,17 +64,19 @@ def run(arguments: argparse.Namespace) -> int:
     words = [image.name, *arguments.words]
     ticks = -(-arguments.ticks // 7000) * 7000  # slices of each length come to these
     outcomes: dict[tuple[str, int], Outcome] = {}
+    report = Reporter(symbols.place)
     for policy, quantum in itertools.product(POLICIES, QUANTUMS):
-        with started(image, policy=policy, quantum=quantum, arguments=words, file=file) as guest:
+        with started(image, policy=policy, quantum=quantum, arguments=words, file=file, report=report) as guest:
             outcome = outcomes[policy, quantum] = _outcome(guest, ticks)
-        is_same = len(outcomes) > 1 and outcome == outcomes["keep", QUANTUMS[0]]
-        print(f"{policy}, slices of {quantum:>5,}:  {'the same' if is_same else _told(*outcome[1:])}")
+        is_same = len(outcomes) > 1 and outcome.is_like(outcomes["keep", QUANTUMS[0]])
+        print(f"{policy}, slices of {quantum:>5,}:  {'the same' if is_same else _told(outcome.end, outcome.output)}")
     keep, ones = (beginning_of(image, words, file, policy) for policy in POLICIES)
     runs = {LOADED: keep, **{name: filled(keep, turned) for name, turned in FILLED.items()}, ONES: ones}
-    relies = _relies(runs, symbols, ticks)
-    if any(outcomes[policy, quantum] != outcomes[policy, QUANTUMS[0]] for policy, quantum in outcomes):
-        print("the length of slices tells only where a vector store that is cut has stored over its own word")
-    return 1 if relies or len(set(outcomes.values())) > 1 else status_of(outcomes["keep", QUANTUMS[0]][0])
+    stop, relies = _relies(runs, symbols, ticks)
+    if not all(outcomes[policy, quantum].is_like(outcomes[policy, QUANTUMS[0]]) for policy, quantum in outcomes):
+        print("the runs in short slices differ: a vector store that was cut has overwritten its own word")
+    are_alike = all(outcome.is_like(outcomes["keep", QUANTUMS[0]]) for outcome in outcomes.values())
+    return status_of(stop) if are_alike and not relies else 1
 
 
 def filled(beginning: Beginning, turned: int) -> Beginning:
@@ -79,8 +102,11 @@ def _segments_in_stack(image: pathlib.Path) -> Iterator[tuple[int, str, bytes]]:
             yield address, "rw", data.ljust(length, b"\0")
 
 
-def _relies(runs: dict[str, Beginning], symbols: Symbols, ticks: int) -> bool:
-    """Prints which runs do otherwise than the first one, and why: of those that are filled, of one. Whether one does."""
+def _relies(runs: dict[str, Beginning], symbols: Symbols, ticks: int) -> tuple[Stop | None, bool]:
+    """Prints which runs do otherwise than the first one, and why: of those that are filled, of one.
+
+    How the first one stops, if it does; and whether another one does otherwise.
+    """
     with ThreadPoolExecutor(len(runs)) as pool:
         found = dict(zip(runs, pool.map(lambda beginning: recorded(beginning, ticks), runs.values())))
     unlike, told = [name for name, each in found.items() if each != found[LOADED]], set[str]()
@@ -93,7 +119,7 @@ def _relies(runs: dict[str, Beginning], symbols: Symbols, ticks: int) -> bool:
         if lines[-1] not in told:
             print(*lines, sep="\n")
         told.add(lines[-1])
-    return bool(unlike)
+    return found[LOADED][0].stop, bool(unlike)
 
 
 def _reason(pair: Pair, names: Sequence[str], symbols: Symbols, ticks: int) -> list[str]:
@@ -102,13 +128,18 @@ def _reason(pair: Pair, names: Sequence[str], symbols: Symbols, ticks: int) -> l
     try:
         return [*explain(pair, number, names, symbols)]
     except ScriptFull:
-        return [f"the runs part behind {number:,} instructions, which are too many to look where it comes from"]
+        return [f"the runs diverge after {number:,} instructions, too many to search for the origin"]
 
 
 def _outcome(guest: Guest, ticks: int) -> Outcome:
     """A run of an image."""
-    stop = guest.go(ticks)
-    return stop, str(stop) if stop else f"no end in {ticks:,} ticks, pc={guest.pc:016x}", guest.output()
+    written, runner = bytearray(), guest.runner
+    guest.write = written.extend
+    stop = guest.go(ticks, lambda: len(written) > MOST_BYTES)
+    end = f"{stop}" if stop else f"no end in {ticks:,} ticks, pc={guest.pc:016x}"
+    if len(written) > MOST_BYTES and not stop:
+        return Outcome(None, f"no end in {len(written):,} bytes of output", bytes(written), False)
+    return Outcome(stop, end, bytes(written), runner.has_exact_ticks)
 
 
 def _told(end: str, output: bytes) -> str:

@@ -101,6 +101,6 @@ def read_counts(text: str) -> Counts:
         if not isinstance(end, answers.Standing):
             raise ValueError(last)
     except ValueError as error:
-        raise LabError(f"{RECORDER} tells no counts: {str(error)[:60]!r}") from error
+        raise LabError(f"{RECORDER} prints no counts: {str(error)[:60]!r}") from error
     done = sorted((it for it in places if it.times), key=lambda it: (it.address, it.word))  # not what faults at once
     return Counts(done, lengths, calls, end, int(instructions), int(ticks))

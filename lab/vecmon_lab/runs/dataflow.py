@@ -4,7 +4,7 @@ import re
 from collections.abc import Iterator
 from dataclasses import dataclass
 
-from ..guest.changes import ECALL, Carried, Registers
+from ..guest.changes import Carried, Registers
 from ..instructions.accesses import (
     ACCUMULATES,
     FIRST_ELEMENT,
@@ -17,6 +17,7 @@ from ..instructions.accesses import (
     vector_instruction,
     vector_spans,
 )
+from ..instructions.calls import ECALL
 from ..instructions.words import LOAD, OP_V, STORE, SYSTEM, VECTOR_ACCESSES, VectorInstruction
 from ..machine.answers import CONTROL
 

@@ -8,10 +8,12 @@ from contextlib import ExitStack, contextmanager
 from dataclasses import dataclass
 from typing import TypeVar
 
-from ..guest.changes import ECALL, NAMES, Registers, Stepper
+from ..guest.changes import NAMES, Registers, Stepper
 from ..guest.guest import PACES, Guest, pokes, started
+from ..guest.runner import unreported
 from ..guest.symbols import Symbols
 from ..instructions.accesses import REGISTER_BITS
+from ..instructions.calls import ECALL
 from ..instructions.words import listed
 from ..machine.answers import CONTROL, Memory
 from .beginning import Beginning
@@ -85,7 +87,7 @@ def explain(pair: Pair, number: int, names: Sequence[str], symbols: Symbols) -> 
         if not places and last.runs[0].carried.word == ECALL:
             places = set(_put_out_otherwise(guests, last.runs[0].before))
         values = [_values(places, guest, run.before) for guest, run in zip(guests, last.runs)]
-    yield f"the runs part at {last.told(symbols)}"
+    yield f"the runs diverge at {last.told(symbols)}"
     for name in list(values[0])[:SHOWN]:
         yield f"  {name}: {', '.join(f'{value[name]:x} {run}' for value, run in zip(values, names))}"
     chain = list[CommonStep]()
@@ -230,7 +232,7 @@ def _carried_on(beginning: Beginning, number: int, stack: ExitStack) -> Guest:
     """A guest of a run behind so many instructions, until the stack ends."""
     assert beginning.image
     for pace in PACES:
-        guest = stack.enter_context(started(beginning.image, policy=beginning.policy))
+        guest = stack.enter_context(started(beginning.image, policy=beginning.policy, report=unreported))
         guest.ask(*(poke for at, _, data in beginning.memory for poke in pokes(at, data)))
         guest.ask(*itertools.chain(*(_writes(line, guest) for line in beginning.registers)))
         if guest.pass_over(number, *pace):

@@ -14,7 +14,7 @@ from ..page.pages import lone_page
 from ..tables.table import table_lines
 from .counts import Counts
 from .spent import ELEMENTS, Spent, Table, TableRow, compared, elements_row, share
-from .run import counted, ending, status_of
+from .run import counted, ending, report_calls, status_of
 
 HEAD = ("address", "place", "source", "instruction", "times", "ticks", *ELEMENTS)
 SHOWN_ROWS = 10  # of a table, in a terminal
@@ -23,8 +23,8 @@ SHOWN_ROWS = 10  # of a table, in a terminal
 def add_arguments(parser: argparse.ArgumentParser) -> None:
     """The words of `vecmon-lab profile`."""
     add_image(parser)
-    parser.add_argument("-o", dest="page", metavar="FILE.html", type=pathlib.Path, help="a page, and FILE.csv")
-    help_ = "another image, as one of an earlier source, which runs with the same words: which lines got cheaper"
+    parser.add_argument("-o", dest="page", metavar="FILE.html", type=pathlib.Path, help="write a page, and FILE.csv")
+    help_ = "compare with another image, such as one of an earlier source"
     parser.add_argument("--against", metavar="IMAGE", type=image_path, help=help_)
 
 
@@ -63,6 +63,7 @@ def _profiled(arguments: argparse.Namespace, image: pathlib.Path) -> tuple[Count
     symbols, counts = Symbols.read(image), counted(words)
     if symbols.trouble:
         print(f"vecmon-lab: {symbols.trouble}", file=sys.stderr)
+    report_calls(words, counts, symbols)
     entry = int.from_bytes(image.read_bytes()[24:32], "little")  # e_entry
     return counts, symbols, Spent(counts, symbols, entry), [*summary_of(counts, ending(words, counts, symbols))]
 

@@ -8,11 +8,15 @@ import sys
 from collections import Counter
 from collections.abc import Callable, Iterator, Sequence
 from contextlib import AbstractContextManager
+from typing import Any
 
 from .. import LabError
 from ..arguments import add_image, between, check_output
 from ..guest.guest import QUANTUM, Guest, started
+from ..guest.calls import unshown_calls
+from ..guest.runner import Report, Reporter, unreported
 from ..guest.symbols import Symbols
+from ..instructions.calls import ECALL
 from ..instructions.reasons import describe_stop
 from ..machine.answers import Stop
 from ..output import write_out
@@ -29,13 +33,20 @@ def add_arguments(parser: argparse.ArgumentParser) -> None:
     """The words of `vecmon-lab run`."""
     add_image(parser)
     number = between(1, 1 << 63)
-    parser.add_argument("--policy", choices=("keep", "ones"), default="keep", help="what becomes of agnostic elements")
-    parser.add_argument("--trace", metavar="FILE", type=pathlib.Path, help="a line for each instruction goes there")
-    parser.add_argument("--log", metavar="FILE", type=pathlib.Path, help="the same in Spike's form, of the recorder")
-    first, last = "the number of their first instruction; else 1", "the number of their last one; else the run's last"
+    parser.add_argument("--policy", choices=("keep", "ones"), default="keep", help="policy for agnostic elements")
+    parser.add_argument("--trace", metavar="FILE", type=pathlib.Path, help="write a line for each instruction to FILE")
+    parser.add_argument(
+        "--log", metavar="FILE", type=pathlib.Path, help="write the recorder's log, in Spike's form, to FILE"
+    )
+    first, last = (
+        "the first instruction of trace and log; by default 1",
+        "the last instruction of trace and log; by default the run's last",
+    )
     parser.add_argument("--from", dest="first", metavar="N", type=number, help=first)
     parser.add_argument("--to", dest="last", metavar="N", type=number, help=last)
-    parser.add_argument("--count", action="store_true", help="how many instructions and ticks goes to standard error")
+    parser.add_argument(
+        "--count", action="store_true", help="print the number of instructions and ticks on standard error"
+    )
     parser.add_argument("--stats", action="store_true", help="the same, by name, and by vector type and length")
 
 
@@ -47,6 +58,7 @@ def run(arguments: argparse.Namespace) -> int:
         check_output(output, named, *filter(None, [arguments.input]))
     with arguments.trace.open("w", encoding="utf-8") if arguments.trace else contextlib.nullcontext() as file:
         counts = counted(arguments, write_out, [*_logs(arguments)])
+        report_calls(arguments, counts, symbols)
         lines = [*stats(counts)] if arguments.stats else [total(counts)] if arguments.count else []
         is_exit = counts.stop is not None and counts.stop.kind == "exit"
         if not is_exit:
@@ -90,6 +102,17 @@ def ending(arguments: argparse.Namespace, counts: Counts, symbols: Symbols) -> s
     return f"{place}: {describe_stop(stop)}"
 
 
+def report_calls(arguments: argparse.Namespace, counts: Counts, symbols: Symbols) -> None:
+    """Prints calls of a run that aren't supported on standard error, as a machine that runs it once more finds them.
+
+    It runs only where the code of the calls doesn't show that they are supported.
+    """
+    executed = [place.address for place in counts.places if place.word == ECALL]
+    if executed and unshown_calls(arguments.image.read_bytes(), executed):
+        with _begun(arguments, Reporter(symbols.place)) as guest:
+            guest.go(counts.ticks + QUANTUM, lambda: guest.runner.looks_left == 0)
+
+
 def total(counts: Counts) -> str:
     """How many instructions were carried out, in how many ticks."""
     return f"{counts.instructions:,} instructions in {counts.ticks:,} ticks"
@@ -111,10 +134,11 @@ def status_of(stop: Stop | None) -> int:
     return TICKS_RAN_OUT if stop is None else {"exit": 0, "fault": FAULT}.get(stop.kind, BREAKPOINT)
 
 
-def _begun(arguments: argparse.Namespace) -> AbstractContextManager[Guest]:
+def _begun(arguments: argparse.Namespace, report: Report = unreported) -> AbstractContextManager[Guest]:
     """The guest that the image of a command is loaded for, whose output nobody sees."""
-    image, policy, words = arguments.image, arguments.policy, [arguments.image.name, *arguments.words]
-    return started(image, policy=policy, arguments=words, file=arguments.input, write=lambda data: None)
+    image, words = arguments.image, [arguments.image.name, *arguments.words]
+    given: dict[str, Any] = {"policy": arguments.policy, "arguments": words, "file": arguments.input}
+    return started(image, **given, write=lambda data: None, report=report)
 
 
 def _check_window(arguments: argparse.Namespace) -> None:

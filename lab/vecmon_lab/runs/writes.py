@@ -1,14 +1,15 @@
 """Calls that are given more bytes than they write."""
 
-from ..guest.changes import ECALL
-from ..guest.guest import WRITE_BYTES, Guest
+from ..guest.guest import Guest
+from ..guest.runner import MOST_BREAKPOINTS, WRITE_BYTES
 from ..guest.symbols import Symbols
+from ..instructions.calls import A0, A7, ECALL, STANDARD_OUTPUT, WRITE
 from ..machine.answers import ScalarRegisters
 from .counts import Counts
 
-MOST_CALLS, MOST_BREAKPOINTS = 1000, 16  # that are looked at; that a user may have
+MOST_CALLS = 1000  # that are looked at
 WHY = "the most that one writes: a0 has how many"
-A0, A1, A2, A7, WRITE, STANDARD_OUTPUT = 10, 11, 12, 17, 64, 1
+A1, A2 = 11, 12
 
 
 def short_write(guest: Guest, counts: Counts, symbols: Symbols) -> str:

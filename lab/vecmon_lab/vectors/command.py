@@ -25,13 +25,27 @@ _PROLOGUE = "5770b5807390a6007310970073108600"  # vsetvl x0, x10, x11; csrrw x0,
 
 def add_arguments(parser: argparse.ArgumentParser) -> None:
     """The words of `vecmon-lab vectors`."""
-    parser.add_argument("names", metavar="NAME", nargs="+", help="an instruction, as vadd.vv; all means each one")
-    parser.add_argument("--cases", metavar="N", type=int, help="of each; else one of each legal type, masked and not")
-    parser.add_argument("--seed", metavar="S", type=int, default=0, help="another one gives other cases (default: 0)")
-    parser.add_argument("--policy", choices=("keep", "ones"), default="keep", help="for agnostic elements; else keep")
-    parser.add_argument("--elf", metavar="DIR", type=pathlib.Path, help="programs that check themselves go there")
-    parser.add_argument("--asm", metavar="DIR", type=pathlib.Path, help="their sources go there, for stock assemblers")
-    parser.add_argument("--environment", choices=ENVIRONMENTS, default="linux", help="where they run; else %(default)s")
+    parser.add_argument("names", metavar="NAME", nargs="+", help="an instruction, such as vadd.vv; all means each one")
+    parser.add_argument(
+        "--cases",
+        metavar="N",
+        type=int,
+        help="cases of each instruction; by default one for each legal type, masked and not",
+    )
+    parser.add_argument("--seed", metavar="S", type=int, default=0, help="another seed gives other cases (default: 0)")
+    parser.add_argument(
+        "--policy", choices=("keep", "ones"), default="keep", help="the policy for agnostic elements; by default keep"
+    )
+    parser.add_argument("--elf", metavar="DIR", type=pathlib.Path, help="write self-checking programs to DIR")
+    parser.add_argument(
+        "--asm", metavar="DIR", type=pathlib.Path, help="write their sources, for stock assemblers, to DIR"
+    )
+    parser.add_argument(
+        "--environment",
+        choices=ENVIRONMENTS,
+        default="linux",
+        help="the environment of the programs; by default %(default)s",
+    )
 
 
 def names() -> list[str]:
@@ -44,7 +58,7 @@ def run(arguments: argparse.Namespace) -> int:
     program, table = find_program(), instruction_table()
     names = list(table) if arguments.names == ["all"] else arguments.names
     if "all" in names:
-        raise LabError("all stands alone: it means each instruction")
+        raise LabError("all means each instruction: give no other name")
     if odd := [name for name in names if name not in table]:
         raise LabError(f"there is no instruction {odd[0]}: docs/INSTRUCTIONS.md lists them, and all means each one")
     if arguments.cases is not None and arguments.cases < 1:

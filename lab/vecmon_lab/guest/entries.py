@@ -1,6 +1,6 @@
 """An entry of debug data: its name, the addresses of its code, and the entry that an attribute of it names."""
 
-from collections.abc import Iterator
+from collections.abc import Iterator, Sequence
 from typing import TYPE_CHECKING
 
 if TYPE_CHECKING:
@@ -26,14 +26,23 @@ def ranges_of(debug: "DWARFInfo", unit: "CompileUnit", entry: "DIE") -> Iterator
     if "DW_AT_ranges" in attributes:
         first = unit.get_top_DIE().attributes.get("DW_AT_low_pc")
         base = first.value if first else 0
-        for each in debug.range_lists().get_range_list_at_offset(attributes["DW_AT_ranges"].value):
+        for each in debug.range_lists().get_range_list_at_offset(attributes["DW_AT_ranges"].value, unit):
             if hasattr(each, "base_address"):
                 base = each.base_address
             else:
-                yield base + each.begin_offset, base + each.end_offset
+                own = 0 if each.is_absolute else base
+                yield own + each.begin_offset, own + each.end_offset
     elif "DW_AT_low_pc" in attributes and "DW_AT_high_pc" in attributes:
         low, high = attributes["DW_AT_low_pc"].value, attributes["DW_AT_high_pc"]
         yield low, high.value if high.form == "DW_FORM_addr" else low + high.value
+
+
+def first_of(entry: "DIE", ranges: Sequence[tuple[int, int]]) -> int:
+    """Where the code of an entry with these ranges is entered (DWARF 5, section 2.18)."""
+    told, first = entry.attributes.get("DW_AT_entry_pc"), ranges[0][0]
+    if told is None:
+        return first
+    return int(told.value) if told.form.startswith("DW_FORM_addr") else first + int(told.value)
 
 
 def entry_at(entry: "DIE", attribute: str) -> "DIE | None":

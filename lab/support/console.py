@@ -1,0 +1,21 @@
+"""The console, with lines from a pipe."""
+
+import subprocess
+import sys
+
+from .places import TOP
+
+CONSOLE = [sys.executable, "-m", "vecmon_lab", "console"]
+
+
+def carried_out(lines: list[str] | bytes, *words: object) -> subprocess.CompletedProcess[bytes]:
+    """A console that reads these lines from a pipe."""
+    given = lines if isinstance(lines, bytes) else "".join(f"{line}\n" for line in lines).encode()
+    return subprocess.run([*CONSOLE, *map(str, words)], cwd=TOP, input=given, capture_output=True)
+
+
+def shown(lines: list[str] | bytes, *words: object) -> list[str]:
+    """What it shows, when all has gone well."""
+    run = carried_out(lines, *words)
+    assert (run.returncode, run.stderr) == (0, b"")
+    return run.stdout.decode("ascii").splitlines()

@@ -1,0 +1,67 @@
+"""Where a part of a function is entered, by the branches and jumps of its code (Unprivileged ISA 20191213, sections 2.3 and 2.5).
+
+A compiler that turns a loop has its first instruction behind the last one, so an inlined copy isn't always entered at its lowest address.
+"""
+
+from collections.abc import Iterator, Sequence
+from typing import TYPE_CHECKING
+
+if TYPE_CHECKING:
+    from elftools.elf.elffile import ELFFile
+
+Ranges = Sequence[tuple[int, int]]
+"""Addresses, each range from the first one to the one behind the last."""
+
+_CODE = 4  # SHF_EXECINSTR: the section has instructions
+_BRANCH, _JUMP, _JUMP_TO_REGISTER = 0x63, 0x6F, 0x67  # opcodes
+
+
+class Code:
+    """The instructions of an ELF file, in words of 32 bits."""
+
+    def __init__(self, elf: "ELFFile") -> None:
+        sections = [
+            each for each in elf.iter_sections() if each["sh_flags"] & _CODE and each["sh_type"] != "SHT_NOBITS"
+        ]
+        self._sections = [(each["sh_addr"], each.data()) for each in sections]
+
+    def word(self, address: int) -> int:
+        """The word at an address; 0, which is no instruction, if there is none."""
+        for start, data in self._sections:
+            if start <= address < start + len(data):
+                return int.from_bytes(data[address - start : address - start + 4], "little")
+        return 0
+
+    def entries(self, part: Ranges, whole: Ranges) -> list[int]:
+        """Where a part of a function with these ranges is entered first, in rising order; none if only by a register's jump.
+
+        That is where paths from the function's first instruction come into the part. They don't go through it, so what
+        follows a gap in it is no entry.
+        """
+        waiting, seen, found = [whole[0][0]], set[int](), set[int]()
+        while waiting:
+            address = waiting.pop()
+            if _is_in(part, address):
+                found.add(address)
+            elif address not in seen and _is_in(whole, address) and (word := self.word(address)):
+                seen.add(address)
+                waiting += _targets(address, word)
+        return sorted(found)
+
+
+def _is_in(ranges: Ranges, address: int) -> bool:
+    """Whether an address is in one of the ranges."""
+    return any(first <= address < end for first, end in ranges)
+
+
+def _targets(address: int, word: int) -> Iterator[int]:
+    """The addresses of the instructions that may follow one in its function; behind a call, the next one."""
+    opcode, rd, sign = word & 0x7F, word >> 7 & 31, -(word >> 31)
+    if opcode == _BRANCH:
+        offset = sign << 12 | (word >> 7 & 1) << 11 | (word >> 25 & 0x3F) << 5 | (word >> 8 & 15) << 1
+        yield address + offset
+    if opcode == _JUMP:
+        offset = sign << 20 | (word >> 12 & 0xFF) << 12 | (word >> 20 & 1) << 11 | (word >> 21 & 0x3FF) << 1
+        yield address + offset
+    if opcode not in (_JUMP, _JUMP_TO_REGISTER) or rd:
+        yield address + 4

@@ -1,0 +1,235 @@
+"""Source lines of an image's instructions, and where functions are inlined, by debug data (DWARF 4 and 5, sections 3.3 and 6.2).
+
+An optimizing compiler moves the instructions of a line apart and inlines functions, so a line has several addresses. A function that isn't
+`static` also keeps a copy of its own, which nothing may call.
+"""
+
+import bisect
+import functools
+import pathlib
+from collections.abc import Callable, Collection, Iterable, Iterator, Mapping, Sequence
+from typing import TYPE_CHECKING, NamedTuple, TypeVar
+
+from .entries import entry_at, first_of, name_of, ranges_of
+from .jumps import Code, Ranges
+
+if TYPE_CHECKING:
+    from elftools.dwarf.compileunit import CompileUnit
+    from elftools.dwarf.die import DIE
+    from elftools.dwarf.dwarfinfo import DWARFInfo
+    from elftools.elf.elffile import ELFFile
+
+Item = TypeVar("Item")
+_FUNCTION, _INLINED = "DW_TAG_subprogram", "DW_TAG_inlined_subroutine"
+
+
+class SourceRow(NamedTuple):
+    """A row of a line table.
+
+    line: the file and the line, as `sum.c:12`; "" for none, and at the end of a sequence
+    is_statement: whether the compiler recommends the address for a breakpoint
+    """
+
+    address: int
+    line: str
+    is_statement: bool
+
+
+class Copy(NamedTuple):
+    """A range of a function's code, or of a copy that is inlined in another one.
+
+    depth: the number of entries around it; first, end: its first address and the one behind the last
+    number: the same for all ranges of a copy; outer: the number of the copy around it, or -1
+    declared, called: where the function is declared, and where an inlined copy is called, as `sum.c:12`; else ""
+    entries: where its code is entered, in rising order
+    """
+
+    depth: int
+    first: int
+    end: int
+    number: int
+    outer: int
+    name: str
+    declared: str
+    called: str
+    entries: tuple[int, ...]
+
+
+class _Waiting(NamedTuple):
+    """An entry of debug data, with the number of the copy around it and the ranges of the function that it is in."""
+
+    entry: "DIE"
+    depth: int = 0
+    outer: int = -1
+    whole: Ranges = ()
+
+
+class SourceLines:
+    """The source lines of an image, by an ELF file that is read when they are asked for; none without a file."""
+
+    def __init__(self, path: pathlib.Path | None = None) -> None:
+        self._path = path
+
+    def at(self, address: int) -> str:
+        """The line of an instruction, as `sum.c:12`; "" if the file has none."""
+        rows = self._ordered
+        at = bisect.bisect_right(rows, address, key=lambda row: row.address) - 1
+        return rows[at].line if at >= 0 else ""
+
+    @property
+    def trouble(self) -> str:
+        """Why the line tables can't be read, in a line; "" if nothing is wrong."""
+        return self._table[1]
+
+    @functools.cached_property
+    def stops(self) -> Mapping[str, Sequence[int]]:
+        """The addresses of a line's breakpoints, by line as `sum.c:12`, in rising order."""
+        return line_addresses(self._table[0], self._copies)
+
+    @functools.cached_property
+    def functions(self) -> Mapping[str, Mapping[str, Sequence[int]]]:
+        """Where functions and their inlined copies are entered, by name and then by declaration as `sum.c:10`."""
+        found = dict[str, dict[str, set[int]]]()
+        for copy in self._copies:
+            found.setdefault(copy.name, {}).setdefault(copy.declared, set()).update(copy.entries)
+        return {name: {declared: sorted(at) for declared, at in each.items()} for name, each in found.items()}
+
+    @functools.cached_property
+    def _ordered(self) -> list[SourceRow]:
+        return sorted(self._table[0], key=lambda row: (row.address, row.line != ""))
+
+    @functools.cached_property
+    def _table(self) -> tuple[list[SourceRow], str]:
+        return self._read(source_rows)
+
+    @functools.cached_property
+    def _copies(self) -> list[Copy]:
+        return self._read(copies_in)[0]
+
+    def _read(self, read: "Callable[[ELFFile], Iterator[Item]]") -> tuple[list[Item], str]:
+        """The items of debug data, and why it can't be read, in a line."""
+        if self._path is None:
+            return [], ""
+        with self._path.open("rb") as file:
+            from elftools.elf.elffile import ELFFile
+
+            try:
+                return [*read(ELFFile(file))], ""
+            except (
+                Exception
+            ) as error:  # pylint: disable=broad-except  # damaged data makes pyelftools raise what its parts do
+                reason = f"{type(error).__name__} {error}".strip()
+        return [], f"pyelftools can't read the source lines of {self._path.name} ({reason}); -gdwarf-4 helps"
+
+
+def source_rows(elf: "ELFFile") -> Iterator[SourceRow]:
+    """The rows of the line tables, in the order of each table."""
+    for debug, unit in _units(elf):
+        program = debug.line_program_for_CU(unit)
+        names = _file_names(debug, unit)
+        for state in (entry.state for entry in program.get_entries() if entry.state is not None) if program else ():
+            has_line = state.line and not state.end_sequence and state.file in names  # line 0 is no line
+            line = f"{names[state.file]}:{state.line}" if has_line else ""
+            yield SourceRow(state.address, line, bool(state.is_stmt))
+
+
+def copies_in(elf: "ELFFile") -> Iterator[Copy]:
+    """The ranges of all functions and of their inlined copies."""
+    code = Code(elf)
+    for debug, unit in _units(elf):
+        yield from _copies_of(debug, unit, code)
+
+
+def _copies_of(debug: "DWARFInfo", unit: "CompileUnit", code: Code) -> Iterator[Copy]:
+    """The ranges of a unit's functions and of their inlined copies."""
+    names, waiting = _file_names(debug, unit), [_Waiting(unit.get_top_DIE())]
+    while waiting:
+        entry, depth, outer, whole = waiting.pop()
+        ranges = [*ranges_of(debug, unit, entry)] if entry.tag in (_FUNCTION, _INLINED) else []
+        if ranges:
+            whole, called = (whole, _place(entry, "call", names)) if entry.tag == _INLINED else (ranges, "")
+            origin = entry_at(entry, "DW_AT_abstract_origin") or entry
+            entries = (code.entries(ranges, whole) if called else []) or [first_of(entry, ranges)]
+            fields = entry.offset, outer, name_of(entry), _place(origin, "decl", names), called, tuple(entries)
+            yield from (Copy(depth, first, end, *fields) for first, end in ranges)
+            outer = entry.offset
+        waiting += [_Waiting(child, depth + 1, outer, whole) for child in entry.iter_children()]
+
+
+def innermost(addresses: Iterable[int], copies: Iterable[Copy]) -> dict[int, Copy]:
+    """The copy that each address is in; of several the innermost one."""
+    ordered, found = sorted(set(addresses)), dict[int, Copy]()
+    for copy in sorted(copies):
+        inside = slice(bisect.bisect_left(ordered, copy.first), bisect.bisect_left(ordered, copy.end))
+        found.update(dict.fromkeys(ordered[inside], copy))
+    return found
+
+
+def line_addresses(rows: Iterable[SourceRow], copies: Collection[Copy]) -> dict[str, list[int]]:
+    """The addresses of each line's breakpoints, in rising order.
+
+    They are the first recommended address in each run of the line's instructions; if a copy of a function has none of the
+    line, the first address of each run there. What is inlined belongs to the line that calls it, too; of a run that begins
+    with it they are where that is entered. Rows without a line interrupt no run.
+    """
+    stops = dict[str, set[int]]()
+    for (line, _), runs in _runs([row for row in rows if row.line], copies).items():
+        recommended = {address for run in runs for address in run[1:]}
+        stops.setdefault(line, set()).update(recommended or {run[0] for run in runs})
+    return {line: sorted(addresses) for line, addresses in stops.items()}
+
+
+def _runs(rows: Sequence[SourceRow], copies: Collection[Copy]) -> dict[tuple[str, int], list[list[int]]]:
+    """The runs of each line in each copy, by the copy's number: the first address of a run, and the recommended ones."""
+    copy_at, by_number = innermost((row.address for row in rows), copies), {copy.number: copy for copy in copies}
+    runs, before = dict[tuple[str, int], list[list[int]]](), list[tuple[str, int]]()
+    for row in rows:
+        lines = _lines_at(row, copy_at.get(row.address), by_number)
+        for key, entries in lines.items():
+            own = runs.setdefault(key, [])
+            if key not in before:
+                own.append([row.address, *entries])
+            if row.is_statement and len(own[-1]) < 2:
+                own[-1].append(row.address)
+        before = [*lines]
+    return runs
+
+
+def _lines_at(
+    row: SourceRow, copy: Copy | None, by_number: Mapping[int, Copy]
+) -> dict[tuple[str, int], tuple[int, ...]]:
+    """The line of a row and those that call the copies around it, each with the number of the copy that it is in.
+
+    By these, where the copy that the line calls is entered.
+    """
+    lines: dict[tuple[str, int], tuple[int, ...]] = {(row.line, copy.number if copy else -1): ()}
+    while copy and copy.called:
+        lines.setdefault((copy.called, copy.outer), copy.entries)
+        copy = by_number.get(copy.outer)
+    return lines
+
+
+def _units(elf: "ELFFile") -> "Iterator[tuple[DWARFInfo, CompileUnit]]":
+    """The compilation units of a file. pyelftools 0.29 lacks a form that clang's DWARF 5 has in each line table."""
+    from elftools.construct import Array, ULInt8
+
+    if elf.has_dwarf_info():
+        debug = elf.get_dwarf_info()
+        for unit in debug.iter_CUs():
+            unit.structs.Dwarf_dw_form.setdefault("DW_FORM_data16", Array(16, ULInt8("")))
+            yield debug, unit
+
+
+def _file_names(debug: "DWARFInfo", unit: "CompileUnit") -> dict[int, str]:
+    """The names of a unit's files without folders, by their numbers, which begin at 1 before DWARF 5, at 0 from it on."""
+    program = debug.line_program_for_CU(unit)
+    if program is None:
+        return {}
+    names = (pathlib.PurePath(entry.name.decode("utf-8", "replace")).name for entry in program["file_entry"])
+    return dict(enumerate(names, 0 if program.header["version"] >= 5 else 1))
+
+
+def _place(entry: "DIE", kind: str, names: Mapping[int, str]) -> str:
+    """The file and the line of an entry's declaration, `decl`, or call, `call`, as `sum.c:12`; "" if it isn't there."""
+    file, line = (entry.attributes.get(f"DW_AT_{kind}_{name}") for name in ("file", "line"))
+    return f"{names.get(file.value, '')}:{line.value}" if file and line else ""
