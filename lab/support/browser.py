@@ -1,13 +1,22 @@
 """Chromium, and what tests in it do and look at."""
 
+import contextlib
+import os
+import pathlib
 import shutil
+from collections.abc import Iterator
 from typing import TYPE_CHECKING
+
+from support.processes import descendants, end_all
 
 if TYPE_CHECKING:
     from selenium.webdriver import Chrome
 
 # The commands of browsers for tests, the one that takes less of the processor first, and the window in which a page has 1280 by 757 pixels.
 WINDOWS = {"chromium-headless-shell": "1280,757", "chromium": "1280,900"}
+
+# Debian's command is a shell that waits for this program: chromedriver would end the shell alone, and leave the browser running.
+HEADLESS_SHELL = pathlib.Path("/usr/lib/chromium/chromium-headless-shell")
 
 # The texts whose colours are too close to those behind them: the class, the text and the ratio of each.
 CONTRAST = """
@@ -37,15 +46,28 @@ return low;
 """
 
 
-def start_browser(*more: str, command: str = "chromium") -> "Chrome":
-    """Chromium, or its headless shell, without a window on the screen, with more words than it needs for that."""
+@contextlib.contextmanager
+def browser_with(*more: str, command: str = "chromium") -> Iterator["Chrome"]:
+    """Chromium, or its headless shell, without a window, with these options; all its processes have ended afterwards."""
+    browser = _start(command, more)
+    driver = browser.service.process.pid
+    try:
+        yield browser
+    finally:
+        processes = descendants(driver)
+        browser.quit()
+        end_all(processes)
+
+
+def _start(command: str, more: tuple[str, ...]) -> "Chrome":
     from selenium.webdriver import Chrome, ChromeOptions
     from selenium.webdriver.chrome.service import Service
 
     path, driver = shutil.which(command), shutil.which("chromedriver")
     assert path and driver, f"{command} or chromedriver not found: run tools/debian_packages browser"
     options = ChromeOptions()
-    options.binary_location = path
+    is_shell = command == HEADLESS_SHELL.name and os.access(HEADLESS_SHELL, os.X_OK)
+    options.binary_location = str(HEADLESS_SHELL) if is_shell else path
     size = f"window-size={WINDOWS[command]}"
     for word in ("headless=new", "no-sandbox", "disable-dev-shm-usage", "disable-gpu", size, *more):
         options.add_argument(f"--{word}")

@@ -87,7 +87,7 @@ class Desk:
     def news(self) -> Message:
         """What the page hasn't been sent."""
         more: dict[str, object] = {"name": self._name, "images": [], "clock": self.has_clock, "own_slices": True}
-        more |= {"no_c": NO_C, "against": [], "ready": True, "trouble": ""}
+        more |= {"notices": [], "no_c": NO_C, "against": [], "ready": True, "trouble": ""}
         return self._sent.news(self.student.view(more), [self.seat])
 
     def answer(self, text: str) -> Message:

@@ -11,9 +11,9 @@ from typing import TYPE_CHECKING
 import pytest
 from _pytest.terminal import TerminalReporter
 
-from support.browser import WINDOWS, start_browser
+from support.browser import WINDOWS, browser_with
 from support.commands import Lab
-from support.left_out import NO_BINUTILS, NO_BROWSER, NO_CLANG, NO_GDB, NO_QEMU, NO_SANDBOX, leave_out
+from support.left_out import NO_BINUTILS, NO_BROWSER, NO_CLANG, NO_GDB, NO_QEMU, NO_SANDBOX, NO_TOOL, leave_out
 from vecmon_lab.compilers.compiler import Compiler, find_compilers
 from vecmon_lab.compilers.failures import ToolError
 from vecmon_lab.compilers.sandbox import check_start
@@ -30,6 +30,7 @@ LEFT_OUT = {
     "of sources in C": NO_CLANG,
     "in a sandbox": NO_SANDBOX,
     "with an assembler": NO_BINUTILS,
+    "of documented commands": NO_TOOL,
 }
 
 signal.signal(signal.SIGINT, signal.default_int_handler)  # which a job in the background ignores, with what it starts
@@ -64,9 +65,8 @@ def browser() -> Iterator["Chrome"]:
     commands = [each for each in WINDOWS if shutil.which(each)]
     if not commands or not shutil.which("chromedriver") or not importlib.util.find_spec("selenium"):
         leave_out(NO_BROWSER)
-    chrome = start_browser(command=commands[0])
-    yield chrome
-    chrome.quit()
+    with browser_with(command=commands[0]) as chrome:
+        yield chrome
 
 
 @pytest.fixture(scope="session")

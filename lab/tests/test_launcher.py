@@ -73,8 +73,11 @@ def test_completion(tmp_path: pathlib.Path) -> None:
 
 def test_another_python_that_has_no_library(installed: pathlib.Path, program: pathlib.Path) -> None:
     assert run(installed, "class", "monday", python="plain/bin/python") == (2, "", WITHOUT_AIOHTTP)
+    for command in ("class", "explore"):
+        status, told, errors = run(installed, command, "--help", python="plain/bin/python")
+        assert (status, errors) == (0, "") and told.startswith(f"usage: vecmon-lab {command} ")
     status, told, _ = run(installed, "check", python="plain/bin/python")
-    assert status == 0 and "aiohttp for classes: not installed" in told
+    assert status == 0 and "aiohttp for class and explore: not installed: sudo apt install python3-aiohttp\n" in told
     assert run(installed, "console", python="plain/bin/python") == (0, "=> 0  \n", "")
     status, _, told = run(installed, "console", SUM, python="plain/bin/python")
     assert status == 2 and told.startswith("vecmon-lab: this needs the Python library pyelftools: `sudo apt install ")

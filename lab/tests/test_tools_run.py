@@ -131,6 +131,10 @@ def test_first_and_second_start(clone: Clone) -> None:
     second = clone.run()
     assert (second.returncode, second.stdout, second.stderr) == (0, answers, built)
     assert (clone.top / "builds").read_text().count("\n") == 3  # one set-up and two programs, once
+    command = clone.top / ".venv" / "bin" / "vecmon"
+    done = subprocess.run([command, clone.top / "crates" / "vecmon" / "first_vectors"], capture_output=True, text=True)
+    assert (done.stdout, done.stderr) == (answers, "")
+    assert command.with_name("vecmon-record").read_text().endswith(f'/{folder}/vecmon-record "$@"\n')
 
 
 def test_the_sources_choose_the_program(clone: Clone) -> None:
@@ -181,6 +185,7 @@ def test_proved_programs(clone: Clone, program: pathlib.Path) -> None:
     assert clone.digest("proved", digest).returncode == 1
     assert clone.digest("record", digest).returncode == 0 and clone.digest("proved", digest).returncode == 0
     assert clone.run().stderr.endswith(f"ready: .venv/bin/vecmon-lab\n{proved}") and clone.builds() == []
+    assert '/crates/vecmon/out/vecmon "$@"\n' in (clone.top / ".venv" / "bin" / "vecmon").read_text()
     source = clone.top / "crates" / "low" / "src" / "lib.rt"
     before = source.read_text()
     source.write_text("fn changed() {}\n")

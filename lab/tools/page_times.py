@@ -18,7 +18,7 @@ from typing import TYPE_CHECKING
 import aiohttp
 
 from support import class_tabs
-from support.browser import start_browser
+from support.browser import browser_with
 from support.class_pages import Served, Tab, close_all
 from vecmon_lab.machine.program import find_program
 
@@ -96,7 +96,7 @@ def eight_seats(browser: "Chrome", served: Served, count: int) -> None:
     first.run("(id('source').value = arguments[0], id('assemble').click())", LONG)
     first.wait("id('listing').textContent.includes('vid.v') && !id('one').disabled")
     told("the first one with 3,900 rows", clicks(first, count))
-    told("a stop until it stands on the teacher's page", stops(others[0], teacher, count // 3))
+    told("a stop until the teacher's page shows it", stops(others[0], teacher, count // 3))
 
 
 def stops(tab: Tab, teacher: Tab, count: int) -> list[float]:
@@ -143,21 +143,18 @@ async def crowd(served: Served, ended: threading.Event) -> None:
 
 
 def main(count: int) -> None:
-    browser = start_browser("disable-background-timer-throttling", "disable-renderer-backgrounding")
-    browser.set_script_timeout(300)
-    blank = browser.current_window_handle
-    with tempfile.TemporaryDirectory() as folder:
-        try:
-            for measure, machines in ((eight_seats, 1), (thirty_seats, 4)):
-                place = pathlib.Path(folder) / measure.__name__
-                served = Served(place, find_program(), "--machines", f"{machines}")
-                try:
-                    measure(browser, served, count)
-                finally:
-                    close_all(browser, [blank])
-                    served.end()
-        finally:
-            browser.quit()
+    options = ("disable-background-timer-throttling", "disable-renderer-backgrounding")
+    with browser_with(*options) as browser, tempfile.TemporaryDirectory() as folder:
+        browser.set_script_timeout(300)
+        blank = browser.current_window_handle
+        for measure, machines in ((eight_seats, 1), (thirty_seats, 4)):
+            place = pathlib.Path(folder) / measure.__name__
+            served = Served(place, find_program(), "--machines", f"{machines}")
+            try:
+                measure(browser, served, count)
+            finally:
+                close_all(browser, [blank])
+                served.end()
 
 
 if __name__ == "__main__":

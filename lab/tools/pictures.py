@@ -15,7 +15,7 @@ import sys
 import tempfile
 from typing import TYPE_CHECKING
 
-from support.browser import start_browser
+from support.browser import browser_with
 from support.class_pages import Explored, Served, Tab
 from support.places import EXAMPLES, TOP
 from vecmon_lab.exercises.exercise import OURS
@@ -157,8 +157,13 @@ def picture_kernels(browser: "Chrome", served: Served, own: Served, folder: path
 
 
 def main(folder: pathlib.Path) -> None:
-    browser = start_browser("hide-scrollbars", "force-prefers-reduced-motion")
-    give_room(browser, HEIGHT)
+    with browser_with("hide-scrollbars", "force-prefers-reduced-motion") as browser:
+        give_room(browser, HEIGHT)
+        make(browser, folder)
+
+
+def make(browser: "Chrome", folder: pathlib.Path) -> None:
+    """Make all pictures in a folder."""
     with tempfile.TemporaryDirectory() as room:
         open_page(browser, pathlib.Path(room), EXAMPLE, place=f"#{MASKED + 1}")  # at its masked instruction
         save(browser, folder / "lesson.png", HEIGHT)
@@ -176,7 +181,6 @@ def main(folder: pathlib.Path) -> None:
             picture_exercise(browser, course, folder)
             picture_class(browser, served, folder)
         finally:
-            browser.quit()
             served.end()
             course.end()
             own.end()

@@ -26,7 +26,9 @@ def main() -> int:
         arguments = arguments_of(sys.argv[1:])
         if any(word.endswith(".c") for word in sys.argv[1:]):
             importlib.import_module("vecmon_lab.compilers.compiler").install_compilers()
-        return int(arguments.run(arguments))
+        status = int(arguments.run(arguments))
+        sys.stdout.flush()  # here, so that a reader that has gone is handled below
+        return status
     except KeyboardInterrupt:
         return 130
     except LabError as error:
@@ -73,7 +75,7 @@ def arguments_of(words: list[str]) -> argparse.Namespace:
             return command.parse_args(words[1:])
         return command.parse_intermixed_args(words[1:])
     parser = _Parser(prog="vecmon-lab", description="A front end for vecmon, the trainer machine for RISC-V vectors.")
-    parser.add_argument("--version", action="store_true", help="tell the versions of the lab and of the program")
+    parser.add_argument("--version", action="store_true", help="print the versions of the lab and of vecmon")
     commands = parser.add_subparsers(metavar="COMMAND", required=True)
     for name, (_, summary) in COMMANDS.items():
         commands.add_parser(name, help=summary)

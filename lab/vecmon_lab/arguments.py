@@ -39,7 +39,7 @@ class _Program(argparse.Action):
         options = re.findall(r"(?<![\w-])-[\w-]+", parser.format_usage())
         for word in [] if is_said else namespace.words:
             if word.partition("=")[0] in options:
-                told = f"{word} behind {path} is the program's own; options of {parser.prog} stand before {path}"
+                told = f"{word} after {path} is an argument of the program; options of {parser.prog} go before {path}"
                 print(f"vecmon-lab: {told}", file=sys.stderr)
         namespace.named, namespace.image = pathlib.Path(path), image_path(path)
 
@@ -49,12 +49,12 @@ def add_program(
 ) -> None:
     """An image, and all words behind it as the program's own, options too; and a file as its input."""
     parser.allow_abbrev = False  # so that no word of the program's is looked up among the options
-    told = f"{told}; the words behind it are the program's, also with a dash"
+    told = f"{told}; the arguments after it are the program's"
     metavar = "IMAGE" if is_needed else "[IMAGE]"
     image = parser.add_argument("image", metavar=metavar, nargs=argparse.PARSER, action=_Program, help=told)
     image.required = is_needed
     parser.set_defaults(words=[])
-    told = "a file that is laid at the symbol input, and its size at input_size"
+    told = "write FILE to the image's memory at the symbol input, and its size to input_size"
     parser.add_argument("--in", dest="input", metavar="FILE", type=pathlib.Path, help=told)
 
 
@@ -62,7 +62,7 @@ def add_image(parser: argparse.ArgumentParser) -> None:
     """The words of all commands that run an image to its end."""
     add_program(parser)
     parser.set_defaults(policy="keep")
-    parser.add_argument("--ticks", metavar="N", type=between(1, 1 << 63), help="how many ticks it has at most")
+    parser.add_argument("--ticks", metavar="N", type=between(1, 1 << 63), help="stop after N ticks")
 
 
 def check_output(output: pathlib.Path | None, *inputs: pathlib.Path) -> None:

@@ -1,4 +1,4 @@
-# All in one group: what has no room in it is left out, and none is one.
+# All in one group: elements that don't fit are left out, and none counts as one.
         vsetivli x0, 16, e16, m1, ta, ma
         vle16.v v8, (a1)
         vle16.v v9, (a2)

@@ -16,7 +16,7 @@ from vecmon_lab.tables.table import read_table
 OWN = {"run", "until", "back", "changes", "list", "source", "help", "quit"}  # commands of the console
 PAGES = {
     "COMMANDS.md": [*dict.fromkeys(row[0] for row in read_table("commands"))][:-1] + ["Refusals"],
-    "LAB.md": ["Commands of the console"],
+    "DEBUGGING.md": ["Commands of the console"],
 }
 
 
@@ -58,10 +58,10 @@ def test_each_refusal_has_a_meaning() -> None:
 @pytest.mark.parametrize(
     "name, told",
     [
-        ("peek", ["peek ADDR N: 1 to 256 bytes from ADDR on are shown", "  E11: an address isn't mapped"]),
-        ("* list", ["* list: it is shown what each user's program does"]),
-        ("run", ["run: the program runs to its next stop; Ctrl-C stops it too"]),
-        ("E14", ["E14: the user's program doesn't run"]),
+        ("peek", ["peek ADDR N: prints 1 to 256 bytes from ADDR", "  E11: an address isn't mapped"]),
+        ("* list", ["* list: prints each user's state"]),
+        ("run", ["run: runs the program to its next stop; Ctrl-C stops it too"]),
+        ("E14", ["E14: the user's program isn't running"]),
         ("dance", ["there is no command dance; help lists them"]),
     ],
 )
@@ -81,11 +81,11 @@ def test_help_lists_the_commands() -> None:
         ("1 dance", ["E03: there is no command dance"]),
         ("1 regs 5", ["E04: 5 is a word too many; the form is regs"]),
         ("* slices 0", ["E04: 0 isn't from 1 to 1,000; the form is * slices N"]),
-        ("1 ", ["E03: there is no such command, or the line has no word"]),
+        ("1 ", ["E03: unknown command, or the line has no command"]),
         ("1 slices 5", ["E03: slices is the operator's: * slices N"]),
         ("* regs", ["E03: regs is a user's: regs"]),
         ("1 load it", ["E08: there is no image it"]),
-        ("1 unbreak 10000", ["E13: no breakpoint stands there"]),
+        ("1 unbreak 10000", ["E13: there is no breakpoint"]),
         ("2 regs", ["E05: the user has not entered"]),
         ("1 peek 0 4", ["E11: an address isn't mapped"]),
         (

@@ -1,5 +1,6 @@
 """The exercises of the course: their answers, right and wrong, and their lessons."""
 
+import json
 import pathlib
 import re
 from random import Random
@@ -119,8 +120,13 @@ def test_a_course_is_written(lab: Lab, tmp_path: pathlib.Path) -> None:
     for name in COURSE:
         page = (tmp_path / "course" / f"{name}.html").read_text("utf-8")
         frames = page.count('"line":"1 step')
-        assert 5 < frames < 100 and '"stop":"An ebreak stands at' in page, name
+        assert 5 < frames < 100 and '"stop":"Stopped at the ebreak at' in page, name
         assert not ('"faulted"' in page and name != "strlen")
+    [data] = re.findall('id="data">(.*)</script>', (tmp_path / "course" / "index.html").read_text("utf-8"))
+    lessons = [entry["lesson"] for entry in json.loads(data)]
+    assert [lesson["name"] for lesson in lessons] == COURSE and all(lesson["sentence"] for lesson in lessons)
+    (odd,) = (lesson["strip"] for lesson in lessons if lesson["name"] == "filter")  # of 4 7 1 8 9 2 5 6
+    assert [*map(tuple, odd["cells"])] == [(bit, "active") for bit in "01101010"] + 8 * [("0", "tail")]
 
 
 @pytest.mark.by_command("exercise")

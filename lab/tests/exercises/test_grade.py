@@ -18,7 +18,7 @@ from support.places import DATA, DOCS, EXAMPLES, SUM
 from vecmon_lab import LabError
 from vecmon_lab.compilers.compiler import Compiler
 from vecmon_lab.exercises.answer import ready, settled, source_answer
-from vecmon_lab.exercises.exercise import read_exercise
+from vecmon_lab.exercises.exercise import OURS, read_exercise, with_course
 from vecmon_lab.exercises.grade import grade
 from vecmon_lab.machine.answers import ControlRegisters, Position, ScalarRegisters, VectorRegister
 
@@ -161,7 +161,7 @@ def test_a_script_and_an_image_are_right(echo: Echo, program: pathlib.Path, tmp_
         (("ecall", "li a0, 5"), "output: expected 'hello', found ''"),
         (
             ("ecall", "j ."),
-            "it hasn't ended after 900 ticks, of which an instruction takes one or more; it is at line 4",
+            "it hasn't ended after 900 ticks (an instruction takes at least one); it is at line 4",
         ),
         (
             ("ecall", "ld a0, 0(x0)"),
@@ -193,9 +193,9 @@ def test_the_first_wrong_place_is_told(echo: Echo, change: tuple[str, str], reas
         (
             BY_POKES + "1 map 20000 1 rw\n1 poke 20010 fbffffff07000000",
             "script",
-            "map 20000 1 rw: E16: a page is mapped already",
+            "map 20000 1 rw: E16: a page is already mapped",
         ),
-        (BY_HAND + "2 break 10010", "script", "A breakpoint stands at 0x10010; its instruction is the next one."),
+        (BY_HAND + "2 break 10010", "script", "Stopped at the breakpoint at 0x10010; its instruction is the next one."),
         ("1 enter", "script", "line 1: an answer has no line of the operator's, and no enter, leave or load"),
         ("\n1  leave", "script", "line 2: an answer has no line of the operator's, and no enter, leave or load"),
         (
@@ -238,7 +238,7 @@ def test_the_first_wrong_place_is_told(echo: Echo, change: tuple[str, str], reas
         ),
         pytest.param(b"\x7fELF" + bytes(1 << 22), "image", "it has more than 4,194,304 bytes", id="large"),
         (b"1 regs\n\xff\xfe", "script", "it is no image and no text: byte 8 is 0xff"),
-        (b"\0\0\0", "answer.s", "answer.s:1:1: \0 stands where an instruction, a directive or a label has to"),
+        (b"\0\0\0", "answer.s", "answer.s:1:1: \0 isn't an instruction, a directive or a label"),
     ],
 )
 def test_whatever_an_answer_has_is_a_row(echo: Echo, content: str | bytes, name: str, reason: str) -> None:
@@ -261,7 +261,7 @@ def test_what_cannot_be_read_is_a_row(tmp_path: pathlib.Path) -> None:
 def test_the_table_of_the_manual(monkeypatch: pytest.MonkeyPatch) -> None:
     """It tells nothing of hidden cases but that they fail."""
     command = "$ vecmon-lab grade saturating_sum answers/*; echo $?\n"
-    shown = (DOCS / "LAB.md").read_text("utf-8").partition(command)[2].partition("```")[0]
+    shown = (DOCS / "GRADING.md").read_text("utf-8").partition(command)[2].partition("```")[0]
     monkeypatch.chdir(EXAMPLES)
     done = run_grade("saturating_sum", *sorted(pathlib.Path("answers").iterdir()))
     assert f"{done.stdout}{done.stderr}{done.returncode}\n" == shown
@@ -301,7 +301,7 @@ long answer(long a0, int32_t *places)
         (("return 5", "return 5 / *(volatile long *)a0"), "line 8: The load at 0x1"),
         (
             ("return 5", "for (;;) ;"),
-            "it hasn't ended after 900 ticks, of which an instruction takes one or more; it is ",
+            "it hasn't ended after 900 ticks (an instruction takes at least one); it is ",
         ),
         (("return 5", "exit(5)"), ""),
         (("return 5", "return five"), "answer.c:8:12: use of undeclared identifier 'five'"),
@@ -362,7 +362,7 @@ BY_ROUNDS = "li a0, 0\nli t0, 6\nnext: add a0, a0, a1\naddi t0, t0, -1\nbnez t0,
         (BY_ROUNDS.replace("ret", "ebreak"), ""),  # which has 20, since the one that stops isn't carried out
         (BY_ROUNDS, "the results are right, but it takes more than 20 instructions: with vectors fewer will do"),
         (BY_ROUNDS.replace("6", "7"), "a0: expected 36, found 42"),
-        ("j .", "it hasn't ended after 100,000 ticks, of which an instruction takes one or more; it is at line 1"),
+        ("j .", "it hasn't ended after 100,000 ticks (an instruction takes at least one); it is at line 1"),
         ("# " + "as long as it may be " * 4 + "\nret", "it has more than 80 bytes"),
     ],
 )
@@ -512,10 +512,28 @@ def test_a_bad_exercise_is_told_in_a_line(tmp_path: pathlib.Path) -> None:
 
 
 def test_there_is_no_such_exercise(tmp_path: pathlib.Path) -> None:
-    with pytest.raises(LabError, match="nosuch is no exercise: there is no file nosuch/exercise.toml"):
-        read_exercise(pathlib.Path("nosuch"))
-    with pytest.raises(LabError, match="is no exercise"):
+    with pytest.raises(
+        LabError, match="^exercise 'zzz' not found; name an exercise of the course, or a folder with ex"
+    ):
+        read_exercise(pathlib.Path("zzz"))
+    with pytest.raises(LabError, match=f"^{tmp_path} is no exercise: there is no file {tmp_path}/exercise.toml$"):
         read_exercise(tmp_path)
+
+
+@pytest.mark.parametrize("name, near", [("double", "doubles"), ("strip_mine_copy", "strip_mined_copy")])
+def test_an_unknown_name_offers_the_nearest(name: str, near: str) -> None:
+    done = run_grade(name, answer("copy.s"))
+    assert (done.returncode, done.stdout) == (2, "")
+    assert done.stderr == f"vecmon-lab: exercise '{name}' not found; did you mean '{near}'?\n"
+
+
+def test_a_course_and_more(tmp_path: pathlib.Path, monkeypatch: pytest.MonkeyPatch) -> None:
+    """A name of the course, or its folder, is there once; a folder of the same name elsewhere is another exercise."""
+    folders = with_course([pathlib.Path("strlen"), OURS / "filter", tmp_path])
+    assert len(folders) == 13 and folders[0] == OURS / "doubles" and folders[12] == tmp_path
+    monkeypatch.chdir(tmp_path)
+    (tmp_path / "strlen").mkdir()
+    assert with_course([pathlib.Path("strlen")])[12:] == [pathlib.Path("strlen")]
 
 
 def test_counts() -> None:

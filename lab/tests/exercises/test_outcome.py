@@ -71,9 +71,7 @@ def test_a_machine_that_fails_twice(tmp_path: pathlib.Path, program: pathlib.Pat
     assert "status 7" in told["failure"] and "cases" not in told
     told = check_or_failure(tmp_path / "nowhere", doubles, GOOD.read_text(), None, None)
     assert told["failure"] == "nowhere can't be started: No such file or directory", "no folder of the server's"
-    assert (
-        told["mistakes"][0]["message"] == "the answer couldn't be checked, which isn't your fault: nothing was counted"
-    )
+    assert told["unchecked"] == "The answer couldn't be checked, which isn't your fault. Nothing was counted."
 
 
 def test_hidden_cases_are_not_shown(lab: Lab, tmp_path: pathlib.Path, program: pathlib.Path, doubles: Exercise) -> None:

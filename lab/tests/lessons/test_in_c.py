@@ -9,7 +9,7 @@ from typing import Any
 import pytest
 
 from support.commands import Lab
-from support.places import EXAMPLES
+from support.places import DATA, EXAMPLES
 from support.tour_kernel import COMPILER, KERNEL, made
 from vecmon_lab import LabError
 from vecmon_lab.compilers.compiled import variable_rows
@@ -18,6 +18,7 @@ from vecmon_lab.compilers.compiler import CHOICES, Compiler, choice_of
 from vecmon_lab.lessons.frames import make_frames
 from vecmon_lab.lessons.listings import listing_of
 from vecmon_lab.lessons.script import read_compiled
+from vecmon_lab.machine.session import Session
 from vecmon_lab.lessons.tour import TOURS, tours
 
 KERNELS = EXAMPLES / "kernels"
@@ -52,6 +53,19 @@ def test_a_program_without_an_end(clang: Compiler, program: pathlib.Path) -> Non
     text = "int main(void)\n{\n    for (volatile int i = 0;; i++)\n        ;\n}\n"
     listing = listing_of(compile_c(text, clang, 0, KERNELS), "one", program)
     assert "the ticks ran out" in listing.summary[0]
+
+
+def test_a_breakpoint_of_an_inlined_function(clang: Compiler, session: Session) -> None:
+    """It stops in main's copy, not only in the one that nothing calls."""
+    text = f"{(DATA / 'images' / 'prefix_sums.c').read_text('ascii')}//> break prefix_bad\n//> go\n//> * slices 30\n"
+    program = compile_c(text, clang, 0, KERNELS)
+    script = read_compiled(text, "prefix_sums.c", program, is_c=True)
+    lines = [line for step in script.steps for line in step.lines]
+    assert len([line for line in lines if line.startswith("1 break ")]) == 2
+    answers = [session.do(line) for line in lines]
+    assert answers[-1][0].startswith("1 break pc=") and int(answers[-1][0][-16:], 16) > program.labels["main"], answers[
+        -1
+    ]
 
 
 def test_listings_side_by_side(lab: Lab, clang: Compiler, tmp_path: pathlib.Path) -> None:

@@ -6,6 +6,7 @@ import pathlib
 import re
 import subprocess
 import sys
+from dataclasses import replace
 from typing import Any
 
 import pytest
@@ -15,6 +16,8 @@ from hypothesis import strategies as st
 from support.class_tabs import patched
 from support.places import DOCS, EXAMPLES, SUM
 from vecmon_lab import LabError
+from vecmon_lab.exercises.check import script_before
+from vecmon_lab.exercises.exercise import OURS, read_exercise
 from vecmon_lab.lessons import frames
 from vecmon_lab.lessons.frames import Frame, make_frames
 from vecmon_lab.lessons.page import lesson_page
@@ -22,6 +25,7 @@ from vecmon_lab.lessons.script import read_assembled, read_script
 from vecmon_lab.lessons.tour import TOURS, tours
 from vecmon_lab.machine.session import Session
 from vecmon_lab.page.pages import FILES, merge_patch
+from vecmon_lab.tables.table import read_table
 
 
 def transcript(program: pathlib.Path, script: str) -> list[str]:
@@ -41,6 +45,13 @@ def lab(*words: str, **variables: str) -> subprocess.CompletedProcess[str]:
     return subprocess.run(command, capture_output=True, text=True, env=os.environ | variables)
 
 
+def check_first_frame(frame: Frame, has_program: bool = True) -> None:
+    """It has a comment and the program, and no refusal, unsent line, or stop."""
+    assert frame.note and frame.line == "1 enter" and "stop" not in frame.states["1"]
+    assert not [entry for entry in frame.log if re.match(r"!|<. E\d\d", entry)]
+    assert any(not line.startswith("00000000") for line in frame.states["1"]["code"].values()) == has_program
+
+
 @pytest.mark.parametrize("name", list(tours()))
 @pytest.mark.by_command("tour")
 def test_a_tours_log_is_the_plain_transcript(program: pathlib.Path, name: str) -> None:
@@ -48,6 +59,13 @@ def test_a_tours_log_is_the_plain_transcript(program: pathlib.Path, name: str) -
     made = make_frames(tours()[name], program)
     assert logged(made, ">") == script.splitlines()
     assert logged(made, "<") == transcript(program, script)
+    check_first_frame(made[0], has_program=name != "registers_and_memory")
+
+
+@pytest.mark.parametrize("name", [name for name, _ in read_table("course")])
+def test_the_first_frame_of_a_course_lesson(program: pathlib.Path, name: str) -> None:
+    script = script_before(read_exercise(OURS / name))
+    check_first_frame(make_frames(replace(script, steps=script.steps[:1]), program)[0])
 
 
 @pytest.mark.parametrize("name", list(tours()))
@@ -131,7 +149,7 @@ def test_a_script_with_errors_shows_the_refusals(program: pathlib.Path) -> None:
     words = [entry.partition("\n")[2] for frame in made for entry in frame.log if entry[0] == "<"]
     assert list(filter(None, words)) == [
         "E03: there is no command dance",
-        "E06: the user has entered already",
+        "E06: the user has already entered",
         "E11: an address isn't mapped",
         "E04: 9 is no user, who are 1 to 8; the form is * run U",
         "E05: the user has not entered",
@@ -189,8 +207,8 @@ def test_set_up_of_a_source_names_labels(program: pathlib.Path) -> None:
 
 
 def test_the_example_of_the_manual(program: pathlib.Path) -> None:
-    text = (DOCS / "LAB.md").read_text("utf-8")
-    section = text.partition("### A script with sentences\n")[2]
+    text = (DOCS / "LESSONS.md").read_text("utf-8")
+    section = text.partition("## Scripts with comments\n")[2]
     script = read_script(section.partition("```text\n")[2].partition("```")[0])
     made = make_frames(script, program)
     assert script.title == "Doubles" and not re.search("E[0-9]{2}", " ".join(logged(made, "<")))
@@ -268,7 +286,35 @@ def test_pages_are_written(tmp_path: pathlib.Path) -> None:
     index = (tmp_path / "new" / "tour" / "index.html").read_text("utf-8")
     links = json.loads(index.partition('id="data">')[2].partition("</script>")[0])
     titles = re.findall("^## (.*)", (DOCS / "TOUR.md").read_text("utf-8"), re.MULTILINE)
-    assert links == [[name, title] for name, title in zip(tours(), titles, strict=True)]
+    assert [(each["name"], each["title"]) for each in links] == [*zip(tours(), titles, strict=True)]
+    assert all(each["sentence"].endswith(".") and each["strip"]["cells"] for each in links)
+    masked = next(each["strip"] for each in links if each["name"] == "masks_and_tails")
+    assert (masked["name"], masked["text"]) == ("v1", "vadd.vi v1, v2, 10, v0.t")  # as docs/TOUR.md prints v1 last
+    elements = [
+        ("ee", "masked"),
+        ("0b", "active"),
+        ("ee", "masked"),
+        ("0d", "active"),
+        ("ee", "masked"),
+        ("0f", "active"),
+    ]
+    assert [tuple(cell) for cell in masked["cells"]] == elements + 10 * [("ee", "tail")]
+    named = [
+        path.stem
+        for path in (tmp_path / "new" / "tour").glob("*.html")
+        if '"links":[["prev"' in path.read_text("utf-8")
+    ]
+    assert {*named} == {*list(tours())[1:]} and '"links":[]' in page
+
+
+def test_a_tour_is_whole_although_nobody_reads_what_it_prints(tmp_path: pathlib.Path) -> None:
+    """As `tour DIR | head -0`: all files are written before the first line is printed."""
+    source, end = os.pipe()
+    os.close(source)
+    done = subprocess.run([sys.executable, "-m", "vecmon_lab", "tour", tmp_path], stdout=end, stderr=subprocess.PIPE)
+    os.close(end)
+    assert (done.returncode, done.stderr) == (141, b"")
+    assert {path.stem for path in tmp_path.iterdir()} == {"index", *tours()}
 
 
 def test_steps_that_end_otherwise_one_by_one_are_an_error(

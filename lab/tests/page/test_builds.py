@@ -10,7 +10,7 @@ import pytest
 from support.browser import CONTRAST
 from support.class_pages import Explored, Served, Tab
 from support.left_out import NO_SANDBOX, leave_out
-from support.places import EXAMPLES
+from support.places import DATA, EXAMPLES
 from vecmon_lab.compilers.compiler import Compiler
 
 if TYPE_CHECKING:
@@ -88,12 +88,7 @@ def test_lines_are_stepped(tabs: "Chrome", with_c: Served) -> None:
     tab.click("#step-line")
     tab.wait(f"{here} !== arguments[0]", first)
     line = SAXPY[: SAXPY.index("sum = __riscv_vmacc")].count("\n") + 1
-    tab.run(
-        """((numbers, height) => numbers.dispatchEvent(new MouseEvent("click", { clientY: numbers.getBoundingClientRect().top
-            + (arguments[0] - 0.4) * height + 4 - id("source").scrollTop })))(one("#editor .numbers"),
-            parseFloat(getComputedStyle(id("source")).lineHeight))""",
-        line,
-    )
+    click_number(tab, line)
     tab.wait(f"one('#editor .numbers').textContent.split('\\n')[{line - 1}].includes('●')")
     tab.click("#go")
     tab.wait("!id('slice').disabled")
@@ -101,6 +96,45 @@ def test_lines_are_stepped(tabs: "Chrome", with_c: Served) -> None:
     tab.wait(f"{here} === arguments[0]", f"●▶{line}")
     tab.keys("#source", " ")  # another source than that in the machine
     assert not tab.run(here)
+
+
+def click_number(tab: Tab, line: int) -> None:
+    """Clicks the number of a line in the editor."""
+    tab.run(
+        """((numbers, height) => numbers.dispatchEvent(new MouseEvent("click", { clientY: numbers.getBoundingClientRect().top
+            + (arguments[0] - 0.4) * height + 4 - id("source").scrollTop })))(one("#editor .numbers"),
+            parseFloat(getComputedStyle(id("source")).lineHeight))""",
+        line,
+    )
+
+
+def test_a_line_of_an_inlined_function_stops(tabs: "Chrome", with_c: Served) -> None:
+    """A click sets a breakpoint in each copy, and another one removes them; where they are too many, the page says so."""
+    tab = Tab(tabs, with_c, "A1")
+    put_in(tab, (DATA / "images" / "prefix_sums.c").read_text("ascii"))
+    tab.click("#assemble")
+    tab.wait("one('#listing .next')")
+    tab.click("#show-source")
+    marks = "one('#editor .numbers').textContent.split('\\n').filter((number) => number.includes('●')).join()"
+    asked = "all('#log .asked').map((item) => item.textContent.slice(2).split(' ')[0]).join(' ')"
+    click_number(tab, 10)
+    tab.wait(
+        f"{marks} === '●10,●54' && {asked}.endsWith('setpc break break')"
+    )  # line 54 calls it: the same instruction
+    click_number(tab, 17)
+    tab.wait(f"{marks} === '●10,●17,●54'")
+    click_number(tab, 10)
+    tab.wait(f"{marks} === '●17' && {asked}.endsWith('break break unbreak unbreak')")
+    click_number(tab, 8)
+    tab.click("#go")
+    tab.wait("!id('slice').disabled")
+    tab.click("#slice")
+    tab.wait(f"id('run').textContent === 'break' && {marks} === '●▶17'")
+    tab.command(*(f"break {4 * place:x}" for place in range(10)))
+    click_number(tab, 9)
+    tab.wait(
+        "id('stop').textContent === arguments[0]", "Line 9 needs 5 breakpoints, and 4 of 16 are left: none was set."
+    )
 
 
 def test_messages_stand_at_their_lines(tabs: "Chrome", with_c: Served) -> None:

@@ -115,7 +115,7 @@ def test_pastes(sit: Sit, served: Served) -> None:
     tab.wait("one(\"[data-edit='set x5']\")?.textContent === '62'")
     asked = tab.run("all('#log .asked').map((item) => item.textContent.slice(2))")
     assert asked == [line for line in lines if line and line[0] != "#"]
-    assert "a page is mapped already" in tab.text("#stop")
+    assert "a page is already mapped" in tab.text("#stop")
     script = served.fetch("A/script")
     refused = {
         "regs\nset x5 \u00e9": "Character 8 of line 2, \u00e9, isn't printable ASCII: nothing was sent.",
@@ -174,7 +174,7 @@ def test_first_sight_and_keys(sit: Sit) -> None:
             and tab.run("one(`#at-${arguments[0]}`).dataset.edit", box) == place
         )
     tab.keys("#line", "help peek\n")
-    assert tab.text("#stop") == "peek ADDR N: 1 to 256 bytes from ADDR on are shown"
+    assert tab.text("#stop") == "peek ADDR N: prints 1 to 256 bytes from ADDR"
     assert tab.run("!id('reference').hidden && one('#entries code').textContent") == "peek ADDR N"
     tab.keys("#line", "help dance\n")
     assert "no command and no instruction dance" in tab.text("#stop")
@@ -315,7 +315,7 @@ def test_lines_of_before_and_refusals(sit: Sit) -> None:
     tag = "<img src=x onerror=document.title=1>"
     tab.command("enter", "map 10000 1 rwx", "map 10000 1 rwx", tag)
     assert "E03: there is no command <img" in tab.text("#stop") and tag in tab.text("#stop")
-    assert "a page is mapped already" in tab.text("#log") and f"> {tag}" in tab.text("#log")
+    assert "a page is already mapped" in tab.text("#log") and f"> {tag}" in tab.text("#log")
     tab.keys("#line", Keys.ARROW_UP)
     assert tab.run("id('line').value") == tag
     tab.keys("#line", Keys.ARROW_UP)
@@ -377,6 +377,7 @@ def test_the_teacher_sees_and_settles(sit: Sit, tmp_path: pathlib.Path, served: 
     tab.wait("!id('home').disabled && !id('hint').textContent")
     old = served.codes["A5"]
     teacher.click(f"{row} [aria-label^='New code']")
+    teacher.click("#yes")
     tab.wait("!id('join').hidden && id('head').hidden")
     assert "isn't valid" in tab.text("#join-says") and tab.run("sessionStorage.getItem('code')") is None
     assert served.codes["A5"] != old

@@ -92,16 +92,16 @@ def test_ways_through_a_lesson(opened: Callable[[str], "Chrome"], program: pathl
     assert text_of(browser, "#sentence").startswith("The numbers 0 to 5")
     place = text_of(browser, "#count")
     press(browser, Keys.END)
-    assert text_of(browser, "#count") == "19 of 19"
+    assert text_of(browser, "#count") == "17 of 17"
     assert not browser.find_element(By.ID, "next").is_enabled()
     press(browser, Keys.SHIFT, Keys.ARROW_LEFT)
     assert text_of(browser, "#sentence").startswith("With tu, mu")
     press(browser, Keys.HOME)
-    assert text_of(browser, "#count") == "1 of 19"
+    assert text_of(browser, "#count") == "1 of 17"
     for button in ("next", "next", "back", "last", "first"):
         browser.find_element(By.ID, button).click()
     browser.find_element(By.ID, "place").send_keys(Keys.ARROW_RIGHT)
-    assert text_of(browser, "#count") == "2 of 19"
+    assert text_of(browser, "#count") == "2 of 17"
     WebDriverWait(browser, 60).until(lambda browser: browser.current_url.endswith("#2"))
     browser.get(browser.current_url.partition("#")[0] + f"#{place.split()[0]}")
     browser.refresh()
@@ -278,10 +278,37 @@ def test_focus_is_seen_on_all_controls(opened: Callable[[str], "Chrome"], progra
 
 
 def test_the_tours_beginning(opened: Callable[[str], "Chrome"], tmp_path: pathlib.Path) -> None:
-    """Its links lead to the lessons beside it."""
-    browser = opened(lone_page("tour", "A tour", [("one", "Masks & tails"), ("two", "A <class>")]))
+    """Its links lead to the lessons beside it; each has a sentence and a picture, which a screen reader names."""
+    strip = {"name": "v1", "text": "", "cells": [("0a", "active"), ("ff", "tail")]}
+    lessons = [{"name": name, "sentence": "Uses `v1`.", "strip": strip} for name in ("one", "two")]
+    titled = [each | {"title": title} for each, title in zip(lessons, ["Masks & tails", "A <class>"])]
+    browser = opened(lone_page("tour", "A tour", titled))
+    assert text_of(browser, "li p") == "Uses v1."
+    label = browser.find_element("css selector", "li [role=img]").get_dom_attribute("aria-label")
+    assert label == "v1: 0a active, ff tail"
     links = browser.find_elements("css selector", "li a")
     assert [link.text for link in links] == ["Masks & tails", "A <class>"] and not browser.get_log("browser")
     (tmp_path / "two.html").write_text("<title>here</title>")
     links[1].click()
     assert browser.title == "here"
+
+
+def test_ways_to_other_lessons(
+    opened: Callable[[str], "Chrome"], program: pathlib.Path, tmp_path: pathlib.Path
+) -> None:
+    """Links of a lesson of a tour, reached by Tab and pressed by Enter; a lesson of its own has none."""
+    from selenium.webdriver.common.keys import Keys
+
+    frames = make_frames(read_script("1 enter\n"), program)
+    browser = opened(lesson_page("x", frames))
+    assert not browser.find_element("css selector", "#links").is_displayed()
+    ways = [("prev", "one.html", "Before"), ("index", "index.html", "All lessons"), ("next", "two.html", "After")]
+    browser = opened(lesson_page("x", frames, links=ways))
+    links = browser.find_elements("css selector", "#links a")
+    assert [link.text for link in links] == ["Previous lesson", "All lessons", "Next lesson"]
+    assert [link.get_dom_attribute("title") for link in links] == ["Before", "All lessons", "After"]
+    (tmp_path / "two.html").write_text("<title>two</title>")
+    browser.execute_script("arguments[0].focus()", links[1])
+    press(browser, Keys.TAB)
+    press(browser, Keys.ENTER)
+    assert browser.title == "two" and not browser.get_log("browser")

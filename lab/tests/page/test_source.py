@@ -158,25 +158,43 @@ def test_a_source_is_given(sit: Sit, tmp_path: pathlib.Path) -> None:
     teacher.click("#take")
     assert teacher.run("id('given').value") == "nop # mine"
     teacher.keys("#given", Keys.CONTROL, Keys.HOME, Keys.NULL, "# theirs", Keys.ENTER)
-    teacher.run("id('receiver').value = 'A3'")
+    assert teacher.run("id('receiver').value") == "A3"  # the seat that is looked at
     teacher.click("#give")
     tab.wait(f"{TEXT} === '# theirs\\nnop # mine' && !id('editor').hidden")
     assert "The teacher gave a source" in tab.text("#log") and "theirs" not in other.run(TEXT)
     tab.keys("#source", Keys.CONTROL, "z", Keys.NULL)
     assert tab.run(TEXT) == "nop # mine"
+    teacher.wait(f"{TEXT} === 'nop # mine'")
     assert [
         each.split(" ", 1)[1] for each in tab.run("[...id('versions').options].map((each) => each.textContent)")
     ] == [*("…", "given by the teacher", "written into memory")]
     tab.run("(id('versions').selectedIndex = 1, id('versions').dispatchEvent(new Event('change')))")
     tab.wait(f"{TEXT}.startsWith('# theirs')")
-    teacher.run("id('receiver').value = ''")
+    teacher.wait(f"{TEXT}.startsWith('# theirs')")  # the server has it
+    teacher.run("id('receiver').value = 'all'")
     teacher.keys("#given", "# all ")
     teacher.click("#give")
+    assert "every seat" in teacher.text("#question")
+    replace = f"(id('source').value = arguments[0], id('source').dispatchEvent(new Event('input')), {TEXT}.length)"
+    assert tab.run(replace, "#" * 65537) == 65537  # which can't become a version
+    assert "the server doesn't save it, and nothing replaces it" in tab.text("#left")
+    teacher.click("#yes")
+    tab.wait("id('log').textContent.split('The teacher gave a source').length === 3")
+    assert tab.run(f"{TEXT}.length") == 65537
+    tab.run(replace, "# short")
     for page in (tab, other):
         page.wait(f"{TEXT}.includes('# all')")
+    assert tab.text("#versions option:nth-child(2)").endswith(" typed") and tab.text("#left") == ""
     assert tab.save("#save", tmp_path / "A3.s").decode("utf-8") == tab.run(TEXT)
+    teacher.wait("id('gave').textContent.startsWith('Given to all seats: ')")
+    teacher.click("#take-back")
+    tab.wait(f"{TEXT}.startsWith('# theirs')")
+    teacher.wait("id('take-back').hidden && id('gave').textContent.startsWith('Taken back: ')")
     teacher.click("tr[data-seat='A3'] td:nth-child(2) button")
     teacher.wait("id('desk').hidden")
+    assert teacher.run("id('receiver').value") == ""
+    teacher.click("#give")
+    assert teacher.text("#gone").startswith("Nothing was sent: choose a seat")
     teacher.front().refresh()
     teacher.wait("document.title === 'Teacher – vecmon' && id('given').value.includes('# all')")
 

@@ -100,6 +100,9 @@ def test_the_wall(tabs: "Chrome", served: Served) -> None:
         wall.browser.execute_cdp_cmd("Emulation.clearDeviceMetricsOverride", {})
     teacher.click("#show-codes")
     teacher.click("tr[data-seat='A2'] [aria-label^='New code']")
+    teacher.click("#yes")
+    shown = "one(\"tr[data-seat='A2'] a\").hash"
+    teacher.wait(f"{shown} && {shown} !== '#' + arguments[0]", codes["A2"])
     tab.click("#one")
     wall.wait("one('#listing .told')?.dataset.address === '10030'")
     everywhere = [*wall.run("told"), wall.run(PAGE), *wall.run("[location.href, document.cookie, document.referrer]")]

@@ -65,7 +65,7 @@ def told(lab: Lab, image: pathlib.Path, lines: list[str]) -> tuple[int, list[str
 
 @pytest.mark.by_command("lockstep")
 def test_a_log_of_spikes_form_agrees(lab: Lab, image: pathlib.Path) -> None:
-    end = "6 instructions agree; 10018: ebreak: An ebreak stands at 0x10018."
+    end = "6 instructions agree; 10018: ebreak: Stopped at the ebreak at 0x10018."
     assert told(lab, image, spike_log(image, WRITTEN)) == (0, [end])
 
 

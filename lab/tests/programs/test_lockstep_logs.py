@@ -37,7 +37,7 @@ core   0: 3 0x000000000001001c (0x00c59123) mem 0x000000007fffef82 0x0001
 """.replace(
     "v5  0x0 ", f"v5  0x{0:064x} "
 )
-ENDS = "8 instructions agree; 10020: ebreak: An ebreak stands at 0x10020."
+ENDS = "8 instructions agree; 10020: ebreak: Stopped at the ebreak at 0x10020."
 NOTHING_OPEN = "not allowed: the standard leaves nothing open here"
 
 

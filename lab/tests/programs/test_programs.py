@@ -20,7 +20,12 @@ def test_programs_run_on_vecmon(lab: Lab, tmp_path: pathlib.Path) -> None:
     assert lab("programs", tmp_path, "--count", "2", "--length", "300")[0] == 0
     for number in range(2):
         reference = (tmp_path / f"program_{number}.reference").read_text("ascii")
-        assert lab("run", tmp_path / f"program_{number}.elf") == (0, f"{reference}00000000\n".encode(), "")
+        status, output, told = lab("run", tmp_path / f"program_{number}.elf")
+        assert (status, output) == (0, f"{reference}00000000\n".encode())
+        assert [line.split()[2:4] for line in told.splitlines()] == [
+            ["ecall", "132"],
+            ["ecall", "134"],
+        ]  # for signals on Linux
         state = json.loads((tmp_path / f"program_{number}.state").read_text("ascii"))
         assert len(state["v"]) == 32 and len(state["memory"]["20000"]) == 2 * 8192
 

@@ -66,7 +66,7 @@ def refusal_in_words(line: str, answer: Refused) -> list[str]:
         case "E08":
             told = f"there is no image {words_of(line)[1]}"
         case "E13":
-            told = "no breakpoint stands there" if word == "unbreak" else "a breakpoint stands there already"
+            told = "there is no breakpoint" if word == "unbreak" else "there already is a breakpoint"
         case "E09":
             told = _IMAGE_FAULTS[str(answer)]
         case "E15":

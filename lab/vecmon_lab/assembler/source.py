@@ -138,7 +138,7 @@ class _Assembler:
             return
         name = tokens[0]
         if name.kind is not Kind.NAME:
-            raise name.error(f"{name.text} stands where an instruction, a directive or a label has to")
+            raise name.error(f"{name.text} isn't an instruction, a directive or a label")
         if name.text.startswith(".") and name.text not in self.directives:
             raise name.error(f"there is no directive {name.text}")
         if not name.text.startswith(".") and name.text not in SOURCE_NAMES:
@@ -186,7 +186,7 @@ class _Assembler:
 
     def _read_instruction(self, name: Token, operands: list[Operand]) -> None:
         if self._section is not self._text:
-            raise name.error(f"{name.text} stands outside of .text, where no program can execute it")
+            raise name.error(f"{name.text} is outside .text, where programs can't execute it")
         if self._text.size % 4:
             raise name.error(f"the address of {name.text} isn't divisible by 4: put .align 2 before it")
         texts = templates(name, operands, partial(self._symbols.constant, here=self._here()))
@@ -228,7 +228,7 @@ class _Assembler:
         for operand in operands:
             data = operand[0].string() + _STRINGS[name.text]
             if len(operand) > 1:
-                raise operand[1].error("a comma has to stand between strings")
+                raise operand[1].error("a comma is missing between strings")
             self._put(name, len(data), partial(bytes, data))
 
     def _put_numbers(self, name: Token, operands: list[Operand]) -> None:

@@ -133,8 +133,9 @@ def ready(
     `write` is given what the answer writes from then on.
     """
     images = {"image": answer.path} if answer.commands is None else {}
-    with Session(program, images, quantum=min(QUANTUM, exercise.limits.ticks)) as session:
-        guest = Guest(session)
+    with contextlib.ExitStack() as stack:
+        guest = Guest(Session(program, images, quantum=min(QUANTUM, exercise.limits.ticks)))
+        stack.callback(lambda: guest.session.close())  # which is another one, where it went back
         if answer.commands is None:
             guest.start("image")
         else:
@@ -142,7 +143,8 @@ def ready(
         guest.ask("stop")  # where a script's last line is `go`
         guest.output()
         send(guest, inputs(exercise, case, guest.told("state", Position).pc))
-        yield Guest(session, write=write)
+        guest.write = write or guest.write
+        yield guest
 
 
 def attempt(program: pathlib.Path, answer: Answer, exercise: Exercise, case: Case) -> Attempt:
@@ -167,7 +169,7 @@ def _without_end(guest: Guest, answer: Answer, stop: Stop | None, ticks: int) ->
     line = source.line_at(pc) if source else 0
     if stop is None:
         place = f"; it is at line {line}" if line else ""
-        return f"it hasn't ended after {ticks:,} ticks, of which an instruction takes one or more{place}"
+        return f"it hasn't ended after {ticks:,} ticks (an instruction takes at least one){place}"
     if source and source.statements and pc == source.statements[-1].address + 4:
         return "it runs on behind its last instruction: is `ret` missing?"
     return (f"line {line}: " if line else "") + guest.explain(stop)
@@ -177,10 +179,9 @@ def _run(guest: Guest, limits: Limits) -> tuple[Stop | None, bool]:
     """Runs an answer to a stop; None where its ticks ran out; and whether it took more instructions than it may."""
     left = limits.instructions + 1 if limits.instructions < UNLIMITED else 0  # the last one may be that which stops it
     while left > 0:
-        (told,) = guest.ask(f"step {min(left, MOST_STEPS)}")
-        guest.empty_buffer()
-        if isinstance(told, Stop) and told.kind != "outfull":
-            return told, False
+        stop, _ = guest.execute(min(left, MOST_STEPS))
+        if stop:
+            return stop, False
         left -= MOST_STEPS
     return guest.go(limits.ticks), limits.instructions < UNLIMITED
 

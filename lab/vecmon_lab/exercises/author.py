@@ -18,7 +18,7 @@ SKELETON = OURS / "doubles"
 
 def add_arguments(parser: argparse.ArgumentParser) -> None:
     """The words of `vecmon-lab exercise`."""
-    help = "new: make a folder with an exercise to change; try: run its right and its wrong answers"
+    help = "new: create a folder with an exercise to change; try: run its good and wrong answers"
     parser.add_argument("what", metavar="new|try", choices=["new", "try"], help=help)
     parser.add_argument("folder", metavar="DIR", type=pathlib.Path, help="the folder of the exercise")
 

@@ -30,6 +30,7 @@ from .taken import Taken, taken_by
 NAME = pathlib.Path("answer")
 MOST_SHOWN, BEFORE = 48, 4  # numbers of a row; and of them before the first wrong one
 CPU_SECONDS = 10
+UNCHECKED = "The answer couldn't be checked, which isn't your fault. Nothing was counted."
 NumberRow = TypedDict("NumberRow", {"where": str, "first": int, "numbers": list[str], "more": int, "wrong": list[int]})
 """Numbers that stand one behind another: where, the number of the first one that is shown, how many more there are
 behind those that are shown, and places of wrong ones."""
@@ -43,9 +44,11 @@ class Told(TypedDict, total=False):
     Rows have what is given there, expected and found, and notes what else holds there. Without cases the source has
     mistakes, and wasn't tried. Warnings are a compiler's.
     failure: why the check itself failed, which says nothing about the source; then there are no cases
+    unchecked: a sentence that says so to the student, without the cause
     """
 
     failure: str
+    unchecked: str
     mistakes: list[Mistake]
     warnings: list[Mistake]
     cases: list[bool]
@@ -62,14 +65,18 @@ class Told(TypedDict, total=False):
 def check_or_failure(
     program: pathlib.Path, exercise: Exercise, text: str, compiled: CompiledProgram | None, good: Taken | None
 ) -> Told:
-    """As `check`, once more where a tool fails; where one fails again, a message instead of cases, so that it is no try."""
+    """As `check`, once more where a tool fails; where one fails again, its failure instead of cases, so that it is no try."""
     with contextlib.suppress(ToolError):
         return check(program, exercise, text, compiled, good)
     try:
         return check(program, exercise, text, compiled, good)
     except ToolError as error:
-        mistake = SourceError(0, 0, "the answer couldn't be checked, which isn't your fault: nothing was counted")
-        return {"failure": without_folders(f"{error}"), "mistakes": mistakes_told([mistake])}
+        return failed_check(without_folders(f"{error}"))
+
+
+def failed_check(cause: str) -> Told:
+    """The result of a check that failed itself, which is no try."""
+    return {"failure": cause, "unchecked": UNCHECKED}
 
 
 def check(
@@ -126,11 +133,16 @@ def lesson(program: pathlib.Path, exercise: Exercise, number: int, text: str, co
     return _page(title, replace(answer.source, steps=steps, said=source.source_lines(text)), program)
 
 
-def lesson_before(program: pathlib.Path, exercise: Exercise) -> tuple[str, str]:
-    """The title of the lesson before an exercise, and its page in HTML."""
+def script_before(exercise: Exercise) -> Script:
+    """The script of the lesson before an exercise."""
     file = exercise.files["lesson"]
-    script = read_assembled(file.read_text("utf-8"), file.name)
-    return script.title, _page(script.title, script, program)
+    return read_assembled(file.read_text("utf-8"), file.name)
+
+
+def lesson_before(program: pathlib.Path, exercise: Exercise) -> str:
+    """The page in HTML of the lesson before an exercise."""
+    script = script_before(exercise)
+    return _page(script.title, script, program)
 
 
 def _page(title: str, script: Script, program: pathlib.Path) -> str:
@@ -198,7 +210,7 @@ def main(program: str, what: str) -> None:
         case "check":
             told = json.dumps(check_or_failure(vecmon, exercise, text, compiled, good))
         case "before":
-            told = lesson_before(vecmon, exercise)[1]
+            told = lesson_before(vecmon, exercise)
         case number:
             told = lesson(vecmon, exercise, int(number), text, compiled)
     sys.stdout.buffer.write(told.encode("utf-8", "replace"))

@@ -4,26 +4,30 @@ import argparse
 import pathlib
 
 from ..machine.program import find_program
-from ..page.pages import lone_page, write_page
+from ..page.pages import lone_page, write_pages
 from ..tables.table import read_table
-from .check import lesson_before
+from ..lessons.series import make_series
+from .check import script_before
 from .exercise import OURS, read_exercise
 
 
 def add_arguments(parser: argparse.ArgumentParser) -> None:
     """The words of `vecmon-lab course`."""
-    parser.add_argument("folder", metavar="DIR", type=pathlib.Path, help="where the pages go; made if it isn't there")
+    parser.add_argument(
+        "folder", metavar="DIR", type=pathlib.Path, help="the folder of the pages, created if necessary"
+    )
 
 
 def run(arguments: argparse.Namespace) -> int:
     """Writes the pages, and prints their paths in the course's order. Raises LabError and OSError."""
-    program, folder, exercises = find_program(), arguments.folder, []
+    program, folder, minutes = find_program(), arguments.folder, dict(read_table("course"))
     folder.mkdir(parents=True, exist_ok=True)
-    for name, minutes in read_table("course"):
-        exercise = read_exercise(OURS / name)
-        title, page = lesson_before(program, exercise)
-        write_page(folder, name, title, page)
-        texts = {"title": exercise.title, "text": exercise.text, "lesson": title}
-        exercises.append({"name": name, "minutes": minutes} | texts)
-    write_page(folder, "index", "A course", lone_page("course", "A course", exercises))
+    exercises = {name: read_exercise(OURS / name) for name in minutes}
+    scripts = {name: script_before(exercise) for name, exercise in exercises.items()}
+    pages, lessons = make_series(program, {name: (it, it.steps[0].note) for name, it in scripts.items()})
+    entries = [
+        {"title": it.title, "text": it.text, "minutes": minutes[lesson["name"]], "lesson": lesson}
+        for it, lesson in zip(exercises.values(), lessons)
+    ]
+    write_pages(folder, [*pages, ("index", "A course", lone_page("course", "A course", entries))])
     return 0

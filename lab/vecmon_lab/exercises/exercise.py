@@ -6,11 +6,13 @@ import tomllib
 from collections import Counter
 from collections.abc import Mapping, Sequence
 from dataclasses import dataclass, replace
+from difflib import get_close_matches
 from types import SimpleNamespace
 
 from .. import LabError, mistakes_in
 from ..guest.guest import IMAGE_BYTES
 from ..instructions.table import REGISTERS
+from ..tables.table import read_table
 
 OURS = pathlib.Path(__file__).with_name("given")
 UNLIMITED = 1 << 63
@@ -97,9 +99,9 @@ class Exercise:
 
 def read_exercise(folder: pathlib.Path) -> Exercise:
     """The exercise in a folder, or the one of this name that comes with the lab. Raises LabError and OSError."""
-    path = (folder if folder.exists() else OURS / folder.name).absolute() / "exercise.toml"
+    path = _home(folder) / "exercise.toml"
     if not path.is_file():
-        raise LabError(f"{folder} is no exercise: there is no file {folder / 'exercise.toml'}")
+        raise _not_found(folder)
     with mistakes_in(path, tomllib.TOMLDecodeError, UnicodeDecodeError):
         entries = tomllib.loads(path.read_text("utf-8"))
     texts = dict.fromkeys(["text", *FILES], "") | {"title": path.parent.name}
@@ -120,6 +122,26 @@ def read_exercise(folder: pathlib.Path) -> Exercise:
             raise LabError(f"{path}: {mistake}")
     about = (table.title, table.text, table.hints, table.set_up, table.junk)
     return Exercise(path.parent, *about, limits, cases, files)
+
+
+def with_course(folders: Sequence[pathlib.Path]) -> list[pathlib.Path]:
+    """The folders of the course's exercises in their order, and then those of `folders` that aren't among them."""
+    course = [(OURS / name).absolute() for name, _ in read_table("course")]
+    return course + [folder for folder in folders if _home(folder) not in course]
+
+
+def _home(folder: pathlib.Path) -> pathlib.Path:
+    """The absolute path of a folder if it exists; else of the lab's exercise of this name, which needn't exist."""
+    return (folder if folder.exists() else OURS / folder.name).absolute()
+
+
+def _not_found(folder: pathlib.Path) -> LabError:
+    """The error for a folder without an exercise, or for a name, with the nearest name of the course if one is near."""
+    if folder.exists():
+        return LabError(f"{folder} is no exercise: there is no file {folder / 'exercise.toml'}")
+    near = get_close_matches(folder.name, [name for name, _ in read_table("course")], 1)
+    advice = f"did you mean '{near[0]}'?" if near else "name an exercise of the course, or a folder with exercise.toml"
+    return LabError(f"exercise '{folder}' not found; {advice}")
 
 
 def _taken(where: str, entries: object, defaults: Mapping[str, object]) -> SimpleNamespace:

@@ -29,7 +29,7 @@ COUNTS = ("instructions", "work")  # columns of what an answer takes
 Graded = tuple[list[str], Taken | None]
 """Why an answer fails, or "", for each case; and what it takes, if that is counted and it passes."""
 
-EXERCISE = "a folder with a file exercise.toml, or the name of an exercise that comes with the lab"
+EXERCISE = "a folder with a file exercise.toml, or the name of an exercise of the course"
 
 
 def add_arguments(parser: argparse.ArgumentParser) -> None:
@@ -37,9 +37,11 @@ def add_arguments(parser: argparse.ArgumentParser) -> None:
     parser.add_argument("exercise", metavar="EXERCISE", type=pathlib.Path, help=EXERCISE)
     parser.add_argument("answers", metavar="ANSWER", type=pathlib.Path, nargs="+", help="an image, source or script")
     form = parser.add_mutually_exclusive_group()
-    form.add_argument("--csv", action="store_true", help="a row of CSV for each answer, below a header, and no table")
+    form.add_argument(
+        "--csv", action="store_true", help="print a header and a row of CSV for each answer instead of the table"
+    )
     form.add_argument("--rows", action="store_true", help="the same without the header")
-    counts = "what answers take that pass: instructions, and elements that did work, of cases that aren't hidden"
+    counts = "print the instructions and the share of active elements of answers that pass, over all visible cases"
     parser.add_argument("--counts", action="store_true", help=counts)
     container = "compile C as the user nobody, without a sandbox: for root of a container for one answer"
     parser.add_argument("--no-sandbox", action="store_true", help=container)

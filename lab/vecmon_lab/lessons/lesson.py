@@ -20,22 +20,32 @@ SOURCE_SUFFIXES, C_SUFFIX = (".s", ".S"), ".c"
 
 def add_compiler(parser: argparse.ArgumentParser) -> None:
     """The compiler of a source, and its options."""
-    parser.add_argument("--cc", metavar="NAME", help="the compiler, as clang-19")
+    parser.add_argument("--cc", metavar="NAME", help="the compiler, such as clang-19")
     names = [choice.name for choice in CHOICES]
-    parser.add_argument("--options", choices=names, default=names[0], help="those of the compiler; else %(default)s")
+    parser.add_argument(
+        "--options", choices=names, default=names[0], help="options of the compiler; by default %(default)s"
+    )
 
 
 def add_arguments(parser: argparse.ArgumentParser) -> None:
     """The words of `vecmon-lab lesson`."""
     told = "a script, or a source in assembler (.s, .S) or C (.c)"
     parser.add_argument("script", metavar="SCRIPT", type=pathlib.Path, help=told)
-    parser.add_argument("images", metavar="NAME=PATH", nargs="*", default=[], help="images that it loads by name")
-    parser.add_argument("-o", dest="output", metavar="FILE", type=pathlib.Path, help="the page; else standard output")
-    parser.add_argument("--title", help="the title; else the line of the file that begins with ##, else its name")
+    parser.add_argument(
+        "images", metavar="NAME=PATH", nargs="*", default=[], help="images that the script loads by name"
+    )
+    parser.add_argument(
+        "-o",
+        dest="output",
+        metavar="FILE",
+        type=pathlib.Path,
+        help="write the page to FILE; by default to standard output",
+    )
+    parser.add_argument("--title", help="the title; by default the line of the file that starts with ##, or its name")
     add_compiler(parser)
-    against = "listings side by side in place of a lesson: by --options, and by these, of another compiler"
+    against = "write two listings instead of a lesson: one with --options, one with these options or this compiler"
     parser.add_argument("--against", metavar="[NAME:]OPTIONS", help=against)
-    parser.add_argument("--quantum", metavar="N", type=int, help="the ticks of a slice, 1 to 1000; else 100")
+    parser.add_argument("--quantum", metavar="N", type=int, help="ticks of a slice, 1 to 1000; by default 100")
 
 
 def run(arguments: argparse.Namespace) -> int:

@@ -102,7 +102,7 @@ def _script_of(program: Program, lines: list[str], name: str) -> Script:
     introduction, notes = _source_notes(lines, program)
     into_memory = [f"1 {line}" for line in program.lines]
     steps = [Step(["1 enter", *into_memory, f"1 setpc {program.entry:x}"], introduction)]
-    set_up = [_set_up_line(line[2:].strip(), program.labels) for line in lines if line.startswith("#>")]
+    set_up = [each for line in lines if line.startswith("#>") for each in _set_up_lines(line[2:].strip(), program)]
     runs = any(words_of(line)[:1] in (["step"], ["go"]) for line in set_up)
     for line in set_up + ([] if runs else RUN_LINES):
         add_line(steps, line)
@@ -154,7 +154,14 @@ def _source_notes(lines: list[str], program: Program) -> tuple[str, dict[int, st
     return introduction, {address: note for address, note in notes.items() if note}
 
 
-def _set_up_line(line: str, labels: dict[str, int]) -> str:
-    """A line of the set-up, which has no user's digit, and in which a label may stand for its address."""
+def _set_up_lines(line: str, program: Program) -> list[str]:
+    """The lines of a line of the set-up, which has no user's digit, and in which a label may stand for its address.
+
+    `break` and the name of a function stops in its inlined copies, too.
+    """
+    entries = program.entries if isinstance(program, CompiledProgram) else {}
+    if line.split()[:1] == ["break"] and (addresses := entries.get(line.removeprefix("break").strip())):
+        return [f"1 break {address:x}" for address in addresses]
+    labels = program.labels
     named = re.sub(r"\S+", lambda word: f"{labels[word[0]]:x}" if word[0] in labels else word[0], line)
-    return named if named.startswith("* ") else f"1 {named}"
+    return [named if named.startswith("* ") else f"1 {named}"]

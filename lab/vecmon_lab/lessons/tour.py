@@ -1,39 +1,41 @@
-"""Makes the eleven lessons of the tour (docs/TOUR.md), and a page with links to them."""
+"""Makes write the eleven lessons of the tour (docs/TOUR.md), and a page with links to them."""
 
 import argparse
 import json
 import pathlib
 from itertools import islice
 
+from ..machine.lines import is_look, words_of
 from ..machine.program import find_program
-from ..page.pages import lone_page, write_page
+from ..page.pages import lone_page, write_pages
 from ..tables.table import read_table
-from .frames import make_frames
-from .page import lesson_page
 from .script import Script, Step, add_line
+from .series import make_series
 
 TOURS = pathlib.Path(__file__).with_name("tours")
+START = {"enter", "map", "asm"}  # commands at the start of a script that are one frame, which shows the program
 
 
 def add_arguments(parser: argparse.ArgumentParser) -> None:
     """The words of `vecmon-lab tour`."""
-    parser.add_argument("folder", metavar="DIR", type=pathlib.Path, help="where the pages go; made if it isn't there")
+    parser.add_argument(
+        "folder", metavar="DIR", type=pathlib.Path, help="the folder of the pages, created if necessary"
+    )
 
 
 def run(arguments: argparse.Namespace) -> int:
     """Writes the pages, and prints their paths in the order of the tour. Raises LabError and OSError for bad input."""
     program, folder, scripts = find_program(), arguments.folder, tours()
     folder.mkdir(parents=True, exist_ok=True)
-    links = [(name, script.title) for name, script in scripts.items()]
-    write_page(folder, "index", "A tour", lone_page("tour", "A tour", links))
-    for name, script in scripts.items():
-        write_page(folder, name, script.title, lesson_page(script.title, make_frames(script, program), script))
+    sentences = {name: sentence for name, _, sentence in read_table("tours")}
+    pages, entries = make_series(program, {name: (script, sentences[name]) for name, script in scripts.items()})
+    write_pages(folder, [("index", "A tour", lone_page("tour", "A tour", entries)), *pages])
     return 0
 
 
 def tours() -> dict[str, Script]:
     """The tours by the names of their scripts, in their order."""
-    return {name: _script(name, title) for name, title in read_table("tours")}
+    return {name: _script(name, title) for name, title, _ in read_table("tours")}
 
 
 def _script(name: str, title: str) -> Script:
@@ -49,5 +51,16 @@ def _script(name: str, title: str) -> Script:
             steps.append(Step([*islice(lines, int(number))], note))
             continue
         for place in range(int(number)):
-            add_line(steps, next(lines), "" if place else note)
+            _add_line(steps, next(lines), "" if place else note)
     return Script(title, steps, **json.loads(told.read_text("ascii")) if told.exists() else {})
+
+
+def _add_line(steps: list[Step], line: str, note: str) -> None:
+    """Adds a line as `add_line` does, but the first frame has all of START and no line that only looks."""
+    commands = {words_of(each)[0] for each in [*steps[0].lines, line]} if len(steps) == 1 else set()
+    if commands and not note and commands <= START:
+        steps[0].lines.append(line)
+    elif commands and is_look(line):
+        steps.append(Step([line], note))
+    else:
+        add_line(steps, line, note)

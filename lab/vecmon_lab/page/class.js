@@ -8,7 +8,7 @@ import { Student } from "./student.js";
 import { Teacher } from "./teacher.js";
 import { Wall } from "./wall.js";
 
-const LEAVING = "This tab forgets its code, without which nobody comes back. What was done here stays at the class.";
+const LEAVING = "This tab forgets its code, and nobody can come back without it. The class keeps the work of this seat.";
 
 /** Begins anew with a code, or with none, that is kept for this tab's session alone, and not in the address. */
 function sitDown(code) {

@@ -1,15 +1,17 @@
 // Codes on the teacher's page, which are there only while they are shown; and the sheet to print.
 
-import { button, byId, make, put } from "./elements.js";
+import { ask, button, byId, make, put } from "./elements.js";
 
 /** The code of a seat, or of the wall: a link where it is shown. */
 export class CodeField {
-  constructor(name, ask) {
+  constructor(name, request) {
     this.link = Object.assign(make("a", ""), { target: "_blank", rel: "noopener" });
     const whose = name === "wall" ? "the wall" : `seat ${name}`;
-    const turn = () => (this.link.hash ? this.show("") : ask({ ask: "codes", seat: name }));
+    const turn = () => (this.link.hash ? this.show("") : request({ ask: "codes", seat: name }));
     this.shows = button("Code", `Code for ${whose}`, turn);
-    const renew = button("New code", `New code for ${whose}`, () => ask({ ask: "renew", seat: name }));
+    const loss = `The code of ${whose} stops working at once, and its tabs close.`;
+    const renews = () => ask(loss, "New code", () => request({ ask: "renew", seat: name }));
+    const renew = button("New code", `New code for ${whose}`, renews);
     this.parts = [this.link, this.shows, " ", renew];
   }
 

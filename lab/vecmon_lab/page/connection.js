@@ -4,9 +4,10 @@ import { offerFile } from "./elements.js";
 
 const [FIRST_PAUSE, LONGEST_PAUSE] = [500, 15000]; // ms
 const LONGEST_SILENCE = 60000; // until a request without an answer tells that the connection is broken
-const QUIET = { shoulder: "", wall: "", draft: "" };
+const QUIET = { shoulder: "", wall: "", draft: "", "close-notice": "" };
+const EXERCISES = { check: "the check", open: "the exercise", answer: "the earlier answer" };
 const SOURCE = { source: "the source", again: "the source", "step-line": "a step of a line" };
-const NAMES = { lines: "slices", name: "the name", check: "the check", ...SOURCE, ...QUIET };
+const NAMES = { lines: "slices", name: "the name", ...EXERCISES, ...SOURCE, ...QUIET };
 const ENDINGS = { 4403: "This code isn't valid, or not any more.", 4429: "This seat is open in too many tabs." };
 
 /** What a request is called where it is lost; "" where whoever asked asks again. */
@@ -95,7 +96,7 @@ export class Connection {
   /** Takes up what was under way, and what wasn't sent: no request is sent twice. */
   lose(...lost) {
     const [underWay, unsent] = lost.map((names) => names.filter(Boolean));
-    const told = underWay.map((words) => `${words} was under way: the transcript shows whether it was carried out.`);
+    const told = underWay.map((words) => `${words} was under way: the transcript shows whether it was executed.`);
     if (unsent.length) told.push(`${unsent.join(", ")} ${unsent.length > 1 ? "weren't" : "wasn't"} sent.`);
     this.lost = [this.lost, ...told].join(" ").trim();
   }

@@ -1,12 +1,12 @@
-// The course: of each exercise its lesson, how long both take, and its text.
+// The course: of each exercise its lesson with a sentence and a picture, how long both take, and its text.
 
 import { blocks } from "./blocks.js";
-import { byId, make } from "./elements.js";
+import { byId, make, prose } from "./elements.js";
+import { stripOf } from "./strip.js";
 
-const exercises = JSON.parse(byId("data").textContent);
-byId("command").textContent = ["vecmon-lab class DIR", ...exercises.map(({ name }) => `  --exercise ${name}`)].join(" \\\n");
-for (const [place, { name, minutes, title, text, lesson }] of exercises.entries()) {
-  const link = Object.assign(make("a", "", lesson), { href: `${name}.html` });
-  const about = make("p", "", "Lesson: ", link, `. Both take about ${minutes} minutes.`);
-  byId("course").append(make("h2", "", `${place + 1}. ${title}`), about, ...blocks(text));
+byId("command").textContent = "vecmon-lab class DIR --course";
+for (const [place, { minutes, title, text, lesson }] of JSON.parse(byId("data").textContent).entries()) {
+  const link = Object.assign(make("a", "", lesson.title), { href: `${lesson.name}.html` });
+  const about = make("p", "", "Lesson: ", link, ". ", ...prose(lesson.sentence), ` Lesson and exercise take about ${minutes} minutes.`);
+  byId("course").append(make("h2", "", `${place + 1}. ${title}`), about, stripOf(lesson.strip), ...blocks(text));
 }

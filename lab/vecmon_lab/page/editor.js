@@ -76,6 +76,11 @@ export class Editor {
     while (past.length > 1 && isMuch()) past.shift();
   }
 
+  /** Forgets what undo would bring back. */
+  forget() {
+    Object.assign(this, { past: [], future: [] });
+  }
+
   /** Takes up the text as it has become, and selects some of it, unless it was typed. */
   took(from, to = from) {
     if (from !== undefined) this.field.setSelectionRange(from, to);

@@ -28,6 +28,9 @@ export const table = (caption, ...parts) => make("table", "", make("caption", "u
 /** A text of the author's, in which backquotes stand around what is code, as elements. */
 export const prose = (text) => text.split("`").map((part, place) => (place % 2 ? make("code", "", part) : part));
 
+/** A time in seconds since 1970 as `14:05`. */
+export const timeText = (time) => new Date(time * 1000).toLocaleTimeString("en-GB", { hour: "2-digit", minute: "2-digit" });
+
 /** Lets the browser save a file. */
 export function offerFile(download, blob) {
   const link = Object.assign(make("a", ""), { href: URL.createObjectURL(blob), download });

@@ -7,16 +7,17 @@ import { verdict } from "./verdict.js";
 export class Exercises {
   /** student: whose requests are made; editor: has the source that is checked. */
   constructor(student, editor) {
-    Object.assign(this, { student, editor, all: {}, name: sessionStorage.getItem("exercise"), shown: {} });
+    Object.assign(this, { student, editor, all: {}, name: "", shown: {} });
     this.choice = Object.assign(make("select", ""), { ariaLabel: "Exercise", onchange: () => this.choose(this.choice.value) });
     this.toggle = Object.assign(make("button", "student", "Exercise"), { hidden: true, onclick: () => this.open(!this.isOpen) });
     this.check = Object.assign(make("button", "main", "Check"), { title: "Checks the source (Ctrl Shift Enter)" });
     this.check.onclick = () => this.checkSource();
+    this.answers = Object.assign(make("select", ""), { ariaLabel: "Earlier answers", onchange: () => this.takeAnswer() });
     this.begin = Object.assign(make("button", "", "Begin"), { title: "Puts the source to begin with into Source; undo takes it back" });
     this.begin.onclick = () => this.takeStart();
     this.state = Object.assign(make("span", ""), { role: "status" });
     [this.text, this.hints, this.verdict] = ["text", "hints", "verdict"].map((kind) => make("div", kind));
-    const controls = make("p", "", this.check, " ", this.begin, " ", this.state);
+    const controls = make("p", "", this.check, " ", this.begin, " ", this.answers, " ", this.state);
     const parts = [this.text, controls, this.verdict, this.hints];
     this.reading = Object.assign(make("div", "reading", ...parts), { tabIndex: 0, role: "region", ariaLabel: "Text of the exercise" });
     const head = make("div", "top", Object.assign(make("h2", "", "Exercise"), { id: "exercise-title" }), this.choice);
@@ -38,28 +39,38 @@ export class Exercises {
   /** Shows what the server tells of all exercises, at a seat that has this source. */
   show(all, source) {
     const names = Object.keys(all);
-    if (all === this.all) return;
-    this.all = all;
+    const name = names.includes(source.exercise) ? source.exercise : names[0];
+    const isOpened = this.name && name !== this.name;
+    if (all === this.all && !isOpened) return;
+    Object.assign(this, { all, name });
     this.toggle.hidden = !names.length;
-    if (!names.includes(this.name)) [this.name] = names;
     const option = (name) => Object.assign(make("option", "", `${all[name].passed ? "✓ " : ""}${all[name].title}`), { value: name });
     this.choice.replaceChildren(...names.map(option));
     this.choice.value = this.name;
     this.open(names.length > 0 && this.isOpen !== false);
     if (!names.length) return;
+    if (isOpened) this.reading.scrollTop = 0;
     this.paint();
-    if (!source.text && this.all[this.name].starts.length && !this.editor.past.length) this.takeStart();
+    if (!source.text && this.all[name].starts.length && (isOpened || !this.editor.past.length)) this.takeStart();
   }
 
-  /** Goes to another exercise: each has a source of its own, which is the one to begin with at first. */
-  choose(name) {
-    const place = (of) => `source ${this.student.seat} ${of}`;
-    sessionStorage.setItem(place(this.name), JSON.stringify(this.editor.source));
-    this.name = name;
-    sessionStorage.setItem("exercise", name);
-    this.editor.put(JSON.parse(sessionStorage.getItem(place(name))) ?? this.start);
-    this.reading.scrollTop = 0;
-    this.paint();
+  /** Opens another exercise, in all tabs of the seat: each has a source, which is the one to begin with at first. */
+  async choose(name) {
+    this.choice.disabled = true; // one at a time
+    const isOpen = await this.student.source.openExercise(name);
+    this.choice.disabled = false;
+    this.choice.value = this.name;
+    if (!isOpen) this.student.refuse("The exercise isn't open: the source in the editor couldn't be saved before.");
+  }
+
+  /** Puts an earlier answer into the editor, where undo takes it back. */
+  async takeAnswer() {
+    const number = this.answers.selectedIndex;
+    this.answers.selectedIndex = 0;
+    const answer = await this.student.request({ ask: "answer", exercise: this.name, number });
+    if (answer?.text === undefined) return;
+    await this.student.source.replace(answer);
+    this.student.showSide("source");
   }
 
   /** The source to begin with: of two, the one of the language that is chosen, be it C by whatever options. */
@@ -76,6 +87,9 @@ export class Exercises {
     this.shown = it;
     if (it.text !== before.text) this.text.replaceChildren(...this.lessonBefore(it.before), ...blocks(it.text));
     this.begin.hidden = !it.starts.length;
+    this.answers.hidden = !it.tries;
+    const answers = Array.from({ length: it.tries }, (_, place) => make("option", "", `try ${place + 1}`));
+    if (this.answers.length !== it.tries + 1) this.answers.replaceChildren(make("option", "", "Answers …"), ...answers);
     this.check.disabled = it.checking;
     const isTold = this.awaited === this.name && !it.checking;
     const tries = it.tries ? `${it.tries} ${it.tries > 1 ? "tries" : "try"}${it.passed ? ", passed" : ""}` : "";
@@ -113,12 +127,12 @@ export class Exercises {
 
   /** Another language was chosen: where nothing was written yet, one begins with its source. */
   changeStart() {
-    if (this.all[this.name]?.starts.some(({ text }) => text === this.editor.field.value)) this.takeStart();
+    if (this.all[this.name]?.starts.some(({ text }) => text === this.editor.field.value)) this.editor.put(this.start);
   }
 
   /** Puts the source to begin with into the editor, and opens it. */
   takeStart() {
-    this.editor.put(this.start);
+    this.student.source.replace(this.start);
     this.student.showSide("source");
   }
 }

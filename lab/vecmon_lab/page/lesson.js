@@ -6,10 +6,11 @@ import { lineBegins } from "./source_lines.js";
 import { STOP_LINE, entryParts, logEntry } from "./transcript.js";
 import { paintState, showStep, showStop, usedIn } from "./view.js";
 
+const LINKS = { prev: "Previous lesson", index: "All lessons", next: "Next lesson" };
 const ADDRESS_DELAY = 300; // ms: a browser takes only so many new addresses in a time
 
 class Lesson {
-  constructor({ frames, ...source }) {
+  constructor({ frames, links = [], ...source }) {
     Object.assign(this, { frames, source, states: [], user: "" }); // user: chosen to be shown; else it is the line's
     document.body.classList.toggle("sourced", Object.keys(source.lines).length > 0);
     byId("machine").addEventListener("change", () => this.show(this.place));
@@ -22,6 +23,9 @@ class Lesson {
     byId("sentence").hidden = !frames.some((frame) => frame.note);
     this.listen();
     this.listenToLines();
+    const link = ([rel, href, title]) => Object.assign(make("a", "", LINKS[rel]), { rel, href, title });
+    byId("links").append(...links.map(link)); // to other lessons of a tour or a course
+    byId("links").hidden = !links.length;
     this.show(Number(location.hash.slice(1) || 1) - 1);
   }
 

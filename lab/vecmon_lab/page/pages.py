@@ -6,7 +6,7 @@ import html
 import json
 import pathlib
 import string
-from collections.abc import Mapping
+from collections.abc import Iterable, Mapping
 
 from .modules import join_modules
 
@@ -36,11 +36,16 @@ def lone_page(name: str, title: str, data: object) -> str:
     return page.text(html.escape(title), text, policy)
 
 
-def write_page(folder: pathlib.Path, name: str, title: str, page: str) -> None:
-    """Writes a page into a folder, and prints its path and its title."""
-    path = folder / f"{name}.html"
-    path.write_text(page, "utf-8")
-    print(f"{path}: {title}")
+def write_pages(folder: pathlib.Path, pages: Iterable[tuple[str, str, str]]) -> None:
+    """Write pages, each a name, a title and its HTML, into a folder, and then print the path and title of each.
+
+    All files are written before anything is printed, so a reader that closes the pipe, as `head` does, loses none."""
+    written = []
+    for name, title, page in pages:
+        path = folder / f"{name}.html"
+        path.write_text(page, "utf-8")
+        written.append(f"{path}: {title}")
+    print("\n".join(written))
 
 
 def merge_patch(old: Mapping[str, object], new: Mapping[str, object]) -> dict[str, object]:

@@ -1,16 +1,14 @@
 // The teacher's table of exercises: what each seat has tried, and the answers.
 
-import { byId, button, header, make, put, table } from "./elements.js";
-
-const clock = (time) => new Date(time * 1000).toLocaleTimeString("en-GB", { hour: "2-digit", minute: "2-digit" });
+import { byId, button, header, make, put, table, timeText } from "./elements.js";
 
 /** A seat's work at an exercise, as `✓ try 2, 14:05`, or `3 of 5, 4 tries, 14:05`. */
 const words = ({ tries, passed, best, time }, most) =>
-  `${passed ? `✓ try ${passed}` : `${best} of ${most}, ${tries} ${tries > 1 ? "tries" : "try"}`}, ${clock(time)}`;
+  `${passed ? `✓ try ${passed}` : `${best} of ${most}, ${tries} ${tries > 1 ? "tries" : "try"}`}, ${timeText(time)}`;
 
 export class Scores {
   constructor(teacher) {
-    Object.assign(this, { teacher, told: {} });
+    Object.assign(this, { teacher, told: {}, failures: [] });
     const save = () => teacher.connection.download("exercises.csv", "exercises.csv");
     const head = Object.assign(make("h2", "", "Exercises"), { id: "scores-title" });
     this.table = make("div", "scroll");
@@ -19,15 +17,18 @@ export class Scores {
     this.source = Object.assign(make("pre", ""), { tabIndex: 0 });
     this.answer = make("div", "", make("p", "", this.what, " ", this.which), this.source);
     this.answer.hidden = true;
-    this.section = make("section", "seats", make("div", "top", head, button("Table", "Exercises, as CSV", save)), this.table, this.answer);
+    this.failed = make("div", "");
+    const top = make("div", "top", head, button("Table", "Exercises, as CSV", save));
+    this.section = make("section", "seats", top, this.table, this.failed, this.answer);
     this.section.id = "scores";
     this.section.setAttribute("aria-labelledby", "scores-title");
     byId("machines").before(this.section);
   }
 
-  show({ exercises, languages }) {
-    if (exercises === this.told) return;
-    Object.assign(this, { told: exercises, languages });
+  show({ exercises, failures, languages }) {
+    if (exercises === this.told && failures === this.failures) return;
+    Object.assign(this, { told: exercises, failures, languages });
+    this.showFailures();
     const names = Object.keys(exercises);
     this.section.hidden = !names.length;
     const seats = [...new Set(names.flatMap((name) => Object.keys(exercises[name].seats)))].sort();
@@ -40,6 +41,14 @@ export class Scores {
     const heads = make("tr", "", header("col", "seat"), ...names.map((name) => header("col", exercises[name].title)));
     const none = make("p", "empty", "Nobody has checked an answer yet.");
     this.table.replaceChildren(rows.length ? table("Exercises", make("thead", "", heads), make("tbody", "", ...rows)) : none);
+  }
+
+  /** Shows checks that failed on the server's side, the last one first. */
+  showFailures() {
+    const words = ({ seat, exercise, time, cause }) =>
+      `${timeText(time)} ${this.teacher.withName(seat)}, ${this.told[exercise].title}: the check failed and nothing was counted: ${cause}.`;
+    const items = this.failures.map((failure) => make("li", "", words(failure))).reverse();
+    this.failed.replaceChildren(...(items.length ? [make("h3", "", "Failed checks"), make("ul", "failures", ...items)] : []));
   }
 
   /** Shows a seat's answers to an exercise, the last one first. */

@@ -13,8 +13,9 @@ function addressesOf(starts) {
 /** Where the instructions of the line begin that one at an address is of. */
 export const startOf = (starts, pc) => addressesOf(starts).findLast((address) => parseInt(address, 16) <= parseInt(pc, 16));
 
-/** The first address where instructions of a line begin; undefined for a line without any. */
-export const firstOf = (starts, line) => addressesOf(starts).find((address) => starts[address] === line);
+/** The lines with breakpoints, by the addresses that each line's breakpoints have. */
+export const stoppedLines = (stops, breaks) =>
+  Object.keys(stops).filter((line) => stops[line].some((address) => breaks.includes(address))).map(Number);
 
 /** The places, among addresses of instructions that follow each other, where another line begins, with its number. */
 export function lineBegins(starts, instructions) {

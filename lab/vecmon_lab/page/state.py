@@ -5,8 +5,10 @@ from collections import Counter
 from collections.abc import Iterable, Iterator, Mapping, Sequence
 from typing import Any, TypedDict
 
+from ..guest.calls import shown_calls
 from ..guest.guest import Guest
 from ..instructions.accesses import LINE_BYTES, PAGE_BYTES, ROW_BYTES
+from ..instructions.calls import ECALL, unsupported_call
 from ..instructions.reasons import describe_stop
 from ..machine.answers import (
     Addresses,
@@ -33,10 +35,12 @@ class State(TypedDict, total=False):
     memory: rows of 16 bytes by address
     instruction: the address of the instruction that was carried out last, or faulted, in what was just done
     stop: why the program stopped in what was just done, in words
+    calls: calls that the machine doesn't support, in words by the address of the ECALL: those that the code shows, and those that the
+        program stood at; without one there is no such key
     output: the bytes that answers to `out` have shown
     outputs: in a class in place of it, the last 64 KB of them, in blocks by number
     labels, lines: in a class, names and lines by address of the source that was assembled last
-    starts, variables: in a class, of a source in C (`compilers/compiled.py`)
+    starts, stops, variables: in a class, of a source in C (`compilers/compiled.py`)
     """
 
     run: str
@@ -56,11 +60,13 @@ class State(TypedDict, total=False):
     instruction: str
     faulted: bool
     stop: str
+    calls: Mapping[str, str]
     output: str
     outputs: Mapping[str, str]
     labels: dict[str, list[str]]
     lines: dict[str, str]
     starts: Mapping[str, int]
+    stops: Mapping[str, Sequence[str]]
     variables: Sequence[Sequence[Any]]
 
 
@@ -160,6 +166,7 @@ def look_at(
         state["code"] = code
         state["operands"] = {address: shown_operands(int(line[:8], 16)) for address, line in code.items()}
     text = state["code"].get(state["pc"], "")
+    _take_calls(state)
     pages = len(sight.pages)
     sight.add_accessed(text[9:], state["x"])
     if may_store or len(sight.pages) > pages:
@@ -221,6 +228,22 @@ def _take_registers(guest: Guest, state: State) -> ControlRegisters:
     state.update({"vl": control.vl, "vstart": control.vstart, "vxrm": control.vxrm, "vxsat": control.vxsat})
     state["breaks"] = [f"{address:x}" for address in breaks.addresses]
     return control
+
+
+def _take_calls(state: State) -> None:
+    """Takes calls that the machine doesn't support into a state, and forgets those whose ECALL isn't there any more."""
+    words = {int(address, 16): int(line[:8], 16) for address, line in state["code"].items()}
+    if ECALL not in words.values():
+        state.pop("calls", None)
+        return
+    before, shown = state.get("calls", {}), shown_calls(words)
+    calls = {int(address, 16): text for address, text in before.items() if words.get(int(address, 16)) == ECALL} | shown
+    pc = int(state["pc"], 16)
+    if words.get(pc) == ECALL and pc not in shown:
+        calls[pc] = unsupported_call([int(state["x"][f"{number}"], 16) for number in range(32)]) or calls.get(pc, "")
+    state["calls"] = {f"{address:x}": text for address, text in calls.items() if text}
+    if not state["calls"]:
+        del state["calls"]
 
 
 def _code(guest: Guest, sight: Sight, pc: int, trace: Sequence[int], known: dict[str, str]) -> dict[str, str]:

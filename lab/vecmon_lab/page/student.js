@@ -3,7 +3,7 @@
 import { Cursor } from "./cursor.js";
 import { Desk } from "./desk.js";
 import { Editor } from "./editor.js";
-import { ask, button, byId, make, pressNamed, put, say } from "./elements.js";
+import { ask, button, byId, make, pressNamed, put, say, timeText } from "./elements.js";
 import { Exercises } from "./exercises.js";
 import { offerLanguages } from "./languages.js";
 import { LineField, requestsOf, unfitLines } from "./lines.js";
@@ -11,9 +11,9 @@ import { linkOf, sourceOf } from "./links.js";
 import { entryText, showReference, tellName } from "./reference.js";
 import { chooseSides } from "./sides.js";
 import { MOST_LETTERS, Source } from "./source.js";
-import { firstOf } from "./source_lines.js";
 
 const MOST_WAITING = 5; // requests: keys that repeat faster are left out
+const MOST_BREAKPOINTS = 16;
 const NEW_MACHINE = ["map 10000 1 rwx", "map 20000 1 rw", "setpc 10000"];
 const LOSS = "Registers, memory and breakpoints of this machine would be lost. The source stays, and Back shows what was seen.";
 
@@ -104,6 +104,7 @@ export class Student {
     this.seat = view.seat;
     document.title = `Seat ${view.seat} – vecmon`;
     put(byId("who"), `Seat ${view.seat}`);
+    this.showNotices(view.notices);
     if (document.activeElement !== byId("name")) byId("name").value = view.name;
     const stop = run === "stopped" && view.state.stop && view.stop.split(" ")[0];
     put(byId("run"), run === "absent" ? "not entered" : stop || run);
@@ -129,6 +130,17 @@ export class Student {
     this.showSource(view);
     this.exercises.show(view.exercises, view.source);
     byId("log").ariaLive = "polite";
+  }
+
+  /** Shows messages of the teacher's, each until it is closed. */
+  showNotices(notices) {
+    if (notices === this.notices) return;
+    this.notices = notices;
+    const item = ({ number, time, text }) => {
+      const close = button("Close", `Close the message: ${text}`, () => this.connection.ask({ ask: "close-notice", number }));
+      return make("li", "", make("small", "", timeText(time)), make("span", "", `The teacher: ${text}`), close);
+    };
+    byId("notices").replaceChildren(...notices.map(item));
   }
 
   /** Sends requests one behind the other; what was refused is told in words. The answer to the first one. */
@@ -182,11 +194,16 @@ export class Student {
     return byId("value").select();
   }
 
-  /** Sets or removes a breakpoint at a line of the source in C that stands in the machine, if it has instructions. */
+  /** Sets all breakpoints of a line of the source in C that stands in the machine, or removes those that are there. */
   breakAt(line) {
-    const { starts, breaks } = this.desk.state;
-    const address = this.source.stands && starts && firstOf(starts, line);
-    if (address) this.send([`${breaks.includes(address) ? "un" : ""}break ${address}`]);
+    const { stops, breaks } = this.desk.state;
+    const addresses = (this.source.stands && stops?.[line]) || [];
+    const there = addresses.filter((address) => breaks.includes(address));
+    const left = MOST_BREAKPOINTS - breaks.length;
+    const much = `Line ${line} needs ${addresses.length} breakpoints, and ${left} of ${MOST_BREAKPOINTS} are left: none was set.`;
+    if (there.length) return this.send(there.map((address) => `unbreak ${address}`));
+    if (addresses.length > left) return this.refuse(much);
+    return addresses.length && this.send(addresses.map((address) => `break ${address}`));
   }
 
   /** Sends the line that writes a value, which is decimal where decimal ones are shown. */
@@ -213,10 +230,10 @@ export class Student {
   }
 
   /** Shows the seat's source; one that the teacher has just given is opened. */
-  showSource({ seat, state, source, share }) {
+  showSource({ seat, state, source, share, exercises }) {
     const isOther = this.source.told && this.source.told.versions !== source.versions;
     const isGiven = isOther && source.versions.at(-1)?.why === "given";
-    this.source.show(seat, source);
+    this.source.show(seat, source, exercises);
     this.source.mark(state);
     this.source.showLanguage(share);
     this.takeLinked();
@@ -228,7 +245,7 @@ export class Student {
   /** Puts the source into the page's address. */
   link() {
     history.replaceState(null, "", linkOf(this.source.editor.source, byId("language")));
-    this.refuse("The address of this page has the source now. Whoever opens it at a seat has the source in the editor.");
+    this.refuse("The address of this page has the source now. Opened at a seat, it puts the source into the editor.");
   }
 
   /** Puts a source into the editor that a link has brought; it is compiled only where that is asked for. */
@@ -236,7 +253,7 @@ export class Student {
     const linked = sessionStorage.getItem("linked") && sourceOf(sessionStorage.getItem("linked"), byId("language"));
     sessionStorage.removeItem("linked");
     if (!linked) return;
-    this.source.editor.put(linked);
+    this.source.replace(linked);
     this.showSide("source");
     this.refuse("A link has brought this source; undo takes it back.");
   }
@@ -248,7 +265,8 @@ export class Student {
     const much = `This source has ${size} characters, and ${most} are taken at most: nothing was sent.`;
     if (source.text.length > MOST_LETTERS) return this.refuse(much);
     byId("assemble").disabled = true; // one at a time
-    await this.source.bring(source, () => this.assemble({ ...request, ...source }));
+    const { number } = this.source.told; // what is there becomes a version if it has another one
+    await this.source.bring(source, () => this.assemble({ ...request, ...source, number }));
     byId("assemble").disabled = false;
   }
 

@@ -3,7 +3,7 @@
 import { CodeField, showSheet } from "./codes.js";
 import { Desk } from "./desk.js";
 import { Editor } from "./editor.js";
-import { byId, make, pressNamed, put, say } from "./elements.js";
+import { ask, byId, make, pressNamed, put, say } from "./elements.js";
 import { offerLanguages } from "./languages.js";
 import { LineField, requestsOf, unfitLines } from "./lines.js";
 import { Scores } from "./scores.js";
@@ -12,7 +12,16 @@ import { chooseSides } from "./sides.js";
 import { MOST_LETTERS, Source } from "./source.js";
 import { addToLog, toldEntry } from "./transcript.js";
 
+const NO_RECEIVER = "Nothing was sent: choose a seat below, or all seats.";
+const NO_SOURCE = "Nothing was given: the source to give is empty. Type one, or copy a seat's.";
+const TO_ALL = "This replaces the source in the editor of every seat. What is there becomes a version first.";
 const NUMBERS = ["slices", "ms", "limit"]; // of a clock
+
+/** The seat of a request, which is "" for all. */
+const seatOf = (receiver) => (receiver === "all" ? "" : receiver);
+
+/** A number of editors and a verb, as `1 editor was`. */
+const editors = (number) => `${number} editor${number === 1 ? " was" : "s were"}`;
 
 /** A machine of the class: its script, and what is wrong with it. */
 class ClassMachine {
@@ -67,7 +76,9 @@ export class Teacher {
     const given = new Editor(byId("given"), () => this.keep(given.source), byId("given-language"));
     byId("take").onclick = () => given.put(this.source.editor.source);
     document.addEventListener("keydown", (event) => pressNamed(event));
-    byId("give").onclick = () => this.request({ ask: "give", seat: byId("receiver").value, ...given.source });
+    byId("give").onclick = () => this.give(given.source);
+    byId("take-back").onclick = () => this.takeBack();
+    byId("read").onclick = () => (sessionStorage.setItem("unencrypted", "read"), this.warn(this.view));
   }
 
   /** Keeps the source to give, until the tab is closed. */
@@ -95,6 +106,8 @@ export class Teacher {
     this.scores.show(view);
     this.showClocks(Object.values(view.machines));
     say("trouble", view.trouble);
+    this.warn(view);
+    this.showGiven(view.given);
     if (isAnew) byId("operator-log").replaceChildren();
     const item = (letter) => (entry) => toldEntry(entry, false, letters.length > 1 ? `${letter} ` : "");
     addToLog(byId("operator-log"), letters.flatMap((letter) => (logs[letter] ?? []).map(item(letter))));
@@ -106,11 +119,17 @@ export class Teacher {
     const isOther = isAnew || view.shoulder !== this.seat;
     this.seat = view.shoulder;
     byId("desk").hidden = !this.seat;
+    if (isOther) byId("receiver").value = this.seat;
     put(byId("shoulder"), this.seat && `Seat ${this.withName(this.seat)}, over the shoulder`);
     if (!this.seat) return;
     this.desk.show(this.seat, view.state, logs[this.seat] ?? [], isOther);
-    this.source.show(this.seat, view.source);
+    this.source.show(this.seat, view.source, view.exercises);
     this.source.mark(view.state);
+  }
+
+  /** Warns that codes travel unencrypted, where they do, until that is read in this tab. */
+  warn({ unencrypted }) {
+    byId("unencrypted").hidden = !unencrypted || sessionStorage.getItem("unencrypted") === "read";
   }
 
   /** The field of a code, which asks for it where it is wanted. */
@@ -157,11 +176,34 @@ export class Teacher {
     Object.assign(own, { checked: owns === machines.length, indeterminate: owns > 0 && owns < machines.length });
   }
 
+  /** Gives a source to the seat that is chosen, or to all, which it asks before. */
+  give(source) {
+    const receiver = byId("receiver").value;
+    if (!receiver || !source.text.trim()) return say("gone", receiver ? NO_SOURCE : NO_RECEIVER);
+    const give = () => this.request({ ask: "give", seat: seatOf(receiver), ...source });
+    return receiver === "all" ? ask(TO_ALL, "Give to all", give) : give();
+  }
+
+  /** Shows in how many editors a source was replaced by the one given last, while that can be taken back. */
+  showGiven({ seat, replaced }) {
+    byId("take-back").hidden = replaced === undefined;
+    if (replaced !== undefined) put(byId("gave"), `Given to ${seat || "all seats"}: ${editors(replaced)} replaced.`);
+  }
+
+  /** Takes back what was given last, where no student has changed it since. */
+  async takeBack() {
+    const answer = await this.request({ ask: "take-back", seat: this.view.given.seat });
+    if (!answer || answer.error) return;
+    put(byId("gave"), `Taken back: ${editors(answer.replaced)} restored. A source that a student has changed since stays.`);
+  }
+
   /** Writes a line to students, which stays in its field where it is refused. */
   async write() {
-    const words = byId("words");
-    const answer = await this.request({ ask: "write", seat: byId("receiver").value, text: words.value });
+    const [words, receiver] = [byId("words"), byId("receiver").value];
+    if (!receiver) return say("gone", NO_RECEIVER);
+    const answer = await this.request({ ask: "write", seat: seatOf(receiver), text: words.value });
     if (answer && !answer.error) words.value = "";
+    return undefined;
   }
 
   /** A seat with the name of whoever sits there. */

@@ -1,8 +1,9 @@
-// The beginning of the tour: a link to each lesson.
+// The index of the tour: of each lesson a link, a sentence and a picture.
 
-import { byId, make } from "./elements.js";
+import { byId, make, prose } from "./elements.js";
+import { stripOf } from "./strip.js";
 
-for (const [name, title] of JSON.parse(byId("data").textContent)) {
+for (const { name, title, sentence, strip } of JSON.parse(byId("data").textContent)) {
   const link = Object.assign(make("a", "", title), { href: `${name}.html` });
-  byId("lessons").append(make("li", "", link));
+  byId("lessons").append(make("li", "", link, make("p", "", ...prose(sentence)), stripOf(strip)));
 }

@@ -37,7 +37,7 @@ export function knownVariables({ variables = [], pc, x, memory }) {
     const value = { register: sum, value: sum, memory: isNumber ? numberAt(memory, sum, element.slice(1) / 8) : null }[kind];
     const text = isNumber && typeof value === "bigint" ? numberText(element, value) : "";
     const where = { register: `x${register}`, vector: `v${register}`, memory: `at ${sum.toString(16)}`, value: "",
-      untold: "not told", gone: "optimized out" }[kind];
+      untold: "unsupported location", gone: "optimized out" }[kind];
     return { declaration, element, counts, isLocal: scopes.length > 0, at, text, where };
   });
 }

@@ -30,6 +30,8 @@ function takenWords({ taken, good }) {
 
 /** What was told of an exercise, as elements: `lesson` is where one of the case that fails is, and tryCase brings it in here. */
 export function verdict({ told, cases, lesson }, tryCase) {
+  const again = make("p", "", "Check it again. If that fails too, the teacher's page shows why.");
+  if (told.unchecked) return [make("h3", "", told.unchecked), again];
   const untried = make("p", "", "It wasn't tried in any case, and this is no try.");
   if (told.mistakes) return [make("h3", "", "Source has mistakes."), untried];
   if (!told.cases) return [];

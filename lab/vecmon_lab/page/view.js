@@ -19,7 +19,7 @@ export function showStep(state, ...done) {
     const line = (state.code[state.instruction] ?? "").slice(9);
     const text = withNames(line, byId("names").value === "abi");
     const said = saysMore(state.lines?.[state.instruction] ?? "", line); // which the listing may cut
-    done.push(make("span", "instruction", make("small", "", state.faulted ? "stopped at " : "carried out "), text));
+    done.push(make("span", "instruction", make("small", "", state.faulted ? "stopped at " : "executed "), text));
     done.push(make("small", "", ...prose(said)));
   }
   byId("step").replaceChildren(...done);

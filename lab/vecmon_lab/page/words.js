@@ -42,7 +42,7 @@ export function saysMore(line, text) {
   const [own] = line.split(/\s*(?:#|\/\/)/);
   const numbered = own.replace(/\b[a-z]+\d*\b/g, (name) => (ABI_NAMES.includes(name) ? `x${ABI_NAMES.indexOf(name)}` : name));
   if (numbered.replace(/\s+/g, " ").replace(/ ?, ?/g, ", ") === text) return line.slice(own.length).trim();
-  return line.replace(/\s{4,}(?=(?:#|\/\/)[^"]*$)/, "   "); // a comment may stand far to the right
+  return line.replace(/\s{4,}(?=(?:#|\/\/)[^"]*$)/, "   "); // a comment may be far to the right
 }
 
 /** Where a branch or a jump goes to: an address in hexadecimal, or "" for any other instruction. */

@@ -33,14 +33,31 @@ Coverage = Counter[tuple[str, int, bool, str]]
 
 def add_arguments(parser: argparse.ArgumentParser) -> None:
     """The words of `vecmon-lab programs`."""
-    parser.add_argument("folder", metavar="DIR", type=pathlib.Path, help="where they go")
-    parser.add_argument("--seed", metavar="S", type=int, default=0, help="another one gives other programs; else 0")
-    parser.add_argument("--length", metavar="N", type=between(10, 20_000), default=1000, help="instructions; else 1000")
-    parser.add_argument("--count", metavar="K", type=between(1, 100_000), default=1, help="how many; else 1")
-    parser.add_argument("--choices", action="store_true", help="also what the standard leaves open")
-    parser.add_argument("--faults", action="store_true", help="each ends with a fault")
-    parser.add_argument("--environment", choices=ENVIRONMENTS, default="linux", help="where they run; else %(default)s")
-    parser.add_argument("--coverage", action="store_true", help="print what stands in them")
+    parser.add_argument(
+        "folder", metavar="DIR", type=pathlib.Path, help="the folder of the programs, created if necessary"
+    )
+    parser.add_argument(
+        "--seed", metavar="S", type=int, default=0, help="another seed gives other programs; by default 0"
+    )
+    parser.add_argument(
+        "--length",
+        metavar="N",
+        type=between(10, 20_000),
+        default=1000,
+        help="instructions of a program; by default 1000",
+    )
+    parser.add_argument(
+        "--count", metavar="K", type=between(1, 100_000), default=1, help="the number of programs; by default 1"
+    )
+    parser.add_argument("--choices", action="store_true", help="also draw what the standard leaves open")
+    parser.add_argument("--faults", action="store_true", help="end each program with a fault")
+    parser.add_argument(
+        "--environment",
+        choices=ENVIRONMENTS,
+        default="linux",
+        help="the environment of the programs; by default %(default)s",
+    )
+    parser.add_argument("--coverage", action="store_true", help="print how often each instruction occurs")
 
 
 def run(arguments: argparse.Namespace) -> int:

@@ -8,10 +8,11 @@ from collections import deque
 from collections.abc import Iterator, Sequence
 
 from .. import LabError, mistakes_in
-from ..guest.changes import ECALL, Carried, Stepper, vtype_text
+from ..guest.changes import Carried, Stepper, vtype_text
 from ..guest.guest import Guest, started
 from ..guest.symbols import Symbols
 from ..instructions.accesses import REGISTER_BYTES
+from ..instructions.calls import ECALL
 from ..runs.dataflow import Cell
 from .differences import differences
 from .logs import Commit, Kind, Log
@@ -25,7 +26,9 @@ def add_arguments(parser: argparse.ArgumentParser) -> None:
     parser.add_argument("image", metavar="IMAGE", type=pathlib.Path, help="an ELF file")
     logs = "Spike's --log-commits, vecmon-record's --log, or QEMU's -d nochain,cpu,vpu,strace (7.2: without vpu)"
     parser.add_argument("log", metavar="LOG", type=pathlib.Path, help=logs)
-    parser.add_argument("--policy", choices=("keep", "ones"), default="keep", help="for agnostic elements; else keep")
+    parser.add_argument(
+        "--policy", choices=("keep", "ones"), default="keep", help="the policy for agnostic elements; by default keep"
+    )
 
 
 def run(arguments: argparse.Namespace) -> int:

@@ -1,5 +1,5 @@
 ## The largest of ten, and their sum
-# Ten numbers of 16 bits: which is the largest, and what is their sum? A reduction makes one number of all elements.
+# Find the largest of ten 16-bit numbers, and their sum. A reduction computes one number from all elements.
 
         .data
 numbers: .half 30000, 12, 31000, 7, 25000, 9, 32000, 1, 5, 28000
@@ -9,19 +9,19 @@ numbers: .half 30000, 12, 31000, 7, 25000, 9, 32000, 1, 5, 28000
         li a1, 10
         vsetvli t0, a1, e16, m1, ta, ma
         vle16.v v8, (a0)
-# A reduction begins with element 0 of its last operand: here with 0.
+# A reduction starts with element 0 of its last operand: here 0.
         vmv.s.x v4, zero
-# The largest of all elements of `v8`, and of element 0 of `v4`, becomes element 0 of `v5`. The tail isn't asked.
+# The largest of all elements of `v8` and of element 0 of `v4` becomes element 0 of `v5`. The tail doesn't count.
         vredmaxu.vs v5, v8, v4
         vmv.x.s a2, v5
-# The sum has no room in 16 bits: `vredsum.vs` loses what is above them.
+# The sum doesn't fit into 16 bits: `vredsum.vs` loses the upper bits.
         vredsum.vs v6, v8, v4
-# `vwredsumu.vs` has twice the width for its sum, and for the 0 that it begins with.
+# The sum of `vwredsumu.vs` has twice the width, and so has the 0 that it starts with.
         vsetvli zero, zero, e32, m2, ta, ma
         vmv.s.x v4, zero
         vsetvli zero, zero, e16, m1, ta, ma
         vwredsumu.vs v7, v8, v4
-# The sum is read as what it is, an element of 32 bits.
+# Read the sum as an element of 32 bits.
         vsetivli zero, 1, e32, m1, ta, ma
         vmv.x.s a3, v7
         ebreak

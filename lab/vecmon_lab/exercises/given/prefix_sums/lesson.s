@@ -1,5 +1,5 @@
 ## The highest so far
-# The heights of eight mountains, from left to right: how high is the highest so far, at each of them?
+# The heights of eight mountains, from left to right: compute at each the greatest height so far.
 
         .data
         .balign 32
@@ -9,20 +9,20 @@ heights: .word 300, 100, 400, 150, 500, 900, 200, 600
         la a0, heights
         vsetivli zero, 8, e32, m1, ta, ma
         vle32.v v8, (a0)
-# A slide by 1 brings each height to the place behind its own. Element 0 of `v9` stays: so it is made 0, which changes no maximum.
+# A slide by 1 moves each height to the next element. Element 0 of `v9` is unchanged: set it to 0, which changes no maximum.
         vmv.v.i v9, 0
         vslideup.vi v9, v8, 1
-# The greater one of a height and the one before it: the highest of two.
+# The greater of a height and the previous one: the maximum of two.
         vmaxu.vv v8, v8, v9
-# Two places before stands the highest of two more, so now each has the highest of four.
+# Two places before is the maximum of two more, so now each has the maximum of four.
         vmv.v.i v9, 0
         vslideup.vi v9, v8, 2
         vmaxu.vv v8, v8, v9
-# And four places before: the highest of eight. Three steps do for eight elements, and four would for sixteen.
+# Four places before: the maximum of eight. Three steps are enough for eight elements, and four for sixteen.
         vmv.v.i v9, 0
         vslideup.vi v9, v8, 4
         vmaxu.vv v8, v8, v9
-# The last one is that of all. A slide down brings it to element 0, where a scalar register can take it.
+# The last one is the maximum of all. A slide down moves it to element 0, where `vmv.x.s` can read it.
         vslidedown.vi v10, v8, 7
         vmv.x.s a1, v10
         ebreak

@@ -1,4 +1,4 @@
-# The sum of all strips stands in 16 bits, which hold 257 bytes of 255.
+# The sum of all strips has 16 bits, enough for 257 bytes of 255.
         li t0, 0
         beqz a1, done
         vsetivli zero, 1, e16, m1, ta, ma

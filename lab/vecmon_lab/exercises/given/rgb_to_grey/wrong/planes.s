@@ -1,4 +1,4 @@
-# The reds are taken to stand before all greens, and these before all blues.
+# Reads all reds first, then all greens, then all blues.
         csrwi vxrm, 1
         li t1, 77
         li t2, 150

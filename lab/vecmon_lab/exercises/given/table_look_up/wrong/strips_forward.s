@@ -1,4 +1,4 @@
-# Each strip is turned round, but the strips stand in their old order.
+# Each strip is reversed, but the strips keep their order.
         vsetivli zero, 16, e8, m1, ta, ma
         vle8.v v4, (a3)
 next:   vsetvli t0, a2, e8, m1, ta, ma

@@ -1,0 +1,78 @@
+"""tools/left_behind.py, which ends tools/test; and what ends the processes of a browser."""
+
+import os
+import pathlib
+import subprocess
+import sys
+from collections.abc import Iterator
+
+import pytest
+
+from support.places import TOP
+from support.processes import alive, descendants, end_all
+
+TOOL = TOP / "tools" / "left_behind.py"
+
+
+@pytest.fixture
+def folder(tmp_path: pathlib.Path) -> pathlib.Path:
+    """A run's folder for temporary files, in which pytest has one of its own."""
+    (tmp_path / "temporary" / "pytest-of-root").mkdir(parents=True)
+    return tmp_path / "temporary"
+
+
+def left(mark: str, folder: pathlib.Path) -> tuple[int, str]:
+    """The tool's status and output, where it waits for nothing."""
+    code = f"import sys; sys.path.insert(0, {str(TOOL.parent)!r}); import left_behind; left_behind.SECONDS = 0; "
+    command = [
+        sys.executable,
+        "-c",
+        f"{code}sys.exit(left_behind.main(*sys.argv[1:2], left_behind.pathlib.Path(sys.argv[2])))",
+    ]
+    done = subprocess.run([*command, mark, str(folder)], capture_output=True, text=True)
+    assert done.stderr == ""
+    return done.returncode, done.stdout
+
+
+@pytest.fixture
+def sleeper() -> Iterator[subprocess.Popen[bytes]]:
+    """A process of the run `one`, in a session of its own."""
+    variables = {**os.environ, "VECMON_TEST_RUN": "one"}
+    with subprocess.Popen(["sleep", "600"], env=variables, start_new_session=True) as process:
+        yield process
+        process.kill()
+
+
+def test_a_process_of_the_run(sleeper: subprocess.Popen[bytes], folder: pathlib.Path) -> None:
+    assert left("one", folder) == (1, f"tools/left_behind.py: left: process {sleeper.pid}: sleep 600\n")
+    assert left("two", folder) == (0, "") and left("on", folder) == (0, "")
+    sleeper.kill()
+    sleeper.wait()
+    assert left("one", folder) == (0, "")
+
+
+def test_a_process_in_the_folder(folder: pathlib.Path) -> None:
+    with subprocess.Popen(["sleep", "600"], cwd=folder / "pytest-of-root") as process:
+        told = left("none", folder)
+        process.kill()
+    assert told == (1, f"tools/left_behind.py: left: process {process.pid}: sleep 600\n")
+
+
+def test_a_folder(folder: pathlib.Path) -> None:
+    (folder / "scoped_dir1").mkdir()
+    assert left("none", folder) == (1, f"tools/left_behind.py: left: folder or file {folder}/scoped_dir1\n")
+
+
+def test_all_processes_of_a_tree_are_ended() -> None:
+    """Of a shell with a child in its own group and one in another, as a browser's command that is killed alone."""
+    code = "sleep 600 & setsid sleep 601 & echo started; wait"
+    with subprocess.Popen(["sh", "-c", code], stdout=subprocess.PIPE) as shell:
+        assert shell.stdout and shell.stdout.readline() == b"started\n"
+        found: list[object] = []
+        while len(found) < 2:
+            processes = descendants(shell.pid)
+            found = [*processes]
+        shell.kill()
+    assert len(processes) == 2 and alive(processes) == processes
+    assert end_all(processes, 0) == processes and alive(processes) == []
+    assert end_all(processes) == []

@@ -1,0 +1,36 @@
+"""Copies the sources, images and scripts of the documents' examples into a folder, in which their commands run."""
+
+import argparse
+import pathlib
+import shutil
+
+from . import LabError
+
+TOP = pathlib.Path(__file__).resolve().parents[2]
+PLACES = {
+    TOP / "lab" / "examples": ".",
+    TOP / "tests" / "command_lines" / "data" / "images": ".",  # of COMPILING.md
+    TOP / "lab" / "vecmon_lab" / "lessons" / "tours": "tour",
+}
+"""The folders of the examples, and where their copies go in the new folder."""
+
+OTHERS = ("good", "short")  # images of tests alone, which no package has
+
+
+def add_arguments(parser: argparse.ArgumentParser) -> None:
+    """The argument of `vecmon-lab examples`."""
+    parser.add_argument("folder", metavar="DIR", type=pathlib.Path, help="the new folder")
+
+
+def run(arguments: argparse.Namespace) -> int:
+    """Copy the examples into a new folder. Raises LabError if it exists, and OSError if it can't be written."""
+    folder = arguments.folder
+    if folder.exists():
+        raise LabError(f"{folder} exists: name a new folder")
+    for source, place in PLACES.items():
+        if not source.is_dir():
+            raise LabError(f"there is no folder {source}: a clone and the packages of vecmon have the examples")
+        ignored = shutil.ignore_patterns("__pycache__", ".*", *OTHERS)
+        shutil.copytree(source, folder / place, copy_function=shutil.copyfile, ignore=ignored, dirs_exist_ok=True)
+    print(f"{folder}: the examples, in which the documents' commands run")
+    return 0

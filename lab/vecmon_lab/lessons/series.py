@@ -1,0 +1,37 @@
+"""A series of lessons: pages with links to one another, and what their index shows of each."""
+
+import pathlib
+from collections.abc import Mapping, Sequence
+from typing import TypedDict
+
+from .frames import make_frames
+from .page import lesson_page
+from .script import Script
+from .strip import Strip, strip_of
+
+Entry = TypedDict("Entry", {"name": str, "title": str, "sentence": str, "strip": Strip})
+"""A lesson in an index: the name of its page without the suffix, its title, its sentence and its picture."""
+
+
+def make_series(
+    program: pathlib.Path, scripts: Mapping[str, tuple[Script, str]]
+) -> tuple[list[tuple[str, str, str]], list[Entry]]:
+    """The pages of lessons, each a name, a title and its HTML, and the entries of their index.
+
+    scripts: by name, in their order, each a script and its sentence. Raises LabError as `make_frames` does.
+    """
+    titles = [(name, script.title) for name, (script, _) in scripts.items()]
+    pages, entries = list[tuple[str, str, str]](), list[Entry]()
+    for place, (name, (script, sentence)) in enumerate(scripts.items()):
+        frames = make_frames(script, program)
+        page = lesson_page(script.title, frames, script, _links(titles, place))
+        pages.append((name, script.title, page))
+        entries.append({"name": name, "title": script.title, "sentence": sentence, "strip": strip_of(frames)})
+    return pages, entries
+
+
+def _links(titles: Sequence[tuple[str, str]], place: int) -> list[tuple[str, str, str]]:
+    """The links of a lesson to the one before it, the index, and the one after it: kind, address and title."""
+    before = [("prev", f"{name}.html", title) for name, title in titles[max(0, place - 1) : place]]
+    after = [("next", f"{name}.html", title) for name, title in titles[place + 1 : place + 2]]
+    return [*before, ("index", "index.html", "All lessons"), *after]

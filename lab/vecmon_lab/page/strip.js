@@ -1,0 +1,14 @@
+// The picture of a lesson: a register's elements in their forms, or words of a program.
+
+import { make } from "./elements.js";
+
+const KINDS = { active: "active", masked: "masked off", tail: "tail", prestart: "before vstart" };
+
+/** The strip of a lesson as an element: what it shows, and its cells. */
+export function stripOf({ name, text, cells }) {
+  const strip = make("span", "strip", ...cells.map(([digits, kind]) => make("span", kind, digits)));
+  const elements = cells.map(([digits, kind]) => [digits, KINDS[kind]].filter(Boolean).join(" ")).join(", ");
+  Object.assign(strip, { role: "img", ariaLabel: `${name}: ${elements}` });
+  const caption = text ? [make("code", "", name), " after ", make("code", "", text)] : [make("code", "", name)];
+  return make("p", "picture", strip, make("small", "", ...caption));
+}
