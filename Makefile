@@ -1,4 +1,4 @@
-# Installs the programs that `rt ci` or `rt run` has built, the lab, manual pages and documents: it builds no program.
+# Installs the programs that `rt ci` or `rt run` has built, the lab, manual pages, documents and the book: it builds no program.
 #
 #     make install|uninstall [prefix=/usr/local] [bindir=..] [mandir=..] [docdir=..] [DESTDIR=..]
 #
@@ -15,12 +15,14 @@ recorder = crates/vecmon_record/out/vecmon_record
 
 lab_files = lab/vecmon_lab/py.typed $(filter-out %.pyc, $(wildcard lab/vecmon_lab/*.py lab/vecmon_lab/*.txt lab/vecmon_lab/*/*.* \
     lab/vecmon_lab/compilers/runtime/* lab/vecmon_lab/exercises/given/*/*.* lab/vecmon_lab/exercises/given/*/wrong/* \
-    lab/vecmon_lab/lessons/tours/* lab/examples/*.* lab/examples/*/*.*))
+    lab/vecmon_lab/lessons/tours/* lab/examples/*.* lab/examples/*/*.*)) \
+    $(filter-out %/good %/short, $(wildcard tests/command_lines/data/images/*))
 documents = README.md CHANGELOG.md CONTRIBUTING.md SECURITY.md CITATION.cff LICENSE-MIT LICENSE-APACHE crates.txt crates/monitor_script/src/script.rt $(wildcard docs/*.md docs/*.csv docs/pictures/*)
 # Outside of the folders that are vecmon's alone, $(lab) and $(docdir)
+commands = $(shell sed -n 's/^\([a-z][a-z]*\) .*/\1/p' lab/vecmon_lab/tables/lab_commands.txt)
 others = $(bindir)/vecmon $(bindir)/vecmon-record $(bindir)/vecmon-lab $(mandir)/man1/vecmon.1 $(mandir)/man1/vecmon-record.1 \
     $(mandir)/man1/vecmon-lab.1 $(mandir)/man5/vecmon-commands.5 $(completions)/vecmon $(completions)/vecmon-record \
-    $(completions)/vecmon-lab
+    $(completions)/vecmon-lab $(commands:%=$(mandir)/man1/vecmon-lab-%.1)
 copy = install -D -m 644
 link = ln -s -f -n --relative
 page = umask 022; packaging/manual_page $(1) $(2) $(3) docs/$(4) > "$(DESTDIR)$(mandir)/man$(2)/$(1).$(2)"
@@ -29,6 +31,8 @@ install:
 	@test -x "$(program)" || { echo 'make install: $(program) not found: build it with `cd crates/vecmon && rt run < stdin` (docs/MEASUREMENTS.md has the times)' >&2; exit 2; }
 	@test -x "$(recorder)" || { echo 'make install: $(recorder) not found: build it with `cd crates/vecmon_record && rt run < stdin`' >&2; exit 2; }
 	@command -v lowdown > /dev/null || { echo 'make install: lowdown not found: it makes the manual pages; run tools/debian_packages packaging' >&2; exit 2; }
+	@command -v help2man > /dev/null || { echo 'make install: help2man not found: it makes the manual pages of the lab; run tools/debian_packages packaging' >&2; exit 2; }
+	@/usr/bin/python3 -c 'import sphinx, myst_parser, furo' 2> /dev/null || { echo 'make install: sphinx, myst-parser or furo not found: they make the book; run tools/debian_packages book' >&2; exit 2; }
 	install -d "$(DESTDIR)$(mandir)/man1" "$(DESTDIR)$(mandir)/man5" "$(DESTDIR)$(docdir)/examples"
 	install -D -m 755 "$(program)" packaging/vecmon-lab -t "$(DESTDIR)$(bindir)"
 	install -m 755 "$(recorder)" "$(DESTDIR)$(bindir)/vecmon-record"
@@ -40,10 +44,12 @@ install:
 	$(link) "$(DESTDIR)$(lab)/lab/examples" "$(DESTDIR)$(docdir)/examples/sources"
 	$(link) "$(DESTDIR)$(lab)/lab/vecmon_lab/exercises/given" "$(DESTDIR)$(docdir)/examples/exercises"
 	$(link) "$(DESTDIR)$(lab)/lab/vecmon_lab/lessons/tours" "$(DESTDIR)$(docdir)/examples/tour"
+	tools/book "$(DESTDIR)$(docdir)/html"
 	$(call page,vecmon,1,'trainer machine for the RISC-V vector extension',PROGRAM.md)
 	$(call page,vecmon-record,1,'records what a program does on the machine of vecmon',RECORDER.md)
 	$(call page,vecmon-lab,1,'front end of vecmon with lessons and classes',LAB.md)
 	$(call page,vecmon-commands,5,'scripts and commands of vecmon',COMMANDS.md)
+	umask 022; packaging/lab_pages "$(DESTDIR)$(mandir)/man1"
 	$(copy) packaging/completion "$(DESTDIR)$(completions)/vecmon"
 	for name in vecmon-record vecmon-lab; do $(link) "$(DESTDIR)$(completions)/vecmon" "$(DESTDIR)$(completions)/$$name"; done
 	$(MAKE) -s list

@@ -104,7 +104,7 @@ def wrong_axioms(page: str, output: str) -> Iterator[str]:
             yield f"the proof of vecmon rests on {reached} of the {all_of_it} of `{crate}`"
     for crate in re.findall(r"^statements (\w+):", report, re.MULTILINE):
         if not (counted.CRATES / crate).exists() and f"`{crate}`" not in page.partition("\n## Trusted\n")[2]:
-            yield f"vecmon stands on the kit's `{crate}`"
+            yield f"vecmon uses the kit's `{crate}`"
 
 
 def main() -> int:

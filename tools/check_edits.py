@@ -30,7 +30,7 @@ def fault_of(edit: pathlib.Path) -> str | None:
                 return "a line `new:` without `file:` and `old:`"
             found = texts[path].count(old)
             if found != 1:
-                return f"the text after `old:` stands {found} times in {path}: {old.strip()}"
+                return f"the text after `old:` occurs {found} times in {path}: {old.strip()}"
             texts[path] = texts[path].replace(old, line.removeprefix("new:").removeprefix(" "))
             old, pairs = "", pairs + 1
     return None if pairs else "no pair of `old:` and `new:`"

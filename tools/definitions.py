@@ -469,7 +469,7 @@ def print_all() -> None:
         print(f"{lines:6,}  {'constants of src' if part == 'src' else f'of {part}'}")
     print(f"{total_of(modules, parts):6,}  in all")
     headline, read = files_of(closure(start_of(HEADLINE))), addition()
-    print(f"{sum(headline.values()):6,}  in {len(headline)} files: what the headline rests on")
+    print(f"{sum(headline.values()):6,}  in {len(headline)} files: definitions behind the headline")
     print(f"{sum(read.values()):6,}  in {len(read)} files: from the headline to vadd.vv")
     kit = modules_of_kit(definitions(()))
     for crate in sorted({it for it, _ in kit}):

@@ -1,0 +1,213 @@
+#!/usr/bin/python3
+"""Counts indirect forms and long sentences, and compares them with limits: `tools/check_prose.py [--list PATH]`, at the top of the
+repository.
+
+A row for each group of pages in docs/book.toml, for messages and for comments has the words, the forms in a thousand words, the share of
+sentences above 30 words, and the page of 500 words or more with most forms. Messages are the strings of the lab, the tools and the crates,
+and the texts of exercises and lessons. The status is 1 if a figure is above its limit. With --list, each place below PATH is printed
+instead: a form with its line, or a long sentence. tools/prose_allowed.txt lists places where a form is right.
+"""
+
+import re
+import sys
+from collections.abc import Iterator
+from dataclasses import dataclass, field
+from pathlib import Path
+
+from book_html.navigation import read_groups
+from prose_texts import READERS, Block
+
+LONG = 30  # words: a sentence above this counts as long
+SMALL = 500  # words: below this a page has no limit of its own
+ALLOWED = "tools/prose_allowed.txt"
+
+FORMS = {
+    name: re.compile(form)
+    for name, form in {
+        "tell": r"\b(tells?|told|telling)\b",
+        "stand": r"\b(stands?|stood|standing)\b",
+        "carry out": r"\bcarr(y|ies|ied|ying) out\b",
+        "put out": r"\bput(s|ting)? out\b",
+        "what clause": r"(?:^|[.;:,(] )[Ww]hat (?!is\b|are\b|does\b|do\b)\w+",
+        "who, whoever": r"(?:^|[.;] )(Who|Whoever)\b|\bwhoever\b",
+        "is to be": r"\bcan't be had\b|\bcan be had\b|\bis to be\b",
+        "of which": r"\bof which\b",
+        "one": r"\bone's own\b|\bas one (who|does|works)\b",
+        "words": r"\bwords? of (a|the|its|options?|commands?)\b",
+        "beside": r"\bbeside\b",
+        "so many": r"\bso many\b|\bas (often|many) as\b",
+        "the begin": r"\bthe begin\b",
+        "answers": r"^\s*Answers\b",
+        "made of": r"\b(made|comes|came|come) of\b",
+        "part": r"\bpartings?\b|\bruns part\b",
+    }.items()
+}
+
+MESSAGES = (
+    "lab/vecmon_lab/**/*.*",
+    "lab/examples/**/*.s",
+    "lab/tools/*.py",
+    "tools/*.py",
+    "tools/book_html/*.py",
+    "crates/*/src/**/*.rt",
+    "crates/*/specs/**/*.antt",
+    "tests/command_lines/data/*.page",
+)
+
+
+@dataclass(frozen=True)
+class Limits:
+    """The highest figures allowed: forms in a thousand words, those of one page, and the share of long sentences in percent."""
+
+    forms: float
+    page: float
+    long: float
+
+
+# To be lowered with each page that is rewritten, to at most Limits(1, 3, 2) for all but engineers' pages and comments.
+LIMITS = {
+    "users": Limits(1, 3, 2),
+    "teachers": Limits(1, 3, 2),
+    "engineers": Limits(11.5, 18, 9),
+    "messages": Limits(1, 3, 0.5),
+    "comments": Limits(17, 30, 1),
+}
+
+
+@dataclass
+class Count:
+    """Words, sentences, and the places of forms and long sentences, of one file or of several."""
+
+    words: int = 0
+    sentences: int = 0
+    forms: list[str] = field(default_factory=list)
+    long: list[str] = field(default_factory=list)
+
+    def add(self, other: "Count") -> None:
+        """Adds the figures of another one."""
+        self.words += other.words
+        self.sentences += other.sentences
+        self.forms += other.forms
+        self.long += other.long
+
+    @property
+    def in_a_thousand(self) -> float:
+        return 1000 * len(self.forms) / max(self.words, 1)
+
+    @property
+    def long_percent(self) -> float:
+        return 100 * len(self.long) / max(self.sentences, 1)
+
+
+class Allowed:
+    """The places where a form is right: a path, two spaces, and a text of the line. An entry that allows nothing is a fault."""
+
+    def __init__(self, text: str) -> None:
+        lines = [line for line in text.split("\n") if line and not line.startswith("#")]
+        self.entries = [(path, phrase) for path, _, phrase in (line.partition("  ") for line in lines)]
+        self.used = set[tuple[str, str]]()
+
+    def allows(self, path: str, line: str) -> bool:
+        """Whether a form in this line of the file is allowed."""
+        found = [entry for entry in self.entries if entry[0] == path and entry[1] in line]
+        self.used.update(found)
+        return bool(found)
+
+    def unused(self) -> list[str]:
+        """Return a message for each entry that allowed nothing."""
+        return [
+            f"{ALLOWED}: {path}: '{it}' not found; remove the entry"
+            for path, it in self.entries
+            if (path, it) not in self.used
+        ]
+
+
+def sentences_of(block: Block) -> list[str]:
+    """Return a block's sentences: each ends at a full stop, a question mark or an exclamation mark before a space, or with the block."""
+    return [it for it in re.split(r"(?<=[.?!])\s+(?=[A-Z`*\[\"(])", " ".join(block.lines).strip()) if it]
+
+
+def words_in(text: str) -> int:
+    """Return the number of words of a text; code counts as one word."""
+    return sum(any(character.isalnum() or character == "`" for character in word) for word in text.split())
+
+
+def count_block(path: str, block: Block, allowed: Allowed) -> Count:
+    """Return the figures of one block of a file."""
+    count = Count()
+    for number, line in enumerate(block.lines, block.line):
+        count.words += words_in(line)
+        for name, form in FORMS.items():
+            if form.search(line) and not allowed.allows(path, line):
+                count.forms += [f"{path}:{number}: {name}: {line.strip()[:110]}"] * len(form.findall(line))
+    for sentence in sentences_of(block):
+        count.sentences += 1
+        if (length := words_in(sentence)) > LONG:
+            count.long.append(f"{path}:{block.line}: {length} words: {sentence[:110]}")
+    return count
+
+
+def counts_of(top: Path, path: str, allowed: Allowed) -> tuple[Count, Count]:
+    """Return the figures of a file's texts and of its comments."""
+    texts, comments = Count(), Count()
+    for block in READERS[Path(path).suffix]((top / path).read_text("utf-8", errors="replace")):
+        (comments if block.comment else texts).add(count_block(path, block, allowed))
+    return texts, comments
+
+
+def message_paths(top: Path) -> Iterator[str]:
+    """Return the files with messages and comments, each once, in order."""
+    found = {str(it.relative_to(top)) for pattern in MESSAGES for it in top.glob(pattern) if it.suffix in READERS}
+    yield from sorted(found)
+
+
+def count_all(top: Path, allowed: Allowed) -> dict[str, dict[str, Count]]:
+    """Return the figures of each file, by the names of the groups of pages, `messages` and `comments`."""
+    rows = {group.name: {page: counts_of(top, page, allowed)[0] for page in group.pages} for group in read_groups(top)}
+    rows["messages"], rows["comments"] = {}, {}
+    for path in message_paths(top):
+        rows["messages"][path], rows["comments"][path] = counts_of(top, path, allowed)
+    return rows
+
+
+def report(name: str, files: dict[str, Count]) -> tuple[str, list[str]]:
+    """Return a group's row, and a message for each of its figures that is above its limit."""
+    whole = Count()
+    for count in files.values():
+        whole.add(count)
+    pages = {path: count.in_a_thousand for path, count in files.items() if count.words >= SMALL}
+    worst = max(pages, key=lambda path: pages[path], default="")
+    most = pages.get(worst, 0.0)
+    row = f"{name:9}  {whole.words:7} words  {whole.in_a_thousand:5.1f} in 1000  {whole.long_percent:5.1f} % long  most: {most:.1f} {worst}"
+    limits, faults = LIMITS[name], list[str]()
+    if whole.in_a_thousand > limits.forms:
+        faults.append(f"{name}: {whole.in_a_thousand:.2f} forms in 1000 words, at most {limits.forms}")
+    if most > limits.page:
+        faults.append(f"{worst}: {most:.2f} forms in 1000 words, at most {limits.page} on a page; see --list {worst}")
+    if whole.long_percent > limits.long:
+        faults.append(
+            f"{name}: {whole.long_percent:.2f} % of the sentences are above {LONG} words, at most {limits.long} %"
+        )
+    return row, faults
+
+
+def main(arguments: list[str]) -> int:
+    """Prints the figures, or the places below a path; returns the exit status."""
+    top = Path()
+    allowed = Allowed((top / ALLOWED).read_text("utf-8"))
+    rows = count_all(top, allowed)
+    if arguments[:1] == ["--list"] and len(arguments) == 2:
+        counts = [count for files in rows.values() for path, count in files.items() if path.startswith(arguments[1])]
+        print("\n".join(place for count in counts for place in count.forms + count.long))
+        return 0
+    if arguments:
+        print("tools/check_prose.py: usage: tools/check_prose.py [--list PATH]", file=sys.stderr)
+        return 2
+    reports = [report(name, files) for name, files in rows.items()]
+    faults = [fault for _, found in reports for fault in found] + allowed.unused()
+    print("\n".join([row for row, _ in reports] + faults))
+    return 1 if faults else 0
+
+
+if __name__ == "__main__":
+    sys.exit(main(sys.argv[1:]))
