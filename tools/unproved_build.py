@@ -1,10 +1,12 @@
 #!/usr/bin/env python3
-"""Builds a program without its proofs, optimized: `tools/unproved_build.py CRATE OUT`, at the top of the repository.
+"""Builds a program without its proofs, optimized: `tools/unproved_build.py CRATE OUT [MODULE]`, at the top of the repository.
 
 So a change is measured before it is proved. `rt try` compiles a program with checks of its own; this keeps the module that it gives to
 clang, drops the checks, marks the functions that stand under `#[inline(..)]`, and compiles the rest at -O3. Counts of machine instructions lay
 within 3 % of the proved program's where both took the same functions in line; the compiler of the proved one drops some of those marks,
 and then they differ much. Nothing else may be concluded from it: the program that counts is the proved one.
+
+MODULE gets the LLVM module that is compiled, as text whose first line names the kit (tools/wasm).
 """
 
 import glob
@@ -16,13 +18,14 @@ import subprocess
 import sys
 import tempfile
 
+from linked_kit import TARGET, installed_kit, kit_identity, link_kit, link_program, write_text
+
 STAND_IN = """#!/bin/bash
 for word in "$@"; do
     [ "$word" = module.bc ] && [ "$(stat -c %s module.bc)" -gt 100000 ] && {{ cp module.bc {kept}; exit 1; }}
 done
 exec {clang} "$@"
 """
-TARGET = "x86_64-unknown-linux-gnu"
 FLAGS = (
     "-march=x86-64-v2 -mllvm -no-trap-after-noreturn -ffunction-sections -fdata-sections -mllvm -trap-unreachable "
     "-mllvm -no-x86-call-frame-opt -mllvm -disable-machine-licm -mllvm -disable-postra-machine-licm "
@@ -36,21 +39,11 @@ COMMON = 'nounwind "frame-pointer"="all" "probe-stack"="inline-asm" "stack-probe
 
 def kit_with_stand_in(kit, room, kept):
     """Makes a folder that is the kit but for its clang, which keeps the large module and goes no further."""
-    for part in os.listdir(kit):
-        if part not in ("bin", "toolchain"):
-            os.symlink(f"{kit}/{part}", f"{room}/{part}")
-    for folder in ("bin", "toolchain/bin"):
-        os.makedirs(f"{room}/{folder}")
-        for name in os.listdir(f"{kit}/{folder}"):
-            if name not in ("rt", "rtlib.py", "clang"):
-                os.symlink(f"{kit}/{folder}/{name}", f"{room}/{folder}/{name}")
-    os.symlink(f"{kit}/toolchain/lib", f"{room}/toolchain/lib")
-    for name in ("rt", "rtlib.py"):
-        shutil.copy(f"{kit}/bin/{name}", f"{room}/bin/{name}")
-    stand_in = f"{room}/toolchain/bin/clang"
+    stand_in = f"{room}.clang"
     with open(stand_in, "w", encoding="utf-8") as it:
         it.write(STAND_IN.format(kept=shlex.quote(kept), clang=shlex.quote(f"{kit}/toolchain/bin/clang")))
     os.chmod(stand_in, 0o755)
+    link_kit(kit, room, stand_in)
 
 
 def inlined(crates):
@@ -91,26 +84,26 @@ def without_checks(module, marks):
             yield line.replace("sanitize_address ", "")
 
 
-def main(crate, out):
-    kit = os.path.dirname(subprocess.run(["rt", "doc"], capture_output=True, text=True, check=True).stdout.strip())
+def main(crate, out, copy=None):
+    kit = installed_kit()
     clang, crates = f"{kit}/toolchain/bin/clang", os.path.abspath("crates")
     with tempfile.TemporaryDirectory() as room:
         kept, text, fast, made = (f"{room}/{it}" for it in ("kept.bc", "kept.ll", "fast.ll", "fast.o"))
-        os.mkdir(f"{room}/kit")
         kit_with_stand_in(kit, f"{room}/kit", kept)
         tried = subprocess.run([f"{room}/kit/bin/rt", "try", "--steps", "1"], cwd=f"{crates}/{crate}", capture_output=True, text=True)
         if not os.path.isfile(kept):
             sys.exit(f"{tried.stdout}{tried.stderr}no module was made")
-        subprocess.run([clang, f"--target={TARGET}", "-x", "ir", "-S", "-emit-llvm", "-O0", kept, "-o", text], check=True)
+        write_text(kit, kept, text)
         with open(text, encoding="utf-8") as module, open(fast, "w", encoding="utf-8") as it:
+            it.write(f"; {kit_identity()}\n")
             it.writelines(without_checks(module, inlined(crates)))
+        if copy:
+            shutil.copy(fast, copy)
         subprocess.run([clang, f"--target={TARGET}", *FLAGS, "-c", "-x", "ir", fast, "-o", made], check=True)
-        libraries = [f"{kit}/c/libos_c.a", f"{kit}/c/liblibc_c.a"]
-        linker = [f"{kit}/bin/rattle-link", "--target", TARGET, "--toolchain", f"{kit}/toolchain", "-o", out]
-        subprocess.run([*linker, made, *libraries], check=True, capture_output=True)
+        link_program(kit, made, out)
 
 
 if __name__ == "__main__":
-    if len(sys.argv) != 3:
+    if len(sys.argv) not in (3, 4):
         sys.exit(__doc__)
-    main(sys.argv[1], sys.argv[2])
+    main(*sys.argv[1:])
