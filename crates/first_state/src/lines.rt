@@ -15,7 +15,7 @@ ghost use Rattle.first_state.specs.Lines.{
 };
 
 use crate::setting::Setting;
-use monitor_cmds::{Words, address, instruction_address, scalar_register, vector_register};
+use line_text::{Words, address, instruction_address, scalar_register, vector_register};
 use rv_model::{Reg, RegisterBytes, RoundingMode, VReg};
 use vtype_rules::{vector_type, vtype_number};
 

@@ -8,7 +8,7 @@ ghost use Rattle.memory_changes.specs.Changes.{change, change_line, changes_at, 
 use crate::place::{MAX_LENGTH, Place, SMALL_LENGTH};
 use crate::reading::read_bytes;
 use devices::{Sink, write_all};
-use monitor_cmds::{Reply, push_decimal, push_hex16};
+use line_text::{Reply, push_decimal, push_hex16};
 use recording::RecordFault;
 use vector_memory::UserBytes;
 

@@ -1,4 +1,3 @@
 pub mod DisassemblyLaws
 pub mod PieceLaws
 pub mod RegisterLines
-pub mod WordLaws

@@ -3,8 +3,8 @@ ghost use Rattle.std.specs.Prelude.{◌≡◌, [], ◌∷◌, ◌++◌, ◌+◌,
 ghost use Rattle.rv_model.specs.text.Lines.{text};
 ghost use Rattle.monitor_cmds.specs.Tag.{tag_byte};
 
-use crate::reply::Reply;
 use crate::tag::Tag;
+use line_text::Reply;
 
 /// Adds a line.
 pub(crate) fn push_line(reply: &mut Reply, tag: Tag, line: &[u8])

@@ -16,10 +16,7 @@ ghost use Rattle.rv_model.specs.machine.Setup.{user_count, users};
 ghost use Rattle.rv_model.specs.text.Lines.{text};
 ghost use Rattle.rv_model.specs.text.Words.{words};
 
-use crate::arguments::{count, user};
-use crate::numerals::push_decimal;
-use crate::reply::Reply;
-use crate::words::{Words, done};
+use line_text::{Reply, Words, count, done, push_decimal, user};
 use rv_model::{OperatorCommand, Refusal, Standing, Stats, USER_COUNT, User};
 
 /// The command of a name, by its arguments as they stand in the line. `None` where there is no such

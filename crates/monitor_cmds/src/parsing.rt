@@ -10,7 +10,7 @@ use crate::commands::programs::programs_named;
 use crate::commands::registers::registers_named;
 use crate::commands::running::running_named;
 use crate::trimming::after_two_words;
-use crate::words::Words;
+use line_text::Words;
 use rv_model::{Cmd, Refusal};
 
 /// The command of a name, of its arguments as they stand in the line, and of what follows the first

@@ -5,9 +5,8 @@ ghost use Rattle.rv_model.specs.text.Lines.{text};
 ghost use Rattle.monitor_cmds.specs.Tag.{tag_byte};
 
 use crate::lines::push_line;
-use crate::numerals::push_decimal;
-use crate::reply::Reply;
 use crate::tag::Tag;
+use line_text::{Reply, push_decimal};
 use rv_model::Refusal;
 
 /// Adds the code of a refusal, and what it tells.

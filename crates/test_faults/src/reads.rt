@@ -3,7 +3,7 @@
 ghost use Rattle.std.specs.Prelude.{None};
 
 use crate::tally::Tally;
-use program_files::{Inputs, ReadFault, read_file};
+use devices::{Inputs, ReadFault, read_file};
 use std::alloc::{AllocError, Global};
 use std::io;
 use std::io::{ErrorKind, Read};

@@ -21,7 +21,7 @@ use Rattle.rv_model.specs.machine.Setup.{Image as NamedImage, Setup}
 use Rattle.vec_monitor.specs.CommandLine.{image_words, quantum_word, script_word, words_fault, IsQuantum}
 use Rattle.vec_monitor.specs.ImageFiles.{named_file, IsFileOf}
 use Rattle.vec_monitor.specs.ImageWords.{IsNameAndPath, IsPathOf}
-use Rattle.program_files.specs.KnownBytes.{AreKnownAs}
+use Rattle.devices.specs.KnownBytes.{AreKnownAs}
 use Rattle.vec_monitor.specs.ProgramRuns.{IsImageOf, PutOutPrefix, RanOptions, RanScript, RanWords}
 use Rattle.vec_monitor.specs.Statuses.{program_status}
 use Rattle.vec_monitor.specs.declared.image_files.ImageFile.{ImageFile}

@@ -1,7 +1,7 @@
 -- The files of images.
 use Rattle.std.specs.Prelude.{◌≡◌, ◌≤◌, ℕ, List, Option, length}
 use Rattle.rv_model.specs.machine.Setup.{Image as NamedImage}
-use Rattle.program_files.specs.KnownBytes.{AreKnownAs}
+use Rattle.devices.specs.KnownBytes.{AreKnownAs}
 use Rattle.vec_monitor.specs.declared.image_files.ImageFile.{ImageFile}
 use Rattle.vec_monitor.specs.declared.image_words.ImagePath.{ImagePath}
 

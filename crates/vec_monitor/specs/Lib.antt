@@ -8,4 +8,4 @@ pub use Rattle.monitor_machine.specs.MachineState
 pub use Rattle.monitor_machine.specs.NewFaults
 pub use Rattle.monitor_script.specs.EndedLines
 pub use Rattle.monitor_script.specs.FailedWrites
-pub use Rattle.program_files.specs.KnownBytes
+pub use Rattle.devices.specs.KnownBytes

@@ -11,7 +11,7 @@ use Rattle.rv_model.specs.machine.Script.{lines, own, whole}
 use Rattle.rv_model.specs.machine.Setup.{Image, Setup, user_count}
 use Rattle.vec_monitor.specs.CommandLine.{image_words, quantum_word, script_word, words_fault, IsQuantum}
 use Rattle.vec_monitor.specs.ImageWords.{IsNameAndPath}
-use Rattle.program_files.specs.KnownBytes.{AreKnownAs}
+use Rattle.devices.specs.KnownBytes.{AreKnownAs}
 
 -- A new machine of these fixed parameters read a script to its end and put out the script's output. Each user's lines are those of a
 -- private machine that is given that user's events alone.

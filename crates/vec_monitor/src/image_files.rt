@@ -7,8 +7,8 @@ ghost use Rattle.vec_monitor.specs.declared.program_fault.ProgramFault.TheVarian
 
 use crate::image_words::ImagePath;
 use crate::program_fault::ProgramFault;
+use devices::{Inputs, ReadFault, read_file};
 use monitor_machine::{Image, MAX_IMAGE};
-use program_files::{Inputs, ReadFault, read_file};
 use std::alloc::{AllocError, Allocator};
 
 /// The file of an image, by the image's name.

@@ -10,6 +10,7 @@ mod program_fault;
 mod words;
 
 pub use command_line::{Options, UsageFault};
+pub use devices::Inputs;
 pub use monitor_machine::{Image, Machine, NewFault};
 pub use monitor_script::{DeviceFault, ReaderSource, RunFault, Sink, Source, WriterSink, run};
 pub use program::{report, vecmon, vecmon_into};
@@ -17,7 +18,6 @@ pub use program_fault::{
     ProgramFault, STATUS_DONE, STATUS_IMAGE, STATUS_NO_MEMORY, STATUS_OUTPUT, STATUS_SCRIPT,
     STATUS_USAGE,
 };
-pub use program_files::Inputs;
 pub use rv_model::{
     absent_users_have_nothing, configurations_that_stay, each_user_alone, refusals_change_nothing,
     slices_add_up, steps_take_ticks, turns_are_fair,

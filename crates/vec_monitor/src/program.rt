@@ -17,9 +17,9 @@ use crate::image_files::{borrowed_images, read_images};
 use crate::image_words::image_paths;
 use crate::program_fault::{ProgramFault, STATUS_DONE};
 use crate::words::options;
+use devices::Inputs;
 use monitor_machine::Machine;
 use monitor_script::{ReaderSource, RunFault, Sink, WriterSink, run};
-use program_files::Inputs;
 use std::alloc::{Allocator, Global};
 use std::io::{self, Read};
 

@@ -2,7 +2,7 @@
 -- known of their bytes.
 use Rattle.std.specs.Prelude.{◌≡◌, ℕ, List, [], ◌∷◌, Option, None, Some, Ok}
 use Rattle.clap.specs.Walk.{Text}
-use Rattle.program_files.specs.KnownBytes.{AreKnownAs}
+use Rattle.devices.specs.KnownBytes.{AreKnownAs}
 use Rattle.rv_model.specs.memory.Memory.{Memory}
 use Rattle.rv_model.specs.declared.vector.policy.Policy.{Policy}
 use Rattle.rv_model.specs.step.Hart.{HartState}

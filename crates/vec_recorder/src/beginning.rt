@@ -1,6 +1,6 @@
 //! The machine that a run begins with.
 ghost use Rattle.std.specs.Prelude.{◌≡◌, ◌≤◌, ◌∷◌, [], IfErr, IfOk, OnOk, option_map};
-ghost use Rattle.program_files.specs.KnownBytes.{AreKnownAs};
+ghost use Rattle.devices.specs.KnownBytes.{AreKnownAs};
 ghost use Rattle.recording.specs.Machines.{state_of};
 ghost use Rattle.first_state.specs.OwnMemory.{own_memory};
 ghost use Rattle.first_state.specs.Placed.{in_memory};
@@ -9,8 +9,8 @@ ghost use Rattle.vec_recorder.specs.Statuses.{IsOfBeginning};
 
 use crate::memory_words::MemoryPath;
 use crate::program_fault::ProgramFault;
+use devices::{Inputs, ReadFault, read_file};
 use first_state::{OwnBytes, enter, lay_registers, load, place_bytes};
-use program_files::{Inputs, ReadFault, read_file};
 use recording::Alone;
 use rv_model::Policy;
 use std::alloc::Global;

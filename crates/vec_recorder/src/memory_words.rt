@@ -7,7 +7,7 @@ ghost use Rattle.vec_recorder.specs.Statuses.{program_status};
 ghost use Rattle.vec_recorder.specs.declared.program_fault.ProgramFault.TheVariants.{NoMemory};
 
 use crate::program_fault::ProgramFault;
-use monitor_cmds::{address, permissions};
+use line_text::{address, permissions};
 use rv_model::Permissions;
 use std::alloc::Allocator;
 

@@ -63,7 +63,7 @@ pub(crate) fn policy<'a>(word: Option<&str>) -> Result<Policy, ProgramFault<'a>>
     let Some(word) = word else {
         return Ok(Policy::Keep);
     };
-    match monitor_cmds::policy(word.as_bytes()) {
+    match line_text::policy(word.as_bytes()) {
         Some(policy) => Ok(policy),
         None => Err(ProgramFault::Policy),
     }

@@ -14,7 +14,7 @@ ghost use Rattle.vec_recorder.specs.RecordLines.{
 };
 
 use devices::{DeviceFault, Sink, write_all};
-use monitor_cmds::{Reply, push_decimal, push_hex8, push_hex16, push_stop};
+use line_text::{Reply, push_decimal, push_hex8, push_hex16, push_stop};
 use recording::{Key, Row, Sums};
 use rv_model::{StepEnd, Stop};
 

@@ -9,7 +9,7 @@ ghost use Rattle.vec_recorder.specs.declared.program_fault.ProgramFault.TheVaria
 use crate::numbers::length_number;
 use crate::program_fault::ProgramFault;
 use memory_changes::Place;
-use monitor_cmds::address;
+use line_text::address;
 use std::alloc::Allocator;
 
 /// Places that are watched, and the path of the file for their changes, if there is one.

@@ -1,33 +1,21 @@
 //! The program: runs a script on a machine for eight users.
 #![tactic(auto)]
 
-ghost use Rattle.std.specs.Prelude.{◌≡◌, ◌⊎◌, IfErr};
-ghost use Rattle.vec_monitor.specs.declared.program_fault.ProgramFault.TheVariants.{NoMemory, NoText};
+ghost use Rattle.std.specs.Prelude.{◌≡◌, ◌⊎◌};
 
-use std::env;
-use std::io::ErrorKind;
+use devices::{ArgumentFault, arguments};
 use std::process::ExitCode;
 use vec_monitor::{ProgramFault, report, vecmon};
 
-/// The words that the process was started with, the program's name first.
-fn arguments(rt: &HostRuntime) -> Result<Vec<String>, ProgramFault<'static>>
-    ensures { IfErr result (λ fault. (fault ≡ NoMemory) ⊎ (fault ≡ NoText)) }
-{
-    match env::args(rt) {
-        Ok(arguments) => Ok(arguments.collect(rt.alloc())?),
-        Err(error) if error.kind() == ErrorKind::OutOfMemory => Err(ProgramFault::NoMemory),
-        Err(_) => Err(ProgramFault::NoText),
-    }
-}
-
-/// Runs the program with these words, and answers its status.
+/// Runs the program with the arguments of the process. Returns the exit status.
 fn run(rt: &HostRuntime) -> u8
     ensures statuses { (result ≡ 0) ⊎ ((result ≡ 2) ⊎ ((result ≡ 3) ⊎ ((result ≡ 4)
         ⊎ ((result ≡ 5) ⊎ (result ≡ 6))))) }
 {
     let arguments = match arguments(rt) {
         Ok(arguments) => arguments,
-        Err(fault) => return report(rt, &fault),
+        Err(ArgumentFault::NoMemory) => return report(rt, &ProgramFault::NoMemory),
+        Err(ArgumentFault::NoText) => return report(rt, &ProgramFault::NoText),
     };
     let words: Result<Vec<&str>, _> = arguments
         .iter()

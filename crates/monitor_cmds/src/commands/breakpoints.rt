@@ -8,11 +8,8 @@ ghost use Rattle.rv_model.specs.text.Lines.{text};
 ghost use Rattle.rv_model.specs.text.Words.{words};
 ghost use Rattle.monitor_cmds.specs.Tag.{tag_byte};
 
-use crate::arguments::instruction_address;
-use crate::numerals::push_addresses;
-use crate::reply::Reply;
 use crate::tag::Tag;
-use crate::words::{Words, done};
+use line_text::{Reply, Words, done, instruction_address, push_addresses};
 use rv_model::BreakpointCommand;
 
 /// The command of a name, by its arguments as they stand in the line. `None` where the group has no

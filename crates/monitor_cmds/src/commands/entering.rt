@@ -6,9 +6,8 @@ ghost use Rattle.rv_model.specs.text.Words.{words};
 ghost use Rattle.monitor_cmds.specs.Tag.{tag_byte};
 
 use crate::lines::push_line;
-use crate::reply::Reply;
 use crate::tag::Tag;
-use crate::words::{Words, done};
+use line_text::{Reply, Words, done};
 use rv_model::EnteringCommand;
 
 /// The command of a name, by its arguments as they stand in the line. `None` where the group has no

@@ -8,11 +8,8 @@ ghost use Rattle.rv_model.specs.text.Lines.{text};
 ghost use Rattle.rv_model.specs.text.Words.{words};
 ghost use Rattle.monitor_cmds.specs.Tag.{tag_byte};
 
-use crate::arguments::{address, count, permissions};
-use crate::numerals::{push_bytes, push_hex16};
-use crate::reply::Reply;
 use crate::tag::Tag;
-use crate::words::{Words, done};
+use line_text::{Reply, Words, address, count, done, permissions, push_bytes, push_hex16};
 use rv_model::{ByteString, Count, MemoryCommand, PAGE_QUOTA, PageRange};
 
 /// The command of a name, by its arguments as they stand in the line. `None` where the group has no

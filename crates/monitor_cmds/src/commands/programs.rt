@@ -17,11 +17,10 @@ ghost use Rattle.rv_model.specs.text.Lines.{tagged, text};
 ghost use Rattle.rv_model.specs.text.Words.{words};
 ghost use Rattle.monitor_cmds.specs.Tag.{tag_byte};
 
-use crate::arguments::{count, instruction_address};
-use crate::numerals::{push_decimal, push_hex8, push_hex16};
-use crate::reply::Reply;
 use crate::tag::Tag;
-use crate::words::{Words, done};
+use line_text::{
+    Reply, Words, count, done, instruction_address, push_decimal, push_hex8, push_hex16,
+};
 use rv_asm::{Text, text_of};
 use rv_model::{LinePart, ProgramCommand};
 

@@ -37,13 +37,11 @@ ghost use Rattle.rv_model.specs.vector.RoundingModes.{rounding_number};
 ghost use Rattle.rv_model.specs.vector.TypeRules.{vtype_number};
 ghost use Rattle.monitor_cmds.specs.Tag.{tag_byte};
 
-use crate::arguments::{
-    address, element_width, instruction_address, policy, scalar_register, vector_register,
-};
-use crate::numerals::{push_bytes, push_decimal, push_hex16};
-use crate::reply::Reply;
 use crate::tag::Tag;
-use crate::words::{Words, done};
+use line_text::{
+    Reply, Words, address, done, element_width, instruction_address, policy, push_bytes,
+    push_decimal, push_hex16, scalar_register, vector_register,
+};
 use rv_model::{
     RegisterBytes, RegisterCommand, RoundingMode, Scalar, Sew, VConf, VLENB, VReg, VState,
 };

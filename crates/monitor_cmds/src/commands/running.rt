@@ -19,12 +19,11 @@ ghost use Rattle.rv_model.specs.text.Lines.{tagged, text};
 ghost use Rattle.rv_model.specs.text.Words.{words};
 ghost use Rattle.monitor_cmds.specs.Tag.{tag_byte};
 
-use crate::arguments::count;
-use crate::numerals::{push_addresses, push_bytes, push_decimal, push_hex16};
-use crate::reply::Reply;
-use crate::stops::{push_pc, stop_line};
+use crate::stops::stop_line;
 use crate::tag::Tag;
-use crate::words::{Words, done};
+use line_text::{
+    Reply, Words, count, done, push_addresses, push_bytes, push_decimal, push_hex16, push_pc,
+};
 use rv_model::{RunningCommand, Stop};
 
 /// The command of a name, by its arguments as they stand in the line. `None` where the group has no

@@ -1,6 +1,6 @@
 use Rattle.std.proofs.Common.{refl, subst, sym}
 use Rattle.first_state.specs.OwnMemory.{own_memory}
-use Rattle.program_files.specs.KnownBytes.{AreKnownAs}
+use Rattle.devices.specs.KnownBytes.{AreKnownAs}
 use Rattle.vec_recorder.specs.Beginning.{ArePlaced}
 use Rattle.vec_recorder.proofs.beginning.place_file.Goals as goal
 

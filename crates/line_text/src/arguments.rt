@@ -45,7 +45,7 @@ fn number(low: usize, high: usize, word: &[u8]) -> Option<usize>
 }
 
 /// A decimal number from 1 to `MAX`.
-pub(crate) fn count<const MAX: usize>(word: &[u8]) -> Option<Count<MAX>>
+pub fn count<const MAX: usize>(word: &[u8]) -> Option<Count<MAX>>
     ensures { result ≡ number_between 1 MAX word.now }
 {
     let count = number(1, MAX, word)?;
@@ -53,7 +53,7 @@ pub(crate) fn count<const MAX: usize>(word: &[u8]) -> Option<Count<MAX>>
 }
 
 /// A user's number, 1 to `USER_COUNT`.
-pub(crate) fn user(word: &[u8]) -> Option<User>
+pub fn user(word: &[u8]) -> Option<User>
     ensures { result ≡ number_between 1 user_count word.now }
 {
     let number = number(1, USER_COUNT, word)?;
@@ -106,7 +106,7 @@ pub fn vector_register(word: &[u8]) -> Option<VReg>
 }
 
 /// The width of an element in bits: `8`, `16`, `32` or `64`.
-pub(crate) fn element_width(word: &[u8]) -> Option<Sew>
+pub fn element_width(word: &[u8]) -> Option<Sew>
     ensures { result ≡ sew_argument word.now }
 {
     if word == b"8".as_slice() {

@@ -1,6 +1,6 @@
 use Rattle.std.proofs.Common.{◌≡◌, ◌+◌, length}
 use Rattle.std.specs.Io.KnownBytes.{Consumes}
-use Rattle.program_files.proofs.reading.read_bytes.Given as goal
+use Rattle.devices.proofs.reading.read_bytes.Given as goal
 
 -- what the reader gave so far has been kept, and left bytes more may come
 abbrev pub invariant-loop-left : goal.invariant-loop-left

@@ -1,4 +1,4 @@
-//! Numbers as replies show them.
+//! Numbers in text.
 ghost use Rattle.std.specs.Prelude.{◌≡◌, ◌++◌, ◌+◌, ◌*◌, ◌≤◌, length, decimal, flat_map};
 ghost use Rattle.hex.specs.Hex.{encode_lower};
 ghost use Rattle.rv_model.specs.commands.Printing.{hex8, hex16, listed};
@@ -40,7 +40,7 @@ pub fn push_decimal(reply: &mut Reply, number: u64)
 }
 
 /// Adds at most 1,024 bytes, two hexadecimal digits each.
-pub(crate) fn push_bytes(reply: &mut Reply, bytes: &[u8])
+pub fn push_bytes(reply: &mut Reply, bytes: &[u8])
     requires few { length bytes.now ≤ 1024 }
     requires room { length reply.old + 2 * length bytes.now ≤ 4096 }
     ensures text { reply.new ≡ reply.old ++ encode_lower bytes.now }
@@ -54,7 +54,7 @@ pub(crate) fn push_bytes(reply: &mut Reply, bytes: &[u8])
 
 /// Adds addresses, each after a space.
 #[tactic(auto, unfolding(rv_model::specs::commands::Printing::listed))]
-pub(crate) fn push_addresses(reply: &mut Reply, addresses: &[u64])
+pub fn push_addresses(reply: &mut Reply, addresses: &[u64])
     requires { length reply.old + 17 * length addresses.now ≤ 4096 }
     ensures text { reply.new ≡ reply.old ++ flat_map listed addresses.now }
     ensures bound { length reply.new ≡ length reply.old + 17 * length addresses.now }

@@ -2,7 +2,7 @@ use Rattle.std.proofs.Common.{◌≡◌, ◌≤◌, ◌∙◌, ℕ, List, ◌++�
 use Rattle.std.specs.Io.KnownBytes.{Consumes}
 use Rattle.std.proofs.KnownBytes.{Consumes-nil, Consumes-trans}
 use Rattle.std.proofs.lemmas.List.{take-append-le, length-take, length-take-le}
-use Rattle.program_files.proofs.reading.read_bytes.Goals as goal
+use Rattle.devices.proofs.reading.read_bytes.Goals as goal
 
 pub loop-left-init : goal.loop-left-init
 loop-left-init g c =

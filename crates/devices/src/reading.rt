@@ -1,7 +1,7 @@
 //! Files that are read.
 ghost use Rattle.std.specs.Prelude.{◌≡◌, ◌≤◌, ◌<◌, IfErr, IfOk, length};
 ghost use Rattle.std.specs.Io.KnownBytes.{Consumes, IsAtEnd};
-ghost use Rattle.program_files.specs.KnownBytes.{AreKnownAs};
+ghost use Rattle.devices.specs.KnownBytes.{AreKnownAs};
 
 use crate::inputs::Inputs;
 use std::alloc::{AllocError, Allocator};
@@ -16,7 +16,7 @@ pub enum ReadFault {
 }
 
 impl From<AllocError> for ReadFault {
-    ghost use Rattle.program_files.specs.declared.reading.ReadFault.TheVariants.{NoMemory};
+    ghost use Rattle.devices.specs.declared.reading.ReadFault.TheVariants.{NoMemory};
 
     ghost from_gives = { λ _ fault. fault ≡ NoMemory };
 

@@ -1,7 +1,7 @@
 use Rattle.std.proofs.Common.{◌≡◌, ◌++◌, ◌+◌, ◌*◌, length, drop}
 use Rattle.std.specs.Prelude.{flat_map}
 use Rattle.rv_model.specs.commands.Printing.{listed}
-use Rattle.monitor_cmds.proofs.numerals.push_addresses.Given as goal
+use Rattle.line_text.proofs.numerals.push_addresses.Given as goal
 
 abbrev pub invariant-loop-addr : goal.invariant-loop-addr
 invariant-loop-addr l = record {

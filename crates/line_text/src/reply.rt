@@ -1,10 +1,10 @@
-//! What the monitor answers.
+//! A line or a reply that is built piece by piece.
 ghost use Rattle.std.specs.Prelude.{◌≡◌, ◌+◌, ◌≤◌, [], ◌++◌, length};
 
 use arrayvec::ArrayVec;
 use std::marker::Model;
 
-/// What the monitor answers to one command: whole lines, of at most 4,096 bytes together.
+/// At most 4,096 bytes of text: the lines of a reply, or one line of a record.
 #[derive(Drop)]
 pub struct Reply {
     bytes: ArrayVec<u8, 4096>,

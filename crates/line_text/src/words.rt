@@ -39,7 +39,7 @@ impl<'a> Words<'a> {
     }
 
     /// The words that are left, as they stand in the line.
-    pub(crate) fn rest(&self) -> &'a [u8]
+    pub fn rest(&self) -> &'a [u8]
         ensures { words result.now ≡ self.now }
     {
         self.rest
@@ -47,7 +47,7 @@ impl<'a> Words<'a> {
 }
 
 /// The command, if no word is left.
-pub(crate) fn done<C: Drop>(mut words: Words<'_>, command: C) -> Option<C>
+pub fn done<C: Drop>(mut words: Words<'_>, command: C) -> Option<C>
     ensures { result ≡ done command words.entry }
 {
     match words.next_word() {

@@ -2,7 +2,7 @@
 ghost use Rattle.std.specs.Prelude.{ℕ, List, Option, None, IfOk};
 ghost use Rattle.std.specs.Io.KnownBytes.{Keeps};
 
-use devices::DeviceFault;
+use crate::device::DeviceFault;
 use std::fs;
 use std::io::Read;
 use std::rt::Files;

@@ -1,6 +1,6 @@
 use Rattle.std.proofs.Common.{length, ◌≡◌}
 use Rattle.rv_model.specs.text.Words.{words}
-use Rattle.monitor_cmds.proofs.words.first_word.Given as goal
+use Rattle.line_text.proofs.words.first_word.Given as goal
 
 abbrev pub invariant-loop-rest : goal.invariant-loop-rest
 invariant-loop-rest l = words l.rest ≡ words l.line
