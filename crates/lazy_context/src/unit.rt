@@ -87,6 +87,7 @@ impl Unit {
         ensures kept { KeepsOtherAreas self.old self.new }
     {
         if let Some(owner) = self.owner {
+            // For the proof alone: the number is from 1 to 8.
             let _ = owner.number();
             if self.seat.dirty {
                 self.areas.save(owner, &self.seat.state);
@@ -131,6 +132,7 @@ impl Unit {
         ensures counts { record_of (touched user self.old) ≡ unit_touched user (record_of self.old) }
         ensures kept { KeepsOtherAreas self.old (touched user self.old) }
     {
+        // For the proof alone.
         self.lending_law(user);
         self.switch(user);
         &mut self.seat

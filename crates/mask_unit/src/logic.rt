@@ -44,7 +44,7 @@ impl<'a, L: Lane> MaskResults<L> for MaskLogic<'a> {
     }
 
     fn write_register(&self, body: &Body<'_>, destination: &mut [u8]) -> bool {
-        // The end is looked at for its bound alone.
+        // For the proof alone: the body ends at or below `GROUP_BYTES`.
         let _end = body.end();
         let a = u8x32::from_array(*self.a);
         let b = u8x32::from_array(*self.b);

@@ -64,7 +64,7 @@ impl<L: Lane> MaskResults<L> for MaskScan {
     }
 
     fn write_register(&self, body: &Body<'_>, destination: &mut [u8]) -> bool {
-        // The end is looked at for its bound alone.
+        // For the proof alone: the body ends at or below `GROUP_BYTES`.
         let _end = body.end();
         put_bits(results(self.op, self.first), body, destination)
     }

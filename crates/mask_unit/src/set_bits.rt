@@ -33,7 +33,7 @@ const LOWER_BITS: [u8; 8] = [0, 1, 3, 7, 15, 31, 63, 127];
 pub fn count(body: &Body<'_>, bits: &[u8; VLENB]) -> usize
     ensures { result ≡ set_count body.now bits.now body.now.end }
 {
-    // The end is looked at for its bound alone.
+    // For the proof alone: the body ends at or below `GROUP_BYTES`.
     let _end = body.end();
     let set = u8x32::from_array(*bits);
     usize::from(set_in_both(active_bytes(body), set))

@@ -140,7 +140,7 @@ fn is_legal_compression(vd: VReg, vs1: VReg, vs2: VReg, vtype: VType) -> bool
 fn is_whole_aligned(count: RegisterCount, first: VReg, sew: Sew) -> bool
     ensures { result ≡ is_group (group Role.Read first (registers_type (sew_width sew) count)) }
 {
-    // The width is looked at for its bounds alone.
+    // For the proof alone: an element has 8 to 64 bits.
     let _bits = sew.bits();
     let low_bits = match count {
         RegisterCount::One => 0,

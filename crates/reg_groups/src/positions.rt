@@ -65,7 +65,7 @@ pub(crate) fn is_beside_mask(vd: VReg, first: VReg, vtype: VType) -> bool
 pub(crate) fn is_mask_register(register: VReg) -> bool
     ensures { result ≡ is_group (mask Role.Read register) }
 {
-    // The number is looked at for its bound alone, of which the proof is made.
+    // For the proof alone: the number is below 32.
     let _number = register.number();
     true
 }
@@ -75,7 +75,7 @@ pub(crate) fn is_mask_register(register: VReg) -> bool
 pub(crate) fn is_register(register: VReg, vtype: VType) -> bool
     ensures { result ≡ is_group (group Role.Read register (single_type (sew_width vtype.sew))) }
 {
-    // The number and the width are looked at for their bounds alone.
+    // For the proof alone: the number is below 32, and an element has 8 to 64 bits.
     let _number = register.number();
     let _bits = vtype.sew.bits();
     true
@@ -87,6 +87,7 @@ pub(crate) fn is_register(register: VReg, vtype: VType) -> bool
 pub(crate) fn is_wide_register(register: VReg, vtype: VType) -> bool
     ensures { result ≡ is_group (group Role.Read register (single_type (wide_type vtype).width)) }
 {
+    // For the proof alone: the number is below 32.
     let _number = register.number();
     vtype.sew.bits() != 64
 }
