@@ -1,6 +1,5 @@
 -- What it means that bytes lie in one page, and that a user's translations say so
-use Rattle.std.proofs.Common.{◌≡◌, ◌≢◌, ℕ, ◌+◌, ◌*◌, ◌/◌, ◌%◌, ◌<◌, ◌≤◌, true, List, length, get_or, set, replicate, Option, Some, None, refl, sym, ◌∙◌, ap, subst, inl, inr, arith, get_or-set_same, get_or-set_other}
-use Rattle.std.specs.Prelude.{IfSome}
+use Rattle.std.proofs.Common.{◌≡◌, ◌≢◌, ℕ, ◌+◌, ◌*◌, ◌/◌, ◌%◌, ◌<◌, ◌≤◌, true, List, length, get_or, set, replicate, Some, refl, sym, ◌∙◌, ap, subst, inl, inr, arith, get_or-set_same, get_or-set_other}
 use Rattle.std.proofs.lemmas.Bool.{cases_eq}
 use Rattle.std.proofs.lemmas.List.{get_or-replicate, length-replicate}
 use Rattle.rv_model.specs.declared.memory.Access.{Access}
@@ -47,10 +46,6 @@ module _ (es : List Entry) (access : Access) (a n at : ℕ) (lies : LiesAt es ac
   -- and in the frames
   pub lies_within : (size : ℕ) → FitIn es size → at + n ≤ size
   lies_within size fit = omega (arith, fit (a / page_size) lies.entry lies.there, lies.place, lies.one_page)
-
-pub if_within : (es : List Entry) (access : Access) (a n size : ℕ) → FitIn es size → (o : Option ℕ) → IfSome o (λ at. LiesAt es access a n at) → IfSome o (λ at. at + n ≤ size)
-if_within es access a n size fit None lies = tt
-if_within es access a n size fit (Some at) lies = lies_within es access a n at lies size fit
 
 -- a page whose place is another one
 elsewhere : (es : List Entry) (access : Access) (page : Translation) (number place : ℕ) → page.first ≡ page_size * number → number < place_count → number ≢ place → IsTranslated es access place page

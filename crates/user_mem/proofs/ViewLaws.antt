@@ -1,8 +1,8 @@
 -- The memories that callers see, and the tables and frames below them
-use Rattle.std.proofs.Common.{Option, Some, None, Result, Ok, Err, ◌≡◌, ℕ, zero, suc, ◌-◌, ◌*◌, ◌<◌, ◌≤◌, List, [], cond, length, get_or, map, replicate, refl, sym, ◌∙◌, ap, subst, arith, add-zero}
+use Rattle.std.proofs.Common.{Option, Some, None, Result, Ok, Err, ◌≡◌, ℕ, zero, suc, ◌-◌, ◌*◌, ◌<◌, ◌≤◌, List, [], cond, length, get_or, replicate, refl, sym, ◌∙◌, ap, subst, add-zero}
 use Rattle.std.specs.Prelude.{nat_lt, ◌↔◌, OnOk}
 use Rattle.std.specs.FinMap.{empty}
-use Rattle.std.proofs.lemmas.List.{length-map, get_or-map}
+use Rattle.std.proofs.lemmas.List.{get_or-map}
 use Rattle.rv_model.specs.declared.memory.MapRefusal.{MapRefusal}
 use Rattle.rv_model.specs.memory.Memory.{Memory, map_refusal}
 use Rattle.rv_model.specs.memory.Sizes.{page_size, page_quota, frame_count}
@@ -14,10 +14,6 @@ use Rattle.user_mem.specs.Pool.{IsPool, owners, used_in_all, table_at, memories_
 use Rattle.user_mem.specs.Users.{no_memories, memory_of_user}
 use Rattle.user_mem.proofs.PoolLaws.{no_table}
 
--- a fact of all tables holds of the one at place i, as code reads it
-pub fact_at : {V : Type 0} (f : V → List Entry) (P : List Entry → Type 0) (tables : List V) (i : ℕ) (d : V) (es : List Entry) → i < length (map f tables) → es ≡ f (get_or tables i d) → P (table_at (map f tables) i) → P es
-fact_at f P tables i d es h e fact = subst P (sym (e ∙ sym (get_or-map f tables i d [] (omega (arith, length-map tables f))))) fact
-
 -- a user's memory is what the user's table means
 pub memory_of_table : (frames : List ℕ) (tables : List (List Entry)) (user i : ℕ) (memories : List Memory)
     → memories_of frames tables ≡ memories → i ≡ user - 1 → i < length tables → memory_of_user memories user ≡ memory_of frames (table_at tables i)
@@ -26,12 +22,13 @@ memory_of_table frames tables user i memories view place h =
     ∙ ap (λ (j : ℕ). get_or (memories_of frames tables) j empty) (sym place)
     ∙ get_or-map (λ t. memory_of frames t) tables i [] empty h
 
--- the same, as code reads the table
-pub memory_at : {V : Type 0} (f : V → List Entry) (frames : List ℕ) (tables : List V) (user i : ℕ) (d : V) (es : List Entry) (memories : List Memory)
-    → memories_of frames (map f tables) ≡ memories → i ≡ user - 1 → i < length (map f tables) → es ≡ f (get_or tables i d) → memory_of_user memories user ≡ memory_of frames es
-memory_at f frames tables user i d es memories view place h e =
-    memory_of_table frames (map f tables) user i memories view place h
-    ∙ ap (λ (t : List Entry). memory_of frames t) (get_or-map f tables i d [] (omega (arith, length-map tables f)) ∙ sym e)
+-- the same, of the entries and the bytes that code has
+pub memory_at : (frames bytes : List ℕ) (tables : List (List Entry)) (user i : ℕ) (es : List Entry) (memories : List Memory)
+    → memories_of frames tables ≡ memories → i ≡ user - 1 → i < length tables → es ≡ table_at tables i → bytes ≡ frames → memory_of_user memories user ≡ memory_of bytes es
+memory_at frames bytes tables user i es memories view place h e same =
+    memory_of_table frames tables user i memories view place h
+    ∙ ap (λ (t : List Entry). memory_of frames t) (sym e)
+    ∙ ap (λ (b : List ℕ). memory_of b es) (sym same)
 
 no_table_at : (n v : ℕ) → table_at (replicate n []) v ≡ []
 no_table_at zero v = refl

@@ -1,34 +1,16 @@
 //! Accesses of a user's bytes. One that lies in one page takes one copy, if the page has its place among the user's
 //! translations; all others go from page to page.
-ghost use Rattle.std.specs.Prelude.{◌≡◌, ℕ, List, ◌≤◌, ◌+◌, ◌↔◌, false, true, IsOk, IfErr, IfSome, OnOk, OnErr, length};
+ghost use Rattle.std.specs.Prelude.{◌≡◌, ℕ, List, ◌≤◌, ◌↔◌, false, true, IsOk, IfErr, OnOk, OnErr, length};
 ghost use Rattle.rv_model.specs.memory.Memory.{can_access, bytes_at, put_bytes};
 ghost use Rattle.user_mem.specs.declared.entry.Entry.{Entry};
 ghost use Rattle.user_mem.specs.Table.{memory_of, IsSorted, AreBelow, FitIn, AreSeparate, AreApart};
-ghost use Rattle.user_mem.specs.Translations.{LiesAt, Translates};
+ghost use Rattle.user_mem.specs.Translations.{Translates};
 
 use crate::entry::Entry;
 use crate::frames::{copy_in, copy_out, paste};
 use crate::table::is_access_allowed;
 use crate::translations::Translations;
 use rv_model::{Access, Fault};
-
-/// Where the bytes of an access lie in the frames, if they lie in a page that has its place and may be accessed so.
-#[inline(always)]
-fn place_of(
-    entries: &[Entry],
-    translations: &Translations,
-    frames: &[u8],
-    access: Access,
-    addr: u64,
-    len: usize,
-) -> Option<usize>
-    requires translated { Translates entries.now translations.now }
-    requires fit { FitIn entries.now (length frames.now) }
-    ensures lies { IfSome result (LiesAt entries.now access addr len) }
-    ensures within { IfSome result (λ at. at + len ≤ length frames.now) }
-{
-    translations.place(access, addr, len)
-}
 
 /// Whether all bytes of an access are allowed.
 #[inline(always)]
@@ -69,7 +51,7 @@ pub(crate) fn read_at_once(
         → buffer.new ≡ bytes_at (memory_of frames.now entries.now) addr (length buffer.old) }
     ensures unchanged { result ≡ false → buffer.new ≡ buffer.old }
 {
-    if let Some(at) = place_of(entries, translations, frames, access, addr, buffer.len()) {
+    if let Some(at) = translations.place(access, addr, buffer.len()) {
         buffer.copy_from_slice(&frames[at..at + buffer.len()]);
         return true;
     }
@@ -134,7 +116,7 @@ pub(crate) fn write_at_once(
     ensures size { length frames.new ≡ length frames.old }
 {
     let room = room_of(bytes.len());
-    if let Some(at) = place_of(entries, translations, frames, access, addr, room) {
+    if let Some(at) = translations.place(access, addr, room) {
         paste(frames, at, bytes);
         return true;
     }

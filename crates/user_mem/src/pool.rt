@@ -15,8 +15,8 @@ use crate::free::{FreeFrames, all_free};
 use crate::table::refusal;
 use crate::translations::Translations;
 use crate::users::{
-    AllTranslations, PageRange, Tables, Target, drop_pages, map_user, translate_user, write_user,
-    write_user_at_once,
+    AllTranslations, PageRange, Tables, Target, drop_pages, map_user, translate_user, user_entries,
+    write_user, write_user_at_once,
 };
 use arrayvec::ArrayVec;
 use rv_model::{Access, FRAME_COUNT, Fault, MapRefusal, Permissions, USER_COUNT, User};
@@ -105,10 +105,10 @@ impl<A: Allocator> Pool<A> {
             (with_pages (memory_of_user self.old user) page count permissions)) }
         ensures err { OnErr result (self.new ≡ self.old) }
     {
-        if let Some(refusal) = refusal(self.tables[user.index()].as_slice(), page, count) {
+        let user = user.index();
+        if let Some(refusal) = refusal(user_entries(&self.tables, user), page, count) {
             return Err(refusal);
         }
-        let user = user.index();
         let pages = PageRange { first: page, count };
         map_user(
             &mut self.tables,
@@ -142,7 +142,7 @@ impl<A: Allocator> Pool<A> {
         ensures users { length self.now ≡ user_count }
         ensures value { result ≡ page_count (memory_of_user self.now user) }
     {
-        self.tables[user.index()].len()
+        user_entries(&self.tables, user.index()).len()
     }
 
     /// Checks that each of `len` bytes from an address on may be accessed so. A fault names the
@@ -155,7 +155,7 @@ impl<A: Allocator> Pool<A> {
         ensures fault { IfErr result (λ fault. fault.addr ≡ addr) }
     {
         let user = user.index();
-        let entries = self.tables[user].as_slice();
+        let entries = user_entries(&self.tables, user);
         if is_allowed(entries, &self.translations[user], access, addr, len) {
             Ok(())
         } else {
@@ -174,7 +174,7 @@ impl<A: Allocator> Pool<A> {
         ensures unchanged { result ≡ false → buffer.new ≡ buffer.old }
     {
         let user = user.index();
-        let entries = self.tables[user].as_slice();
+        let entries = user_entries(&self.tables, user);
         let frames = self.frames.as_slice();
         read_at_once(
             entries,
@@ -208,7 +208,7 @@ impl<A: Allocator> Pool<A> {
             return Ok(());
         }
         let user = user.index();
-        let entries = self.tables[user].as_slice();
+        let entries = user_entries(&self.tables, user);
         let frames = self.frames.as_slice();
         read_pages(entries, frames, access, addr, buffer)
     }

@@ -10,6 +10,7 @@ ghost use Rattle.user_mem.specs.Translations.{AllTranslate, Translates};
 ghost use Rattle.user_mem.specs.declared.translations.Translations.{Translations};
 
 use crate::access;
+use crate::entry::Entry;
 use crate::free::{FreeFrames, give_back, take_pages};
 use crate::table::Table;
 use crate::translations::Translations;
@@ -26,6 +27,15 @@ pub(crate) type AllTranslations = [Translations; USER_COUNT];
 pub(crate) struct PageRange {
     pub first: u64,
     pub count: usize,
+}
+
+/// The entries of the pages of the user at a place.
+#[inline(always)]
+pub(crate) fn user_entries(tables: &Tables, user: usize) -> &[Entry]
+    requires { user < user_count }
+    ensures { result.now ≡ table_at (entries_of tables.now) user }
+{
+    tables[user].as_slice()
 }
 
 /// Maps pages of zeros for the user at a place.
@@ -69,7 +79,7 @@ pub(crate) fn translate_user(all: &mut AllTranslations, tables: &Tables, user: u
         → Translates (table_at (entries_of tables.now) u) (slice_index_or all.old u d) }
     ensures { AllTranslate (entries_of tables.now) all.new }
 {
-    all[user].set(tables[user].as_slice());
+    all[user].set(user_entries(tables, user));
 }
 
 /// Unmaps all pages of the user at a place.
@@ -114,7 +124,7 @@ pub(crate) fn write_user_at_once(
     ensures size { length frames.new ≡ length frames.old }
 {
     access::write_at_once(
-        tables[user].as_slice(),
+        user_entries(tables, user),
         &all[user],
         frames,
         target.access,
@@ -146,7 +156,7 @@ pub(crate) fn write_user(
     ensures size { length frames.new ≡ length frames.old }
 {
     access::write_pages(
-        tables[user].as_slice(),
+        user_entries(tables, user),
         frames,
         target.access,
         target.addr,

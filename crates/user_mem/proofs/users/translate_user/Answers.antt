@@ -1,5 +1,4 @@
-use Rattle.std.proofs.Common.{◌≡◌, ℕ, ◌∙◌, sym, subst, arith, map, List, []}
-use Rattle.std.proofs.lemmas.List.{get_or-map}
+use Rattle.std.proofs.Common.{ℕ, subst, arith, map, List}
 use Rattle.user_mem.specs.declared.entry.Entry.{Entry}
 use Rattle.user_mem.specs.Pool.{table_at}
 use Rattle.user_mem.specs.Table.{FitIn}
@@ -11,15 +10,15 @@ use Rattle.user_mem.proofs.users.translate_user.Goals as goal
 pub set-requires : goal.set-requires
 set-requires c =
     let pool = c.requires.pool.2 in
-    rw (c.as_slice.ensures.value, ← get_or-map (λ t. t.items) c.args.tables.now c.args.user c.index-tables-user.result [] (omega arith))
+    let tables = map (λ t. t.items) c.args.tables.now in
+    rw c.user_entries.ensures
     (record {
       sorted = pool.sorted c.args.user;
       below = pool.below c.args.user;
-      fit = subst (λ (n : ℕ). FitIn (table_at (map (λ t. t.items) c.args.tables.now) c.args.user) n) pool.size (table_fits (map (λ t. t.items) c.args.tables.now) c.requires.pool.0 c.requires.pool.1 c.args.user pool c.requires.user);
+      fit = subst (λ (n : ℕ). FitIn (table_at tables c.args.user) n) pool.size (table_fits tables c.requires.pool.0 c.requires.pool.1 c.args.user pool c.requires.user);
     })
 
 pub returns : goal.returns
 returns c =
-    let table : c.as_slice.result.now ≡ table_at (map (λ t. t.items) c.args.tables.now) c.args.user =
-    c.as_slice.ensures.value ∙ sym (get_or-map (λ t. t.items) c.args.tables.now c.args.user c.index-tables-user.result [] (omega arith)) in
-    all_translate_one (map (λ t. t.items) c.args.tables.now) c.args.all.now c.args.user c.set.new.self (omega arith) c.requires.user (subst (λ (t : List Entry). Translates t c.set.new.self) table c.set.ensures) c.requires.others
+    all_translate_one (map (λ t. t.items) c.args.tables.now) c.args.all.now c.args.user c.set.new.self (omega arith) c.requires.user
+    (subst (λ (t : List Entry). Translates t c.set.new.self) c.user_entries.ensures c.set.ensures) c.requires.others

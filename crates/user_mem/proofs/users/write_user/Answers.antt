@@ -1,5 +1,4 @@
-use Rattle.std.proofs.Common.{◌∙◌, sym, ap, arith, map, List, []}
-use Rattle.std.proofs.lemmas.List.{get_or-map}
+use Rattle.std.proofs.Common.{◌∙◌, ap, map, List}
 use Rattle.rv_model.specs.memory.Memory.{put_bytes}
 use Rattle.user_mem.specs.declared.entry.Entry.{Entry}
 use Rattle.user_mem.specs.Table.{memory_of}
@@ -10,7 +9,7 @@ use Rattle.user_mem.proofs.users.write_user.Goals as goal
 pub write_pages-requires : goal.write_pages-requires
 write_pages-requires c =
     let tables = map (λ t. t.items) c.args.tables.now in
-    rw (c.as_slice.ensures.value, ← get_or-map (λ t. t.items) c.args.tables.now c.args.user c.index-tables-user.result [] (omega arith))
+    rw c.user_entries.ensures
     (record {
       sorted = c.requires.pool.1.sorted c.args.user;
       below = c.requires.pool.1.below c.args.user;
@@ -22,9 +21,6 @@ pub returns-clause-pool : goal.returns-clause-pool
 returns-clause-pool c free pool = IsPool-written (map (λ t. t.items) c.args.tables.now) free c.args.frames.now c.write_pages.new.frames pool c.write_pages.ensures.size
 
 pub returns-clause-ok : goal.returns-clause-ok
-returns-clause-ok c =
-    let item = get_or-map (λ t. t.items) c.args.tables.now c.args.user c.index-tables-user.result [] (omega arith) in
-    let table = c.as_slice.ensures.value ∙ sym item in
-    if_done c.write_pages.result (λ done.
-    memories_of-written (map (λ t. t.items) c.args.tables.now) c.requires.pool.0 c.args.frames.now c.write_pages.new.frames c.args.user _ _ c.requires.pool.1 c.requires.user table c.write_pages.ensures.others
-    (done ∙ ap (λ (t : List Entry). put_bytes (memory_of c.args.frames.now t) c.args.target.addr c.args.bytes.now) table)) c.write_pages.ensures.ok
+returns-clause-ok c = if_done c.write_pages.result (λ done.
+    memories_of-written (map (λ t. t.items) c.args.tables.now) c.requires.pool.0 c.args.frames.now c.write_pages.new.frames c.args.user _ _ c.requires.pool.1 c.requires.user c.user_entries.ensures c.write_pages.ensures.others
+    (done ∙ ap (λ (t : List Entry). put_bytes (memory_of c.args.frames.now t) c.args.target.addr c.args.bytes.now) c.user_entries.ensures)) c.write_pages.ensures.ok

@@ -1,5 +1,4 @@
-use Rattle.std.proofs.Common.{◌∙◌, sym, ap, arith, map, List, []}
-use Rattle.std.proofs.lemmas.List.{get_or-map}
+use Rattle.std.proofs.Common.{◌∙◌, ap, map, List}
 use Rattle.rv_model.specs.memory.Memory.{put_bytes}
 use Rattle.user_mem.specs.declared.entry.Entry.{Entry}
 use Rattle.user_mem.specs.Table.{memory_of}
@@ -9,7 +8,7 @@ use Rattle.user_mem.proofs.users.write_user_at_once.Goals as goal
 pub write_at_once-requires : goal.write_at_once-requires
 write_at_once-requires c =
     let tables = map (λ t. t.items) c.args.tables.now in
-    rw (c.as_slice.ensures.value, ← get_or-map (λ t. t.items) c.args.tables.now c.args.user c.index-tables-user.result [] (omega arith))
+    rw c.user_entries.ensures
     (record {
       translated = c.requires.translated c.args.user _ c.requires.user;
       fit = table_fits tables c.requires.pool.0 c.args.frames.now c.args.user c.requires.pool.1 c.requires.user;
@@ -21,7 +20,5 @@ returns-clause-pool c free pool = IsPool-written (map (λ t. t.items) c.args.tab
 
 pub returns-clause-value : goal.returns-clause-value
 returns-clause-value c = λ done.
-    let item = get_or-map (λ t. t.items) c.args.tables.now c.args.user c.index-tables-user.result [] (omega arith) in
-    let table = c.as_slice.ensures.value ∙ sym item in
-    memories_of-written (map (λ t. t.items) c.args.tables.now) c.requires.pool.0 c.args.frames.now c.write_at_once.new.frames c.args.user _ _ c.requires.pool.1 c.requires.user table c.write_at_once.ensures.others
-    (c.write_at_once.ensures.value done ∙ ap (λ (t : List Entry). put_bytes (memory_of c.args.frames.now t) c.args.target.addr c.args.bytes.now) table)
+    memories_of-written (map (λ t. t.items) c.args.tables.now) c.requires.pool.0 c.args.frames.now c.write_at_once.new.frames c.args.user _ _ c.requires.pool.1 c.requires.user c.user_entries.ensures c.write_at_once.ensures.others
+    (c.write_at_once.ensures.value done ∙ ap (λ (t : List Entry). put_bytes (memory_of c.args.frames.now t) c.args.target.addr c.args.bytes.now) c.user_entries.ensures)

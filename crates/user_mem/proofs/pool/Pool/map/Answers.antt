@@ -1,20 +1,18 @@
-use Rattle.std.proofs.Common.{◌∙◌, Ok, Err, refl, sym, ap, arith}
+use Rattle.std.proofs.Common.{◌∙◌, Ok, Err, refl, sym, ap, arith, map}
 use Rattle.rv_model.specs.declared.memory.MapRefusal.TheVariants.{Quota, AlreadyMapped}
 use Rattle.rv_model.specs.memory.Memory.{Memory, map_refusal}
 use Rattle.rv_model.proofs.memory_lemmas.Memory.{map_refusal-Quota, map_refusal-AlreadyMapped}
-use Rattle.user_mem.specs.Table.{IsSorted}
 use Rattle.user_mem.specs.Users.{memory_of_user}
-use Rattle.user_mem.proofs.ViewLaws.{fact_at, memory_at, refused_for, refused_is, accepted_is}
+use Rattle.user_mem.proofs.ViewLaws.{memory_at, refused_for, refused_is, accepted_is}
 use Rattle.user_mem.proofs.pool.Pool.map.Goals as goal
 
 pub refusal-requires-clause-sorted : goal.refusal-requires-clause-sorted
-refusal-requires-clause-sorted g c =
-    fact_at (λ t. t.items) (λ t. IsSorted t) c.self.inside.tables c.index.result c.index-self-index.result c.as_slice.result.now (omega (arith, c.self.invariant.0.users)) c.as_slice.ensures.value (c.self.invariant.0.sorted c.index.result)
+refusal-requires-clause-sorted g c = rw c.user_entries.ensures (c.self.invariant.0.sorted c.index-user.result)
 
 -- the refusal of the table is that of the memory
 refused : goal.returns-in-Some-clause-refused
 refused g c =
-    let seen = memory_at (λ t. t.items) c.self.inside.frames.items c.self.inside.tables c.args.user c.index.result c.index-self-index.result c.as_slice.result.now c.args.self.now c.self.view_is c.index.ensures.value (omega (arith, c.self.invariant.0.users)) c.as_slice.ensures.value in
+    let seen = memory_at c.self.inside.frames.items c.self.inside.frames.items (map (λ t. t.items) c.self.inside.tables) c.args.user c.index-user.result c.user_entries.result.now c.args.self.now c.self.view_is c.index-user.ensures.value (omega (arith, c.self.invariant.0.users)) c.user_entries.ensures refl in
     ap (λ (m : Memory). map_refusal m c.args.page c.args.count) seen ∙ sym (c.refusal.ensures.value c.self.inside.frames.items) ∙ c.in-Some.is
 
 pub returns-in-Some-clause-accepted : goal.returns-in-Some-clause-accepted
@@ -37,7 +35,7 @@ translate_user-requires-clause-others g c = λ u d within other. rw (c.map_user.
 -- no refusal of the table is none of the memory
 accepted : goal.returns-clause-accepted
 accepted g c =
-    let seen = memory_at (λ t. t.items) c.self.inside.frames.items c.self.inside.tables c.args.user c.index.result c.index-self-index.result c.as_slice.result.now c.args.self.now c.self.view_is c.index.ensures.value (omega (arith, c.self.invariant.0.users)) c.as_slice.ensures.value in
+    let seen = memory_at c.self.inside.frames.items c.self.inside.frames.items (map (λ t. t.items) c.self.inside.tables) c.args.user c.index-user.result c.user_entries.result.now c.args.self.now c.self.view_is c.index-user.ensures.value (omega (arith, c.self.invariant.0.users)) c.user_entries.ensures refl in
     (λ _. ap (λ (m : Memory). map_refusal m c.args.page c.args.count) seen ∙ sym (c.refusal.ensures.value c.self.inside.frames.items) ∙ c.in_default.is, λ _. refl)
 
 pub returns-clause-accepted : goal.returns-clause-accepted
