@@ -1,4 +1,4 @@
-pub mod Blends
+pub mod BlendMoves
 pub mod BlockMoves
 pub mod FieldSteps
 pub mod MovedRuns

@@ -1,12 +1,22 @@
-//! Loads and stores of contiguous elements, which move one block of bytes ("V" Vector Extension 1.0, sections 7.4
-//! and 7.9).
-ghost use Rattle.std.specs.Prelude.{◌≡◌, ◌+◌, ◌≤◌, false, length, true};
+//! A faster path for contiguous elements of which none is masked off: one copy moves them as a block of bytes ("V"
+//! Vector Extension 1.0, sections 7.4 and 7.9). Every function here that answers `None` or `false` changes nothing; the
+//! longer path then goes on.
+ghost use Rattle.std.specs.Prelude.{◌≡◌, ◌+◌, ◌*◌, ◌%◌, ◌^◌, ◌≤◌, Bool, IfSome, List, false, length, true, ℕ};
 ghost use Rattle.std.specs.Simd.Lanes.{chunk, put_chunk};
 ghost use Rattle.rv_model.specs.declared.memory.Access.TheVariants.{Load, Store};
+ghost use Rattle.rv_model.specs.declared.step.memory_end.MemEnd.TheVariants.{Done};
 ghost use Rattle.rv_model.specs.memory.Memory.{bytes_at, can_access, put_bytes};
+ghost use Rattle.vector_memory.specs.Blocks.{IsBlock};
+ghost use Rattle.vector_memory.specs.Distances.{Fits, transfer_run};
+ghost use Rattle.vector_memory.specs.Runs.{RunLeaves};
+ghost use Rattle.vector_memory.specs.SegmentRoom.{HasRoom};
+ghost use Rattle.vector_memory.specs.SpanAccess.{span_access};
 
+use crate::spans::Span;
+use crate::transfers::Transfer;
 use crate::user_bytes::UserBytes;
-use rv_model::{Access, FILE_BYTES, VFile};
+use rv_model::instructions::operations::UnitOp;
+use rv_model::{Access, FILE_BYTES, GROUP_BYTES, VFile, VLENB, VState};
 
 /// A block of `length` bytes: its address in memory, and its place in the register file.
 #[derive(Clone, Copy)]
@@ -45,5 +55,84 @@ impl Block {
     {
         let bytes = file.part(self.place, self.place + self.length);
         memory.write(self.address, Access::Store, bytes).is_ok()
+    }
+}
+
+impl Transfer {
+    /// All of it as a block that stands in the registers as it does in memory, where it begins at index 0 and comes
+    /// within a number of indices, and its elements are contiguous and none is masked off.
+    #[inline(always)]
+    fn block(&self, start: u8, limit: usize) -> Option<Block>
+        requires room { HasRoom self.now.segments self.now.count }
+        requires count { self.now.count ≤ GROUP_BYTES }
+        ensures first { IfSome result (λ block. start ≡ 0) }
+        ensures reach { IfSome result (λ block. self.now.count ≤ limit) }
+        ensures value { IfSome result (λ block. (mask : List ℕ) → IsBlock self.now.segments
+            (record { unmasked = self.now.unmasked; mask = mask; start = start; end = self.now.count })
+            (λ i. (self.now.addresses.base + i * self.now.addresses.stride) % 2 ^ 64) self.now.count block) }
+        ensures inside { IfSome result (λ block. block.place + block.length ≤ FILE_BYTES) }
+    {
+        let size = self.segments.size;
+        if !self.unmasked || self.segments.fields != 1 || self.addresses.stride != size as u64 {
+            return None;
+        }
+        if start != 0 || limit < self.count {
+            return None;
+        }
+        let length = self.count * size;
+        self.addresses.base.checked_add(length as u64)?;
+        Some(Block {
+            address: self.addresses.base,
+            place: VLENB * self.segments.register.number() as usize,
+            length,
+        })
+    }
+
+    /// Carries all of it out at once, if it is a block each byte of which may be loaded or stored. Answers whether it
+    /// is done.
+    #[inline(always)]
+    pub(crate) fn run_block<M: UserBytes>(
+        &self,
+        limit: usize,
+        memory: &mut M,
+        state: &mut VState,
+    ) -> bool
+        requires { Fits state.old self.now }
+        ensures done { result ≡ true → (fill : Bool)
+            → RunLeaves (transfer_run limit fill self.now state.old (M.memory memory.old))
+            Done state.new (M.memory memory.new) }
+        ensures others { memory.new ≡ M.with_memory memory.old (M.memory memory.new) }
+        ensures unchanged_state { result ≡ false → state.new ≡ state.old }
+        ensures unchanged_memory { result ≡ false → memory.new ≡ memory.old }
+    {
+        let Some(block) = self.block(state.vstart, limit) else {
+            return false;
+        };
+        match self.op {
+            UnitOp::Load => block.load(memory, &mut state.file),
+            UnitOp::FaultOnlyFirst => block.load(memory, &mut state.file),
+            UnitOp::Store => block.store(&state.file, memory),
+        }
+    }
+}
+
+impl Span<'_> {
+    /// Its bytes as a block, where its elements are contiguous and those of one field, and none is masked off.
+    #[inline(always)]
+    pub(crate) fn block(&self) -> Option<Block>
+        ensures value { IfSome result
+            (IsBlock self.now.segments self.now.body (span_access self.now).address self.now.stop) }
+        ensures address { IfSome result (λ block. block.address ≡ self.now.address) }
+        ensures length { IfSome result (λ block. block.length ≡ self.now.length) }
+    {
+        let size = self.segments.size;
+        if !self.body.is_unmasked() || self.segments.fields != 1 || self.distance != size {
+            return None;
+        }
+        Some(Block {
+            address: self.address,
+            place: self.segments.place(self.body.start(), 0),
+            length: self.length,
+        })
     }
 }

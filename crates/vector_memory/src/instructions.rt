@@ -267,34 +267,6 @@ fn run_offsets<M: UserBytes>(
     transfer.run_segments(extent, memory, state)
 }
 
-/// Carries out a load or store at a distance at once, if it can be. Answers whether it is done. One that is strided by
-/// its name seldom can, so it isn't tried.
-#[inline(always)]
-fn run_at_once<M: UserBytes>(
-    access: &AccessInstr,
-    extent: Extent,
-    scalar: &Scalar,
-    memory: &mut M,
-    state: &mut VState,
-) -> bool
-    requires configured { IsConfiguration state.old.conf }
-    requires legal { IsTrue (is_legal (Instr.Access access.now) state.old.conf.vtype state.old.vstart) }
-    ensures done { result ≡ true → RunLeaves
-        (access_run extent.limit extent.fill_masked_off access.now state.old scalar.now (M.memory memory.old))
-        MemEnd.Done state.new (M.memory memory.new) }
-    ensures others { memory.new ≡ M.with_memory memory.old (M.memory memory.new) }
-    ensures unchanged_state { result ≡ false → state.new ≡ state.old }
-    ensures unchanged_memory { result ≡ false → memory.new ≡ memory.old }
-{
-    if let AccessInstr::Strided { .. } = *access {
-        return false;
-    }
-    let Some(transfer) = transfer_of(access, state, scalar) else {
-        return false;
-    };
-    transfer.run_block(extent.limit, memory, state)
-}
-
 /// Carries out a load or store segment by segment.
 #[tactic(auto, unfolding(rv_model::specs::accesses::AccessRuns::access_run))]
 #[inline(never)]
@@ -324,6 +296,34 @@ fn run_in_turn<M: UserBytes>(
     transfer.run_segments(extent, memory, state)
 }
 
+/// Carries out a load or store at a distance at once, if it can be. Answers whether it is done. One that is strided by
+/// its name seldom can, so it isn't tried.
+#[inline(always)]
+fn run_at_once<M: UserBytes>(
+    access: &AccessInstr,
+    extent: Extent,
+    scalar: &Scalar,
+    memory: &mut M,
+    state: &mut VState,
+) -> bool
+    requires configured { IsConfiguration state.old.conf }
+    requires legal { IsTrue (is_legal (Instr.Access access.now) state.old.conf.vtype state.old.vstart) }
+    ensures done { result ≡ true → RunLeaves
+        (access_run extent.limit extent.fill_masked_off access.now state.old scalar.now (M.memory memory.old))
+        MemEnd.Done state.new (M.memory memory.new) }
+    ensures others { memory.new ≡ M.with_memory memory.old (M.memory memory.new) }
+    ensures unchanged_state { result ≡ false → state.new ≡ state.old }
+    ensures unchanged_memory { result ≡ false → memory.new ≡ memory.old }
+{
+    if let AccessInstr::Strided { .. } = *access {
+        return false;
+    }
+    let Some(transfer) = transfer_of(access, state, scalar) else {
+        return false;
+    };
+    transfer.run_block(extent.limit, memory, state)
+}
+
 /// Carries out a vector load or store of a user, of at most `limit` indices from `vstart` on. A load leaves
 /// its tail as it is; its elements that are masked off become all ones where `fill_masked_off`.
 #[inline(always)]
@@ -347,6 +347,7 @@ pub fn run<M: UserBytes>(
     // All else that the user's bytes hold stays.
     ensures memory { memory.new ≡ M.with_memory memory.old (M.memory memory.new) }
 {
+    // For the proof alone: the vector length is one that the vector type allows.
     state.conf.length_law();
     let extent = Extent {
         limit,
@@ -403,6 +404,7 @@ pub fn show_moves<V: Viewer>(
         (option_map_or (moved_elements state.now left) (access_of access.now state.now scalar.now) []) viewer.new }
     ensures room { (count : ℕ) → V.has_room viewer.old (count + 8 * GROUP_BYTES) → V.has_room viewer.new count }
 {
+    // For the proof alone: the vector length is one that the vector type allows.
     state.conf.length_law();
     if is_indexed(access) {
         let Some(vtype) = state.conf.vtype() else {

@@ -11,7 +11,7 @@ use rv_model::{AccessInstr, VLENB};
 
 /// The bytes of a memory element.
 #[inline(always)]
-pub(crate) fn element_bytes(width: Eew) -> usize
+pub fn element_bytes(width: Eew) -> usize
     ensures value { result ≡ width_bytes (sew_width (element_width width)) }
     ensures some { 1 ≤ result }
     ensures most { result ≤ 8 }
@@ -24,8 +24,8 @@ pub(crate) fn element_bytes(width: Eew) -> usize
     }
 }
 
-/// How many elements so many whole registers have.
-pub(crate) fn whole_length(count: RegisterCount, width: Eew) -> usize
+/// How many elements of a width so many whole registers have, at most `GROUP_BYTES`.
+pub fn whole_length(count: RegisterCount, width: Eew) -> usize
     ensures { result ≡ whole_length count width }
 {
     usize::from(register_count(count)) * VLENB / element_bytes(width)

@@ -5,9 +5,7 @@ ghost use Rattle.vector_memory.specs.SegmentRoom.{HasRoom};
 
 use crate::addresses::Addresses;
 use crate::segments::Segments;
-use crate::spans::Span;
 use lane_arith::Body;
-use rv_model::GROUP_BYTES;
 
 /// What a load or store moves: the segments of the indices of a body, which have room in the registers, and where each
 /// begins in memory.
@@ -22,8 +20,7 @@ pub(crate) struct Moves<'a, A: Addresses> {
 }
 
 impl<'a, A: Addresses> Moves<'a, A> {
-    ghost use Rattle.std.specs.Prelude.{◌≡◌, ◌+◌, IfSome, min};
-    ghost use Rattle.vector_memory.specs.SpanAccess.{IsSpanOf};
+    ghost use Rattle.std.specs.Prelude.{◌≡◌, ◌+◌, min};
 
     /// A copy of its own for another function, so that these need no place in memory before.
     #[inline(always)]
@@ -43,38 +40,5 @@ impl<'a, A: Addresses> Moves<'a, A> {
         ensures { result ≡ min self.now.body.end (self.now.body.start + limit) }
     {
         self.body.start().saturating_add(limit).min(self.body.end())
-    }
-
-    /// The span of the indices up to `stop`, if no two segments overlap and it is at most as long as a group of
-    /// registers.
-    #[inline(always)]
-    pub(crate) fn span(&self, stop: usize) -> Option<Span<'a>>
-        requires { stop ≤ self.now.body.end }
-        ensures { IfSome result
-            (IsSpanOf self.now.segments self.now.body (A.address self.now.addresses) stop) }
-    {
-        let start = self.body.start();
-        if stop <= start {
-            return None;
-        }
-        let segment = self.segments.fields * self.segments.size;
-        let distance = self.addresses.distance()?;
-        if distance < segment || GROUP_BYTES < distance {
-            return None;
-        }
-        let length = (stop - start - 1) * distance + segment;
-        if GROUP_BYTES < length {
-            return None;
-        }
-        let address = self.addresses.address(start);
-        address.checked_add(length as u64)?;
-        Some(Span {
-            segments: self.segments,
-            body: self.body.copied(),
-            stop,
-            address,
-            length,
-            distance,
-        })
     }
 }

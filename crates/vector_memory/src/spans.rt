@@ -1,12 +1,17 @@
-//! Loads and stores whose bytes lie close together: they are read and written at once, and their elements are copied
-//! from and to a buffer ("V" Vector Extension 1.0, sections 7.4, 7.5, 7.8 and 7.9).
+//! A faster path for loads and stores whose bytes lie in a short span of memory: the span is read and written at once,
+//! and its elements are copied from and to a buffer, field by field or as a blend ("V" Vector Extension 1.0, sections
+//! 7.4, 7.5, 7.8 and 7.9). Every function here that answers `None` or `false` changes nothing; the index-by-index path
+//! of `loads` and `stores` then goes on.
+ghost use Rattle.std.specs.Prelude.{◌≡◌, length};
+ghost use Rattle.rv_model.specs.vector.Groups.{width_bytes};
 ghost use Rattle.vector_memory.specs.Spans.{IsSpan};
 
-use crate::blocks::Block;
+use crate::addresses::Addresses;
+use crate::moves::Moves;
 use crate::segments::Segments;
 use crate::user_bytes::UserBytes;
 use lane_arith::{Body, Lane};
-use rv_model::{Access, GROUP_BYTES, VFile};
+use rv_model::{Access, FILE_BYTES, GROUP_BYTES, VFile};
 
 /// The segments of the indices of a body up to `stop`, and the bytes from the first of them on to the end of the last:
 /// their address, and how many they are. Each segment begins `distance` bytes after the one before.
@@ -21,13 +26,50 @@ pub(crate) struct Span<'a> {
     ghost span: { IsSpan segments body stop address length distance },
 }
 
+impl<'a, A: Addresses> Moves<'a, A> {
+    ghost use Rattle.std.specs.Prelude.{◌≤◌, IfSome};
+    ghost use Rattle.vector_memory.specs.SpanAccess.{IsSpanOf};
+
+    /// The span of the indices up to `stop`, if no two segments overlap and it is at most as long as a group of
+    /// registers.
+    #[inline(always)]
+    pub(crate) fn span(&self, stop: usize) -> Option<Span<'a>>
+        requires { stop ≤ self.now.body.end }
+        ensures { IfSome result
+            (IsSpanOf self.now.segments self.now.body (A.address self.now.addresses) stop) }
+    {
+        let start = self.body.start();
+        if stop <= start {
+            return None;
+        }
+        let segment = self.segments.fields * self.segments.size;
+        let distance = self.addresses.distance()?;
+        if distance < segment || GROUP_BYTES < distance {
+            return None;
+        }
+        let length = (stop - start - 1) * distance + segment;
+        if GROUP_BYTES < length {
+            return None;
+        }
+        let address = self.addresses.address(start);
+        address.checked_add(length as u64)?;
+        Some(Span {
+            segments: self.segments,
+            body: self.body.copied(),
+            stop,
+            address,
+            length,
+            distance,
+        })
+    }
+}
+
 impl<'a> Span<'a> {
-    ghost use Rattle.std.specs.Prelude.{◌≡◌, IfSome, false, length, true};
+    ghost use Rattle.std.specs.Prelude.{◌≡◌, false, length, true};
     ghost use Rattle.rv_model.specs.accesses.Transfers.{memory_stored, registers_loaded};
     ghost use Rattle.rv_model.specs.declared.memory.Access.TheVariants.{Load, Store};
     ghost use Rattle.rv_model.specs.memory.Memory.{can_access};
     ghost use Rattle.rv_model.specs.vector.Groups.{width_bytes};
-    ghost use Rattle.vector_memory.specs.Blocks.{IsBlock};
     ghost use Rattle.vector_memory.specs.SegmentRoom.{place_in};
     ghost use Rattle.vector_memory.specs.SpanAccess.{IsRead, IsWritten, span_access, span_transfers};
 
@@ -118,25 +160,6 @@ impl<'a> Span<'a> {
         true
     }
 
-    /// Its bytes as a block, where its elements are contiguous and those of one field, and none is masked off.
-    #[inline(always)]
-    fn block(&self) -> Option<Block>
-        ensures value { IfSome result
-            (IsBlock self.now.segments self.now.body (span_access self.now).address self.now.stop) }
-        ensures address { IfSome result (λ block. block.address ≡ self.now.address) }
-        ensures length { IfSome result (λ block. block.length ≡ self.now.length) }
-    {
-        let size = self.segments.size;
-        if !self.body.is_unmasked() || self.segments.fields != 1 || self.distance != size {
-            return None;
-        }
-        Some(Block {
-            address: self.address,
-            place: self.segments.place(self.body.start(), 0),
-            length: self.length,
-        })
-    }
-
     /// Loads its elements, if each byte of the span may be loaded. Answers whether it did.
     #[inline(always)]
     pub(crate) fn load<M: UserBytes>(&self, memory: &M, fill: bool, file: &mut VFile) -> bool
@@ -181,5 +204,98 @@ impl<'a> Span<'a> {
             return false;
         };
         true
+    }
+}
+
+/// Copies the bytes of an element.
+#[inline(always)]
+fn copy_lane<L: Lane>(source: &[u8], destination: &mut [u8])
+    requires source { length source.now ≡ width_bytes L.width }
+    requires destination { length destination.old ≡ width_bytes L.width }
+    ensures { destination.new ≡ source.now }
+{
+    L::load(source, 0).store(destination, 0);
+}
+
+impl Span<'_> {
+    ghost use Rattle.std.specs.Prelude.{◌≡◌, ◌-◌, ◌<◌, ◌≤◌, length};
+    ghost use Rattle.rv_model.specs.memory.Memory.{Memory, bytes_at, put_bytes};
+    ghost use Rattle.rv_model.specs.vector.Groups.{width_bytes};
+    ghost use Rattle.vector_memory.specs.FieldOrder.{for_each, load_field, store_field};
+    ghost use Rattle.vector_memory.specs.SpanAccess.{span_access};
+
+    /// How many bytes after one segment the next begins: at least the size of a field, as the compiler then knows.
+    #[inline(always)]
+    fn step(&self) -> usize
+        requires { 1 ≤ self.now.segments.fields }
+        ensures { result ≡ self.now.distance }
+    {
+        self.distance.max(self.segments.size)
+    }
+
+    /// How many segments it has: at most as many as have room in a group of registers, as the compiler then knows.
+    #[inline(always)]
+    fn count(&self) -> usize
+        requires fields { 1 ≤ self.now.segments.fields }
+        requires size { 1 ≤ self.now.segments.size }
+        ensures { result ≡ self.now.stop - self.now.body.start }
+    {
+        (self.stop - self.body.start()).min(GROUP_BYTES / self.segments.size)
+    }
+
+    /// Copies one field of the active indices from its bytes to the registers.
+    #[inline(always)]
+    pub(crate) fn read_field<L: Lane>(
+        &self,
+        bytes: &[u8],
+        field: usize,
+        fill: bool,
+        file: &mut VFile,
+    )
+        requires length { length bytes.now ≡ self.now.length }
+        requires size { self.now.segments.size ≡ width_bytes L.width }
+        requires field { field < self.now.segments.fields }
+        ensures { (m : Memory) → bytes.now ≡ bytes_at m self.now.address self.now.length
+            → file.new ≡ for_each (load_field m (span_access self.now) fill field) file.old
+            self.now.body.start (self.now.stop - self.now.body.start) }
+    {
+        let start = self.body.start();
+        let size = self.segments.size;
+        let distance = self.step();
+        let first = self.segments.place(start, field);
+        let source = &bytes[field * size..];
+        let group = file.part_mut(first, FILE_BYTES);
+        for segment in 0..self.count() {
+            let (at, place) = (segment * distance, segment * size);
+            if self.body.is_enabled(start + segment) {
+                copy_lane::<L>(&source[at..at + size], &mut group[place..place + size]);
+            } else if fill {
+                copy_lane::<L>(&[0xff; 8][..size], &mut group[place..place + size]);
+            }
+        }
+    }
+
+    /// Copies one field of the active indices from the registers to its bytes.
+    #[inline(always)]
+    pub(crate) fn write_field<L: Lane>(&self, file: &VFile, field: usize, bytes: &mut [u8])
+        requires length { length bytes.old ≡ self.now.length }
+        requires size { self.now.segments.size ≡ width_bytes L.width }
+        requires field { field < self.now.segments.fields }
+        ensures { (m : Memory) → put_bytes m self.now.address bytes.new
+            ≡ for_each (store_field file.now (span_access self.now) field) (put_bytes m self.now.address bytes.old)
+            self.now.body.start (self.now.stop - self.now.body.start) }
+    {
+        let start = self.body.start();
+        let size = self.segments.size;
+        let distance = self.step();
+        let first = self.segments.place(start, field);
+        let group = file.part(first, FILE_BYTES);
+        let destination = &mut bytes[field * size..];
+        for segment in 0..self.count() {
+            if self.body.is_enabled(start + segment) {
+                let (at, place) = (segment * distance, segment * size);
+                copy_lane::<L>(&group[place..place + size], &mut destination[at..at + size]);
+            }
+        }
     }
 }

@@ -5,7 +5,7 @@ use Rattle.rv_model.specs.elements.Elements.{Body, element, is_changed, result_o
 use Rattle.rv_model.specs.elements.Formulas.{ones}
 use Rattle.rv_model.specs.lending.Writes.{Writes}
 use Rattle.rv_model.specs.vector.Groups.{width_bytes}
-use Rattle.vector_memory.proofs.Blends.{blend_loaded, span_length}
+use Rattle.vector_memory.proofs.BlendMoves.{blend_loaded, span_length}
 use Rattle.vector_memory.proofs.SpanMoves.{part_at}
 use Rattle.vector_memory.proofs.spans.Span.read_blend.Goals as goal
 

@@ -6,7 +6,7 @@ use Rattle.vector_memory.specs.SpanAccess.{span_access}
 use Rattle.rv_model.specs.memory.Memory.{bytes_at}
 use borrow.Rule.Slice.PartMut.{put_mid}
 use Rattle.vector_memory.proofs.BlockMoves.{put_same}
-use Rattle.vector_memory.proofs.Blends.{part_chunk, put_within}
+use Rattle.vector_memory.proofs.BlendMoves.{part_chunk, put_within}
 use Rattle.vector_memory.proofs.FieldSteps.{each_more, each_none, load_active, load_filled, load_kept}
 use Rattle.vector_memory.proofs.Outcomes.{take-replicate}
 use Rattle.vector_memory.proofs.SpanMoves.{field_inside, field_read, field_room, part_at, part_put}

@@ -6,7 +6,7 @@ use Rattle.rv_model.specs.elements.Elements.{is_enabled}
 use Rattle.vector_memory.specs.FieldOrder.{field_place, for_each, store_field}
 use Rattle.vector_memory.specs.SpanAccess.{span_access}
 use Rattle.vector_memory.proofs.BlockMoves.{put_same}
-use Rattle.vector_memory.proofs.Blends.{part_chunk, put_within}
+use Rattle.vector_memory.proofs.BlendMoves.{part_chunk, put_within}
 use Rattle.vector_memory.proofs.FieldSteps.{each_more, each_none, store_active, store_kept}
 use Rattle.vector_memory.proofs.SpanMoves.{field_begins, field_inside, field_room, part_at, part_put, put_part}
 use Rattle.vector_memory.proofs.spans.Span.write_field.Goals as goal

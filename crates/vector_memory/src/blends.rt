@@ -1,5 +1,5 @@
-//! Contiguous elements of one field, some of them masked off: 32 bytes at a time, in which those that are active are
-//! blended with the others ("V" Vector Extension 1.0, sections 5.3 and 7.4).
+//! A faster path for a span of contiguous elements of one field, some of them masked off: 32 bytes at a time, in which
+//! those that are active are blended with the others ("V" Vector Extension 1.0, sections 5.3 and 7.4).
 ghost use Rattle.std.specs.Prelude.{◌≡◌, ◌*◌, ◌<◌, ◌≤◌, ℕ, false, length, slice_index, true};
 ghost use Rattle.rv_model.specs.elements.Elements.{element, is_changed, result_or_ones};
 ghost use Rattle.rv_model.specs.lending.Writes.{HasElement, Writes};

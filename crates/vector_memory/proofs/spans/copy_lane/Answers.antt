@@ -5,8 +5,8 @@ use Rattle.std.proofs.lemmas.List.{take_all}
 use Rattle.std.proofs.lemmas.Simd.{below_from_Fits, chunk-fits, put_chunk_whole}
 use Rattle.rv_model.specs.vector.Groups.{width_bytes}
 use lib.Lanes.{number_l}
-use Rattle.vector_memory.proofs.Blends.{number_back}
-use Rattle.vector_memory.proofs.span_elements.copy_lane.Goals as goal
+use Rattle.vector_memory.proofs.BlendMoves.{number_back}
+use Rattle.vector_memory.proofs.spans.copy_lane.Goals as goal
 
 pub returns : goal.returns
 returns g c =
