@@ -1,0 +1,121 @@
+"""Sections and functions of a WebAssembly module in its binary format (WebAssembly Core Specification 2.0, chapter 5)."""
+
+HEADER = 8  # bytes
+CUSTOM, IMPORT, CODE = 0, 2, 10  # sections
+FUNCTION = 0  # a kind of import
+FUNCTION_NAMES = 1  # a subsection of the section "name"
+
+
+def with_bodies(module, original, changed):
+    """Return the module with the function bodies of the original, except those of the functions named in `changed`.
+
+    The module is what a tool made of the original: it has the same functions in the same order, and perhaps more after them. Both have a
+    section "name". Raises ValueError if a function has another name or another index.
+    """
+    names, first = function_names(original), len(import_entries(original))
+    new, old = bodies(module), bodies(original)
+    renamed = [name for index, name in names.items() if function_names(module).get(index) != name]
+    if renamed or first != len(import_entries(module)) or len(new) < len(old):
+        raise ValueError(f"functions have other indices: {', '.join(renamed[:3])}")
+    kept = [body if names[first + index] in changed else old[index] for index, body in enumerate(new[: len(old)])] + new[len(old) :]
+    code = encoded(len(kept)) + b"".join(encoded(len(body)) + body for body in kept)
+    return _joined(module, ((kind, code if kind == CODE else content) for kind, content in sections(module)))
+
+
+def without_names(module):
+    """Return the module without its custom sections."""
+    return _joined(module, ((kind, content) for kind, content in sections(module) if kind != CUSTOM))
+
+
+def _joined(module, parts):
+    return module[:HEADER] + b"".join(bytes([kind]) + encoded(len(content)) + content for kind, content in parts)
+
+
+def sections(module):
+    """Return the sections in their order: each a kind and its content."""
+    found, at = [], HEADER
+    while at < len(module):
+        size, start = number(module, at + 1)
+        found.append((module[at], module[start : start + size]))
+        at = start + size
+    return found
+
+
+def section(module, kind):
+    """Return the content of the only section of a kind."""
+    return next(content for found, content in sections(module) if found == kind)
+
+
+def bodies(module):
+    """Return the body of each function that the module defines."""
+    content = section(module, CODE)
+    count, at = number(content, 0)
+    found = []
+    for _ in range(count):
+        size, start = number(content, at)
+        found.append(content[start : start + size])
+        at = start + size
+    return found
+
+
+def import_entries(module):
+    """Return module and name of each import. Raises ValueError for an import that isn't a function."""
+    content = section(module, IMPORT)
+    count, at = number(content, 0)
+    found = []
+    for _ in range(count):
+        home, at = text(content, at)
+        name, at = text(content, at)
+        if content[at] != FUNCTION:
+            raise ValueError(f"the import {home}.{name} isn't a function")
+        _, at = number(content, at + 1)
+        found.append((home, name))
+    return found
+
+
+def function_names(module):
+    """Return the name of each function by its index, which counts imports first. Raises ValueError without a section "name"."""
+    for kind, content in sections(module):
+        if kind == CUSTOM and text(content, 0)[0] == "name":
+            at = text(content, 0)[1]
+            while content[at] != FUNCTION_NAMES:
+                size, at = number(content, at + 1)
+                at += size
+            return _names(content, number(content, at + 1)[1])
+    raise ValueError("the module has no names")
+
+
+def _names(content, at):
+    count, at = number(content, at)
+    found = {}
+    for _ in range(count):
+        index, at = number(content, at)
+        found[index], at = text(content, at)
+    return found
+
+
+def text(content, at):
+    """Return the text at an offset, and the offset after it."""
+    size, at = number(content, at)
+    return content[at : at + size].decode(), at + size
+
+
+def number(content, at):
+    """Return the unsigned number (LEB128) at an offset, and the offset after it."""
+    value = shift = 0
+    while True:
+        byte = content[at]
+        at += 1
+        value |= (byte & 0x7F) << shift
+        shift += 7
+        if byte < 0x80:
+            return value, at
+
+
+def encoded(value):
+    """Return an unsigned number as LEB128."""
+    found = bytearray()
+    while value >= 0x80:
+        found.append(value & 0x7F | 0x80)
+        value >>= 7
+    return bytes([*found, value])
