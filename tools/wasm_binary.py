@@ -10,11 +10,12 @@ def with_bodies(module, original, changed):
     """Return the module with the function bodies of the original, except those of the functions named in `changed`.
 
     The module is what a tool made of the original: it has the same functions in the same order, and perhaps more after them. Both have a
-    section "name". Raises ValueError if a function has another name or another index.
+    section "name". Raises ValueError if a function has another name or another index, or if no function has a name in `changed`.
     """
     names, first = function_names(original), len(import_entries(original))
     new, old = bodies(module), bodies(original)
-    renamed = [name for index, name in names.items() if function_names(module).get(index) != name]
+    new_names, unknown = function_names(module), [name for name in changed if name not in names.values()]
+    renamed = [name for index, name in names.items() if new_names.get(index) != name] + unknown
     if renamed or first != len(import_entries(module)) or len(new) < len(old):
         raise ValueError(f"functions have other indices: {', '.join(renamed[:3])}")
     kept = [body if names[first + index] in changed else old[index] for index, body in enumerate(new[: len(old)])] + new[len(old) :]
@@ -42,8 +43,8 @@ def sections(module):
 
 
 def section(module, kind):
-    """Return the content of the only section of a kind."""
-    return next(content for found, content in sections(module) if found == kind)
+    """Return the content of the only section of a kind; without one, that of an empty list."""
+    return next((content for found, content in sections(module) if found == kind), encoded(0))
 
 
 def bodies(module):
