@@ -47,3 +47,8 @@ def test_only_changed_functions_get_new_bodies() -> None:
 def test_another_order_of_functions_is_refused(changed: bytes) -> None:
     with pytest.raises(ValueError, match="functions have other indices"):
         BINARY.with_bodies(changed, ORIGINAL, [])
+
+
+def test_an_unknown_function_is_refused() -> None:
+    with pytest.raises(ValueError, match="functions have other indices: h"):
+        BINARY.with_bodies(ORIGINAL, ORIGINAL, ["g", "h"])
