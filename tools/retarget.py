@@ -16,13 +16,15 @@ NAME = r'@("[^"]*"|[\w.$]+)\('
 DEFINITION = re.compile(rf"^define .*?{NAME}")
 CALL = re.compile(rf"^ .*\bcall [^@]*{NAME}")
 LOAD = re.compile(r"^(\s*)(%\S+) = load (volatile )?ptr, (.*)$")
-PAIR = re.compile(r"^(\s*)(%\S+) = load (\{ (?:ptr, (?:ptr|i\d\d?)|i\d\d?, ptr) \}), ptr (%[^,]+)(?:, align \d+)?.*$")
+PAIR = re.compile(r"^(\s*)(%\S+) = load (\{ (?:ptr, \w+|\w+, ptr) \}), ptr (%[^,]+)(?:, align \d+)?.*$")
 STORE = re.compile(r"^(\s*)store (volatile )?ptr (.*), (ptr .*)$")
-CONSTANT = re.compile(r"^(@\S+ = .*?(?:constant|global) )<\{ (.*?) \}> <\{ (.*) \}>(, align \d+)$")
+GLOBAL = re.compile(r'^(@(?:"[^"]*"|[^\s"]+) = .*?\b(?:constant|global) )(.*)$')
+PACKED = re.compile(r"^<\{ (.*?) \}> <\{ (.*) \}>(, align \d+)?$")
 ATTRIBUTES = re.compile(r"( #\d+)? \{$", re.MULTILINE)  # of a definition; a group may have `alwaysinline`
 PROCESSOR = re.compile(r' "(?:frame-pointer|probe-stack|stack-probe-size|target-cpu)"="[^"]*"')
 POINTER_FACTS = re.compile(r", !(nonnull|align|dereferenceable|dereferenceable_or_null) !\d+")
 SIZED = re.compile(r"^\s*(?:%\S+ = )?(?:load|store|getelementptr|alloca)\b(.*?)(?:, ptr [^}\]>].*)?$")  # by the type that it names
+STRING = re.compile(r'"[^"]*"')
 POINTER = re.compile(r'(?<![(\w.:"])ptr\b(?!:)')
 
 
@@ -94,7 +96,7 @@ def _loaded_pair(pair, number):
     """Return the lines that load a pair of a pointer and another value from two slots."""
     space, name, kind, address = pair.groups()
     place, lines, kinds = f"%pair.{number}", [], kind.strip("{ }").split(", ")
-    lines.append(f"{place}.second = getelementptr i8, ptr {address}, i64 8\n")
+    lines.append(f"{place}.second = getelementptr i8, ptr {address}, i64 {16 if 'i128' in kinds else 8}\n")
     lines.append(f"{place}.none = freeze {kind} poison\n")
     for of, at in zip(kinds, (address, f"{place}.second")):
         which = f"{place}.{len(lines)}"
@@ -107,13 +109,15 @@ def _loaded_pair(pair, number):
 
 def _widened_constant(line):
     """Return a constant in which 4 bytes of zeros follow each pointer."""
-    constant = CONSTANT.match(line.rstrip("\n"))
-    if not constant:
-        return _unsupported(line) if POINTER.search(line) else line
-    head, types, values, tail = constant.groups()
-    types = [part for kind in _parts(types) for part in ([kind, "[4 x i8]"] if kind == "ptr" else [kind])]
-    values = [part for value in _parts(values) for part in ([value, "[4 x i8] zeroinitializer"] if value.startswith("ptr ") else [value])]
-    return f"{head}<{{ {', '.join(types)} }}> <{{ {', '.join(values)} }}>{tail}\n"
+    found = GLOBAL.match(line.rstrip("\n"))
+    if not found or line.startswith("@llvm.") or not POINTER.search(STRING.sub("", found[2])):
+        return line
+    packed = PACKED.match(found[2])
+    if not packed or any(POINTER.search(kind) for kind in _parts(packed[1]) if kind != "ptr"):
+        return _unsupported(line)
+    types = [part for kind in _parts(packed[1]) for part in ([kind, "[4 x i8]"] if kind == "ptr" else [kind])]
+    values = [part for value in _parts(packed[2]) for part in ([value, "[4 x i8] zeroinitializer"] if value.startswith("ptr ") else [value])]
+    return f"{found[1]}<{{ {', '.join(types)} }}> <{{ {', '.join(values)} }}>{packed[3] or ''}\n"
 
 
 def _parts(text):

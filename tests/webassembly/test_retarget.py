@@ -32,6 +32,10 @@ def retargeted(*lines: str) -> list[str]:
             ],
         ),
         ('@"core::ptr::a" = constant [2 x i8] c"ab"', ['@"core::ptr::a" = constant [2 x i8] c"ab"']),
+        ('@"a b" = constant [6 x i8] c"a ptr "', ['@"a b" = constant [6 x i8] c"a ptr "']),
+        ("@llvm.used = appending global [1 x ptr] [ptr @a]", ["@llvm.used = appending global [1 x ptr] [ptr @a]"]),
+        ("@a = alias i8, ptr @b", ["@a = alias i8, ptr @b"]),
+        ("@a = constant i64 ptrtoint (ptr @b to i64)", ["@a = constant i64 ptrtoint (ptr @b to i64)"]),
     ],
 )
 def test_line(line: str, expected: list[str]) -> None:
@@ -50,11 +54,12 @@ def test_pair() -> None:
     "line",
     [
         "  store { ptr, i64 } %a, ptr %b, align 8",
-        "  %a = load { i128, ptr }, ptr %b, align 16",
         "  %a = load <2 x ptr>, ptr %b, align 16",
         "  %a = getelementptr ptr, ptr %b, i64 3",
         "  %a = alloca [4 x ptr], align 8",
         "@a = global ptr @b",
+        "@a = constant <{ <{ ptr, i8 }>, i8 }> <{ <{ ptr, i8 }> <{ ptr @b, i8 1 }>, i8 2 }>, align 8",
+        '@"a b" = constant [2 x ptr] [ptr @c, ptr @d]',
     ],
 )
 def test_another_size_of_pointers_is_refused(line: str) -> None:
