@@ -2,10 +2,12 @@
 
 - `data/`: templates of pages (`*.page`), command lines (`lines`), and the scripts and images that both run; the program
   runs there;
-- `stdin`: what stands on standard input of each command line;
-- `stdout`: what is expected: the pages in the order of `pages.py`, a heading, and then what each line of `lines` puts
-  out on standard output, with a line behind it that has the status, the words and, if there is any, what goes to
-  standard error.
+- `stdin`: the standard input of each command line;
+- `expected/pages/NAME`: the expected text of each page;
+- `expected/lines/SCRIPT`: the expected records of the command lines that run `data/SCRIPT`, in the order of `data/lines`.
+  A record is the standard output, and a line with the exit status, the arguments and the standard error, if there is
+  any. `usage` has the command lines without a script. `recorded/script` is a folder: its files are the parts of one
+  transcript, each of at most 120 kB.
 
 `data/manual` is the examples of docs/COMMANDS.md. `data/recorded/script` has each refusal, users side by side, traces,
 texts of instructions and what a line means as a command; then what programs put out; then images that are loaded or

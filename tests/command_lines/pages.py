@@ -26,10 +26,10 @@ LONGEST_SHOWN = 300  # bytes of a line that is shown whole
 BEGINNING_SHOWN = 40  # bytes of a longer one
 
 TEMPLATES = {"TOUR.md": "tour.page", "REFUSALS.md": "refusals.page", "COMPILING.md": "compiling.page"}
-"""The pages of docs/, in the order in which they are stored."""
+"""The templates of the pages of docs/, by the names of the pages."""
 
-MORE = "program.page"
-"""The template of a page that stands in no document, with what those of docs/ don't show."""
+ALL_TEMPLATES = {**TEMPLATES, "PROGRAM.md": "program.page"}
+"""The same with a page of cases that no page of docs/ shows."""
 
 
 def read(name: str, folder: pathlib.Path = DATA) -> str:

@@ -2,7 +2,7 @@
 
 import pytest
 
-from tests.command_lines.pages import MORE, TEMPLATES, page
+from tests.command_lines.pages import ALL_TEMPLATES, page
 from tests.command_lines.stored import LINES, record, stored
 from tests.command_lines.words import by_names_and_words, has_names
 from tests.program import built, difference, lines_of
@@ -17,9 +17,9 @@ SAME_TICKS = [
 """Command lines that grant a program the same ticks, in slices of other lengths."""
 
 
-@pytest.mark.parametrize("name", [*TEMPLATES.values(), MORE])
+@pytest.mark.parametrize("name", ALL_TEMPLATES)
 def test_page(name: str) -> None:
-    told = difference(page(built(), name), STORED.pages[name])
+    told = difference(page(built(), ALL_TEMPLATES[name]), STORED.pages[name])
     assert not told, told
 
 

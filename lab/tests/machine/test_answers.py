@@ -17,8 +17,9 @@ PATTERN = re.compile(
 
 def stored_answers() -> Iterator[list[str]]:
     """The answers in the stored output of command lines, but for those that a page cuts; `regs` has nine lines."""
-    text = (TOP / "tests" / "command_lines" / "stdout").read_text("latin-1")
-    yield from (found[0].splitlines() for found in PATTERN.finditer(text))
+    for path in sorted((TOP / "tests" / "command_lines" / "expected").rglob("*")):
+        if path.is_file():
+            yield from (found[0].splitlines() for found in PATTERN.finditer(path.read_text("latin-1")))
 
 
 def test_stored_answers_are_printed_as_they_were() -> None:
