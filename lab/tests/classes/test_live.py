@@ -7,6 +7,7 @@ import pytest
 
 from support.class_tabs import LOOP, Message, Served, Tab, served
 from vecmon_lab.classes import room as class_room
+from vecmon_lab.classes.live import is_servers, server_line
 
 pytestmark = pytest.mark.asyncio
 
@@ -149,6 +150,13 @@ async def test_the_servers_own_lines_are_its_own(tmp_path: pathlib.Path, line: s
         tab = await room.sit("A1")
         assert "is the server's own line" in (await tab.ask("lines", do=["enter", line]))["error"]
         assert (await room.check_replay())[0] == b""
+
+
+def test_server_line_has_trailing_space() -> None:
+    for command in ("out", "stop", "go"):
+        assert server_line("3", command) == f"3 {command} "
+        assert is_servers(f"3 {command} ")
+        assert not any(map(is_servers, (f"3 {command}", f"3 {command}  ", f"3  {command}", f"* {command} ")))
 
 
 SORT = """

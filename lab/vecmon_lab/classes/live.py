@@ -1,6 +1,7 @@
-"""Lines that the server sends for itself, so that pages show what programs put out, and how they run.
+"""The lines that the server sends for a seat: they fetch the output of its program, stop it and resume it.
 
-They end in a space, which the machine leaves out, and by which they are known from what students type.
+`server_line` marks them with a trailing space. The machine ignores the space; in a recorded script it distinguishes the
+server's lines from those of students, so that a replay restores both.
 """
 
 from collections.abc import Iterable, Sequence
@@ -10,12 +11,17 @@ from ..machine.answers import is_refusal, is_stop
 from ..machine.lines import words_of
 from ..page.state import State
 
-OUT, STOP, GO = "out ", "stop ", "go "
+_MARKED = {command: f"{command} " for command in ("out", "stop", "go")}
+
+
+def server_line(digit: str, command: str) -> str:
+    """Return the server's line for the seat of this digit. command: `out`, `stop` or `go`"""
+    return f"{digit} {_MARKED[command]}"
 
 
 def is_servers(line: str) -> bool:
-    """Whether the server sent a user's line for itself."""
-    return line[2:] in (OUT, STOP, GO) and line[0] != "*"
+    """Return whether a user's line has the mark of `server_line`."""
+    return line[0] != "*" and line[2:] in _MARKED.values()
 
 
 def with_output(done: Iterable[tuple[str, Sequence[str]]], states: dict[str, State]) -> dict[str, bool]:

@@ -16,7 +16,7 @@ from ..machine.lines import is_look
 from ..machine.session import TOGETHER, ScriptFull, Session
 from ..page.state import State
 from .languages import SourceText
-from .live import GO, OUT, STOP, with_output
+from .live import server_line, with_output
 from .requests import BadRequest, Lines
 from .seats import Done, Seat, Seats
 
@@ -265,10 +265,10 @@ class SharedMachine:
         place = read(self.session.look(f"{seat.digit} state"))
         if not isinstance(place, Position) or place.run != "running" or place.pc in seat.sight.breaks:
             return
-        self.do(turn, f"{seat.digit} {STOP}", f"{seat.digit} {OUT}")
+        self.do(turn, server_line(seat.digit, "stop"), server_line(seat.digit, "out"))
         self._look(turn)
         if goes_on:
-            self.do(turn, f"{seat.digit} {GO}")
+            self.do(turn, server_line(seat.digit, "go"))
             for state in turn.states[seat.digit]:
                 state["run"] = "running"
 
@@ -276,7 +276,7 @@ class SharedMachine:
         """Takes the output of programs that stopped. One whose buffer was full goes on."""
         states = {digit: seat.state for digit, seat in self.seats.users.items()}
         for digit, goes_on in with_output(turn.done, states).items():
-            self.do(turn, f"{digit} {OUT}", *([f"{digit} {GO}"] if goes_on else []))
+            self.do(turn, *(server_line(digit, it) for it in (["out", "go"] if goes_on else ["out"])))
 
     def _look(self, turn: Turn) -> None:
         """Looks at whom the turn may have changed."""
