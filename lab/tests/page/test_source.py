@@ -171,6 +171,13 @@ def test_a_source_is_given(sit: Sit, tmp_path: pathlib.Path) -> None:
     tab.run("(id('versions').selectedIndex = 1, id('versions').dispatchEvent(new Event('change')))")
     tab.wait(f"{TEXT}.startsWith('# theirs')")
     teacher.wait(f"{TEXT}.startsWith('# theirs')")  # the server has it
+    _give_to_all(teacher, tab, other)
+    assert tab.save("#save", tmp_path / "A3.s").decode("utf-8") == tab.run(TEXT)
+    _take_back(teacher, tab)
+
+
+def _give_to_all(teacher: Tab, tab: Tab, other: Tab) -> None:
+    """The teacher gives every seat a source, while the source of one is too long for a version."""
     teacher.run("id('receiver').value = 'all'")
     teacher.keys("#given", "# all ")
     teacher.click("#give")
@@ -185,7 +192,10 @@ def test_a_source_is_given(sit: Sit, tmp_path: pathlib.Path) -> None:
     for page in (tab, other):
         page.wait(f"{TEXT}.includes('# all')")
     assert tab.text("#versions option:nth-child(2)").endswith(" typed") and tab.text("#left") == ""
-    assert tab.save("#save", tmp_path / "A3.s").decode("utf-8") == tab.run(TEXT)
+
+
+def _take_back(teacher: Tab, tab: Tab) -> None:
+    """The teacher takes the source back, and then gives one to no seat, which sends nothing."""
     teacher.wait("id('gave').textContent.startsWith('Given to all seats: ')")
     teacher.click("#take-back")
     tab.wait(f"{TEXT}.startsWith('# theirs')")

@@ -20,11 +20,27 @@ from .view import Class
 
 
 def add_arguments(parser: argparse.ArgumentParser) -> None:
-    """The words of `vecmon-lab class`."""
+    """Add the arguments and options of `vecmon-lab class`."""
     parser.add_argument(
         "folder", metavar="DIR", type=pathlib.Path, help="the folder of the class, created if necessary"
     )
     parser.add_argument("images", metavar="NAME=PATH", nargs="*", default=[], help="images that students load by name")
+    _add_addresses(parser)
+    _add_exercises(parser)
+    _add_machines(parser)
+    _add_actions(parser)
+    patience = between(1, 3600)
+    parser.add_argument(
+        "--patience",
+        metavar="S",
+        type=patience,
+        default=10,
+        help="replace a vecmon that is silent for S seconds; by default 10",
+    )
+
+
+def _add_addresses(parser: argparse.ArgumentParser) -> None:
+    """Add the options that set where the class is served."""
     parser.add_argument("--host", default="127.0.0.1", help="the address to serve at; 0.0.0.0 serves all networks")
     port = between(0, 65535)
     parser.add_argument(
@@ -34,6 +50,10 @@ def add_arguments(parser: argparse.ArgumentParser) -> None:
     told = "serve HTTPS with this certificate and its private key, both PEM files"
     parser.add_argument("--tls", nargs=2, metavar=("CERT", "KEY"), type=pathlib.Path, help=told)
     parser.add_argument("--name", action="append", default=[], help="another host name of the page")
+
+
+def _add_exercises(parser: argparse.ArgumentParser) -> None:
+    """Add the options of machines, exercises and compilers."""
     machines = between(1, len(LETTERS))
     parser.add_argument(
         "--machines",
@@ -54,24 +74,24 @@ def add_arguments(parser: argparse.ArgumentParser) -> None:
         default=64,
         help="maximum of nonzero kilobytes of a program; by default 64",
     )
+
+
+def _add_machines(parser: argparse.ArgumentParser) -> None:
+    """Add the options of each machine's slices, clock and spare process."""
     parser.add_argument("--quantum", metavar="N", type=int, help="ticks of a slice, 1 to 1000; by default 100")
     told = "start new machines with the clock off"
     parser.add_argument("--no-clock", action="store_true", help=told)
     told = "keep a second process for each machine, which replaces a failed one"
     parser.add_argument("--spare", action="store_true", help=told)
+
+
+def _add_actions(parser: argparse.ArgumentParser) -> None:
+    """Add the options that do something else instead of serving the class."""
     parser.add_argument("--forget", action="store_true", help="delete the names that DIR keeps, and serve nothing")
     told = "give the teacher a new code, and serve nothing; seats keep theirs"
     parser.add_argument("--renew-teacher", action="store_true", help=told)
     told = "report the state of DIR, and serve nothing; the status is 1 if a file is damaged"
     parser.add_argument("--check", action="store_true", help=told)
-    patience = between(1, 3600)
-    parser.add_argument(
-        "--patience",
-        metavar="S",
-        type=patience,
-        default=10,
-        help="replace a vecmon that is silent for S seconds; by default 10",
-    )
 
 
 def run(arguments: argparse.Namespace) -> int:
