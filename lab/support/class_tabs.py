@@ -14,7 +14,7 @@ from typing import Any
 
 import aiohttp
 
-from support.places import SUM, TOP
+from support.places import TOP
 from vecmon_lab.classes import server as class_server
 from vecmon_lab.classes.builds import Builds
 from vecmon_lab.classes.store import Store, script_name

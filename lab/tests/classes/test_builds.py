@@ -9,7 +9,7 @@ import zipfile
 
 import pytest
 
-from support.class_tabs import Served, Tab, served
+from support.class_tabs import Tab, served
 from support.left_out import NO_SANDBOX, leave_out
 from support.places import DATA, EXAMPLES
 from vecmon_lab import LabError

@@ -6,7 +6,7 @@ from typing import Any
 
 import pytest
 
-from support.class_tabs import Served, Tab, served
+from support.class_tabs import Tab, served
 from vecmon_lab.classes import durable
 from vecmon_lab.classes.languages import C
 from vecmon_lab.exercises.exercise import OURS

@@ -24,7 +24,7 @@ SOURCE = (
 async def test_an_archive(tmp_path: pathlib.Path) -> None:
     folder = tmp_path / "class"
     async with served(folder, {"sum": SUM}) as room:
-        tab, other, teacher = await room.sit("A3"), await room.sit("A4"), await room.sit("teacher")
+        tab, other, _ = await room.sit("A3"), await room.sit("A4"), await room.sit("teacher")
         await other.do("enter", "load sum", "step 2")
         assert (await tab.ask("source", text=SOURCE))["mistakes"] == []
         await tab.do("step 1", "step 2", "go", slices=4)

@@ -5,7 +5,6 @@ import json
 import pathlib
 import re
 import shlex
-import socket
 import ssl
 import subprocess
 from collections.abc import AsyncIterator

@@ -196,14 +196,14 @@ def test_an_image_that_is_too_large() -> None:
 
 def test_words_are_a_closed_list() -> None:
     clang, gcc = Compiler("clang-19"), Compiler("riscv64-linux-gnu-gcc-14")
-    for compiler in (clang, gcc):
+    for each in (clang, gcc):
         for choice in range(len(CHOICES)):
-            assert compiler.words(choice)[0] == compiler.name
-            sources = compiler.words(choice)[-2:]
+            assert each.words(choice)[0] == each.name
+            sources = each.words(choice)[-2:]
             assert "source.s" in sources if choice == choice_of("stock") else sources[0] == "source.c"
         for choice in (-1, len(CHOICES)):
             with pytest.raises(LabError, match="options have numbers"):
-                compiler.words(choice)
+                each.words(choice)
     assert clang.has_vectors and gcc.has_vectors and not Compiler("riscv64-linux-gnu-gcc").has_vectors
 
 

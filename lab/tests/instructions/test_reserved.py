@@ -1,6 +1,5 @@
 """Encodings that read a register with two element widths: by hand from V 1.0, section 5.2, and by what QEMU refuses."""
 
-import json
 from collections.abc import Iterator
 
 import pytest

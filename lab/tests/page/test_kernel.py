@@ -1,7 +1,6 @@
 """Lessons in C, in Chromium: the tour's kernel from line to line, and its variables; and listings side by side."""
 
 import pathlib
-from collections.abc import Callable
 from typing import TYPE_CHECKING
 
 import pytest
@@ -11,7 +10,7 @@ from support.tour_kernel import KERNEL
 from vecmon_lab.lessons.frames import make_frames
 from vecmon_lab.lessons.listings import CompiledListing, listings_page
 from vecmon_lab.lessons.page import lesson_page
-from vecmon_lab.lessons.tour import TOURS, tours
+from vecmon_lab.lessons.tour import tours
 
 if TYPE_CHECKING:
     from selenium.webdriver import Chrome

@@ -4,8 +4,6 @@ import pathlib
 import subprocess
 from collections.abc import Mapping
 
-import pytest
-
 from support.commands import Lab
 from support.images import MARCH
 from support.places import EXAMPLES

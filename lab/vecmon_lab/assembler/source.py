@@ -153,7 +153,7 @@ class _Assembler:
         for section in self._sections.values():
             section.base = origin
             origin += section.pages() * PAGE_BYTES
-        statements, pokes = list[Statement](), list[str]()
+        statements = list[Statement]()
         for item in self._instructions:
             with self._noting():
                 statements += item.statements(self._symbols)

@@ -5,7 +5,7 @@ from collections.abc import Mapping, Sequence
 from typing import TypedDict
 
 from ..assembler.commands import refusal_on_pages
-from ..exercises.check import Mistake, mistakes_told
+from ..exercises.check import Mistake
 from ..page.pages import merge_patch
 from ..page.state import State
 from .requests import BadRequest, JsonObject

@@ -16,7 +16,7 @@ from .codes import TEACHER, WALL
 from .comparisons import Comparisons
 from .messages import Updates
 from .names import NAMES, as_csv, local_time
-from .notices import NOTICES, Notices
+from .notices import Notices
 from .requests import BadRequest
 from .room import Room
 from .seats import Seat

@@ -151,8 +151,9 @@ def _taken(where: str, entries: object, defaults: Mapping[str, object]) -> Simpl
     for key, value in entries.items():
         if key not in defaults:
             raise LabError(f"{where}: there is nothing that is called {key}")
-        if type(value) is not type(defaults[key]):
-            raise LabError(f"{where}: {key} isn't {_NAMES[type(defaults[key])]}")
+        kind = type(defaults[key])
+        if type(value) is not kind:  # a bool is no number here
+            raise LabError(f"{where}: {key} isn't {_NAMES[kind]}")
     return SimpleNamespace(**defaults | entries)
 
 

@@ -156,9 +156,9 @@ def _reasons(exercise: Exercise, outcomes: list[str]) -> list[str]:
     if len(set(outcomes)) == 1 and not all(case.is_hidden for case in exercise.cases):
         return outcomes[:1]
     cases: dict[str, list[str]] = {}
-    for case, outcome in zip(exercise.cases, outcomes):
-        if outcome:
-            cases.setdefault("fails" if case.is_hidden else outcome, []).append(case.name)
+    for case, found in zip(exercise.cases, outcomes):
+        if found:
+            cases.setdefault("fails" if case.is_hidden else found, []).append(case.name)
     return [f"{', '.join(names)}: {reason}" for reason, names in cases.items()]
 
 
@@ -169,7 +169,7 @@ def _print_rows(exercise: Exercise, grades: Grades, more: Sequence[Sequence[str]
         names = [case.name for case in exercise.cases]
         writer.writerow(spreadsheet_row(["answer", "passed", "of", *names, "reason", *COUNTS[: len(more[0])]]))
     for (path, outcomes), cells in zip(grades, more):
-        marks = ["fails" if outcome else "passes" for outcome in outcomes]
+        marks = ["fails" if found else "passes" for found in outcomes]
         reason = next(iter(_reasons(exercise, outcomes)), "")
         writer.writerow(spreadsheet_row([path, outcomes.count(""), len(marks), *marks, reason, *cells]))
 
@@ -179,7 +179,7 @@ def _print_table(exercise: Exercise, grades: Grades, more: Sequence[Sequence[str
     head = ["answer", *(case.name for case in exercise.cases), "passed"]
     rows = [[*head, *COUNTS[: len(more[0])]]]
     for (path, outcomes), cells in zip(grades, more):
-        marks = ["-" if outcome else "ok" for outcome in outcomes]
+        marks = ["-" if found else "ok" for found in outcomes]
         rows.append([str(path), *marks, f"{outcomes.count('')} of {len(marks)}", *cells])
     print("\n".join([exercise.title, *table_lines(rows, len(head))]))
     for path, outcomes in grades:

@@ -8,7 +8,7 @@ the output after every seven instructions.
 """
 
 import sys
-from collections.abc import Callable, Iterable, Sequence
+from collections.abc import Callable, Sequence
 from typing import TYPE_CHECKING
 
 from ..instructions.calls import unsupported_call

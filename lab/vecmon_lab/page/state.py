@@ -7,7 +7,7 @@ from typing import Any, TypedDict
 
 from ..guest.calls import shown_calls
 from ..guest.guest import Guest
-from ..instructions.accesses import LINE_BYTES, PAGE_BYTES, ROW_BYTES
+from ..instructions.accesses import PAGE_BYTES, ROW_BYTES
 from ..instructions.calls import ECALL, unsupported_call
 from ..instructions.reasons import describe_stop
 from ..machine.answers import (
@@ -15,12 +15,10 @@ from ..machine.answers import (
     Answer,
     ControlRegisters,
     Listing,
-    Memory,
     Output,
     Position,
     ScalarRegisters,
     Stop,
-    VectorRegister,
 )
 from ..machine.lines import words_of
 from .operands import ShownOperand, shown_operands

@@ -2,7 +2,7 @@
 
 import functools
 import random
-from collections.abc import Iterable, Iterator, Sequence
+from collections.abc import Iterable, Sequence
 
 from ..instructions.accesses import ACCUMULATES, FIRST_ELEMENT, REGISTER_BITS, bits_of, needed
 from ..instructions.reasons import illegal_reasons

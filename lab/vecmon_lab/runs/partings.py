@@ -15,7 +15,7 @@ from ..guest.symbols import Symbols
 from ..instructions.accesses import REGISTER_BITS
 from ..instructions.calls import ECALL
 from ..instructions.words import listed
-from ..machine.answers import CONTROL, Memory
+from ..machine.answers import CONTROL
 from .beginning import Beginning
 from .counts import Counts
 from .dataflow import Cell, Executed, conditions, parts
