@@ -1,1 +1,1 @@
-"""Tests of the tools that build and check the pages."""
+"""Tests of the tools that build the pages, and check pages and the subjects of commits."""
