@@ -7,7 +7,7 @@ from collections.abc import Callable, Iterable, Sequence
 from functools import partial
 
 from .. import LabError
-from ..assembler.commands import COMMANDS, help_on, refusal_in_words
+from ..assembler.commands import COMMANDS, refusal_in_words
 from ..guest.changes import Stepper, vtype_text
 from ..guest.guest import Guest
 from ..guest.symbols import Symbols
@@ -27,6 +27,9 @@ from ..machine.answers import (
 from ..machine.lines import check_text, is_look
 from ..machine.program import find_program
 from ..machine.session import Session
+from ..meanings.help import help_lines
+from ..meanings.stepped import why_stepped
+from ..meanings.why import read_name
 from .breakpoints import Breakpoints
 from .conditions import REGISTERS, Conditions
 from .execution import Execution
@@ -95,9 +98,11 @@ class Console:
         try:
             match self.names.words(line):
                 case ["help", *name]:
-                    self._screen.say(*help_on(" ".join(name)), *HELP_ON_PLACES.get(" ".join(name), []))
+                    self._screen.say(*help_lines(" ".join(name)), *HELP_ON_PLACES.get(" ".join(name), []))
                 case ["quit"]:
                     self.is_open = False
+                case ["why", element]:
+                    self._screen.say(why_stepped(self._stepper, *read_name(element)).text)
                 case ["run"]:
                     self._run(self.execution.run)
                 case ["until", place] if place in REGISTERS or place in VECTORS:
@@ -123,7 +128,7 @@ class Console:
                     self.execution.tell_place()
                 case ["step", number] if state_of(self._guest)[0] == "stopped" and number in STEPS:
                     self.execution.step(int(number))
-                case [("quit" | "run" | "source" | "until" | "changes" | "list" | "back") as name, *_]:
+                case [("quit" | "run" | "source" | "until" | "changes" | "list" | "back" | "why") as name, *_]:
                     raise LabError(f"the form is {COMMANDS[name].form}")
                 case words:
                     self._monitor(words)

@@ -120,16 +120,19 @@ class Stepper:
     """Steps a guest, and tells what each instruction changed. Whoever changes the guest otherwise calls `look` then.
 
     registers: as they are now
+    last: the instruction that was stepped last, with the registers before it; None if anything else was done since
     """
 
     def __init__(self, guest: Guest) -> None:
         self.guest = guest
+        self.last: tuple[Registers, Carried] | None = None
         self.registers = Registers([0] * 32, ControlRegisters(), bytearray(32 * REGISTER_BYTES))
         self.look()
 
     def look(self) -> list[Change]:
         """Looks at all registers; those that changed since the last look, elements of each vector register by SEW."""
         self._listing: dict[int, tuple[int, str]] = {}  # words and texts by address
+        self.last = None
         before = self.registers.copy()
         looks = ["regs", "vcsr", *(f"vreg v{number} 64" for number in range(32))]
         self._take_in(self.guest.ask(*looks))
@@ -158,7 +161,9 @@ class Stepper:
         for change in stored:
             for address in range(change.address & ~3, change.address + len(change.after), 4):
                 self._listing.pop(address, None)
-        return Carried(pc, word, text, [*self._changes_since(before, targets), *stored], stop)
+        carried = Carried(pc, word, text, [*self._changes_since(before, targets), *stored], stop)
+        self.last = before, carried
+        return carried
 
     def fetch(self, pc: int) -> tuple[int, str]:
         """The word at an address and its text; 0 and "" where nothing can be fetched."""

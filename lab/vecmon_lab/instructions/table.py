@@ -41,3 +41,19 @@ def instruction_table() -> dict[str, Row]:
     """The rows by name, in the page's order, but for `.word`."""
     rows = read_table("instructions")
     return {name: Row(name, operands.removeprefix("-"), bits.replace(" ", "")) for name, operands, bits in rows}
+
+
+@functools.lru_cache(maxsize=4096)
+def row_of(word: int) -> Row | None:
+    """The row of the instruction that a word is; None if no row has its bits, as of a word that is none."""
+    return next((row for mask, bits, row in _by_opcode().get(word & 0x7F, ()) if word & mask == bits), None)
+
+
+@functools.cache
+def _by_opcode() -> dict[int, list[tuple[int, int, Row]]]:
+    """Of each opcode its rows, each with the mask of its fixed bits and their values."""
+    rows: dict[int, list[tuple[int, int, Row]]] = {}
+    for row in instruction_table().values():
+        fixed = int(row.bits.replace("0", "1").replace("-", "0"), 2)
+        rows.setdefault(row.opcode, []).append((fixed, row.word(0), row))
+    return rows

@@ -36,6 +36,7 @@ class Operand:
     group: int  # the registers that a group takes
     registers: range  # those of a group, or of the groups of a segment's fields, one after another
     part: Fraction | None = None  # of SEW, that the width is; None where the instruction itself says the width
+    place: str = ""  # the field that names its first register: vd, vs2 or vs1
 
 
 @dataclass(frozen=True)
@@ -122,4 +123,5 @@ def _operand(noun: str, place: str, cell: list[str], fields: Mapping[str, int], 
     group = max(1, int(emul))
     count = group * many if "fields" in others else group
     registers = range(fields[place], fields[place] + count)
-    return Operand("index" if "index" in others else noun, eew, emul, whole is not None, group, registers, part)
+    noun = "index" if "index" in others else noun
+    return Operand(noun, eew, emul, whole is not None, group, registers, part, place)

@@ -8,7 +8,7 @@ from ..assembler.source import DIRECTIVES
 from ..instructions.table import instruction_table
 from ..tables.table import read_table
 
-OF_THE_CONSOLE = {"run", "until", "back", "changes", "list", "source", "help", "quit"}
+OF_THE_CONSOLE = {"run", "until", "back", "changes", "list", "source", "why", "help", "quit"}
 
 
 def reference() -> dict[str, list[list[str]]]:

@@ -1,0 +1,99 @@
+"""The golden vectors of lab/tests/data/golden_vectors: single instructions with QEMU's results, as states of the formulas."""
+
+import functools
+import json
+import lzma
+from collections.abc import Iterator, Sequence
+from typing import Any
+
+from support.places import DATA
+from vecmon_lab.instructions.accesses import PAGE_BYTES, REGISTER_BYTES
+from vecmon_lab.machine.answers import ControlRegisters
+from vecmon_lab.meanings.executed import WORD, After, Before
+
+FOLDER = DATA / "golden_vectors"
+CODE = 0x1000_0800  # where the instruction is
+PAGES = {0x20000: "rw", 0x21000: "rw", 0x23000: "r", 0x24000: "rw"}
+
+Vector = dict[str, Any]
+"""A vector, by the keys of the folder's README.md."""
+
+
+@functools.cache
+def golden_vectors() -> Sequence[tuple[str, Vector]]:
+    """All vectors, each behind its policy."""
+    return [(policy, json.loads(line)) for policy in ("keep", "ones") for line in _lines(policy)]
+
+
+def _lines(policy: str) -> Iterator[str]:
+    with lzma.open(FOLDER / f"{policy}.jsonl.xz", "rt", encoding="ascii") as file:
+        yield from file
+
+
+def start_byte(address: int) -> int:
+    """The byte of memory at an address, before the instruction."""
+    return (address * 37 + (address >> 8) * 101 + (address >> 5) * 11 + 7) & 255
+
+
+@functools.cache
+def _start_scalars() -> Sequence[int]:
+    return [0, *(number * 0x0123456789ABCDEF + 0x5A5A & WORD for number in range(1, 32))]
+
+
+@functools.cache
+def _start_vectors() -> bytes:
+    return bytes((64 + 29 * r + 7 * k + (k >> 3) * r) & 255 for r in range(32) for k in range(REGISTER_BYTES))
+
+
+def _permits(address: int, length: int, letter: str) -> bool:
+    pages = range(address // PAGE_BYTES, (address + length - 1) // PAGE_BYTES + 1)
+    return all(letter in PAGES.get(page * PAGE_BYTES, "") for page in pages)
+
+
+def _read(address: int, length: int) -> bytes | None:
+    return bytes(map(start_byte, range(address, address + length))) if _permits(address, length, "r") else None
+
+
+def before_of(policy: str, vector: Vector) -> Before:
+    """The state before a vector's instruction."""
+    x, v = list(_start_scalars()), bytearray(_start_vectors())
+    for number, digits in vector.get("x", {}).items():
+        x[int(number)] = int(digits, 16)
+    _write_vectors(v, vector.get("v", {}))
+    control = ControlRegisters(
+        vector["vl"], int(vector["vtype"], 16), vector["vstart"], vector["vxrm"], vector["vxsat"]
+    )
+    has_ones, word = policy == "ones", int(vector["word"], 16)
+    return Before(CODE, word, x, control, bytes(v), has_ones, _read, lambda at, length: _permits(at, length, "w"))
+
+
+def _write_vectors(v: bytearray, registers: dict[str, str]) -> None:
+    for number, digits in registers.items():
+        v[int(number) * REGISTER_BYTES : (int(number) + 1) * REGISTER_BYTES] = bytes.fromhex(digits)
+
+
+def differences(vector: Vector, before: Before, after: After) -> Iterator[str]:
+    """What differs between QEMU's result of a vector and that of a formula, by name."""
+    told, control = vector["after"], dict(vars(before.control))
+    control |= {name: told[name] for name in ("vl", "vstart", "vxrm", "vxsat") if name in told}
+    control |= {"vtype": int(told["vtype"], 16)} if "vtype" in told else {}
+    v = bytearray(before.v)
+    _write_vectors(v, told.get("v", {}))
+    memory = {
+        int(at, 16) + k: b for at, run in told.get("memory", {}).items() for k, b in enumerate(bytes.fromhex(run))
+    }
+    x = {int(number): int(digits, 16) for number, digits in told.get("x", {}).items()}
+    pairs = {
+        "control registers": (control, vars(after.control)),
+        "pc": (int(told["pc"], 16), after.pc),
+        "fault": (int(told["value"], 16) if "value" in told else None, after.fault),
+        "scalar registers": (x, {at: value for at, value in after.x.items() if value != before.x[at]}),
+        "vector registers": (v, after.v),
+        "memory": tuple({at: it for at, it in each.items() if it != start_byte(at)} for each in (memory, after.memory)),
+    }
+    yield from (name for name, (wanted, found) in pairs.items() if wanted != found)
+
+
+def has_formula(vector: Vector) -> bool:
+    """Whether an instruction ended, or faulted at an access or a jump: illegal ones, `ebreak` and `fence` are no formula's."""
+    return vector["after"]["end"] in ("ran", "load", "store", "target") and vector["name"] != "fence"

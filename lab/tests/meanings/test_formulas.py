@@ -1,0 +1,108 @@
+"""Each formula on the golden vectors, whose results are QEMU's, and formulas with an error, which they find."""
+
+import ast
+import copy
+from collections import Counter, defaultdict
+from collections.abc import Iterator
+
+import pytest
+
+from support.golden import Vector, before_of, differences, golden_vectors, has_formula
+from vecmon_lab import LabError
+from vecmon_lab.meanings.executed import execute
+from vecmon_lab.meanings.formula import Formula
+from vecmon_lab.meanings.record import Record, instruction_records, record_of
+
+VECTORS, LEAST = 13_358, 3  # that a formula is evaluated on; of an instruction, at least
+MOST = 400  # vectors that an erroneous formula is tried on
+WITHOUT = {"fence", "ecall", "ebreak"}  # instructions without a formula
+
+
+def test_results_are_those_of_qemu() -> None:
+    wrong, counts = list[str](), Counter[str]()
+    for policy, vector in golden_vectors():
+        if has_formula(vector):
+            before = before_of(policy, vector)
+            found = list(differences(vector, before, execute(before)))
+            wrong += [f"{policy} {vector['id']} {vector['text']}: {', '.join(found)}"] if found else []
+            counts[vector["name"]] += 1
+    assert wrong == [] and counts.total() == VECTORS
+    names = {name for record in instruction_records() for name in record.members} - WITHOUT
+    assert counts.keys() == names and min(counts.values()) >= LEAST
+
+
+def erroneous(record: Record, name: str) -> Iterator[Formula]:
+    """Formulas of a mnemonic with one error: another result, or a number read without its sign."""
+    formula = record.formula_of(name)
+    assert formula is not None
+    for place, part in enumerate(formula.assignments):
+        node = copy.deepcopy(part.value)
+        yield _with(formula, place, f"not ({part.text})" if part.kind == "mask" else f"({part.text}) + 4")
+        for call in ast.walk(node):
+            if isinstance(call, ast.Call) and isinstance(call.func, ast.Name) and call.func.id in ("signed", "sext"):
+                call.func.id = "zext"
+                yield _with(formula, place, ast.unparse(node))
+                call.func.id = "sext"
+
+
+def _with(formula: Formula, place: int, value: str) -> Formula:
+    parts = [part.strip() for part in formula.text.split(";")]
+    parts[place] = f"{parts[place].partition(' = ')[0]} = {value}"
+    return Formula("; ".join(parts))
+
+
+@pytest.fixture(scope="module")
+def by_name() -> dict[str, list[tuple[str, Vector]]]:
+    """The vectors of each mnemonic, each behind its policy."""
+    found = defaultdict(list)
+    for policy, vector in golden_vectors():
+        if has_formula(vector):
+            found[vector["name"]].append((policy, vector))
+    return found
+
+
+def test_an_error_in_a_formula_is_found(by_name: dict[str, list[tuple[str, Vector]]]) -> None:
+    missed, count = list[str](), 0
+    for record in instruction_records():
+        if record.name in WITHOUT:
+            continue
+        vectors = [each for name in record.members for each in by_name[name]][:MOST]
+        for formula in erroneous(record, record.members[0]):
+            forms = {name for name in record.members if record.formula_of(name) == record.formula_of(record.members[0])}
+            if not any(_finds(formula, *each) for each in vectors if each[1]["name"] in forms):
+                missed.append(f"{record.name}: {formula.text}")
+            count += 1
+    assert missed == [] and count > 250
+
+
+def _finds(formula: Formula, policy: str, vector: Vector) -> bool:
+    """Whether a vector shows that a formula is wrong."""
+    before = before_of(policy, vector)
+    try:
+        return any(differences(vector, before, execute(before, formula)))
+    except (LabError, ValueError):
+        return True
+
+
+@pytest.mark.parametrize(
+    "text, problem",
+    [
+        ("vs2[i]", "assigns nothing"),
+        ("vs9[i] = 1", "'vs9' is no part of the language"),
+        ("vd[i] = open(1)", "is no part of the language"),
+        ("vd[i] = vs2.__class__", "is no part of the language"),
+        ("vd[i] = [j for j in active]", "is no part of the language"),
+        ("vd[i] = lambda: 1", "is no part of the language"),
+        ("vd[i] = 'a'", "is no part of the language"),
+        ("vd[i] = 1 +", "isn't an expression"),
+        ("vs2[i] = 1", "'vs2[i]' is no target"),
+    ],
+)
+def test_what_is_no_formula(text: str, problem: str) -> None:
+    with pytest.raises(LabError) as error:
+        Formula(text)
+    assert problem in str(error.value) and "\n" not in str(error.value)
+
+
+def test_an_instruction_without_a_formula() -> None:
+    assert record_of("fence").formula_of("fence") is None

@@ -1,0 +1,204 @@
+"""Records as lines of text: what the console's `help` prints, and what the pages, the book and the manual page have."""
+
+import functools
+import re
+from collections.abc import Iterator, Mapping
+from fractions import Fraction
+
+from ..instructions.table import Row, instruction_table
+from ..instructions.words import OP_V, STORE_FP, VECTOR_ACCESSES, Operand, Trait, VectorInstruction, decode
+from ..tables.table import read_table
+from .record import Record, record_of, records
+
+_SHORT = ("a", "an", "the", "of", "to", "with", "in")  # words that a search leaves out
+_LISTED = 12  # of what a search finds
+
+
+@functools.cache
+def expansions() -> dict[str, list[str]]:
+    """What pseudo-instructions stand for: `mv rd, rs: addi rd, rs, 0`, by name."""
+    found: dict[str, list[str]] = {}
+    for form, *texts in read_table("pseudo"):
+        if not texts[0].startswith("error"):
+            found.setdefault(form.split()[0], []).append(f"{form}: {'; '.join(texts)}")
+    return found
+
+
+def sample(row: Row) -> VectorInstruction | None:
+    """A vector instruction of a row under e16, m1; None if it is another one."""
+    return decode(row.word(0) | (1 << 25 if "[, v0.t]" in row.operands else 0), 16, Fraction(1))
+
+
+def operand_lines(row: Row) -> Iterator[str]:
+    """EEW and EMUL of each vector register operand."""
+    instruction = sample(row)
+    for operand in instruction.operands if instruction else []:
+        place = "vs3" if operand.noun == "data" else operand.place
+        yield f"{place}: EEW {_width(operand, row)}, EMUL {_multiplier(operand, row)}"
+
+
+def _width(operand: Operand, row: Row) -> str:
+    if operand.part is None:
+        return f"{operand.eew}"
+    return _scaled("SEW", operand.part)
+
+
+def _scaled(name: str, part: Fraction) -> str:
+    """A multiple or a part of what has a name."""
+    return f"{part}*{name}" if part > 1 else name if part == 1 else f"{name}/{part.denominator}"
+
+
+def _multiplier(operand: Operand, row: Row) -> str:
+    if operand.is_whole:
+        return f"{operand.group}"
+    fields = len(operand.registers) // operand.group
+    text = _scaled("LMUL", operand.part) if operand.part else f"{operand.eew}/SEW*LMUL"
+    return f"{text}, {fields} groups" if fields > 1 else text
+
+
+def illegal_causes(row: Row) -> Iterator[str]:
+    """What makes a vector instruction illegal, by its shape."""
+    instruction = sample(row)
+    if instruction is None:
+        return
+    target, sources = instruction.operands[0], instruction.operands[1:]
+    if Trait.UNTYPED not in instruction.traits:
+        yield "the type is vill"
+    if Trait.FROM_ZERO in instruction.traits:
+        yield "vstart isn't 0"
+    if Trait.BELOW_64 in instruction.traits:
+        yield "SEW is 64"
+    widths = {it.part for it in instruction.operands if it.part}
+    if max(widths, default=1) > 1:
+        yield f"{max(widths)}*SEW is above 64, or {max(widths)}*LMUL above 8"
+    if min(widths, default=1) < 1:
+        yield f"SEW/{min(widths).denominator} is below 8, or LMUL/{min(widths).denominator} below 1/8"
+    if any(it.group > 1 or not it.is_whole for it in instruction.operands):
+        yield "a group doesn't begin at a multiple of its EMUL"
+    if target.noun == "destination" and sources:
+        yield from _overlaps(instruction, target, sources)
+    if target.noun == "destination" and Trait.V0_TOO not in instruction.traits:
+        if "[, v0.t]" in row.operands:
+            yield "it is masked and its destination is v0"
+        elif row.operands.endswith(", v0"):
+            yield "its destination is v0"
+
+
+def _overlaps(instruction: VectorInstruction, target: Operand, sources: list[Operand]) -> Iterator[str]:
+    if Trait.APART in instruction.traits:
+        yield "the destination overlaps a source"
+    elif Trait.ANYWHERE not in instruction.traits and any(it.eew != target.eew for it in sources):
+        where = "end" if target.eew > min(it.eew for it in sources) else "start"
+        yield f"the destination overlaps a source of another width elsewhere than at its {where}"
+
+
+def describe(name: str) -> list[str]:
+    """What there is to say of an instruction, a pseudo-instruction or another name with a record; nothing of others."""
+    if name in instruction_table():
+        return list(_instruction_lines(name))
+    record = records().get(name)
+    if record is None or record.kind == "absent":
+        return _absent(name)
+    if record.kind == "instruction":
+        forms = f"  forms: {', '.join(record.members)}" if record.members != [name] else ""
+        return [*_instruction_lines(record.members[0]), *filter(None, [forms])]
+    return [f"{name}: {record.does}", *(f"  {text}" for text in expansions().get(name, [])), *_more(record)]
+
+
+def _absent(name: str) -> list[str]:
+    """Why there is no instruction of a name that other extensions have."""
+    found = [it for it in records().values() if it.kind == "absent" and re.fullmatch(it.names, name)]
+    return [f"{name}: {found[0].does}"] if found else []
+
+
+def _instruction_lines(name: str) -> Iterator[str]:
+    row, record = instruction_table()[name], record_of(name)
+    yield f"{name} {row.operands}".rstrip() + f": {record.does}"
+    formula = record.formula_of(name)
+    if formula:
+        yield f"  {formula.text}{_scalar_note(row, formula.text)}"
+    if operands := list(operand_lines(row)):
+        yield f"  {'; '.join(operands)}"
+    if record.elements:
+        yield f"  {record.elements}"
+    if causes := list(illegal_causes(row)):
+        yield f"  Illegal if {'; '.join(causes)}."
+    yield from _more(record)
+    yield f"  {encoding_text(row)}"
+
+
+def _scalar_note(row: Row, formula: str) -> str:
+    """What vs1 is in the forms with a scalar or an immediate."""
+    if "vs1" in row.fields() or "vs1" not in formula:
+        return ""
+    other = "x[rs1]" if "rs1" in row.fields() else "the immediate"
+    return f", where vs1[i] is {other}"
+
+
+def _more(record: Record) -> Iterator[str]:
+    if record.use:
+        yield f"  Use: {record.use}"
+    if record.mistake:
+        yield f"  Mistake: {record.mistake}"
+    if record.section:
+        yield f"  Manual: section {record.section}" + (f"; in C: {record.intrinsic}" if record.intrinsic else "")
+    if record.see:
+        yield f"  See {', '.join(record.see)}"
+
+
+def encoding_fields(row: Row) -> list[tuple[str, int]]:
+    """The fields of a word from bit 31 on, each with its name, or its bits where they are fixed, and its number of bits."""
+    names = [name for name in row.fields() if name not in ("offset", "imm", "uimm", "shamt", "csr", "vtypei")]
+    places = {"vd": 7, "rd": 7, "vs1": 15, "rs1": 15, "vs2": 20, "rs2": 20}
+    own = {places[name]: name for name in names if name in places}
+    if row.opcode == STORE_FP:
+        own[7] = "vs3"
+    marks = [_mark(row, own, 31 - at) if bit == "-" else "" for at, bit in enumerate(row.bits)]
+    borders = (25, 20, 15, 12, 7) if row.opcode not in (OP_V, *VECTOR_ACCESSES) else (26, 25, 20, 15, 12, 7)
+    found: list[tuple[str, int]] = []
+    for at, mark in enumerate(marks):
+        text = mark or row.bits[at]
+        is_same = at and marks[at - 1] == mark and (mark != "" or 32 - at not in borders)
+        if is_same:
+            found[-1] = (found[-1][0] if mark else found[-1][0] + text, found[-1][1] + 1)
+        else:
+            found.append((text, 1))
+    return found
+
+
+def _mark(row: Row, own: Mapping[int, str], bit: int) -> str:
+    """The name of the field that a bit of an operand belongs to. own: names of registers by the lowest bit of their field."""
+    if bit == 25 and "[, v0.t]" in row.operands:
+        return "vm"
+    low = next((low for low in (7, 15, 20) if low <= bit < low + 5), -1)
+    return own.get(low, "csr" if bit >= 20 and "csr" in row.operands else "imm")
+
+
+def encoding_text(row: Row) -> str:
+    """The 32 bits of an instruction in a line, bit 31 first: fixed bits, and the names of fields with their bits."""
+    return " | ".join(f"{name}" if set(name) <= {"0", "1"} else f"{name}:{bits}" for name, bits in encoding_fields(row))
+
+
+def text_of(record: Record) -> str:
+    """All texts of a record, for a search."""
+    members = " ".join(record.members)
+    return (
+        f"{record.name} {members} {record.kind} {record.does} {record.elements} {record.use} {record.mistake}".lower()
+    )
+
+
+def found(words: str) -> list[Record]:
+    """The records that have all words, those with them in their sentence or name first. Short words, as `with`, don't count."""
+    wanted = [word for word in re.findall(r"[\w.]+", words.lower()) if word not in _SHORT]
+    if not wanted:
+        return []
+    every = [it for it in records().values() if all(word in text_of(it) for word in wanted)]
+    first = [it for it in every if all(word in f"{it.name} {it.does}".lower() for word in wanted)]
+    return sorted(every, key=lambda it: (it not in first, it.kind != "instruction"))
+
+
+def search_lines(words: str) -> list[str]:
+    """The records that a search finds, a line each."""
+    every = found(words)
+    lines = [f"{it.name}: {it.does}" for it in every[:_LISTED]]
+    return [*lines, f"and {len(every) - _LISTED} more: add a word"] if len(every) > _LISTED else lines

@@ -1,0 +1,249 @@
+"""The language of formulas: `vd[i] = signed(vs2[i]) >> vs1[i] % sew`, a restricted part of Python's grammar.
+
+A formula is one assignment or several, apart by `;`. All of them read the state before the instruction. Its target is an element
+(`vd[i]`, `vd[0]`), a bit of a mask (`vd.mask[i]`), a scalar register (`x[rd]`), memory (`memory[ADDRESS]`, or `memory16[ADDRESS]`
+with its own width), `pc`, `vl`, `vtype` or `csr`. Numbers have no limit; the target takes as many of the lowest bits as it has.
+"""
+
+import ast
+import functools
+from collections.abc import Callable, Iterable, Mapping
+from dataclasses import dataclass
+from types import CodeType
+
+from .. import LabError
+
+OPERANDS = ("vd", "vs1", "vs2", "vs3", "v0")
+"""Register groups: `vs2[i]` is an element without its sign, `vs2.mask[i]` a bit. In the forms .vx and .vi `vs1[i]` is the scalar."""
+
+MEMORIES = {"memory": 0, "memory8": 8, "memory16": 16, "memory32": 32, "memory64": 64}
+"""Names of memory with the width of an access in bits; 0 for that of an element."""
+
+NUMBERS: Mapping[str, str] = {
+    "i": "the number of the element",
+    "j": "the number of another element, in a list `... for j in ...`",
+    "f": "the number of the segment's field, 0 first",
+    "nf": "the number of fields of a segment",
+    "sew": "the width of elements that the vector type sets, in bits",
+    "bytes": "the bytes of an element that is loaded or stored",
+    "vl": "the number of elements",
+    "vlmax": "the most elements that a register group has",
+    "vxrm": "the rounding mode: 0 up, 1 to even, 2 down, 3 to odd",
+    "imm": "the immediate",
+    "shamt": "the immediate of a shift",
+    "offset": "the distance of a jump or branch from its own address, or of a slide",
+    "uimm": "the immediate, without a sign",
+    "rd": "the number of the destination",
+    "rs1": "the number of the first source",
+    "rs2": "the number of the second source",
+    "pc": "the address of the instruction",
+    "csr": "the control register",
+    "active": "the elements of the body that the mask doesn't turn off",
+    "avl": "the number of elements asked for: x[rs1], the immediate, all ones, or vl",
+    "type": "the vector type asked for",
+    "is_supported": "whether the machine supports that type",
+    "limit": "vlmax under that type",
+    "vill": "the vector type that no instruction accepts",
+}
+"""Names of numbers, and of `active`, which is a list of them."""
+
+_NODES = (
+    (
+        ast.Expression,
+        ast.BinOp,
+        ast.UnaryOp,
+        ast.BoolOp,
+        ast.Compare,
+        ast.IfExp,
+        ast.Call,
+        ast.Name,
+        ast.Load,
+        ast.Store,
+    )
+    + (ast.Subscript, ast.Attribute, ast.Constant, ast.GeneratorExp, ast.comprehension)
+    + (ast.Add, ast.Sub, ast.Mult, ast.FloorDiv, ast.Mod, ast.Pow, ast.LShift, ast.RShift)
+    + (ast.BitAnd, ast.BitOr, ast.BitXor, ast.Not, ast.Invert, ast.USub, ast.And, ast.Or)
+    + (ast.Eq, ast.NotEq, ast.Lt, ast.LtE, ast.Gt, ast.GtE)
+)
+
+
+class Bits(int):
+    """A number without a sign that a register or memory holds, with its width in bits."""
+
+    width: int
+
+    def __new__(cls, value: int, width: int) -> "Bits":
+        made = super().__new__(cls, value)
+        made.width = width
+        return made
+
+
+def sext(value: int, bits: int = 0) -> int:
+    """The lowest bits as a number with a sign: all bits of what is read from a register."""
+    bits = bits or (value.width if isinstance(value, Bits) else 64)
+    value &= (1 << bits) - 1
+    return value - (value >> bits - 1 << bits)
+
+
+def zext(value: int, bits: int = 0) -> int:
+    """The lowest bits as a number without a sign."""
+    return value & (1 << (bits or (value.width if isinstance(value, Bits) else 64))) - 1
+
+
+def rounded(value: int, bits: int, mode: int) -> int:
+    """value / 2**bits by a rounding mode of vxrm (section 3.8)."""
+    if not bits:
+        return int(value)
+    lost, odd = value & (1 << bits) - 1, value >> bits & 1
+    half = 1 << bits - 1
+    up = (lost >= half, lost > half or lost == half and odd, False, not odd and lost)[mode]
+    return (value >> bits) + bool(up)
+
+
+def quotient(value: int, divisor: int) -> int:
+    """value / divisor, rounded towards 0."""
+    return abs(value) // abs(divisor) * (1 if (value < 0) == (divisor < 0) else -1)
+
+
+def _flat(values: Iterable[int | Iterable[int]]) -> list[int]:
+    """Numbers, and those of lists among them."""
+    return [each for value in values for each in ([value] if isinstance(value, int) else value)]
+
+
+def _combined(operation: Callable[[int, int], int]) -> Callable[..., int]:
+    return lambda *values: functools.reduce(operation, _flat(values))
+
+
+FUNCTIONS: Mapping[str, Callable[..., int]] = {
+    "signed": sext,
+    "sext": sext,
+    "zext": zext,
+    "round": rounded,
+    "quotient": quotient,
+    "remainder": lambda value, divisor: value - quotient(value, divisor) * divisor,
+    "sum": lambda *values: sum(_flat(values)),
+    "min": lambda *values: min(_flat(values)),
+    "max": lambda *values: max(_flat(values)),
+    "any": lambda *values: int(any(_flat(values))),
+    "bitand": _combined(lambda one, other: one & other),
+    "bitor": _combined(lambda one, other: one | other),
+    "bitxor": _combined(lambda one, other: one ^ other),
+    "first": lambda values: next(iter(values), -1),
+    "nth": lambda number, values: list(values)[number],
+}
+CLIPS = ("clip", "clipu")
+"""The nearest number that the target holds, with or without a sign; where that is another one, vxsat becomes 1."""
+
+
+@dataclass(frozen=True)
+class Assignment:
+    """A target and its value.
+
+    kind: `element`, `mask`, `x`, `memory`, `pc`, `vl`, `vtype` or `csr`
+    width: of memory, in bits; 0 for that of an element
+    place: the index of the target; None where it has none, and is one number
+    """
+
+    kind: str
+    width: int
+    place: ast.expr | None
+    value: ast.expr
+
+    @property
+    def text(self) -> str:
+        """The value as text."""
+        return ast.unparse(self.value)
+
+
+Names = Mapping[str, object]
+"""The values of names in a formula."""
+
+
+class Formula:
+    """A formula. Its text is checked when it is read: a LabError says what it can't have."""
+
+    def __init__(self, text: str) -> None:
+        self.text = text
+        self.assignments = [_assignment(part.strip(), text) for part in text.split(";")]
+
+
+@functools.lru_cache(maxsize=1024)
+def read_formula(text: str) -> Formula:
+    """The formula of a text, read once. Raises LabError."""
+    return Formula(text)
+
+
+def evaluate(node: ast.expr, names: Names) -> int:
+    """The number that a part of a formula is, by the values of names."""
+    return int(eval(_code(node), {"__builtins__": {}, "range": range, **FUNCTIONS, **names}))
+
+
+def condition(text: str) -> ast.expr:
+    """A condition as an expression. Raises LabError."""
+    return _checked(text, text)
+
+
+@functools.lru_cache(maxsize=4096)
+def _code(node: ast.expr) -> CodeType:
+    return compile(ast.fix_missing_locations(ast.Expression(node)), "a formula", "eval")
+
+
+def _assignment(text: str, whole: str) -> Assignment:
+    target_text, is_assignment, value = text.partition(" = ")
+    if not is_assignment:
+        raise LabError(f"formula {whole!r}: {text!r} assigns nothing; write TARGET = VALUE")
+    if target_text in ("pc", "vl", "vtype", "csr"):
+        return Assignment(target_text, 64, None, _checked(value, whole))
+    match _checked(target_text, whole):
+        case ast.Subscript(ast.Name("vd"), place):
+            return Assignment("element", 0, place, _checked(value, whole))
+        case ast.Subscript(ast.Attribute(ast.Name("vd"), "mask"), place):
+            return Assignment("mask", 1, place, _checked(value, whole))
+        case ast.Subscript(ast.Name("x"), place):
+            return Assignment("x", 64, place, _checked(value, whole))
+        case ast.Subscript(ast.Name(name), place) if name in MEMORIES:
+            return Assignment("memory", MEMORIES[name], place, _checked(value, whole))
+    raise LabError(f"formula {whole!r}: {target_text!r} is no target")
+
+
+def _checked(text: str, whole: str) -> ast.expr:
+    """The expression of a text, of which each part belongs to the language. Raises LabError."""
+    try:
+        tree = ast.parse(text.strip(), mode="eval")
+    except SyntaxError as error:
+        raise LabError(f"formula {whole!r}: {text.strip()!r} isn't an expression: {error.msg}") from error
+    for node in ast.walk(tree):
+        if not isinstance(node, _NODES) or not _is_known(node):
+            raise LabError(f"formula {whole!r}: {ast.unparse(node)!r} is no part of the language")
+    return tree.body
+
+
+def _is_known(node: ast.AST) -> bool:
+    """Whether the names and the numbers of a node are those of the language."""
+    match node:
+        case ast.Name(name):
+            return name in (*OPERANDS, *MEMORIES, *NUMBERS, *FUNCTIONS, *CLIPS, "x", "range")
+        case ast.Call(function, arguments, []):
+            return isinstance(function, ast.Name) and function.id in (*FUNCTIONS, *CLIPS, "range") and bool(arguments)
+        case ast.Call():
+            return False
+        case ast.Attribute(ast.Name(name), attribute):
+            return name in OPERANDS and attribute == "mask"
+        case ast.Attribute():
+            return False
+        case ast.Subscript(ast.Name(name)):
+            return name in (*OPERANDS, *MEMORIES, "x")
+        case ast.Subscript(value):
+            return isinstance(value, ast.Attribute)
+        case ast.Constant(value):
+            return type(value) is int
+        case ast.GeneratorExp(_, [_]) | ast.comprehension(ast.Name("j")):
+            return True
+    return not isinstance(node, ast.GeneratorExp | ast.comprehension)
+
+
+def elements_in(node: ast.comprehension, names: Names) -> list[int]:
+    """The numbers that a list of elements goes through, by the values of names."""
+    scope = {"__builtins__": {}, "range": range, **FUNCTIONS, **names}
+    every = eval(_code(node.iter), scope)
+    return [number for number in every if all(evaluate(each, {**names, "j": number}) for each in node.ifs)]

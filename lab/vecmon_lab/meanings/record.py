@@ -1,0 +1,116 @@
+"""The records of what names mean: instructions, pseudo-instructions, directives, registers, calls, commands and refusals.
+
+`tables/meanings` has them in TOML, a table for each; those of commands and refusals are `tables/commands` and `tables/refusals`.
+"""
+
+import ast
+import functools
+import pathlib
+import re
+import tomllib
+from collections.abc import Iterable, Iterator, Mapping
+from dataclasses import dataclass, field
+
+from .. import LabError
+from ..instructions.table import instruction_table
+from .formula import Formula, condition, read_formula
+
+FOLDER = pathlib.Path(__file__).parents[1] / "tables" / "meanings"
+BY_ELEMENT = "by element"
+
+
+@dataclass(frozen=True)
+class Record:
+    """What a name, or a family of instructions, means.
+
+    kind: `instruction`, `pseudo-instruction`, `directive`, `control register`, `call` or `absent`
+    does: a sentence of 25 words at most
+    formulas: of an instruction, by the end of a name, as `vx`; "" is for all others
+    kept: the condition under which an element isn't written
+    layout: how sources lie to results: `by element`, `gather`, `slide`, `reduce`, `compress` or `scan`
+    elements: of inactive and tail elements, where the general rule doesn't hold
+    see: names of related records
+    section: of the manual
+    intrinsic: a call in C
+    """
+
+    name: str
+    kind: str
+    names: str
+    does: str
+    formulas: Mapping[str, str] = field(default_factory=dict)
+    kept: ast.expr | None = None
+    layout: str = BY_ELEMENT
+    elements: str = ""
+    use: str = ""
+    mistake: str = ""
+    see: tuple[str, ...] = ()
+    section: str = ""
+    intrinsic: str = ""
+
+    def formula_of(self, name: str) -> Formula | None:
+        """The formula of a mnemonic of this family; None if it has none."""
+        end = name.rpartition(".")[2]
+        found = next((text for ends, text in self.formulas.items() if ends and re.fullmatch(ends, end)), None)
+        text = found or self.formulas.get("")
+        return read_formula(text) if text else None
+
+    @functools.cached_property
+    def members(self) -> list[str]:
+        """The mnemonics of the family, in the order of the table of instructions; of other records the name."""
+        if self.kind != "instruction":
+            return [self.name]
+        return [name for name in instruction_table() if re.fullmatch(self.names, name)]
+
+
+@functools.cache
+def records() -> Mapping[str, Record]:
+    """All records by name, instructions first."""
+    found: dict[str, Record] = {}
+    for path in sorted(FOLDER.glob("*.toml")):
+        for name, cells in tomllib.loads(path.read_text("ascii")).items():
+            if name in found:
+                raise LabError(f"{path.name}: there already is a record {name}")
+            found[name] = _record(name, path.stem, cells)
+    return found
+
+
+@functools.lru_cache(maxsize=1024)
+def record_of(name: str) -> Record:
+    """The record of a mnemonic. Raises LabError."""
+    found = _family_names().get(name)
+    if found is None:
+        raise LabError(f"there is no instruction {name}")
+    return records()[found]
+
+
+@functools.cache
+def _family_names() -> Mapping[str, str]:
+    """The family of each mnemonic."""
+    instructions = [it for it in records().values() if it.kind == "instruction"]
+    return {name: it.name for it in instructions for name in it.members}
+
+
+def instruction_records() -> list[Record]:
+    """The records of instructions, in the order of the table of instructions."""
+    return [records()[name] for name in dict.fromkeys(map(_family_names().__getitem__, instruction_table()))]
+
+
+KINDS = {"pseudo": "pseudo-instruction", "directives": "directive", "registers": "control register"}
+KINDS |= {"calls": "call", "absent": "absent"}
+
+
+def _record(name: str, file: str, cells: Mapping[str, object]) -> Record:
+    kind = KINDS.get(file, "instruction")
+    texts = {key: value for key, value in cells.items() if isinstance(value, str)}
+    forms = cells.get("formulas", {})
+    assert isinstance(forms, Mapping)
+    formulas = {f"{ends}[vxi]" if ends == "v" else ends: text for ends, text in forms.items()}
+    if "formula" in texts:
+        formulas[""] = texts.pop("formula")
+    kept, see = texts.pop("kept", None), tuple(texts.pop("see", "").split())
+    names = texts.pop("names", rf"{re.escape(name)}(\.\w+)?" if "." not in name else rf"{re.escape(name)}(\.?[vxi])?")
+    own = {key: texts[key] for key in texts if key in Record.__dataclass_fields__}
+    if unknown := texts.keys() - own.keys():
+        raise LabError(f"{file}.toml: the record {name} has the unknown keys {', '.join(sorted(unknown))}")
+    return Record(name, kind, names, formulas=formulas, kept=condition(kept) if kept else None, see=see, **own)

@@ -1,0 +1,52 @@
+"""Why a register has its value after the instruction that was stepped last, at a guest's machine."""
+
+import functools
+
+from .. import LabError
+from ..guest.changes import Carried, Registers, Stepper
+from ..guest.guest import Guest
+from ..instructions.accesses import LINE_BYTES, vector_instruction
+from ..machine.answers import ControlRegisters, Memory
+from .executed import Before
+from .why import NO_STEP, Explanation, Reason
+
+
+def why_stepped(stepper: Stepper, name: str, element: int | None = None) -> Reason:
+    """Why a register, or an element of a vector register, has its value. Raises LabError, also where nothing was stepped."""
+    if stepper.last is None:
+        raise LabError(NO_STEP)
+    before, carried = stepper.last
+    return explanation_of(stepper.guest, before, stepper.registers.control, carried).why(name, element)
+
+
+def explanation_of(guest: Guest, before: Registers, after: ControlRegisters, carried: Carried) -> Explanation:
+    """What there is to explain of an instruction, by the registers before it, and `vl` after it.
+
+    Memory is read now: no load has changed it, and what a store has written isn't read. Raises LabError.
+    """
+    if not carried.text:
+        raise LabError(f"no instruction can be fetched at {carried.pc:#x}, so nothing was changed")
+    stop, word = carried.stop, carried.word
+    fault = stop.value if stop and stop.kind == "fault" else -1
+    instruction = vector_instruction(word, before.control.vtype)
+    end = 1 << 64  # of what a load that only faults first has read
+    if instruction and carried.text.partition(" ")[0].endswith("ff.v") and after.vl < before.control.vl:
+        end = before.x[word >> 15 & 31] + after.vl * ((word >> 29) + 1) * instruction.operands[0].eew // 8
+
+    @functools.cache
+    def line(number: int) -> bytes | None:
+        (told,) = guest.ask(f"peek {number * LINE_BYTES:x} {LINE_BYTES}")
+        return told.data if isinstance(told, Memory) else None
+
+    def read(address: int, length: int) -> bytes | None:
+        if address == fault or address >= end:
+            return None
+        parts = [line(number) for number in range(address // LINE_BYTES, (address + length - 1) // LINE_BYTES + 1)]
+        data = b"".join(part for part in parts if part is not None)
+        return None if None in parts else data[address % LINE_BYTES :][:length]
+
+    has_ones = guest.session.policy[guest.user] == "ones"
+    state = Before(
+        carried.pc, word, before.x, before.control, bytes(before.v), has_ones, read, lambda at, _: at != fault
+    )
+    return Explanation(state)

@@ -1,0 +1,258 @@
+"""Why a register has its value after an instruction: the formula with the numbers in it, or why an element kept its value."""
+
+import ast
+import copy
+import re
+from collections.abc import Iterable
+from dataclasses import dataclass
+
+from .. import LabError
+from ..instructions.accesses import REGISTER_BITS, REGISTER_BYTES
+from ..instructions.reasons import illegal_reasons
+from ..instructions.table import REGISTERS
+from ..instructions.words import OP_V
+from .executed import After, Before, Execution, Fate, agnostic, execute
+from .formula import CLIPS, FUNCTIONS, MEMORIES, OPERANDS, Assignment, elements_in, evaluate
+
+MOST_TERMS = 8  # of a list of elements that is shown whole
+NO_STEP = "no instruction was executed by a single step: step first"
+_NAME = re.compile(r"(\w+)(?:\[(\d+)\]|\s+(\d+))?")
+_READS = (*OPERANDS, *MEMORIES, "x")
+
+
+@dataclass(frozen=True)
+class Reason:
+    """Why a register or an element has its value: the sentence, and the value, without a sign."""
+
+    text: str
+    value: int
+
+    def __str__(self) -> str:
+        return self.text
+
+
+def read_name(text: str) -> tuple[str, int | None]:
+    """The register and the element that a text names: `v8[5]`, `v8 5`, or `a0`, which has no elements. Raises LabError."""
+    found = _NAME.fullmatch(text.strip())
+    if found is None:
+        raise LabError(f"{text.strip()!r} names no element: v8[5] is one, and x10 or a0 a register")
+    number = found[2] or found[3]
+    return found[1], int(number) if number else None
+
+
+class Explanation:
+    """What there is to explain of one instruction, which is executed by its formula once."""
+
+    def __init__(self, before: Before) -> None:
+        """Raises LabError for an instruction that is illegal or has no formula."""
+        if reasons := illegal_reasons(before.word, before.control):
+            raise LabError(f"the instruction is illegal and changed nothing: {reasons[0]}")
+        self._execution, self._after = Execution(before), execute(before)
+
+    def why(self, name: str, element: int | None = None) -> Reason:
+        """Why a scalar register, or an element of a vector register, has its value. Raises LabError."""
+        number = _register(name)
+        if not re.fullmatch(r"v\d+", name):
+            if element is not None:
+                raise LabError(f"{name} is a scalar register, and has no elements")
+            return _why_scalar(self._execution, self._after, number)
+        if element is None:
+            raise LabError(f"{name} has elements: {name}[0] is one")
+        return _why_element(self._execution, self._after, number, element)
+
+
+def _register(name: str) -> int:
+    """The number of a register. Raises LabError."""
+    number = REGISTERS.get(name, name)
+    if not re.fullmatch(r"[xv](?:\d|[12]\d|3[01])", number):
+        kind = "there is no register" if re.fullmatch(r"[xv]\d+", name) else "a register has another name than"
+        raise LabError(f"{kind} {name}: v0 to v31, x0 to x31, and names such as a0")
+    return int(number[1:])
+
+
+def _why_scalar(execution: Execution, after: After, number: int) -> Reason:
+    """Why a scalar register has its value."""
+    before = execution.before
+    assignment = next((it for it in execution.formula.assignments if it.kind == "x"), None)
+    if number not in after.x or assignment is None:
+        return _kept(f"x{number}", before.x[number], f"{execution.row.name} doesn't write it")
+    return _explained(execution, f"x{number}", assignment, 64)
+
+
+def _why_element(execution: Execution, after: After, register: int, element: int) -> Reason:
+    """Why an element of the group that a vector register belongs to has its value."""
+    operand, before = execution.operand, execution.before
+    width = before.control.sew if operand is None or register not in operand.registers else max(1, operand.eew)
+    count = REGISTER_BITS // width
+    if operand is None or register not in operand.registers:
+        if element >= count:
+            raise LabError(f"v{register} has the elements 0 to {count - 1} of {width} bits, and {element} isn't one")
+        old = _element(before.v, register, width, element)
+        return _kept(f"v{register}[{element}]", old, f"{execution.row.name} doesn't write v{register}")
+    at, group = register - operand.registers.start, 1 if operand.eew == 1 else operand.group
+    first, index = operand.registers.start + at // group * group, at % group * count + element
+    if index >= group * count:
+        raise LabError(f"v{first} has the elements 0 to {group * count - 1} of {width} bits, and {index} isn't one")
+    target = f"v{first}{'.mask' if operand.eew == 1 and execution.target.kind == 'mask' else ''}[{index}]"
+    return _why_of(execution, after, target, (first, at // group, index))
+
+
+def _why_of(execution: Execution, after: After, target: str, place: tuple[int, int, int]) -> Reason:
+    """Why an element has its value. place: the first register of its group, the number of the field, and its own."""
+    operand, control = execution.operand, execution.before.control
+    assert operand
+    first, field, index = place
+    unit = 8 if operand.eew == 1 and execution.target.kind != "mask" else operand.eew  # masks are loaded by bytes
+    if unit != operand.eew:
+        target = f"v{first}[{index // 8}]"
+        index //= 8
+    old, new = (_element(data, first, unit, index) for data in (execution.before.v, after.v))
+    fate = execution.fate(index)
+    is_result = fate == Fate.RESULT
+    if is_result and after.fault is not None and index >= after.control.vstart:
+        return _kept(target, old, f"the access of element {after.control.vstart} faults, so it isn't reached")
+    if is_result and execution.row.name.endswith("ff.v") and index >= after.control.vl:
+        return _kept(
+            target, old, f"the access of element {after.control.vl} isn't permitted, so vl is {after.control.vl}"
+        )
+    if is_result:
+        execution.at(index, field)
+        if execution.target.kind == "memory":
+            return _stored(execution, target, old, unit)
+        return _explained(execution, target, execution.target, unit)
+    cause = _cause(execution, fate, index)
+    if new != old or agnostic(execution, fate) and after.fault is None and new == (1 << unit) - 1:
+        return Reason(f"{target} = {new:#x}, all ones, since it is agnostic under policy ones: {cause}", new)
+    return _kept(target, old, cause)
+
+
+def _cause(execution: Execution, fate: Fate, index: int) -> str:
+    """Why the formula doesn't count for an element."""
+    control = execution.before.control
+    stop = "1, the one element that is written" if execution.is_single else f"{execution.body.stop}"
+    if fate == Fate.TAIL and execution.body.stop == control.vl and not execution.is_single:
+        stop = f"vl = {control.vl}"
+    execution.at(index)
+    kept = execution.record.kept
+    return {
+        Fate.MASKED: f"masked off by v0[{index}] = 0",
+        Fate.TAIL: f"tail, since {index} >= {stop}",
+        Fate.BEFORE_START: f"before vstart = {control.vstart}",
+        Fate.NO_ELEMENTS: f"no element is written, since vstart = {control.vstart} >= {execution.body.stop}, the end of the body",
+        Fate.KEPT: f"not written, since {_numbers(execution, kept)}" if kept else "",
+    }[fate]
+
+
+def _kept(target: str, value: int, cause: str) -> Reason:
+    return Reason(f"{target} kept its value {value}: {cause}", value)
+
+
+def _stored(execution: Execution, target: str, value: int, width: int) -> Reason:
+    """An element that is stored, which stays in its register."""
+    place = execution.target.place
+    assert place
+    address = evaluate(place, execution.names) & (1 << 64) - 1
+    return Reason(f"{target} kept its value {value}: it is stored: memory[{address:#x}] = {target} = {value}", value)
+
+
+def _explained(execution: Execution, target: str, assignment: Assignment, width: int) -> Reason:
+    """A value by the formula: with names, with numbers, and the result."""
+    result = execution.value(assignment)
+    stored = result & (1 << width) - 1
+    node, causes = _chosen(execution, assignment.value, [])
+    with_names = ast.unparse(_Shown(execution, False).visit(copy.deepcopy(node)))
+    last = f"{result}"
+    if result == stored - (1 << width):
+        last = f"{result} ({stored:#x})"
+    elif result != stored:
+        last = f"{result}, whose lowest {width} bits are {stored}"
+    parts = [target, with_names, _numbers(execution, node), last]
+    shown = [part for at, part in enumerate(parts) if part not in parts[:at]]
+    return Reason(" = ".join(shown) + (f", since {' and '.join(causes)}" if causes else ""), stored)
+
+
+def _chosen(execution: Execution, node: ast.expr, causes: list[str]) -> tuple[ast.expr, list[str]]:
+    """The branch of a choice that counts, and the conditions that select it."""
+    while isinstance(node, ast.IfExp):
+        holds = bool(evaluate(node.test, execution.names))
+        names, numbers = ast.unparse(_Shown(execution, False).visit(copy.deepcopy(node.test))), _numbers(
+            execution, node.test
+        )
+        causes.append(f"{names}{f' ({numbers})' if numbers != names else ''} is {'true' if holds else 'false'}")
+        node = node.body if holds else node.orelse
+    return node, causes
+
+
+def _numbers(execution: Execution, node: ast.expr) -> str:
+    return ast.unparse(_Shown(execution, True).visit(copy.deepcopy(node)))
+
+
+def _element(v: bytes | bytearray, register: int, width: int, number: int) -> int:
+    """An element of a group, without a sign; a bit of a mask."""
+    first = register * REGISTER_BYTES
+    if width == 1:
+        return v[first + number // 8] >> number % 8 & 1
+    size = width // 8
+    return int.from_bytes(v[first + number * size : first + (number + 1) * size], "little")
+
+
+class _Shown(ast.NodeTransformer):
+    """Puts the numbers of elements and registers into an expression, or the values that they have."""
+
+    def __init__(self, execution: Execution, has_values: bool) -> None:
+        self._execution, self._has_values, self._names = execution, has_values, dict(execution.names)
+
+    def visit_Subscript(self, node: ast.Subscript) -> ast.expr:
+        """What an operand is at a place."""
+        if self._has_values:
+            return self._constant(node)
+        index = evaluate(node.slice, self._names)
+        match node.value:
+            case ast.Name("x"):
+                return ast.Name(f"x{index}")
+            case ast.Name("vs1") if (scalar := self._scalar()) is not None:
+                return ast.Name(scalar)
+            case ast.Name(name) if name in MEMORIES:
+                return ast.Name(f"{name}[{index & (1 << 64) - 1:#x}]")
+        return ast.Name(f"{ast.unparse(node.value)}[{index}]")
+
+    def visit_Name(self, node: ast.Name) -> ast.expr:
+        """A number by its name, which stays where names are shown."""
+        if node.id in ("i", "j", "f") or self._has_values and node.id not in (*FUNCTIONS, *CLIPS, *_READS):
+            return self._constant(node)
+        return node
+
+    def visit_Call(self, node: ast.Call) -> ast.expr:
+        """A call with what it is given; a sign counts in the value."""
+        name = node.func.id if isinstance(node.func, ast.Name) else ""
+        if self._has_values and name in ("signed", "sext", "zext") and len(node.args) == 1:
+            return self._constant(node)
+        terms = [term for each in node.args for term in self._terms(each)]
+        if name == "sum":
+            return ast.Name(" + ".join(terms) or "0")
+        return ast.Name(f"{name}({', '.join(terms)})")
+
+    def _terms(self, node: ast.expr) -> list[str]:
+        """What a call is given, of a list each of its elements."""
+        if not isinstance(node, ast.GeneratorExp):
+            return [ast.unparse(self.visit(node))]
+        (loop,) = node.generators
+        terms = list(self._each(node.elt, elements_in(loop, self._names)))
+        return terms if len(terms) <= MOST_TERMS else [*terms[: MOST_TERMS - 1], "...", terms[-1]]
+
+    def _each(self, node: ast.expr, numbers: Iterable[int]) -> Iterable[str]:
+        for number in numbers:
+            self._names["j"] = number
+            yield ast.unparse(self.visit(copy.deepcopy(node)))
+
+    def _constant(self, node: ast.expr) -> ast.expr:
+        value = evaluate(node, self._names)
+        return ast.Name(f"({value})" if value < 0 else f"{value}")
+
+    def _scalar(self) -> str | None:
+        """What vs1 is in the forms without a vector register there."""
+        word = self._execution.before.word
+        form = word >> 12 & 7
+        if word & 0x7F != OP_V or form in (0, 2):
+            return None
+        return f"x{word >> 15 & 31}" if form & 4 else f"{self._execution.names['imm']}"
