@@ -1,9 +1,9 @@
 #!/usr/bin/env python3
 """Compares docs/INSTRUCTIONS.md and the lab with the definitions: `tools/instructions.py [write]`, in the top folder.
 
-The page is the list that `test_assembler` prints, with which its stored output begins, and three columns more: the
-formula and the section of the manual, which docs/instructions.csv has by names, and the legality, which is read from
-the definitions. That a formula is one that the instruction's own line of a step rests on is seen too. The elements that
+The page begins with what each instruction does, by the lab's records (`vecmon_lab/meanings/page.py`). Then comes the list that
+`test_assembler` prints, with which its stored output begins, and three columns more: the formula, which docs/instructions.csv has by
+names, the legality, which is read from the definitions, and the section of the manual, which the records have. That a formula is one that the instruction's own line of a step rests on is seen too. The elements that
 the lab has for each vector operation (`body_of`, `elements_of`) are compared with `elements/Bodies` of the definitions.
 It prints what isn't so, and then the status is 1. With `write` it writes the page.
 """
@@ -22,6 +22,8 @@ sys.path[:0] = ["lab"]
 from support.elements import elements_of
 from vecmon_lab.instructions.accesses import REGISTER_BITS, body_of, vector_instruction
 from vecmon_lab.machine.answers import ControlRegisters
+from vecmon_lab.meanings.page import records_text
+from vecmon_lab.meanings.record import record_of
 
 PAGE, RULES, PRINTED = Path("docs/INSTRUCTIONS.md"), Path("docs/instructions.csv"), Path("crates/test_assembler/stdout")
 ROW = re.compile(r"^(\| `(\S+)[^`]*` \| `[01 -]+`) \|$", re.MULTILINE)
@@ -160,10 +162,10 @@ def asks(name: str, variants: frozenset[str]) -> bool:
 
 
 @cache
-def rules() -> list[tuple[re.Pattern[str], str, str]]:
-    """The names, the formula and the section of each line of docs/instructions.csv."""
+def rules() -> list[tuple[re.Pattern[str], str]]:
+    """The names and the formula of each line of docs/instructions.csv."""
     with RULES.open(encoding="ascii", newline="") as file:
-        return [(re.compile(it["names"]), it["formula"], it["section"]) for it in csv.DictReader(file)]
+        return [(re.compile(it["names"]), it["formula"]) for it in csv.DictReader(file)]
 
 
 def cells_of(name: str) -> list[str]:
@@ -171,17 +173,18 @@ def cells_of(name: str) -> list[str]:
     if name.startswith("."):
         return ["", "", ""]
     variants = variants_of(name)
-    found = [(formula, section) for names, formula, section in rules() if names.fullmatch(name)]
-    if len(found) != 1 or found[0][0] not in rests_on(variants):
+    found = [formula for names, formula in rules() if names.fullmatch(name)]
+    if len(found) != 1 or found[0] not in rests_on(variants):
         sys.exit(f"{name} has these lines of {RULES}, and its step rests on none of the formulas: {found}")
-    formula, section = found[0]
-    return [f"`{formula_of(formula, variants)}`", ", ".join(f"`{it}`" for it in legality(variants)), section]
+    legal = ", ".join(f"`{it}`" for it in legality(variants))
+    return [f"`{formula_of(found[0], variants)}`", legal, record_of(name).section]
 
 
 def with_rules(printed: str) -> str:
     """The page, of the list that `test_assembler` prints."""
-    head, _, rest = printed.partition("\n## ")
-    page = f"{head}{COLUMNS}\n## {rest}"
+    title, _, head = printed.partition("\n")
+    head, _, rest = head.partition("\n## ")
+    page = f"{title}\n\n{records_text()}\n## Encodings\n{head}{COLUMNS}\n## {rest}"
     page = re.sub(
         r"^\| Text .*\n\|---.*$",
         "| Text | Encoding | Formula | Legality | Section |\n|---|---|---|---|---|",
@@ -250,7 +253,7 @@ def main() -> int:
         PAGE.write_text(is_so, encoding="ascii")
     page = PAGE.read_text(encoding="ascii")
     names = [name for _, name in ROW.findall(printed)]
-    unused = [it.pattern for it, _, _ in rules() if not any(map(it.fullmatch, names))]
+    unused = [it.pattern for it, _ in rules() if not any(map(it.fullmatch, names))]
     for it in unused:
         print(f"{RULES}: no instruction has the name {it}")
     for line in sorted({*page.splitlines()} ^ {*is_so.splitlines()}):

@@ -8,9 +8,10 @@ from fractions import Fraction
 from ..instructions.table import Row, instruction_table
 from ..instructions.words import OP_V, STORE_FP, VECTOR_ACCESSES, Operand, Trait, VectorInstruction, decode
 from ..tables.table import read_table
-from .record import Record, record_of, records
+from .record import FOLDER, Record, record_of, records
 
 _SHORT = ("a", "an", "the", "of", "to", "with", "in")  # words that a search leaves out
+EXAMPLES = FOLDER.with_name("instruction_examples.txt")
 _LISTED = 12  # of what a search finds
 
 
@@ -26,7 +27,23 @@ def expansions() -> dict[str, list[str]]:
 
 def sample(row: Row) -> VectorInstruction | None:
     """A vector instruction of a row under e16, m1; None if it is another one."""
+    if row.opcode not in (OP_V, *VECTOR_ACCESSES):
+        return None
     return decode(row.word(0) | (1 << 25 if "[, v0.t]" in row.operands else 0), 16, Fraction(1))
+
+
+@functools.cache
+def examples() -> dict[str, tuple[str, str, str]]:
+    """The example of each family of vector instructions: the text, and what it reads and writes before and after it."""
+    return {name: (text, before, after) for name, text, before, after in read_table("instruction_examples")}
+
+
+def example_lines(record: Record) -> list[str]:
+    """The example of a family as lines; nothing if it has none."""
+    if record.name not in examples():
+        return []
+    text, before, after = examples()[record.name]
+    return [f"Example under e32, m1, vl 8: {text}", *before.split("; "), f"after it {after}"]
 
 
 def operand_lines(row: Row) -> Iterator[str]:
@@ -124,6 +141,7 @@ def _instruction_lines(name: str) -> Iterator[str]:
     if causes := list(illegal_causes(row)):
         yield f"  Illegal if {'; '.join(causes)}."
     yield from _more(record)
+    yield from (f"  {'  ' * (at > 0)}{line}" for at, line in enumerate(example_lines(record)))
     yield f"  {encoding_text(row)}"
 
 
