@@ -140,6 +140,7 @@ pub fn exec<M: UserBytes>(
     ensures illegal_scalar { result ≡ VEnd.Illegal → scalar.new ≡ scalar.old }
     ensures illegal_memory { result ≡ VEnd.Illegal → memory.new ≡ memory.old }
 {
+    // For the proof alone: the vector length is one that the vector type allows.
     state.conf.length_law();
     match instr {
         Instr::Vector(VectorInstr::Arith { arith, vd, vs2, vm }) => {

@@ -1,5 +1,5 @@
-//! Operations of one width on groups, register by register in turn ("V" Vector Extension 1.0, sections 3.4.2, 5.2
-//! and chapter 11).
+//! A faster path for operations of one width: register by register in turn, without copies of the operands ("V" Vector
+//! Extension 1.0, sections 3.4.2, 5.2 and chapter 11).
 ghost use Rattle.std.specs.Prelude.{◌≡◌, ◌+◌, ◌*◌, ◌%◌, ◌^◌, ◌<◌, ◌/◌, ◌≤◌, ◌==◌, IsTrue, ℕ, false, length, not, true};
 ghost use Rattle.lane_arith.specs.SimdOperations.{is_simd};
 ghost use Rattle.rv_model.specs.elements.Elements.{is_active, is_changed, result_or_ones};
@@ -7,6 +7,7 @@ ghost use Rattle.rv_model.specs.elements.Formulas.{ones};
 ghost use Rattle.rv_model.specs.lending.Writes.{Writes};
 ghost use Rattle.rv_model.specs.vector.Groups.{width_bytes};
 ghost use Rattle.vec_unit.specs.InTurn.{
+  IsInTurn,
   IsReadFirst,
   SourceHasRegisters,
   SourceIsReadFirst,
@@ -14,13 +15,18 @@ ghost use Rattle.vec_unit.specs.InTurn.{
   second_in,
   test_from,
   turn_result,
+  with_binary_results,
 };
 ghost use mir.Val.{bits};
 
-use lane_arith::chunk::simd_results;
+use crate::binary::has_unsigned_immediate;
+use crate::destination::Destination;
+use crate::operands::{WithSources, second_number};
+use lane_arith::chunk::{is_simd, simd_results};
 use lane_arith::{Body, Lane, active_bits, chunk_elements, enabled_bits, filled_bits, put_results};
+use reg_groups::{group_mut, registers};
 use rv_model::instructions::operations::BinaryOp;
-use rv_model::{FILE_BYTES, GROUP_BYTES, Source, VECTOR_REGISTERS, VLENB, VReg};
+use rv_model::{FILE_BYTES, GROUP_BYTES, Scalar, Source, VECTOR_REGISTERS, VFile, VLENB, VReg};
 
 /// Whether each of so many registers from one on is read before it is written, where those from `written` on are
 /// written in turn.
@@ -126,6 +132,116 @@ impl InTurn {
             let active = active_in_turn(all, body, count * r, count);
             let filled = filled_bits(body, fill_masked_off, count * r, count);
             put_results::<L>(made, active, filled, VLENB * (vd + r), bytes);
+        }
+    }
+}
+
+impl WithSources<BinaryOp> {
+    /// Whether the results can be written in turn to so many registers from `vd` on: they are made by SIMD, and no
+    /// register of the operands is written before it is read.
+    #[inline(always)]
+    pub(crate) fn is_in_turn(&self, vd: VReg, size: u32) -> bool
+        requires { size ≤ VECTOR_REGISTERS }
+        ensures made { result ≡ true → IsTrue (is_simd self.now.op) }
+        ensures first { result ≡ true → IsReadFirst self.now.vs2 vd size }
+        ensures second { result ≡ true → SourceIsReadFirst self.now.source vd size }
+    {
+        is_simd(self.op)
+            && is_read_first(self.vs2, vd, size)
+            && is_source_read_first(self.source, vd, size)
+    }
+
+    /// Writes the results in turn. Where `all`, the body is all elements of the destination.
+    #[inline(always)]
+    fn write_in_turn<L: Lane>(
+        &self,
+        all: bool,
+        destination: Destination,
+        body: &Body<'_>,
+        file: &mut VFile,
+        scalar: &Scalar,
+    )
+        requires all { all ≡ true → (body.now.start ≡ 0) × (body.now.end ≡ destination.count) }
+        requires in_turn { IsInTurn L.width self.now destination body.now }
+        ensures { file.new ≡ with_binary_results L.width self.now destination body.now file.old scalar.now }
+    {
+        let unsigned = has_unsigned_immediate(self.op);
+        let operation = InTurn {
+            op: self.op,
+            vd: destination.vd,
+            vs2: self.vs2,
+            source: self.source,
+            number: second_number(unsigned, self.source, scalar),
+        };
+        let size = registers(destination.emul) as usize;
+        let used = if all {
+            size
+        } else {
+            size.min(body.end().div_ceil(L::count()))
+        };
+        let bytes = group_mut(file, VReg::new(0), 8 * 32);
+        let fill_masked_off = destination.fill_masked_off;
+        operation.write::<L>(used, body, all, fill_masked_off, bytes);
+    }
+
+    /// Writes the results in turn, of any body.
+    #[inline(never)]
+    fn write_part_in_turn<L: Lane>(
+        self,
+        destination: Destination,
+        body: &Body<'_>,
+        file: &mut VFile,
+        scalar: &Scalar,
+    )
+        requires in_turn { IsInTurn L.width self destination body.now }
+        ensures { file.new ≡ with_binary_results L.width self destination body.now file.old scalar.now }
+    {
+        self.write_in_turn::<L>(false, destination, body, file, scalar);
+    }
+
+    /// Writes the results in turn, of a body that is masked and is all elements of the destination; those that are
+    /// masked off keep.
+    #[inline(never)]
+    fn write_masked_in_turn<L: Lane>(
+        self,
+        destination: Destination,
+        body: &Body<'_>,
+        file: &mut VFile,
+        scalar: &Scalar,
+    )
+        requires full { (body.now.start ≡ 0) × (body.now.end ≡ destination.count) }
+        requires masked { body.now.unmasked ≡ false }
+        requires kept { destination.fill_masked_off ≡ false }
+        requires in_turn { IsInTurn L.width self destination body.now }
+        ensures { file.new ≡ with_binary_results L.width self destination body.now file.old scalar.now }
+    {
+        let all = Body::new(false, body.mask(), 0, body.end());
+        self.write_in_turn::<L>(true, destination.keeping(), &all, file, scalar);
+    }
+
+    /// Writes the results in turn; where all elements of the destination are active, in line. What is out of line is
+    /// handed copies, so that the destination and the body themselves need no place in memory.
+    #[inline(always)]
+    pub(crate) fn write_all<L: Lane>(
+        &self,
+        destination: Destination,
+        body: &Body<'_>,
+        file: &mut VFile,
+        scalar: &Scalar,
+    )
+        requires in_turn { IsInTurn L.width self.now destination body.now }
+        ensures { file.new ≡ with_binary_results L.width self.now destination body.now file.old scalar.now }
+    {
+        let keeps = !destination.fill_masked_off;
+        if !(body.start() == 0 && body.end() == destination.count && keeps) {
+            let destination = Destination { ..destination };
+            (*self).write_part_in_turn::<L>(destination, &body.copied(), file, scalar);
+        } else if body.is_unmasked() {
+            let all = Body::new(true, body.mask(), 0, body.end());
+            self.write_in_turn::<L>(true, destination.keeping(), &all, file, scalar);
+        } else {
+            let destination = Destination { ..destination };
+            (*self).write_masked_in_turn::<L>(destination, &body.copied(), file, scalar);
         }
     }
 }

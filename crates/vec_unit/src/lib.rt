@@ -1,4 +1,7 @@
 //! One vector instruction of one user.
+//!
+//! Read `execution` first, then `arithmetic`, `operation` and `destination`, and `memory_instructions`; each other
+//! module is a family of operations. `in_turn` is a faster path of `binary`, which leaves what the copies there leave.
 #![tactic(auto)]
 
 mod arithmetic;

@@ -186,6 +186,7 @@ fn perform_access<M: UserBytes>(
     ensures memory { memory.new ≡ M.with_memory memory.old (M.memory memory.new) }
     ensures carried_out { result ≢ VEnd.Illegal }
 {
+    // For the proof alone: the vector length is one that the vector type allows.
     state.conf.length_law();
     let length = usize::from(state.conf.vl());
     let filled = filled_by(access, state, policy);

@@ -6,8 +6,8 @@ use Rattle.rv_model.specs.lending.Writes.{Writes}
 use Rattle.rv_model.proofs.element_lemmas.Widths.{bytes_positive}
 use Rattle.vec_unit.proofs.WrittenGroups.{all_bytes, all_covered, all_put, covered, few_elements, turned_results, within}
 use Rattle.vec_unit.specs.InTurn.{number_from, test_from, turn_result}
-use Rattle.vec_unit.proofs.binary.WithSources+BinaryOp.write_in_turn.Goals.{then-all, else-all}
-use Rattle.vec_unit.proofs.binary.WithSources+BinaryOp.write_in_turn.Goals as goal
+use Rattle.vec_unit.proofs.in_turn.WithSources+BinaryOp.write_in_turn.Goals.{then-all, else-all}
+use Rattle.vec_unit.proofs.in_turn.WithSources+BinaryOp.write_in_turn.Goals as goal
 
 pub write-requires-clause-few : goal.write-requires-clause-few
 write-requires-clause-few g c =
