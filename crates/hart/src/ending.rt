@@ -1,11 +1,26 @@
 //! How an instruction ends that doesn't run on.
 ghost use Rattle.std.specs.Prelude.{◌≡◌};
+ghost use Rattle.rv_model.specs.machine.UserMachine.{stop_of};
 ghost use Rattle.hart.specs.States.{end_by, ticks_by};
 
-use rv_model::StepEnd;
+use rv_model::{StepEnd, Stop};
 
-/// How an instruction ended that didn't run on, and the ticks that it took. One that ran answers its ticks, one at
-/// least, and leaves this as it is; any other answers none.
+/// Why an instruction's end stops the program, if it does.
+pub fn stop_of(end: StepEnd) -> Option<Stop>
+    ensures { result ≡ stop_of end }
+{
+    match end {
+        StepEnd::Ran | StepEnd::Cut => None,
+        StepEnd::Exit(status) => Some(Stop::Exit(status)),
+        StepEnd::Ebreak => Some(Stop::Ebreak),
+        StepEnd::Fault { cause, value, .. } => Some(Stop::Fault { cause, value }),
+        StepEnd::OutputFull => Some(Stop::OutputFull),
+    }
+}
+
+/// How an instruction ended that didn't run on, and the ticks that it took. One that ran returns its ticks, at least 1,
+/// and leaves this as it is; any other returns 0. It isn't one value that each instruction returns, since the end is
+/// then written to memory and read again: 4 machine instructions more for `add`, 17 for `vadd.vv`.
 #[derive(Clone, Copy)]
 pub struct Ending {
     pub end: StepEnd,
@@ -13,7 +28,7 @@ pub struct Ending {
 }
 
 impl Ending {
-    /// That of no instruction yet.
+    /// An ending before the first instruction.
     pub fn new() -> Ending {
         Ending {
             end: StepEnd::Ran,
@@ -21,7 +36,7 @@ impl Ending {
         }
     }
 
-    /// Notes how an instruction ended and the ticks that it took, and answers none.
+    /// Notes how an instruction ended and the ticks that it took, and returns 0.
     #[tactic(auto, unfolding(crate::specs::States::end_by, crate::specs::States::ticks_by))]
     #[inline(always)]
     pub(crate) fn note(&mut self, end: StepEnd, ticks: usize) -> usize
@@ -33,7 +48,7 @@ impl Ending {
         0
     }
 
-    /// Answers the one tick of an instruction that ran, and notes how any other ended in one.
+    /// Returns the one tick of an instruction that ran; notes how any other ended in one tick, and returns 0.
     #[tactic(auto, unfolding(crate::specs::States::end_by, crate::specs::States::ticks_by))]
     #[inline(always)]
     pub(crate) fn in_one_tick(&mut self, end: StepEnd) -> usize
@@ -46,7 +61,7 @@ impl Ending {
         }
     }
 
-    /// How the instruction ended that answered so many ticks, and those that it took.
+    /// How the instruction ended that returned so many ticks, and the ticks that it took.
     #[tactic(auto, using(crate::proofs::Endings::took_ticks, crate::proofs::Endings::noted_ticks))]
     #[inline(always)]
     pub fn told(&self, ticks: usize) -> (StepEnd, usize)

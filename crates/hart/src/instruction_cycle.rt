@@ -34,7 +34,7 @@ fn fetch_anywhere<M: UserBytes>(memory: &M, pc: u64) -> Option<u32>
 
 /// Sets the word to the one at an address. Answers whether it may be fetched.
 #[inline(always)]
-fn fetch<M: UserBytes>(memory: &M, pc: u64, word: &mut u32) -> bool
+pub fn fetch<M: UserBytes>(memory: &M, pc: u64, word: &mut u32) -> bool
     ensures allowed { result ≡ can_access Fetch (M.memory memory.now) pc 4 }
     ensures value { result ≡ true → word.new ≡ word_at (M.memory memory.now) pc }
 {
@@ -73,43 +73,24 @@ pub fn cycle<M: UserBytes, V: Vectors>(
         (shown M.memory V.lent view.old) view.old.vectors.now view.new.vectors.now }
     ensures parts { SameParts view.old view.new }
 {
-    let pc = view.scalar.pc;
-    let mut word = 0;
-    if !fetch(&*view.memory, pc, &mut word) {
-        return ending.in_one_tick(fault(Cause::FetchAccess, pc, &*view.scalar));
-    }
-    let policy = view.policy;
+    let (policy, pc) = (view.policy, view.scalar.pc);
     let terms = StepTerms { limit, policy };
+    let scalar = &mut *view.scalar;
+    let memory = &mut *view.memory;
+    let vectors = &mut *view.vectors;
+    let mut word = 0;
+    if !fetch(memory, pc, &mut word) {
+        return ending.in_one_tick(fault(Cause::FetchAccess, pc, scalar));
+    }
     match kind_of(word) {
-        Kind::Scalar(instr) => {
-            let end = execute_scalar(&instr, &mut *view.scalar, &mut *view.memory);
-            ending.in_one_tick(end)
+        Kind::Scalar(instr) => ending.in_one_tick(execute_scalar(&instr, scalar, memory)),
+        Kind::Access => access(word, scalar, memory, vectors, terms, ending),
+        Kind::Operation => operation(word, scalar, memory, vectors, terms, ending),
+        Kind::System => {
+            let output = &mut *view.output;
+            execute_system(word, scalar, memory, vectors, output, ending)
         }
-        Kind::Access => access(
-            word,
-            &mut *view.scalar,
-            &mut *view.memory,
-            &mut *view.vectors,
-            terms,
-            ending,
-        ),
-        Kind::Operation => operation(
-            word,
-            &mut *view.scalar,
-            &mut *view.memory,
-            &mut *view.vectors,
-            terms,
-            ending,
-        ),
-        Kind::System => execute_system(
-            word,
-            &mut *view.scalar,
-            &*view.memory,
-            &mut *view.vectors,
-            &mut *view.output,
-            ending,
-        ),
-        Kind::Unknown => ending.in_one_tick(illegal(word, &*view.scalar)),
+        Kind::Unknown => ending.in_one_tick(illegal(word, scalar)),
     }
 }
 

@@ -17,8 +17,9 @@ mod vectors;
 mod view;
 mod write_call;
 
-pub use ending::Ending;
-pub use instruction_cycle::{cycle, step};
+pub use ending::{Ending, stop_of};
+pub use instruction_cycle::{cycle, fetch, step};
 pub use rv_model::StepEnd;
+pub use ticks::MAX_TICKS;
 pub use vectors::{OneSeat, Vectors};
 pub use view::{StepTerms, View};

@@ -80,6 +80,7 @@ fn access_control<V: Vectors>(
         return illegal(word, scalar);
     };
     let seat = vectors.seat();
+    // For the proof alone: the vector length is one that the vector type allows.
     seat.state.conf.length_law();
     let value = read(register, &seat.state);
     if is_write(access.op, access.source) {

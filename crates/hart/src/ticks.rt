@@ -4,8 +4,12 @@ ghost use Rattle.rv_model.specs.declared.instructions.instruction.Instr.TheVaria
 ghost use Rattle.rv_model.specs.step.Hart.{HartState};
 ghost use Rattle.rv_model.specs.step.Step.{after_vector, vector_ends, vector_executed, vector_step};
 
-use rv_model::{AccessInstr, VEnd, VState};
+use rv_model::{AccessInstr, GROUP_BYTES, VEnd, VState};
 use vector_memory::index_count;
+
+/// The most ticks that an instruction takes: a load or store takes one for each index, at most 256, and any other
+/// instruction one.
+pub const MAX_TICKS: usize = GROUP_BYTES;
 
 /// The ticks of a load or store that had `limit` of them, found this `vl` and `vstart`, and left this state: one for
 /// each index that it came to, and one if it is illegal. Where it leaves a shorter length, it is a fault-only-first

@@ -75,7 +75,8 @@ fn retire_vector(
     }
 }
 
-/// Executes the vector operation that a word is which has no line of its own in the manual's table.
+/// Executes the vector operation that a word is which has no line of its own in the manual's table. The memory is a
+/// parameter for the contract alone, which says that it stays as it is.
 #[inline(never)]
 fn execute_irregular<M: UserBytes, V: Vectors>(
     word: u32,
@@ -98,12 +99,14 @@ fn execute_irregular<M: UserBytes, V: Vectors>(
         return ending.in_one_tick(illegal(word, scalar));
     };
     let seat = vectors.seat();
+    // For the proof alone: the vector length is one that the vector type allows.
     seat.state.conf.length_law();
     let end = exec_operation(operation, &mut seat.state, scalar, terms.policy);
     retire_vector(end, 1, word, scalar, seat, ending)
 }
 
-/// Executes the vector operation that a word of OP-V is: a regular one in line.
+/// Executes the vector operation that a word of OP-V is: a regular one in line. The memory is passed on for the
+/// contract alone.
 #[inline(never)]
 fn execute_operation<M: UserBytes, V: Vectors>(
     word: u32,
@@ -124,6 +127,7 @@ fn execute_operation<M: UserBytes, V: Vectors>(
         return execute_irregular(word, scalar, memory, vectors, terms, ending);
     };
     let seat = vectors.seat();
+    // For the proof alone: the vector length is one that the vector type allows.
     seat.state.conf.length_law();
     let end = exec_arith(operation, &mut seat.state, scalar, terms.policy);
     retire_vector(end, 1, word, scalar, seat, ending)
@@ -156,6 +160,7 @@ fn execute_access<M: UserBytes, V: Vectors, const UNIT_STRIDE: bool>(
     };
     let StepTerms { limit, policy } = terms;
     let seat = vectors.seat();
+    // For the proof alone: the vector length is one that the vector type allows.
     seat.state.conf.length_law();
     let vl = usize::from(seat.state.conf.vl());
     let vstart = usize::from(seat.state.vstart);
