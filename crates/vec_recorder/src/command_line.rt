@@ -1,4 +1,4 @@
-//! The words that the program takes, and what they ask for.
+//! The command-line options.
 ghost use Rattle.std.specs.Prelude.{◌≡◌, IfOk, false};
 ghost use Rattle.clap.specs.Words.{app_of, kind_of, rule_of};
 ghost use Rattle.vec_recorder.specs.CommandLine.{command_line, image_rule, option_rule, repeated_rule, IsFaultOf};
@@ -9,50 +9,50 @@ use clap::{Arg, ArgAction, Command};
 use std::alloc::{AllocError, Global};
 use std::fmt;
 
-/// What help says after the words.
+/// The help text after the options.
 const AFTER_HELP: &str = "\
-The program runs until it exits, stops, faults, or has used its ticks; what it puts out goes to
-standard output. FILE may be /dev/fd/N. What the files have stands in `man vecmon-record`, and in
-docs/RECORDER.md of the repository, which is share/doc/vecmon/docs/RECORDER.md of a package.
+The program runs until it exits, stops, faults or has used its ticks. Its output goes to standard
+output. FILE may be /dev/fd/N. For the formats of the files, see `man vecmon-record` or
+docs/RECORDER.md (in a package: share/doc/vecmon/docs/RECORDER.md).
 
-Example, where a program spends its ticks:
+Example: list the ten instructions with the most ticks
   vecmon-record --counts counts image.elf && sort -n -r -k 5 counts | head";
 
-// What help says of each option.
-const POLICY_HELP: &str = "What becomes of agnostic elements [default: keep]";
+// The help text of each option.
+const POLICY_HELP: &str = "Keep agnostic elements, or fill them with ones [default: keep]";
 
-const TICKS_HELP: &str = "The most ticks, 1 to 2^63 [default: 2^63]";
+const TICKS_HELP: &str = "Stop after N ticks, 1 to 2^63 [default: 2^63]";
 
-const MEMORY_HELP: &str = "Maps pages where none are, and writes the bytes of a file there";
+const MEMORY_HELP: &str = "Map missing pages with PERMS, and write FILE to memory at ADDR";
 
-const REGISTERS_HELP: &str = "Registers to begin with, a line each";
+const REGISTERS_HELP: &str = "Read initial register values from FILE, one per line";
 
-const COUNTS_HELP: &str = "Where to write how often each instruction was carried out";
+const COUNTS_HELP: &str = "Write the number of times that each instruction executed to FILE";
 
-const WATCH_HELP: &str = "A place in memory, of 1 to 256 bytes, whose changes are written";
+const WATCH_HELP: &str = "Watch LEN bytes at ADDR, 1 to 256, for changes";
 
-const CHANGES_HELP: &str = "Where to write which instruction changed a place that is watched";
+const CHANGES_HELP: &str = "Write each change of watched bytes, with its instruction, to FILE";
 
-const LOG_HELP: &str = "Where to write a line for each instruction";
+const LOG_HELP: &str = "Write a line for each executed instruction to FILE";
 
-const FROM_HELP: &str = "The first instruction of the log, 1 to 2^63 [default: 1]";
+const FROM_HELP: &str = "The first instruction in the log, 1 to 2^63 [default: 1]";
 
-const TO_HELP: &str = "The last instruction of the log, 1 to 2^63 [default: 2^63]";
+const TO_HELP: &str = "The last instruction in the log, 1 to 2^63 [default: 2^63]";
 
-/// What the words of the command line ask for, as they stand there.
+/// The values of the options, as text.
 #[derive(Debug, Drop)]
 pub struct Options<'a> {
     /// What becomes of agnostic elements.
     pub policy: Option<&'a str>,
     /// The most ticks.
     pub ticks: Option<&'a str>,
-    /// The words that name files of memory, in their order.
+    /// The values of `--memory`, in order.
     pub memory: Vec<&'a str>,
     /// The path of the file of registers.
     pub registers: Option<&'a str>,
     /// The path of the file of counts.
     pub counts: Option<&'a str>,
-    /// The words that name places that are watched, in their order.
+    /// The values of `--watch`, in order.
     pub watch: Vec<&'a str>,
     /// The path of the file of changes.
     pub changes: Option<&'a str>,
@@ -66,12 +66,12 @@ pub struct Options<'a> {
     pub image: Option<&'a str>,
 }
 
-/// Why the words give no options. Its `Display` is clap's text, which ends with a newline.
+/// Why the arguments give no options. `Display` prints clap's text, which ends with a newline.
 #[derive(Debug, Drop)]
 pub enum UsageFault {
-    /// Help was asked for.
+    /// `--help` was given.
     Help(clap::Error),
-    /// The words are none that the program takes.
+    /// The arguments are invalid.
     Usage(clap::Error),
     NoMemory,
 }
@@ -107,7 +107,7 @@ fn option<'a>(alloc: Global, name: &'a str, value: &'a str, help: &'a str) -> Ar
         .help(help)
 }
 
-/// An option with a value that may stand more than once.
+/// An option with a value, which may be repeated.
 fn repeated<'a>(alloc: Global, name: &'a str, value: &'a str, help: &'a str) -> Arg<'a>
     ensures rule { rule_of result ≡ repeated_rule name.now }
     ensures local { result.global ≡ false }
@@ -115,22 +115,22 @@ fn repeated<'a>(alloc: Global, name: &'a str, value: &'a str, help: &'a str) -> 
     option(alloc, name, value, help).action(ArgAction::Append)
 }
 
-/// The word `[IMAGE]`.
+/// The argument `[IMAGE]`.
 fn image<'a>(alloc: Global) -> Arg<'a>
     ensures rule { rule_of result ≡ image_rule }
     ensures local { result.global ≡ false }
 {
     Arg::new(alloc, "image")
         .value_name("IMAGE")
-        .help("An ELF file; without one, the machine is empty")
+        .help("The ELF file to run; without it, the machine is empty")
 }
 
-/// What clap is told of the words that the program takes.
+/// The command-line definition for clap.
 pub fn command<'a>(alloc: Global) -> Result<Command<'a>, AllocError>
     ensures { IfOk result (λ command. app_of command ≡ command_line) }
 {
     Command::new(alloc, "vecmon-record")
-        .about("Runs a program alone on the machine of vecmon, and records what it does")
+        .about("Runs one program on vecmon's machine and records its execution")
         .after_help(AFTER_HELP)
         .arg(option(alloc, "policy", "keep|ones", POLICY_HELP))?
         .arg(option(alloc, "ticks", "N", TICKS_HELP))?
