@@ -88,6 +88,7 @@ fn push_vectors(text: &mut Text, registers: Registers, state: &VState)
         ++ flat_map vector_text (told_vectors state.now.file (registers_from registers.first registers.count)) }
     ensures bound { length text.new ≤ length text.old + 2272 }
 {
+    // A legal instruction writes no register past v31; the proof needs the bound.
     let room = u64::from(VECTOR_REGISTERS as u32 - registers.first);
     for place in 0..registers.count.min(room) {
         push_vector(text, registers.first + place as u32, state);

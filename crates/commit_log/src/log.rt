@@ -75,7 +75,7 @@ fn write_gathered<K: Sink>(sink: &mut K, text: &mut Text) -> Result<(), RecordFa
     ensures none { OnOk result (text.new ≡ []) }
 {
     let Ok(()) = write_all(sink, text.as_slice()) else {
-        return Err(RecordFault::Log);
+        return Err(RecordFault::Write("log"));
     };
     text.clear();
     Ok(())

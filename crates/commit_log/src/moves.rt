@@ -53,6 +53,7 @@ pub(crate) fn push_moves(
         ++ flat_map moved_text (option_map_or (moved_elements state.now vl) (access_of instr.now state.now scalar.now) []) }
     ensures bound { length text.new ≤ length text.old + 86057 }
 {
+    // Always so of an instruction that ran; the bound of the text needs the test.
     if legal_access(instr, &state.conf) && vl <= state.conf.vl() {
         show_moves(instr, state, scalar, vl, text);
     }

@@ -1,3 +1,3 @@
 mod Each
 mod Kept
-mod Lists
+pub mod Lists

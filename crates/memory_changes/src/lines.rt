@@ -8,7 +8,7 @@ ghost use Rattle.memory_changes.specs.Changes.{change, change_line, changes_at, 
 use crate::place::{MAX_LENGTH, Place, SMALL_LENGTH};
 use crate::reading::read_bytes;
 use devices::{Sink, write_all};
-use line_text::{Reply, push_decimal, push_hex16};
+use line_text::{Reply, push_bytes, push_decimal, push_hex16};
 use recording::RecordFault;
 use vector_memory::UserBytes;
 
@@ -21,17 +21,14 @@ pub(crate) struct Moment {
 }
 
 /// Adds bytes after a space, two hexadecimal digits each.
-fn push_bytes(reply: &mut Reply, bytes: &[u8])
+fn push_held(reply: &mut Reply, bytes: &[u8])
     requires few { length bytes.now ≤ 256 }
     requires room { length reply.old + 513 ≤ 4096 }
     ensures text { reply.new ≡ reply.old ++ spaced (encode_lower bytes.now) }
     ensures bound { length reply.new ≤ length reply.old + 513 }
 {
-    let mut digits = [0; 2 * MAX_LENGTH];
-    let size = 2 * bytes.len();
-    let _ = hex::encode_to_slice(bytes, &mut digits[..size]);
     reply.push(b" ");
-    reply.push(&digits[..size]);
+    push_bytes(reply, bytes);
 }
 
 /// Adds a number after a space, in 16 hexadecimal digits.
@@ -58,8 +55,8 @@ fn push_change(reply: &mut Reply, moment: &Moment, addr: u64, old: &[u8], new: &
     push_decimal(reply, moment.ticks);
     push_address(reply, moment.pc);
     push_address(reply, addr);
-    push_bytes(reply, old);
-    push_bytes(reply, new);
+    push_held(reply, old);
+    push_held(reply, new);
     reply.push(b"\n");
 }
 
@@ -81,7 +78,7 @@ fn write_change<K: Sink>(
     push_change(&mut reply, moment, addr, old, new);
     match write_all(sink, reply.as_slice()) {
         Ok(()) => Ok(()),
-        Err(_) => Err(RecordFault::Changes),
+        Err(_) => Err(RecordFault::Write("changes")),
     }
 }
 
@@ -142,8 +139,9 @@ pub(crate) fn write_changes<M: UserBytes, K: Sink>(
 {
     let mut rest = old;
     for place in places {
+        // Never so, since `old` has the bytes of all places; the proof needs the test.
         if rest.len() < place.len {
-            return Err(RecordFault::NoPlace);
+            return Err(RecordFault::Unmapped);
         }
         let (before, others) = rest.split_at(place.len);
         compare_place(sink, memory, moment, place, before)?;

@@ -24,7 +24,7 @@ pub(crate) fn read_bytes<M: UserBytes>(
     }
     match memory.read(addr, Access::Monitor, bytes) {
         Ok(()) => Ok(()),
-        Err(_) => Err(RecordFault::NoPlace),
+        Err(_) => Err(RecordFault::Unmapped),
     }
 }
 
@@ -41,9 +41,10 @@ fn add_bytes<M: UserBytes, A: Allocator>(
 {
     let part = &mut buffer[..place.len];
     read_bytes(memory, place.addr, part)?;
+    // `Changes::new` takes room for all places, so this never fails.
     match bytes.extend_from_slice(part) {
         Ok(()) => Ok(()),
-        Err(_) => Err(RecordFault::NoPlace),
+        Err(_) => Err(RecordFault::Unmapped),
     }
 }
 

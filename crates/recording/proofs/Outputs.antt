@@ -52,6 +52,11 @@ with_output o s = record s { output = o }
 abbrev pub joined : List ℕ → Stepped → Stepped
 joined o one = record one { state = with_output (o ++ one.state.output) one.state }
 
+-- what is so of both, by whichever a test chooses
+either_by : {A : Type 0} (f : A → A) (b : Bool) (x y x' y' : A) → x' ≡ f x → y' ≡ f y → cond b x' y' ≡ f (cond b x y)
+either_by f true x y x' y' h k = h
+either_by f false x y x' y' h k = k
+
 -- ---- vector instructions look at no output, and leave it
 
 abbrev vector_with : List ℕ → VectorStepped → VectorStepped
@@ -93,10 +98,6 @@ module _ (o : List ℕ) (s : HartState) where
   performed_keeps limit (instr.Access i) = access_keeps limit i (access_of i s.vector s.scalar)
   performed_keeps limit _ = refl
 
-either_vector : (o : List ℕ) (b : Bool) (x y x' y' : VectorStepped) → x' ≡ vector_with o x → y' ≡ vector_with o y → cond b x' y' ≡ vector_with o (cond b x y)
-either_vector o true x y x' y' h k = h
-either_vector o false x y x' y' h k = k
-
 after_keeps : (o : List ℕ) (ticks word : ℕ) (end : VEnd) (s : HartState) → after_vector ticks end word (with_output o s) ≡ step_with o (after_vector ticks end word s)
 after_keeps o ticks word Done s = refl
 after_keeps o ticks word _ s = refl
@@ -106,24 +107,20 @@ unfolding vector_executed
 vector_keeps o limit i word s =
     let done : VectorStepped = vector_executed limit i s in
     ap (λ (d : VectorStepped). after_vector (vector_ticks limit i s) d.end word d.state)
-    (either_vector o (is_legal i s.vector.conf.vtype s.vector.vstart) _ _ _ _ (performed_keeps o s limit i) refl)
+    (either_by (vector_with o) (is_legal i s.vector.conf.vtype s.vector.vstart) _ _ _ _ (performed_keeps o s limit i) refl)
     ∙ after_keeps o (vector_ticks limit i s) word done.end done.state
 
 -- ---- scalar instructions but for calls don't either
 
-either_step : (o : List ℕ) (b : Bool) (x y x' y' : Stepped) → x' ≡ step_with o x → y' ≡ step_with o y → cond b x' y' ≡ step_with o (cond b x y)
-either_step o true x y x' y' h k = h
-either_step o false x y x' y' h k = k
-
 module _ (o : List ℕ) (s : HartState) where
   jumps_keep : (target : ℕ) (x : Scalar) → jumps target x (with_output o s) ≡ step_with o (jumps target x s)
-  jumps_keep target x = either_step o (target % 4 == 0) _ _ _ _ refl refl
+  jumps_keep target x = either_by (step_with o) (target % 4 == 0) _ _ _ _ refl refl
 
   csr_keeps : (register : Option ControlRegister) (op : CsrOp) (rd source operand word : ℕ)
       → csr_step register op rd source operand word (with_output o s) ≡ step_with o (csr_step register op rd source operand word s)
   csr_keeps None op rd source operand word = refl
   csr_keeps (Some r) op rd source operand word =
-      either_step o (is_write op source && is_read_only r) _ _ _ _ refl (either_step o (is_write op source) _ _ _ _ refl refl)
+      either_by (step_with o) (is_write op source && is_read_only r) _ _ _ _ refl (either_by (step_with o) (is_write op source) _ _ _ _ refl refl)
 
   control_keeps : (i : CsrInstr) (word : ℕ) → csr_executed i word (with_output o s) ≡ step_with o (csr_executed i word s)
   control_keeps (Register op rd rs1 csr) word = csr_keeps (control_register csr) op rd rs1 (read_register s.scalar rs1) word
@@ -135,10 +132,6 @@ still o s f keeps = keeps o ∙ ap (λ (l : List ℕ). step_with l (f s)) (sym (
 
 -- ---- calls
 
-either_joined : (o : List ℕ) (b : Bool) (x y x' y' : Stepped) → x' ≡ joined o x → y' ≡ joined o y → cond b x' y' ≡ joined o (cond b x y)
-either_joined o true x y x' y' h k = h
-either_joined o false x y x' y' h k = k
-
 has_room : (n : ℕ) → n ≤ 768 → (1024 - n == 0) ≡ false
 has_room n few = grind (arith, nat_tests)
 
@@ -147,15 +140,15 @@ same_count asked n few = omega (arith, few)
 
 module _ (o : List ℕ) (s : HartState) (few : length o ≤ 768) where
   put_joins : (addr count : ℕ) → puts_out addr count (with_output o s) ≡ joined o (puts_out addr count (taken s))
-  put_joins addr count = either_joined o (can_access access.Load s.memory addr count) _ _ _ _ refl (still o s (call_fails 14) (λ l. refl))
+  put_joins addr count = either_by (joined o) (can_access access.Load s.memory addr count) _ _ _ _ refl (still o s (call_fails 14) (λ l. refl))
 
   write_joins : write_call (with_output o s) ≡ joined o (write_call (taken s))
   unfolding write_call
   write_joins =
       let asked : ℕ = read_register s.scalar 12 in
       let addr : ℕ = read_register s.scalar 11 in
-      either_joined o (not (read_register s.scalar 10 == 1)) _ _ _ _ (still o s (call_fails 9) (λ l. refl))
-      (either_joined o (asked == 0) _ _ _ _ (still o s (gives 10 0) (λ l. refl))
+      either_by (joined o) (not (read_register s.scalar 10 == 1)) _ _ _ _ (still o s (call_fails 9) (λ l. refl))
+      (either_by (joined o) (asked == 0) _ _ _ _ (still o s (gives 10 0) (λ l. refl))
       (ap (λ (b : Bool). cond b (ends OutputFull (with_output o s)) (puts_out addr (write_count asked o) (with_output o s))) (has_room (length o) few)
       ∙ ap (λ (n : ℕ). puts_out addr n (with_output o s)) (same_count asked (length o) few)
       ∙ put_joins addr (min asked 256)))
@@ -164,8 +157,8 @@ module _ (o : List ℕ) (s : HartState) (few : length o ≤ 768) where
   unfolding environment_call
   call_joins =
       let number : ℕ = read_register s.scalar 17 in
-      either_joined o (number == 93 || number == 94) _ _ _ _ (ap (λ (l : List ℕ). ends (Exit (read_register s.scalar 10 % 256)) (with_output l s)) (sym (append-nil o)))
-      (either_joined o (number == 64) _ _ _ _ write_joins (still o s (call_fails 38) (λ l. refl)))
+      either_by (joined o) (number == 93 || number == 94) _ _ _ _ (ap (λ (l : List ℕ). ends (Exit (read_register s.scalar 10 % 256)) (with_output l s)) (sym (append-nil o)))
+      (either_by (joined o) (number == 64) _ _ _ _ write_joins (still o s (call_fails 38) (λ l. refl)))
 
   scalar_joins : (i : ScalarInstr) → scalar_step i (with_output o s) ≡ joined o (scalar_step i (taken s))
   scalar_joins (Jump rd imm) = still o s (scalar_step (Jump rd imm)) (λ l. jumps_keep l s (sum w64 s.scalar.pc (j_immediate imm)) (with_register rd (sum w64 s.scalar.pc 4) s.scalar))
@@ -173,13 +166,13 @@ module _ (o : List ℕ) (s : HartState) (few : length o ≤ 768) where
       still o s (scalar_step (JumpRegister rd rs1 imm)) (λ l. jumps_keep l s (register_target (read_register s.scalar rs1) imm) (with_register rd (sum w64 s.scalar.pc 4) s.scalar))
   scalar_joins (Branch op rs1 rs2 imm) =
       still o s (scalar_step (Branch op rs1 rs2 imm))
-      (λ l. either_step l (is_taken op (read_register s.scalar rs1) (read_register s.scalar rs2)) _ _ _ _ (jumps_keep l s (sum w64 s.scalar.pc (b_immediate imm)) s.scalar) refl)
+      (λ l. either_by (step_with l) (is_taken op (read_register s.scalar rs1) (read_register s.scalar rs2)) _ _ _ _ (jumps_keep l s (sum w64 s.scalar.pc (b_immediate imm)) s.scalar) refl)
   scalar_joins (Load op rd rs1 imm) =
       still o s (scalar_step (Load op rd rs1 imm))
-      (λ l. either_step l (can_access access.Load s.memory (sum w64 (read_register s.scalar rs1) (i_immediate imm)) (byte_len (load_width op))) _ _ _ _ refl refl)
+      (λ l. either_by (step_with l) (can_access access.Load s.memory (sum w64 (read_register s.scalar rs1) (i_immediate imm)) (byte_len (load_width op))) _ _ _ _ refl refl)
   scalar_joins (Store op rs1 rs2 imm) =
       still o s (scalar_step (Store op rs1 rs2 imm))
-      (λ l. either_step l (can_access access.Store s.memory (sum w64 (read_register s.scalar rs1) (s_immediate imm)) (byte_len (store_width op))) _ _ _ _ refl refl)
+      (λ l. either_by (step_with l) (can_access access.Store s.memory (sum w64 (read_register s.scalar rs1) (s_immediate imm)) (byte_len (store_width op))) _ _ _ _ refl refl)
   scalar_joins (System system.Ecall) = call_joins
   scalar_joins i = still o s (scalar_step i) (λ l. refl)
 
@@ -193,6 +186,6 @@ module _ (o : List ℕ) (s : HartState) (few : length o ≤ 768) where
   pub step_joins : step 256 (with_output o s) ≡ joined o (step 256 (taken s))
   unfolding step
   step_joins =
-      either_joined o (can_access access.Fetch s.memory s.scalar.pc 4) _ _ _ _
+      either_by (joined o) (can_access access.Fetch s.memory s.scalar.pc 4) _ _ _ _
       (executed_joins (scan table (word_at s.memory s.scalar.pc)) (word_at s.memory s.scalar.pc))
       (still o s (faults FetchAccess s.scalar.pc) (λ l. refl))

@@ -7,7 +7,7 @@ ghost use Rattle.recording.specs.Runs.{is_counted, key_beside, once_more};
 ghost use Rattle.recording.specs.Sums.{HasMore};
 
 use crate::class::Class;
-use crate::fault::RecordFault;
+use crate::fault::TableFull;
 use crate::found::Found;
 use crate::table::Table;
 use rv_model::{Access, StepEnd};
@@ -52,7 +52,7 @@ pub(crate) fn count_beside<A: Allocator>(
     class: Class,
     found: &Found,
     target: u64,
-) -> Result<(), RecordFault>
+) -> Result<(), TableFull>
     ensures { OnOk result (HasMore (once_more (key_beside class found.now.conf found.now.pc target))
         table.old.rows.items table.new.rows.items) }
 {

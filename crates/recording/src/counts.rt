@@ -74,7 +74,8 @@ impl<M: UserBytes, A: Allocator> Recorder<M> for Counts<A> {
         let conf = alone.vectors.seat.state.conf;
         let sums = with_elements(row.class, found, conf, ticks);
         self.table.count_at(index, sums);
-        count_beside(&mut self.table, row.class, found, alone.scalar.pc)
+        count_beside(&mut self.table, row.class, found, alone.scalar.pc)?;
+        Ok(())
     }
 
     ghost recorded_none = { λ r. none_shared r.table.rows.items };

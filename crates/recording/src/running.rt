@@ -28,7 +28,7 @@ fn take_output<M: UserBytes, K: Sink>(alone: &mut Alone<M>, sink: &mut K) -> Res
     ensures memory { alone.new.memory ≡ alone.old.memory }
 {
     let Ok(()) = write_all(sink, alone.output.as_slice()) else {
-        return Err(RecordFault::Output);
+        return Err(RecordFault::Write("output"));
     };
     alone.output.clear();
     Ok(())

@@ -7,7 +7,7 @@ ghost use Rattle.recording.specs.declared.key.Key.{Key};
 ghost use Rattle.recording.specs.declared.key.Key.TheVariants.{Jump, Length, Word};
 
 use crate::class::{Class, class_of};
-use crate::fault::RecordFault;
+use crate::fault::TableFull;
 use crate::key::Key;
 use crate::row::Row;
 use crate::sums::Sums;
@@ -186,7 +186,7 @@ impl<A: Allocator> Table<A> {
 
     /// The same, refused where there is no room.
     #[inline(always)]
-    fn row_of(&mut self, key: Key, start: usize) -> Result<usize, RecordFault>
+    fn row_of(&mut self, key: Key, start: usize) -> Result<usize, TableFull>
         ensures row { IfOk result (λ i. IsRowOf key i self.new.rows.items) }
         ensures totals { HasMore no_more self.old.rows.items self.new.rows.items }
     {
@@ -194,12 +194,12 @@ impl<A: Allocator> Table<A> {
         if index < self.rows.len() {
             return Ok(index);
         }
-        Err(RecordFault::TableFull)
+        Err(TableFull)
     }
 
     /// The index of the row of a word at an address, which is mostly that to which the first place leads.
     #[inline(always)]
-    pub(crate) fn word_row(&mut self, pc: u64, word: u32) -> Result<usize, RecordFault>
+    pub(crate) fn word_row(&mut self, pc: u64, word: u32) -> Result<usize, TableFull>
         ensures row { IfOk result (λ i. IsRowOf (Word pc word) i self.new.rows.items) }
         ensures totals { HasMore no_more self.old.rows.items self.new.rows.items }
     {
@@ -215,7 +215,7 @@ impl<A: Allocator> Table<A> {
 
     /// The index of the row of a vector type and length, which is mostly the last one that was asked for.
     #[inline(always)]
-    fn length_row(&mut self, vtype: u64, vl: u16) -> Result<usize, RecordFault>
+    fn length_row(&mut self, vtype: u64, vl: u16) -> Result<usize, TableFull>
         ensures row { IfOk result (λ i. IsRowOf (Length vtype vl) i self.new.rows.items) }
         ensures totals { HasMore no_more self.old.rows.items self.new.rows.items }
     {
@@ -241,7 +241,7 @@ impl<A: Allocator> Table<A> {
 
     /// Counts a vector type and length once.
     #[inline(always)]
-    pub(crate) fn count_length(&mut self, vtype: u64, vl: u16) -> Result<(), RecordFault>
+    pub(crate) fn count_length(&mut self, vtype: u64, vl: u16) -> Result<(), TableFull>
         ensures { OnOk result (HasMore (more_of (Length vtype vl) once) self.old.rows.items self.new.rows.items) }
     {
         let index = self.length_row(vtype, vl)?;
@@ -251,7 +251,7 @@ impl<A: Allocator> Table<A> {
 
     /// Counts a jump from an address to another once.
     #[inline(never)]
-    pub(crate) fn count_jump(&mut self, pc: u64, target: u64) -> Result<(), RecordFault>
+    pub(crate) fn count_jump(&mut self, pc: u64, target: u64) -> Result<(), TableFull>
         ensures { OnOk result (HasMore (more_of (Jump pc target) once) self.old.rows.items self.new.rows.items) }
     {
         let index = self.row_of(Key::Jump { pc, target }, start_of(pc, target))?;

@@ -9,10 +9,10 @@ use Rattle.clap.specs.Walk.{Text, texts}
 use Rattle.rv_model.specs.commands.Arguments.{address, permissions}
 use Rattle.vec_recorder.specs.MemoryWords.{Parts, NamesNone, are_memory, has_colon, is_colon, parts_behind, parts_of}
 
-no_colon : (word : Text) → position_or_len is_colon word ≡ length word → has_colon word ≡ false
+pub no_colon : (word : Text) → position_or_len is_colon word ≡ length word → has_colon word ≡ false
 no_colon word is = grind (arith, nat_tests)
 
-a_colon : (word : Text) → position_or_len is_colon word < length word → has_colon word ≡ true
+pub a_colon : (word : Text) → position_or_len is_colon word < length word → has_colon word ≡ true
 a_colon word lt = grind (arith, nat_tests)
 
 pub undivided : (word : Text) → position_or_len is_colon word ≡ length word → NamesNone word

@@ -1,10 +1,9 @@
 -- The counts of a run that began with rows of nothing, and the files that it began with.
-use Rattle.std.proofs.Common.{◌≡◌, ◌∙◌, ◌<◌, ◌+◌, ◌++◌, [], ◌∷◌, ℕ, Bool, true, false, List, ap, ap₂, append-nil, arith, drop, length, refl, subst, sym, take, Option, flat_map}
+use Rattle.std.proofs.Common.{◌≡◌, ◌∙◌, ◌<◌, ◌+◌, ◌++◌, [], ◌∷◌, ℕ, Bool, true, false, List, ap, ap₂, arith, drop, length, refl, subst, sym, take, Option, flat_map}
 use Rattle.std.specs.Prelude.{IsPermutation, ◌%◌, ◌^◌, if◌then◌else◌}
 use Rattle.std.specs.List.{slice_index_or, sum_by}
 use Rattle.std.proofs.lemmas.List.Sums.{sum_by-cons}
-use Rattle.std.proofs.lemmas.List.{drop_all, drop_more, take_more}
-use Rattle.std.proofs.lemmas.List.Concat.{flat_map-append}
+use Rattle.std.proofs.lemmas.List.{drop_all, drop_more}
 use Rattle.std.proofs.lemmas.List.Sorted.{sum_by-IsPermutation}
 use Rattle.clap.specs.Walk.{Text}
 use Rattle.commit_log.specs.Logged.{IsLogged, logged_from}
@@ -14,6 +13,7 @@ use Rattle.memory_changes.specs.Changes.{changes_from}
 use Rattle.memory_changes.specs.declared.place.Place.{Place}
 use Rattle.memory_changes.specs.Recorded.{IsRecorded}
 use Rattle.memory_changes.specs.declared.changes.Changes.{Changes}
+use Rattle.memory_changes.proofs.Lists.{first_more}
 use Rattle.recording.specs.Classes.{class_of}
 use Rattle.recording.specs.Runs.{is_counted, key_beside, once_more, ran, share, shares, word_of as found_word}
 use Rattle.recording.specs.Sums.{HasMore, is_word, part_of, total}
@@ -36,20 +36,13 @@ use Rattle.vec_recorder.specs.declared.memory_words.MemoryPath.{MemoryPath}
 
 -- ---- lines
 
-lines_more : (rows : List Row) (i : ℕ) (d : Row) → i < length rows
-    → flat_map row_line (take i rows) ++ row_line (slice_index_or rows i d) ≡ flat_map row_line (take (i + 1) rows)
-lines_more rows i d lt =
-    let row = slice_index_or rows i d in
-    sym (ap (flat_map row_line) (take_more rows i d lt)
-    ∙ (flat_map-append row_line (take i rows) (row ∷ []) ∙ ap (λ line. flat_map row_line (take i rows) ++ line) (append-nil (row_line row))))
-
 -- what was shown of one row more
 pub line_taken : (rows : List Row) (i : ℕ) (row : Row) (shown after before : List ℕ) → i < length rows → shown ≡ after → after ≡ before ++ row_line row
     → before ≡ [] → row ≡ slice_index_or rows i row → flat_map row_line (take i rows) ++ shown ≡ flat_map row_line (take (i + 1) rows)
 line_taken rows i row shown after before lt shown_is after_is empty at =
     let line : shown ≡ row_line (slice_index_or rows i row) =
     shown_is ∙ (after_is ∙ (ap (λ (b : List ℕ). b ++ row_line row) empty ∙ ap row_line at)) in
-    ap (λ (l : List ℕ). flat_map row_line (take i rows) ++ l) line ∙ lines_more rows i row lt
+    ap (λ (l : List ℕ). flat_map row_line (take i rows) ++ l) line ∙ first_more row_line rows i row lt
 
 -- ---- counts
 

@@ -1,23 +1,13 @@
 -- Words of places, divided at their first colon.
-use Rattle.std.proofs.Common.{◌≡◌, ◌∙◌, ◌<◌, ◌≤◌, ℕ, ap, arith, false, length, refl, sym, true}
+use Rattle.std.proofs.Common.{◌≡◌, ◌∙◌, ◌<◌, ◌≤◌, ℕ, ap, false, length, refl, sym, true}
 use Rattle.std.specs.Prelude.{Bool, ◌&&◌, ◌↔◌, IfSome, IsSome, MatchOption, None, Some, Option, is_some}
 use Rattle.std.specs.List.{after_first, before_first, position_or_len}
-use Rattle.std.proofs.lemmas.Bool.Decides.{nat_tests}
 use Rattle.clap.specs.Walk.{Text}
 use Rattle.rv_model.specs.commands.Arguments.{address, number_between}
 use Rattle.vec_recorder.specs.MemoryWords.{has_colon, is_colon}
 use Rattle.memory_changes.specs.declared.place.Place.{Place}
 use Rattle.vec_recorder.specs.WatchWords.{IsPlaceOf, NamesNoPlace}
-
-pub no_colon : (word : Text) → position_or_len is_colon word ≡ length word → has_colon word ≡ false
-no_colon word is = grind (arith, nat_tests)
-
-pub a_colon : (word : Text) → position_or_len is_colon word < length word → has_colon word ≡ true
-a_colon word lt = grind (arith, nat_tests)
-
-first_false : (a b c : Bool) → a ≡ false → (a && b && c) ≡ false
-first_false false b c e = refl
-first_false true b c e = absurd cc
+use Rattle.vec_recorder.proofs.MemoryWordLaws.{a_colon, no_colon}
 
 second_false : (a b c : Bool) → b ≡ false → (a && b && c) ≡ false
 second_false false b c e = refl
@@ -30,7 +20,7 @@ third_false true false c e = refl
 third_false true true c e = e
 
 pub undivided : (word : Text) → position_or_len is_colon word ≡ length word → NamesNoPlace word
-undivided word is = first_false (has_colon word) _ _ (no_colon word is)
+undivided word is = rw (no_colon word is) refl
 
 pub no_address : (word first : Text) → first ≡ before_first is_colon word → address first ≡ None → NamesNoPlace word
 no_address word first is none = second_false (has_colon word) _ _ (ap (λ w. is_some (address w)) (sym is) ∙ ap is_some none)

@@ -10,6 +10,7 @@ use Rattle.recording.specs.Runs.{put_out, ran, shares}
 use Rattle.recording.specs.Sums.{OfEach, is_word, total}
 use Rattle.recording.specs.declared.key.Key.{Key}
 use Rattle.recording.specs.declared.row.Row.{Row}
+use Rattle.rv_model.specs.declared.step.step_end.StepEnd.{StepEnd}
 use Rattle.rv_model.specs.declared.vector.policy.Policy.{Policy}
 use Rattle.rv_model.specs.step.Hart.{HartState}
 use Rattle.vec_recorder.specs.Beginning.{Begins}
@@ -43,6 +44,14 @@ AreChanged took places ticks s = took (changes_from places 0 0 (ran ticks s).fou
 -- The log of a run has the line of each instruction that ran and whose number is in a window, in order, and the last line.
 abbrev pub AreLogged : (List ℕ → Type 0) → Window → ℕ → HartState → Type 0
 AreLogged took window ticks s = took (logged_from window 0 (ran ticks s).found ++ end_of ticks s)
+
+-- A run of so many ticks was recorded and put out what the definitions say, and these are how it ended and the record.
+pub record RecordsRun {O K : Type 0} (records : O → List HartState → O → Type 0) (took : K → List ℕ → K → Type 0) (ticks : ℕ) (s left : HartState) (before after : K)
+    (first : O) (ended : Option StepEnd × O) : Type 0 where
+  pub recorded : records first (ran ticks s).found ended.1
+  pub end : ended.0 ≡ (ran ticks s).end
+  pub machine : left ≡ (ran ticks s).state
+  pub output : took before (flat_map put_out (ran ticks s).found) after
 
 -- A file was made at a path and took what is said.
 pub record IsWritten {F : Type 0} (is_made : Text → F → Type 0) (took : F → List ℕ → F → Type 0) (path : Text) (Says : (List ℕ → Type 0) → Type 0) : Type 0 where

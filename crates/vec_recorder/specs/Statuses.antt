@@ -3,7 +3,7 @@ use Rattle.std.specs.Prelude.{◌≡◌, ◌⊎◌, ℕ}
 use Rattle.recording.specs.declared.fault.RecordFault.{RecordFault}
 use Rattle.recording.specs.declared.fault.RecordFault.TheVariants as stopped
 use Rattle.vec_recorder.specs.declared.program_fault.ProgramFault.{ProgramFault}
-use Rattle.vec_recorder.specs.declared.program_fault.ProgramFault.TheVariants.{NoText, Usage, Policy, Ticks, MemoryWord, WatchWord, WatchAlone, From, To, FromAboveTo, LogAlone, LogEnd, SameOutput, OutputIsInput, NoPlace, Record, TableFull, Changes, Log, Output, NoMemory}
+use Rattle.vec_recorder.specs.declared.program_fault.ProgramFault.TheVariants.{NoText, Usage, Policy, Ticks, MemoryWord, WatchWord, WatchAlone, From, To, FromAboveTo, LogAlone, LogEnd, SameOutput, OutputIsInput, NoPlace, Write, TableFull, NoMemory}
 
 -- of the words 2, of what a run begins with 4, of what is written 5, of memory 6
 abbrev pub program_status : ProgramFault → ℕ
@@ -21,21 +21,16 @@ program_status LogAlone = 2
 program_status LogEnd = 2
 program_status (SameOutput first second) = 2
 program_status (OutputIsInput output input) = 2
-program_status (Record path) = 5
+program_status (Write name) = 5
 program_status TableFull = 5
-program_status Changes = 5
-program_status Log = 5
-program_status Output = 5
 program_status NoMemory = 6
 program_status _ = 4
 
 -- why a run isn't recorded to its end
 abbrev pub record_fault : RecordFault → ProgramFault
 record_fault stopped.TableFull = TableFull
-record_fault stopped.NoPlace = NoPlace
-record_fault stopped.Changes = Changes
-record_fault stopped.Log = Log
-record_fault stopped.Output = Output
+record_fault stopped.Unmapped = NoPlace
+record_fault (stopped.Write name) = Write name
 
 -- a fault of what a run begins with, or of memory
 abbrev pub IsOfBeginning : ProgramFault → Type 0

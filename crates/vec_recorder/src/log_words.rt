@@ -1,14 +1,6 @@
 //! Words of the log: `--log FILE`, `--from N`, `--to N`.
 use crate::command_line::Options;
 use crate::program_fault::ProgramFault;
-use commit_log::Window;
-
-/// A log that is asked for: the path of its file, if there is one, and the instructions that it has.
-#[derive(Clone, Copy)]
-pub(crate) struct LogWords<'a> {
-    pub path: Option<&'a str>,
-    pub window: Window,
-}
 
 /// What paths of devices begin with, to which a log of any length may go.
 const DEVICES: &str = "/dev/";

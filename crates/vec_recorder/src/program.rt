@@ -9,14 +9,14 @@ ghost use Rattle.vec_recorder.specs.Statuses.{program_status};
 
 use crate::beginning::first_machine;
 use crate::command_line::{Options, UsageFault};
-use crate::log_words::{LogWords, check_log};
+use crate::log_words::check_log;
 use crate::memory_words::{MemoryPath, memory_paths};
 use crate::numbers::{policy, ticks, window};
 use crate::outputs::Outputs;
 use crate::paths::check_paths;
 use crate::program_fault::{ProgramFault, STATUS_DONE};
-use crate::runs::run_machine;
-use crate::watch_words::{WatchWords, watched_places};
+use crate::runs::{LoggedRun, RecordedRun, run_machine};
+use crate::watch_words::watched_places;
 use crate::words::options;
 use commit_log::Window;
 use devices::{Inputs, Sink, WriterSink};
@@ -76,13 +76,17 @@ fn run_options<'a, R: Inputs + Outputs, K: Sink>(
         options.registers,
     )?;
     check_places(&alone, places.as_slice())?;
-    let (counted, path) = (options.counts, options.changes);
-    let watch = WatchWords { path, places };
-    let log = LogWords {
-        path: options.log,
-        window,
+    let asked = RecordedRun {
+        logged: LoggedRun {
+            ticks,
+            log: options.log,
+            window,
+        },
+        counts: options.counts,
+        changes: options.changes,
+        places,
     };
-    let short = run_machine(rt, alloc, &mut alone, output, ticks, counted, watch, log)?;
+    let short = run_machine(rt, alloc, &mut alone, output, asked)?;
     Ok(short)
 }
 
@@ -133,7 +137,7 @@ fn record_words<'a, R: Inputs + Outputs + Print, K: Sink>(
         Ok(options) => record_options(rt, alloc, &options, output),
         Err(UsageFault::Help(text)) => match print!(rt; "{text}") {
             Ok(()) => Ok(0),
-            Err(_) => Err(ProgramFault::Output),
+            Err(_) => Err(ProgramFault::Write("output")),
         },
         Err(UsageFault::Usage(text)) => Err(ProgramFault::Usage(text)),
         Err(UsageFault::NoMemory) => Err(ProgramFault::NoMemory),

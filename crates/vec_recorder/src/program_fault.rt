@@ -86,21 +86,12 @@ pub enum ProgramFault<'a> {
     /// A place of `--watch` has no memory.
     #[error("vecmon-record: a place of --watch has no memory\n")]
     NoPlace,
-    /// The changes can't be written.
-    #[error("vecmon-record: cannot write changes\n")]
-    Changes,
-    /// The log can't be written.
-    #[error("vecmon-record: cannot write log\n")]
-    Log,
-    /// The file of a record at this path can't be written.
+    /// The file at this path, or the stream of this name, can't be written.
     #[error("vecmon-record: cannot write {0}\n")]
-    Record(&'a str),
+    Write(&'a str),
     /// There are more rows to count than the table has.
     #[error("vecmon-record: more than 131072 rows of counts\n")]
     TableFull,
-    /// The program's output can't be written.
-    #[error("vecmon-record: cannot write output\n")]
-    Output,
     #[error("vecmon-record: out of memory\n")]
     NoMemory,
 }
@@ -131,11 +122,7 @@ impl ProgramFault<'_> {
             | ProgramFault::Memory(_, _)
             | ProgramFault::Registers(_, _)
             | ProgramFault::NoPlace => STATUS_BEGINNING,
-            ProgramFault::Record(_)
-            | ProgramFault::TableFull
-            | ProgramFault::Changes
-            | ProgramFault::Log
-            | ProgramFault::Output => STATUS_WRITE,
+            ProgramFault::Write(_) | ProgramFault::TableFull => STATUS_WRITE,
             ProgramFault::NoMemory => STATUS_NO_MEMORY,
         }
     }
@@ -163,10 +150,8 @@ impl From<RecordFault> for ProgramFault<'_> {
     fn from(stopped: RecordFault) -> Self {
         match stopped {
             RecordFault::TableFull => ProgramFault::TableFull,
-            RecordFault::NoPlace => ProgramFault::NoPlace,
-            RecordFault::Changes => ProgramFault::Changes,
-            RecordFault::Log => ProgramFault::Log,
-            RecordFault::Output => ProgramFault::Output,
+            RecordFault::Unmapped => ProgramFault::NoPlace,
+            RecordFault::Write(name) => ProgramFault::Write(name),
         }
     }
 }

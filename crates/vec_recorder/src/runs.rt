@@ -5,18 +5,18 @@ ghost use Rattle.recording.specs.Runs.{put_out, ran};
 ghost use Rattle.recording.specs.Sums.{is_word, total};
 ghost use Rattle.first_state.specs.OwnMemory.{own_memory};
 ghost use Rattle.vec_recorder.specs.RecordLines.{last_line, row_line};
-ghost use Rattle.vec_recorder.specs.Recorded.{AreChanged, AreCounted, AreKept, AreLogged, IsWritten};
+ghost use Rattle.vec_recorder.specs.Recorded.{AreChanged, AreCounted, AreKept, AreLogged, RecordsRun};
 
-use crate::log_words::LogWords;
 use crate::outputs::Outputs;
 use crate::program_fault::ProgramFault;
 use crate::record_lines::{sort_rows, write_last, write_rows};
-use crate::watch_words::WatchWords;
 use commit_log::{Log, Window};
 use devices::{DeviceFault, Sink};
 use first_state::OwnBytes;
-use memory_changes::Changes;
-use recording::{Alone, Both, Carried, Counts, Recorder, Row, ShortWrites, run, totals};
+use memory_changes::{Changes, Place};
+use recording::{
+    Alone, Both, Carried, Counts, RecordFault, Recorder, Row, ShortWrites, run, totals,
+};
 use rv_model::StepEnd;
 use std::alloc::Global;
 
@@ -26,7 +26,7 @@ fn made_file<'a, R: Outputs>(rt: &R, path: &'a str) -> Result<R::Made, ProgramFa
 {
     match rt.create(path) {
         Ok(file) => Ok(file),
-        Err(_) => Err(ProgramFault::Record(path)),
+        Err(_) => Err(ProgramFault::Write(path)),
     }
 }
 
@@ -48,26 +48,60 @@ fn write_counts<C: Sink>(
     write_last(file, pc, end, sums.times, sums.ticks)
 }
 
-/// Carries out a run that is recorded, with its log in the file at a path. Answers how the program ended, and the record.
-fn run_logged<'a, R: Outputs, K: Sink, O: Recorder<OwnBytes> + Drop>(
+/// A run that is asked for, with its log: the ticks, the path of the log's file, if there is one, and the instructions that the log has.
+#[derive(Clone, Copy)]
+pub(crate) struct LoggedRun<'a> {
+    pub ticks: u64,
+    pub log: Option<&'a str>,
+    pub window: Window,
+}
+
+/// A logged run with the paths of the files for its counts and its changes, if there are some, and the places that are watched.
+#[derive(Drop)]
+pub(crate) struct RecordedRun<'a> {
+    pub logged: LoggedRun<'a>,
+    pub counts: Option<&'a str>,
+    pub changes: Option<&'a str>,
+    pub places: Vec<Place>,
+}
+
+/// Runs and records a program without a log. Returns how it ended, and the record.
+#[inline(never)]
+fn run_unlogged<K: Sink, O: Recorder<OwnBytes> + Drop>(
+    alone: &mut Alone<OwnBytes>,
+    output: &mut K,
+    ticks: u64,
+    recorder: O,
+) -> Result<(Option<StepEnd>, O), RecordFault>
+    ensures run { IfOk result (RecordsRun O.recorded K.took ticks (state_of own_memory alone.old)
+        (state_of own_memory alone.new) output.old output.new recorder) }
+{
+    let mut only = recorder;
+    let end = run(&mut only, alone, output, ticks)?;
+    Ok((end, only))
+}
+
+/// Runs and records a program, and writes its log if there is a file for it. Returns how it ended, and the record.
+/// Out of line, the loop of a run takes less.
+#[inline(never)]
+fn run_recorded<'a, R: Outputs, K: Sink, O: Recorder<OwnBytes> + Drop>(
     rt: &R,
     alloc: Global,
     alone: &mut Alone<OwnBytes>,
     output: &mut K,
-    ticks: u64,
-    path: &'a str,
-    window: Window,
+    asked: LoggedRun<'a>,
     recorder: O,
 ) -> Result<(Option<StepEnd>, O), ProgramFault<'a>>
-    ensures recorded { IfOk result
-        (λ ended. O.recorded recorder (ran ticks (state_of own_memory alone.old)).found ended.1) }
-    ensures end { IfOk result (λ ended. ended.0 ≡ (ran ticks (state_of own_memory alone.old)).end) }
-    ensures machine { OnOk result (state_of own_memory alone.new ≡ (ran ticks (state_of own_memory alone.old)).state) }
-    ensures output { OnOk result (K.took output.old
-        (flat_map put_out (ran ticks (state_of own_memory alone.old)).found) output.new) }
-    ensures log { OnOk result (IsWritten (R.is_made rt.now) R.Made.took path.entry.now
-        (λ told. AreLogged told window ticks (state_of own_memory alone.old))) }
+    ensures run { IfOk result (RecordsRun O.recorded K.took asked.entry.ticks (state_of own_memory alone.old)
+        (state_of own_memory alone.new) output.old output.new recorder) }
+    ensures log { OnOk result (AreKept (R.is_made rt.now) R.Made.took
+        (option_map (λ path. path.now) asked.entry.log)
+        (λ told. AreLogged told asked.entry.window asked.entry.ticks (state_of own_memory alone.old))) }
 {
+    let LoggedRun { ticks, log, window } = asked;
+    let Some(path) = log else {
+        return Ok(run_unlogged(alone, output, ticks, recorder)?);
+    };
     let file = made_file(rt, path)?;
     let log = Log::new(alloc, file, window)?;
     let mut both = Both {
@@ -83,70 +117,37 @@ fn run_logged<'a, R: Outputs, K: Sink, O: Recorder<OwnBytes> + Drop>(
     let log = &mut both.second.second;
     log.finish()?;
     let Ok(()) = write_last(&mut log.sink, alone.scalar.pc, end, times, spent) else {
-        return Err(ProgramFault::Record(path));
+        return Err(ProgramFault::Write(path));
     };
     Ok((end, both.first))
 }
 
-/// Carries out a run that is recorded, with its log if one is asked for. Answers how the program ended, and the record.
-/// Out of line, the loop of a run takes less.
-#[inline(never)]
-fn run_recorded<'a, R: Outputs, K: Sink, O: Recorder<OwnBytes> + Drop>(
-    rt: &R,
-    alloc: Global,
-    alone: &mut Alone<OwnBytes>,
-    output: &mut K,
-    ticks: u64,
-    log: LogWords<'a>,
-    recorder: O,
-) -> Result<(Option<StepEnd>, O), ProgramFault<'a>>
-    ensures recorded { IfOk result
-        (λ ended. O.recorded recorder (ran ticks (state_of own_memory alone.old)).found ended.1) }
-    ensures end { IfOk result (λ ended. ended.0 ≡ (ran ticks (state_of own_memory alone.old)).end) }
-    ensures machine { OnOk result (state_of own_memory alone.new ≡ (ran ticks (state_of own_memory alone.old)).state) }
-    ensures output { OnOk result (K.took output.old
-        (flat_map put_out (ran ticks (state_of own_memory alone.old)).found) output.new) }
-    ensures log { OnOk result (AreKept (R.is_made rt.now) R.Made.took
-        (option_map (λ path. path.now) log.entry.path)
-        (λ told. AreLogged told log.entry.window ticks (state_of own_memory alone.old))) }
-{
-    match log.path {
-        Some(path) => run_logged(rt, alloc, alone, output, ticks, path, log.window, recorder),
-        None => {
-            let mut only = recorder;
-            let end = run(&mut only, alone, output, ticks)?;
-            Ok((end, only))
-        }
-    }
-}
-
-/// The same with the changes of watched places, if a file is asked for.
+/// The same with the changes of watched places, if there is a file for them.
 fn run_watched<'a, R: Outputs, K: Sink, O: Recorder<OwnBytes> + Drop>(
     rt: &R,
     alloc: Global,
     alone: &mut Alone<OwnBytes>,
     output: &mut K,
-    ticks: u64,
-    log: LogWords<'a>,
-    watch: WatchWords<'a>,
+    asked: RecordedRun<'a>,
     recorder: O,
 ) -> Result<(Option<StepEnd>, O), ProgramFault<'a>>
-    ensures recorded { IfOk result
-        (λ ended. O.recorded recorder (ran ticks (state_of own_memory alone.old)).found ended.1) }
-    ensures end { IfOk result (λ ended. ended.0 ≡ (ran ticks (state_of own_memory alone.old)).end) }
-    ensures machine { OnOk result (state_of own_memory alone.new ≡ (ran ticks (state_of own_memory alone.old)).state) }
-    ensures output { OnOk result (K.took output.old
-        (flat_map put_out (ran ticks (state_of own_memory alone.old)).found) output.new) }
+    ensures run { IfOk result (RecordsRun O.recorded K.took asked.entry.logged.ticks (state_of own_memory alone.old)
+        (state_of own_memory alone.new) output.old output.new recorder) }
     ensures changes { OnOk result (AreKept (R.is_made rt.now) R.Made.took
-        (option_map (λ path. path.now) watch.entry.path)
-        (λ told. AreChanged told watch.entry.places.items ticks (state_of own_memory alone.old))) }
+        (option_map (λ path. path.now) asked.entry.changes)
+        (λ told. AreChanged told asked.entry.places.items asked.entry.logged.ticks (state_of own_memory alone.old))) }
     ensures log { OnOk result (AreKept (R.is_made rt.now) R.Made.took
-        (option_map (λ path. path.now) log.entry.path)
-        (λ told. AreLogged told log.entry.window ticks (state_of own_memory alone.old))) }
+        (option_map (λ path. path.now) asked.entry.logged.log)
+        (λ told. AreLogged told asked.entry.logged.window asked.entry.logged.ticks (state_of own_memory alone.old))) }
 {
-    let WatchWords { path, places } = watch;
-    let Some(path) = path else {
-        return run_recorded(rt, alloc, alone, output, ticks, log, recorder);
+    let RecordedRun {
+        logged,
+        counts: _,
+        changes,
+        places,
+    } = asked;
+    let Some(path) = changes else {
+        return run_recorded(rt, alloc, alone, output, logged, recorder);
     };
     let file = made_file(rt, path)?;
     let changes = Changes::new(alloc, file, places)?;
@@ -157,43 +158,40 @@ fn run_watched<'a, R: Outputs, K: Sink, O: Recorder<OwnBytes> + Drop>(
             second: changes,
         },
     };
-    let (end, mut both) = run_recorded(rt, alloc, alone, output, ticks, log, both)?;
+    let (end, mut both) = run_recorded(rt, alloc, alone, output, logged, both)?;
     let times = both.second.first.times;
     let spent = both.second.first.ticks;
     let lines = &mut both.second.second.sink;
     let Ok(()) = write_last(lines, alone.scalar.pc, end, times, spent) else {
-        return Err(ProgramFault::Record(path));
+        return Err(ProgramFault::Write(path));
     };
     Ok((end, both.first))
 }
 
-/// Carries out a run, and keeps its counts, the changes of places and its log in the files at their paths, where there are some.
-/// Answers how many calls wrote less than they were asked to.
+/// Runs a program, and writes its counts, the changes of places and its log to the files at their paths, where there are some.
+/// Returns how many calls wrote less than they were asked to.
 pub(crate) fn run_machine<'a, R: Outputs, K: Sink>(
     rt: &R,
     alloc: Global,
     alone: &mut Alone<OwnBytes>,
     output: &mut K,
-    ticks: u64,
-    counted: Option<&'a str>,
-    watch: WatchWords<'a>,
-    log: LogWords<'a>,
+    asked: RecordedRun<'a>,
 ) -> Result<u64, ProgramFault<'a>>
     ensures output { OnOk result (K.took output.old
-        (flat_map put_out (ran ticks (state_of own_memory alone.old)).found) output.new) }
+        (flat_map put_out (ran asked.entry.logged.ticks (state_of own_memory alone.old)).found) output.new) }
     ensures counts { OnOk result (AreKept (R.is_made rt.now) R.Made.took
-        (option_map (λ path. path.now) counted.entry)
-        (λ told. AreCounted told ticks (state_of own_memory alone.old))) }
+        (option_map (λ path. path.now) asked.entry.counts)
+        (λ told. AreCounted told asked.entry.logged.ticks (state_of own_memory alone.old))) }
     ensures changes { OnOk result (AreKept (R.is_made rt.now) R.Made.took
-        (option_map (λ path. path.now) watch.entry.path)
-        (λ told. AreChanged told watch.entry.places.items ticks (state_of own_memory alone.old))) }
+        (option_map (λ path. path.now) asked.entry.changes)
+        (λ told. AreChanged told asked.entry.places.items asked.entry.logged.ticks (state_of own_memory alone.old))) }
     ensures log { OnOk result (AreKept (R.is_made rt.now) R.Made.took
-        (option_map (λ path. path.now) log.entry.path)
-        (λ told. AreLogged told log.entry.window ticks (state_of own_memory alone.old))) }
+        (option_map (λ path. path.now) asked.entry.logged.log)
+        (λ told. AreLogged told asked.entry.logged.window asked.entry.logged.ticks (state_of own_memory alone.old))) }
 {
     let short = ShortWrites::none();
-    let Some(path) = counted else {
-        let (_, short) = run_watched(rt, alloc, alone, output, ticks, log, watch, short)?;
+    let Some(path) = asked.counts else {
+        let (_, short) = run_watched(rt, alloc, alone, output, asked, short)?;
         return Ok(short.count);
     };
     let counts = Counts::new(alloc)?;
@@ -202,10 +200,10 @@ pub(crate) fn run_machine<'a, R: Outputs, K: Sink>(
         first: short,
         second: counts,
     };
-    let (end, mut both) = run_watched(rt, alloc, alone, output, ticks, log, watch, both)?;
+    let (end, mut both) = run_watched(rt, alloc, alone, output, asked, both)?;
     let rows = both.second.table.rows.as_mut_slice();
     let Ok(()) = write_counts(&mut file, rows, alone.scalar.pc, end) else {
-        return Err(ProgramFault::Record(path));
+        return Err(ProgramFault::Write(path));
     };
     Ok(both.first.count)
 }

@@ -8,16 +8,9 @@ ghost use Rattle.vec_recorder.specs.declared.program_fault.ProgramFault.TheVaria
 
 use crate::numbers::length_number;
 use crate::program_fault::ProgramFault;
-use memory_changes::Place;
 use line_text::address;
+use memory_changes::Place;
 use std::alloc::Allocator;
-
-/// Places that are watched, and the path of the file for their changes, if there is one.
-#[derive(Drop)]
-pub(crate) struct WatchWords<'a> {
-    pub path: Option<&'a str>,
-    pub places: Vec<Place>,
-}
 
 /// Splits a word of a place at its first colon.
 fn watched_place(word: &str) -> Option<Place>
