@@ -2,6 +2,7 @@ pub mod Actives
 pub mod AsSteps
 pub mod Bodies
 pub mod Counted
+pub mod Lengths
 pub mod Outputs
 pub mod Runs
 pub mod TableTotals

@@ -2,12 +2,9 @@
 ghost use Rattle.std.specs.Prelude.{◌≡◌};
 
 use arrayvec::ArrayVec;
-use hart::{OneSeat, View, step};
+use hart::{MAX_TICKS, OneSeat, View, step};
 use rv_model::{OUTPUT_SIZE, Policy, Scalar, StepEnd};
 use vector_memory::UserBytes;
-
-/// The most ticks that an instruction takes: a load or store takes one for each element, other instructions one.
-const MAX_TICKS: usize = 256;
 
 /// The registers, bytes, vector state and output buffer of one user, and what becomes of agnostic elements.
 #[derive(Drop)]

@@ -1,14 +1,14 @@
 //! How an instruction is counted.
 ghost use Rattle.std.specs.Prelude.{◌≡◌};
 ghost use Rattle.rv_model.specs.instructions.Table.{scan, table};
-ghost use Rattle.rv_model.specs.accesses.VectorAccess.{whole_length};
 ghost use Rattle.rv_model.specs.elements.Bodies.{is_arith_unmasked};
 ghost use Rattle.recording.specs.Classes.{access_class, class_of, is_link, links, operation_class};
 
 use reg_groups::register_count;
 use rv_decode::decode;
-use rv_model::instructions::operations::{Eew, RegisterCount, VectorOp};
-use rv_model::{AccessInstr, Arith, Instr, Reg, ScalarInstr, Sew, VLENB, VectorInstr};
+use rv_model::instructions::operations::{RegisterCount, VectorOp};
+use rv_model::{AccessInstr, Arith, Instr, Reg, ScalarInstr, VLENB, VectorInstr};
+use vector_memory::whole_length;
 
 /// How an instruction is counted: by its elements, or as a jump.
 #[derive(Clone, Copy)]
@@ -97,14 +97,8 @@ fn operation_class(instr: &VectorInstr) -> Class
     }
 }
 
-/// How many elements of a width so many registers have.
-fn whole_length(count: RegisterCount, width: Eew) -> u16
-    ensures { result ≡ whole_length count width }
-{
-    u16::from(register_count(count)) * VLENB as u16 / (Sew::from_width(width).bits() / 8)
-}
-
 /// Which segments a load or store has.
+#[tactic(auto, using(crate::proofs::Lengths::whole_length_below))]
 fn access_class(instr: &AccessInstr) -> Class
     ensures { result ≡ access_class instr.now }
 {
@@ -114,7 +108,7 @@ fn access_class(instr: &AccessInstr) -> Class
         | AccessInstr::Indexed { vm, .. } => Class::Length { unmasked: *vm },
         AccessInstr::WholeLoad { count, width, .. } => Class::Other {
             extent: Extent::Elements {
-                count: whole_length(*count, *width),
+                count: whole_length(*count, *width) as u16,
             },
         },
         AccessInstr::WholeStore { count, .. } => Class::Other {

@@ -10,31 +10,20 @@ use crate::class::Class;
 use crate::fault::TableFull;
 use crate::found::Found;
 use crate::table::Table;
-use rv_model::{Access, StepEnd};
+use hart::fetch;
+use rv_model::StepEnd;
 use std::alloc::Allocator;
 use vector_memory::UserBytes;
 use vtype_rules::vtype_number;
 
-/// The word at an address, wherever it lies; 0 where none may be fetched from there.
-#[inline(never)]
-fn word_anywhere<M: UserBytes>(memory: &M, pc: u64) -> u32
-    ensures { can_access Fetch (M.memory memory.now) pc 4 ≡ true → result ≡ word_at_spec (M.memory memory.now) pc }
-{
-    let mut bytes = [0; 4];
-    let _ = memory.read(pc, Access::Fetch, &mut bytes);
-    u32::from_le_bytes(bytes)
-}
-
-/// The word at an address; 0 where none may be fetched from there.
+/// The word at an address, if one may be fetched from there.
 #[inline(always)]
 pub fn word_at<M: UserBytes>(memory: &M, pc: u64) -> u32
     ensures { can_access Fetch (M.memory memory.now) pc 4 ≡ true → result ≡ word_at_spec (M.memory memory.now) pc }
 {
-    let mut bytes = [0; 4];
-    if memory.read_at_once(pc, Access::Fetch, &mut bytes) {
-        return u32::from_le_bytes(bytes);
-    }
-    word_anywhere(memory, pc)
+    let mut word = 0;
+    let _ = fetch(memory, pc, &mut word);
+    word
 }
 
 /// Whether an instruction that ended so is counted: it ran, or it is the call that exits.
