@@ -32,21 +32,12 @@ pub assembles_unmapped : (c : Context) (t : Addresses) (v : VState) (m : Memory)
 assembles_unmapped c t v m addr text h =
     not_allowed (assembling addr (spelled text) (present c t v m)) (refuses (Some (present c t v m)) refusal.NotMapped) (can_access Monitor m addr 4) h
 
-assembles_mapped : (c : Context) (t : Addresses) (v : VState) (m : Memory) (addr : ℕ) (text : List ℕ) (r : Result ℕ ℕ) → can_access Monitor m addr 4 ≡ true → spelled text ≡ r
+-- where it is, and the text spells an instruction or none
+pub assembles_mapped : (c : Context) (t : Addresses) (v : VState) (m : Memory) (addr : ℕ) (text : List ℕ) (r : Result ℕ ℕ) → can_access Monitor m addr 4 ≡ true → spelled text ≡ r
     → assembles addr text (present c t v m) ≡ assembling addr r (present c t v m)
 assembles_mapped c t v m addr text r h k =
     allowed (assembling addr (spelled text) (present c t v m)) (refuses (Some (present c t v m)) refusal.NotMapped) (can_access Monitor m addr 4) h
     ∙ ap (λ (r : Result ℕ ℕ). assembling addr r (present c t v m)) k
-
--- where the text spells no instruction
-pub assembles_misspelled : (c : Context) (t : Addresses) (v : VState) (m : Memory) (addr : ℕ) (text : List ℕ) (column : ℕ) → can_access Monitor m addr 4 ≡ true → spelled text ≡ Err column
-    → assembles addr text (present c t v m) ≡ refuses (Some (present c t v m)) (refusal.Assembler column)
-assembles_misspelled c t v m addr text column h k = assembles_mapped c t v m addr text (Err column) h k
-
--- where it spells one
-pub assembles_accepted : (c : Context) (t : Addresses) (v : VState) (m : Memory) (addr : ℕ) (text : List ℕ) (word : ℕ) → can_access Monitor m addr 4 ≡ true → spelled text ≡ Ok word
-    → assembles addr text (present c t v m) ≡ replies (present c t v (put_bytes m addr (to_le_bytes w32 word))) (asm_line addr word)
-assembles_accepted c t v m addr text word h k = assembles_mapped c t v m addr text (Ok word) h k
 
 -- the instructions of mapped pages
 abbrev shown : Context → Addresses → VState → Memory → ℕ → ℕ → Outcome
@@ -68,20 +59,11 @@ pub loads_unknown : (images : List Image) (c : Context) (t : Addresses) (v : VSt
     → loads images name (present c t v m) ≡ refuses (Some (present c t v m)) refusal.ImageName
 loads_unknown images c t v m name h = ap (λ (image : Option (List ℕ)). loading_named image (present c t v m)) h
 
-loads_named : (images : List Image) (c : Context) (t : Addresses) (v : VState) (m : Memory) (name image : List ℕ) (fault : Option ElfFault) → image_named images name ≡ Some image → first_fault image ≡ fault
+-- where one has, and the image has a fault or none
+pub loads_named : (images : List Image) (c : Context) (t : Addresses) (v : VState) (m : Memory) (name image : List ℕ) (fault : Option ElfFault) → image_named images name ≡ Some image → first_fault image ≡ fault
     → loads images name (present c t v m) ≡ loading image fault (present c t v m)
 loads_named images c t v m name image fault h k =
     ap (λ (i : Option (List ℕ)). loading_named i (present c t v m)) h ∙ ap (λ (f : Option ElfFault). loading image f (present c t v m)) k
-
--- where the image has a fault
-pub loads_faulty : (images : List Image) (c : Context) (t : Addresses) (v : VState) (m : Memory) (name image : List ℕ) (fault : ElfFault) → image_named images name ≡ Some image → first_fault image ≡ Some fault
-    → loads images name (present c t v m) ≡ refuses (Some (present c t v m)) (refusal.ElfFault fault)
-loads_faulty images c t v m name image fault h k = loads_named images c t v m name image (Some fault) h k
-
--- where it has none
-pub loads_sound : (images : List Image) (c : Context) (t : Addresses) (v : VState) (m : Memory) (name image : List ℕ) → image_named images name ≡ Some image → first_fault image ≡ None
-    → loads images name (present c t v m) ≡ loading image None (present c t v m)
-loads_sound images c t v m name image h k = loads_named images c t v m name image None h k
 
 -- where a sound image has too many pages, and where it hasn't
 abbrev loads_by : Context → Addresses → VState → Memory → List ℕ → Bool → Outcome

@@ -4,7 +4,7 @@ use Rattle.monitor_machine.proofs.CutLaws.{configured_as}
 use Rattle.monitor_machine.proofs.GrantLaws.{one_run_count, one_run_told, one_run_world, stops_room_is_small}
 use Rattle.monitor_machine.proofs.MemoryOutcomes.{maps_accepted, maps_refused, pokes_accepted, pokes_refused}
 use Rattle.monitor_machine.proofs.PartLaws.{absent_as, entered_as, unit_stays}
-use Rattle.monitor_machine.proofs.ProgramOutcomes.{assembles_accepted, assembles_misspelled, assembles_unmapped, loads_faulty, loads_sound, loads_unknown}
+use Rattle.monitor_machine.proofs.ProgramOutcomes.{assembles_mapped, assembles_unmapped, loads_named, loads_unknown}
 use Rattle.monitor_machine.proofs.UnusedUnit.{assembles_unused, breakpoints_unused, halts_unused, memory_unused, shows_unused}
 
 -- nothing of the vector unit and of the memories changes
@@ -33,9 +33,9 @@ pub ruleset mapping = (memory_there, maps_accepted, maps_refused)
 
 pub ruleset poking = (memory_there, pokes_accepted, pokes_refused)
 
-pub ruleset assembling = (memory_there, assembles_unmapped, assembles_misspelled, assembles_accepted)
+pub ruleset assembling = (memory_there, assembles_unmapped, assembles_mapped)
 
-pub ruleset loading = (entered_as, unit_stays, same_memory, loads_unknown, loads_faulty, loads_sound)
+pub ruleset loading = (entered_as, unit_stays, same_memory, loads_unknown, loads_named)
 
 -- a slice that is granted, and one that the operator asks for
 pub ruleset granting = (same_memory, unit_stays, configured_as)

@@ -96,20 +96,13 @@ fn carry_out_present<A: Allocator>(
     match cmd {
         Cmd::Entering(command) => entering::carry_out(parts, &*trace, *command, reply),
         Cmd::Memory(command) => memory::carry_out(&mut *parts.pool, user, command, reply),
-        Cmd::Registers(command) => registers::carry_out(
-            &mut *parts.context,
-            &mut *parts.unit,
-            user,
-            command,
-            reply,
-        ),
+        Cmd::Registers(command) => {
+            registers::carry_out(&mut *parts.context, &mut *parts.unit, user, command, reply)
+        }
         Cmd::Programs(command) => programs::carry_out(images, parts, trace, command, reply),
-        Cmd::Breakpoints(command) => breakpoints::carry_out(
-            &mut *parts.context,
-            user,
-            command,
-            reply,
-        ),
+        Cmd::Breakpoints(command) => {
+            breakpoints::carry_out(&mut *parts.context, user, command, reply)
+        }
         Cmd::Running(command) => running::carry_out(parts, trace, command, reply),
     }
 }

@@ -32,6 +32,7 @@ pub(crate) fn carry_out_absent<A: Allocator>(
     let user = parts.user;
     match command {
         EnteringCommand::Enter => {
+            // For the proof alone: the pool has a memory of the user.
             memory_law(&*parts.pool, user);
             *parts.context = Context::entered();
             trace.clear();
@@ -63,6 +64,7 @@ pub(crate) fn carry_out<A: Allocator>(
     match command {
         EnteringCommand::Enter => refuse(reply, user, Refusal::AlreadyEntered),
         EnteringCommand::Leave => {
+            // For the proof alone: the pool has a memory of the user.
             memory_law(&*parts.pool, user);
             *parts.context = Context::new();
             parts.unit.discard(user);

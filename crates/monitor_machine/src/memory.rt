@@ -67,6 +67,7 @@ fn map<A: Allocator>(
     ensures reply { (c : Context) (trace : List ℕ) (vector : VState) → reply.new
         ≡ text (48 + user) (maps pages permissions (present c trace vector (memory_of_user pool.old user))).lines }
 {
+    // For the proof alone: the pool has a memory of the user.
     memory_law(&*pool, user);
     match pool.map(user, pages.first(), pages.count(), permissions) {
         Ok(()) => accept(reply, user),
@@ -90,6 +91,7 @@ fn poke<A: Allocator>(
     ensures reply { (c : Context) (trace : List ℕ) (vector : VState) → reply.new
         ≡ text (48 + user) (pokes addr bytes.now (present c trace vector (memory_of_user pool.old user))).lines }
 {
+    // For the proof alone: the pool has a memory of the user.
     memory_law(&*pool, user);
     match pool.write(user, addr, Access::Monitor, bytes.as_slice()) {
         Ok(()) => accept(reply, user),

@@ -62,20 +62,12 @@ pub(crate) fn carry_out<A: Allocator>(
     let user = parts.user;
     match command {
         ProgramCommand::Load(name) => load(images, parts, trace, name, reply),
-        ProgramCommand::Asm { addr, text } => assemble_at(
-            &mut *parts.pool,
-            user,
-            *addr,
-            text,
-            reply,
-        ),
-        ProgramCommand::Dis { addr, count } => show_instructions(
-            &*parts.pool,
-            user,
-            *addr,
-            *count,
-            reply,
-        ),
+        ProgramCommand::Asm { addr, text } => {
+            assemble_at(&mut *parts.pool, user, *addr, text, reply)
+        }
+        ProgramCommand::Dis { addr, count } => {
+            show_instructions(&*parts.pool, user, *addr, *count, reply)
+        }
     }
 }
 
@@ -107,6 +99,7 @@ fn assemble_at<A: Allocator>(
         ≡ text (48 + user) (assembles addr instruction.now
         (present c trace vector (memory_of_user pool.old user))).lines }
 {
+    // For the proof alone: the pool has a memory of the user.
     memory_law(&*pool, user);
     let Ok(()) = pool.check(user, addr, WORD_SIZE, Access::Monitor) else {
         refuse(reply, user, Refusal::NotMapped);
@@ -207,6 +200,7 @@ fn load_plan<A: Allocator>(
         ≡ text (48 + parts.old.user) (loading plan.now None (present_of parts.old trace.old)).lines }
 {
     let user = parts.user;
+    // For the proof alone: the pool has a memory of the user.
     memory_law(&*parts.pool, user);
     match place(plan, user, &mut *parts.pool) {
         Ok(entry) => {

@@ -60,6 +60,7 @@ pub(crate) fn grant<A: Allocator>(
         ≤ length reply.old + stop_room (machine_of parts.old trace.old) }
     ensures configured { IsConfigured (machine_of parts.old trace.old) }
 {
+    // For the proof alone: the vector length is one that the vector type allows.
     parts.unit.length_law(parts.user);
     if !parts.context.is_running() {
         return false;

@@ -2,7 +2,7 @@
 ghost use Rattle.std.specs.Prelude.{◌≡◌, false, length, nat_le, true};
 ghost use Rattle.hart.specs.States.{EndsBy, Returns};
 ghost use Rattle.lazy_context.specs.LazyUnit.{IsSettled, record_of};
-ghost use Rattle.rv_model.specs.machine.UserMachine.{steps as steps_spec, stop_of as stop_spec, ticked};
+ghost use Rattle.rv_model.specs.machine.UserMachine.{steps as steps_spec, ticked};
 ghost use Rattle.rv_model.specs.machine.VectorUnit.{unit_after_use, unit_after_uses};
 ghost use Rattle.rv_model.specs.step.Hart.{hart_state};
 ghost use Rattle.rv_model.specs.step.Step.{dirties, fetched, step as step_spec, touches};
@@ -14,31 +14,10 @@ use crate::context::Context;
 use crate::lenders::{UserMemory, UserVectors};
 use crate::parts::Parts;
 use crate::trace::Trace;
-use hart::{Ending, StepTerms, Vectors, View, cycle};
+use hart::{Ending, MAX_TICKS, StepTerms, Vectors, View, cycle, stop_of};
 use rv_model::{StepEnd, Stop};
 use std::alloc::Allocator;
 use vector_memory::UserBytes;
-
-/// The most ticks that an instruction takes: a load or store takes one for each element, other instructions one.
-const MAX_TICKS: usize = 256;
-
-/// Why an instruction's end stops the program, if it does.
-fn stop_of(end: StepEnd) -> Option<Stop>
-    ensures { result ≡ stop_spec end }
-{
-    match end {
-        StepEnd::Ran => None,
-        StepEnd::Exit(status) => Some(Stop::Exit(status)),
-        StepEnd::Ebreak => Some(Stop::Ebreak),
-        StepEnd::Fault {
-            cause,
-            pc: _,
-            value,
-        } => Some(Stop::Fault { cause, value }),
-        StepEnd::OutputFull => Some(Stop::OutputFull),
-        StepEnd::Cut => None,
-    }
-}
 
 /// One instruction over the registers and the output buffer of a context, the bytes and the vector
 /// state that it works on. Answers its ticks, and none where it doesn't run on, and then notes how it ended.
@@ -93,6 +72,7 @@ fn step_lent<M: UserBytes>(
         (try_of terms.limit context.old (lent_state vectors.old) (M.memory memory.old))
         (record_of vectors.old.unit.now) }
 {
+    // For the proof alone: what the unit lends, and what it is when that comes back.
     vectors.unit.lending_law(vectors.user);
     step_context(context, memory, vectors, terms, ending)
 }
@@ -250,24 +230,11 @@ pub(crate) fn slice<A: Allocator>(
         unit: &mut *parts.unit,
         user,
     };
+    let context = &mut *parts.context;
     // Two loops, one of which asks about no breakpoint.
-    if parts.context.is_watched() {
-        slice_lent(
-            &mut *parts.context,
-            trace,
-            &mut vectors,
-            &mut memory,
-            quantum,
-            true,
-        )
+    if context.is_watched() {
+        slice_lent(context, trace, &mut vectors, &mut memory, quantum, true)
     } else {
-        slice_lent(
-            &mut *parts.context,
-            trace,
-            &mut vectors,
-            &mut memory,
-            quantum,
-            false,
-        )
+        slice_lent(context, trace, &mut vectors, &mut memory, quantum, false)
     }
 }
