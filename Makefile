@@ -21,7 +21,7 @@ documents = README.md CHANGELOG.md CONTRIBUTING.md SECURITY.md CITATION.cff LICE
 # Outside of the folders that are vecmon's alone, $(lab) and $(docdir)
 commands = $(shell sed -n 's/^\([a-z][a-z]*\) .*/\1/p' lab/vecmon_lab/tables/lab_commands.txt)
 others = $(bindir)/vecmon $(bindir)/vecmon-record $(bindir)/vecmon-lab $(mandir)/man1/vecmon.1 $(mandir)/man1/vecmon-record.1 \
-    $(mandir)/man1/vecmon-lab.1 $(mandir)/man5/vecmon-commands.5 $(completions)/vecmon $(completions)/vecmon-record \
+    $(mandir)/man1/vecmon-lab.1 $(mandir)/man5/vecmon-commands.5 $(mandir)/man7/vecmon-instructions.7 $(completions)/vecmon $(completions)/vecmon-record \
     $(completions)/vecmon-lab $(commands:%=$(mandir)/man1/vecmon-lab-%.1)
 copy = install -D -m 644
 link = ln -s -f -n --relative
@@ -33,7 +33,7 @@ install:
 	@command -v lowdown > /dev/null || { echo 'make install: lowdown not found: it makes the manual pages; run tools/debian_packages packaging' >&2; exit 2; }
 	@command -v help2man > /dev/null || { echo 'make install: help2man not found: it makes the manual pages of the lab; run tools/debian_packages packaging' >&2; exit 2; }
 	@/usr/bin/python3 -c 'import sphinx, myst_parser, furo' 2> /dev/null || { echo 'make install: sphinx, myst-parser or furo not found: they make the book; run tools/debian_packages book' >&2; exit 2; }
-	install -d "$(DESTDIR)$(mandir)/man1" "$(DESTDIR)$(mandir)/man5" "$(DESTDIR)$(docdir)/examples"
+	install -d "$(DESTDIR)$(mandir)/man1" "$(DESTDIR)$(mandir)/man5" "$(DESTDIR)$(mandir)/man7" "$(DESTDIR)$(docdir)/examples"
 	install -D -m 755 "$(program)" packaging/vecmon-lab -t "$(DESTDIR)$(bindir)"
 	install -m 755 "$(recorder)" "$(DESTDIR)$(bindir)/vecmon-record"
 	sed -i 's,\.\./share/vecmon,$(shell realpath -m --relative-to="$(bindir)" "$(lab)"),' "$(DESTDIR)$(bindir)/vecmon-lab"
@@ -49,6 +49,7 @@ install:
 	$(call page,vecmon-record,1,'records what a program does on the machine of vecmon',RECORDER.md)
 	$(call page,vecmon-lab,1,'front end of vecmon with lessons and classes',LAB.md)
 	$(call page,vecmon-commands,5,'scripts and commands of vecmon',COMMANDS.md)
+	$(call page,vecmon-instructions,7,'what each instruction of vecmon does',INSTRUCTIONS.md)
 	umask 022; packaging/lab_pages "$(DESTDIR)$(mandir)/man1"
 	$(copy) packaging/completion "$(DESTDIR)$(completions)/vecmon"
 	for name in vecmon-record vecmon-lab; do $(link) "$(DESTDIR)$(completions)/vecmon" "$(DESTDIR)$(completions)/$$name"; done

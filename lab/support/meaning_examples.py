@@ -54,7 +54,11 @@ def _example(guest: Guest, record: Record) -> Iterator[tuple[str, ...]]:
     carried = stepper.step()
     assert carried.stop is None, f"{text}: {carried.stop}"
     after = _shown(stepper.registers, guest, row)
-    numbers = [f"{name}: {NUMBERS[name]:#x}" if name == "x10" else f"{name}: {NUMBERS[name]}" for name in NUMBERS if name in text]
+    numbers = [
+        f"{name}: {NUMBERS[name]:#x}" if name == "x10" else f"{name}: {NUMBERS[name]}"
+        for name in NUMBERS
+        if name in text
+    ]
     changed = [each for each in after if each not in before]
     yield record.name, text, "; ".join([*numbers, *before]), "; ".join(changed)
 
@@ -67,7 +71,9 @@ def _operands(row: Row) -> str:
 
 def _set_up(guest: Guest, row: Row, text: str) -> Stepper:
     """The state before: a new machine with an instruction that sets the type, and the one of the example."""
-    guest.ask("leave", "enter", f"map {CODE:x} 1 rwx", f"map {DATA:x} 1 rw", f"asm {CODE:x} vsetivli x0, 8, e32, m1, tu, mu")
+    guest.ask(
+        "leave", "enter", f"map {CODE:x} 1 rwx", f"map {DATA:x} 1 rw", f"asm {CODE:x} vsetivli x0, 8, e32, m1, tu, mu"
+    )
     data = b"".join((10 * number).to_bytes(4, "little") for number in range(1, 33))
     registers = [f"set {name} {value:x}" for name, value in NUMBERS.items()]
     instruction = sample(row)
@@ -81,9 +87,14 @@ def _set_up(guest: Guest, row: Row, text: str) -> Stepper:
         block = MASKS[number].to_bytes(32, "little") if operand.eew == 1 else block
         fields = len(operand.registers) // operand.group
         for field in range(fields):
-            vectors |= {number + field + at: block[32 * at : 32 * at + 32].ljust(32, b"\0") for at in range(2 if width == 64 else 1)}
+            vectors |= {
+                number + field + at: block[32 * at : 32 * at + 32].ljust(32, b"\0")
+                for at in range(2 if width == 64 else 1)
+            }
     lines = [f"vset v{number} {block.hex()}" for number, block in vectors.items()]
-    guest.ask(f"asm {CODE + 4:x} {text}", f"poke {DATA:x} {data.hex()}", f"setpc {CODE:x}", "step 1", *registers, *lines)
+    guest.ask(
+        f"asm {CODE + 4:x} {text}", f"poke {DATA:x} {data.hex()}", f"setpc {CODE:x}", "step 1", *registers, *lines
+    )
     stepper = Stepper(guest)
     guest.pc = CODE + 4
     return stepper

@@ -29,7 +29,9 @@ def test_each_mnemonic_has_one_record() -> None:
 
 
 def test_other_names_have_records() -> None:
-    by_kind = {kind: {name for name, it in records().items() if it.kind == kind} for kind in ("directive", "control register")}
+    by_kind = {
+        kind: {name for name, it in records().items() if it.kind == kind} for kind in ("directive", "control register")
+    }
     assert by_kind["directive"] == {*DIRECTIVES}
     assert by_kind["control register"] == {*dict(read_table("keywords"))[r"csr\w*"].split()}
     pseudo = {form.split()[0] for form, *_ in read_table("pseudo")} | {"li"}
@@ -40,7 +42,9 @@ def test_other_names_have_records() -> None:
 def test_what_records_say() -> None:
     for name, record in records().items():
         assert len(record.does.split("; ")[0].split()) <= WORDS and record.does.endswith("."), name
-        assert all(each in records() or each in instruction_table() or each in COMMANDS_SEEN for each in record.see), name
+        assert all(
+            each in records() or each in instruction_table() or each in COMMANDS_SEEN for each in record.see
+        ), name
         if record.kind == "instruction":
             assert record.layout in LAYOUTS and re.fullmatch(r"\d+(\.\d+)*", record.section), name
 
@@ -69,10 +73,20 @@ def test_each_intrinsic_compiles(tmp_path: pathlib.Path, clang: Compiler) -> Non
             values = ", ".join("__RISCV_VXRM_RNU" if each == "vxrm" else each for each in arguments)
             function = f"f{len(names)}"
             names[function] = record.name
-            parts.append(f"{result} {function}({parameters}) {{ {'' if result == 'void' else 'return '}{name}({values}); }}")
+            parts.append(
+                f"{result} {function}({parameters}) {{ {'' if result == 'void' else 'return '}{name}({values}); }}"
+            )
     source = tmp_path / "intrinsics.c"
     source.write_text("\n".join(parts))
-    words = ["--target=riscv64", "-march=rv64im_zve64x_zvl256b", "-O1", "-Werror=implicit-function-declaration", "-S", "-o", "-"]
+    words = [
+        "--target=riscv64",
+        "-march=rv64im_zve64x_zvl256b",
+        "-O1",
+        "-Werror=implicit-function-declaration",
+        "-S",
+        "-o",
+        "-",
+    ]
     done = subprocess.run([clang.name, *words, source], capture_output=True, text=True)
     assert done.returncode == 0, done.stderr
     bodies = dict(re.findall(r"^(f\d+):(.*?)^\.Lfunc_end", done.stdout, re.MULTILINE | re.DOTALL))
@@ -112,7 +126,9 @@ def test_names_of_other_extensions() -> None:
     }.items():
         assert describe(name)[0].startswith(f"{name}: {reason}"), name
         assert name not in instruction_table()
-    assert not any(re.fullmatch(it.names, name) for it in records().values() if it.kind == "absent" for name in instruction_table())
+    assert not any(
+        re.fullmatch(it.names, name) for it in records().values() if it.kind == "absent" for name in instruction_table()
+    )
 
 
 def test_help() -> None:

@@ -31,6 +31,8 @@ class Record:
     elements: of inactive and tail elements, where the general rule doesn't hold
     see: names of related records
     section: of the manual
+    file: the table of the record
+    kept_text: `kept` as text
     intrinsic: a call in C
     """
 
@@ -46,6 +48,8 @@ class Record:
     mistake: str = ""
     see: tuple[str, ...] = ()
     section: str = ""
+    file: str = ""
+    kept_text: str = ""
     intrinsic: str = ""
 
     def formula_of(self, name: str) -> Formula | None:
@@ -113,4 +117,5 @@ def _record(name: str, file: str, cells: Mapping[str, object]) -> Record:
     own = {key: texts[key] for key in texts if key in Record.__dataclass_fields__}
     if unknown := texts.keys() - own.keys():
         raise LabError(f"{file}.toml: the record {name} has the unknown keys {', '.join(sorted(unknown))}")
+    own |= {"file": file, "kept_text": kept or ""}
     return Record(name, kind, names, formulas=formulas, kept=condition(kept) if kept else None, see=see, **own)

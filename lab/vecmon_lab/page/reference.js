@@ -3,14 +3,20 @@
 import { byId, make, prose, put } from "./elements.js";
 
 export const SECTIONS = JSON.parse(byId("reference-data").textContent);
-const ENTRIES = Object.values(SECTIONS).flat();
+const { "Not supported": ABSENT, ...KNOWN } = SECTIONS;
+const ENTRIES = Object.values(KNOWN).flat();
 
 /** An entry as a line of its own. */
-const entryItem = ([, form, does]) => make("li", "", make("code", "", form), does && ` ${does}`);
+const entryItem = ([, form, does]) => make("li", "", make("code", "", form), ...(does ? [" ", ...prose(does)] : []));
+
+/** Why a name that other extensions have isn't here, as an entry; none of other names. */
+const absentEntry = (name) =>
+  ABSENT.filter(([title, form]) => new RegExp(`^(?:${form.slice(title.length + 1)})$`).test(name)).map(([, , does]) => [name, name, does]);
 
 /** What is told of a name, with code between backquotes; "" of none. */
 export function entryText(name) {
-  const own = ENTRIES.filter(([each]) => [name, `* ${name}`].includes(each));
+  const here = ENTRIES.filter(([each]) => [name, `* ${name}`].includes(each));
+  const own = here.length ? here : absentEntry(name);
   return own.map(([, form, does]) => `\`${form}\`${does && `: ${does}`}`).join("\n");
 }
 
@@ -23,8 +29,11 @@ function wordAt(text, place) {
 /** Shows those entries that have a text in their form or in what they do, or all. */
 export function showReference(text) {
   const wanted = text.trim().toLowerCase();
-  const parts = Object.entries(SECTIONS).flatMap(([section, entries]) => {
-    const found = entries.filter(([name, form, does]) => `${name} ${form} ${does}`.toLowerCase().includes(wanted));
+  const words = wanted.split(/\s+/).filter((word) => !["with", "a", "an", "the", "of", "to", "in"].includes(word));
+  const shown = { ...KNOWN, "Not supported": wanted ? absentEntry(wanted) : [] };
+  const parts = Object.entries(shown).flatMap(([section, entries]) => {
+    const has = (entry) => words.every((word) => entry.join(" ").toLowerCase().includes(word));
+    const found = entries.filter(has);
     const exactFirst = [...found.filter(([name]) => name === wanted), ...found.filter(([name]) => name !== wanted)];
     return found.length ? [make("h3", "", section), make("ul", "", ...exactFirst.map(entryItem))] : [];
   });

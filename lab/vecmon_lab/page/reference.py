@@ -1,13 +1,16 @@
-"""What a class's page tells of names: commands, instructions and refusals, from the tables of the manuals."""
+"""What a page's Help says of names: commands, instructions and refusals, from the tables of the manuals and the records."""
 
 import json
 from collections.abc import Iterator
 
 from ..assembler.commands import COMMANDS, MEANINGS
-from ..assembler.source import DIRECTIVES
-from ..instructions.table import instruction_table
-from ..tables.table import read_table
+from ..instructions.table import Row, instruction_table
+from ..meanings.describe import expansions
+from ..meanings.record import record_of, records
 
+NOT_HERE = (
+    "Not supported"  # the section whose entries have a pattern of names behind the name, as reference.js reads it
+)
 OF_THE_CONSOLE = {"run", "until", "back", "changes", "list", "source", "why", "help", "quit"}
 
 
@@ -16,11 +19,15 @@ def reference() -> dict[str, list[list[str]]]:
     commands = [[name, it.form, it.does] for name, it in COMMANDS.items() if name not in OF_THE_CONSOLE]
     return {
         "Commands": commands,
-        "Instructions": [[row.name, f"{row.name} {row.operands}".rstrip(), ""] for row in instruction_table().values()],
-        "Pseudo-instructions": [["li", "li rd, imm", "any number of 64 bits, in as few instructions as it takes"]]
-        + list(_pseudo_entries()),
-        "Directives": [[name, name, ""] for name in DIRECTIVES],
+        "Instructions": [
+            [row.name, f"{row.name} {row.operands}".rstrip(), _told(row)] for row in instruction_table().values()
+        ],
+        "Pseudo-instructions": [["li", "li rd, imm", records()["li"].does], *_pseudo_entries()],
+        "Directives": _entries("directive"),
+        "Control registers": _entries("control register"),
+        "Calls of ecall": _entries("call"),
         "Refusals": [[code, code, meaning] for code, meaning in MEANINGS.items()],
+        NOT_HERE: [[it.name, f"{it.name} {it.names}", it.does] for it in records().values() if it.kind == "absent"],
     }
 
 
@@ -29,7 +36,20 @@ def reference_text() -> str:
     return json.dumps(reference(), separators=(",", ":")).replace("<", "\\u003c")
 
 
+def _told(row: Row) -> str:
+    """What an instruction does, with its formula as code."""
+    record = record_of(row.name)
+    formula = record.formula_of(row.name)
+    return f"{record.does} `{formula.text}`" if formula else record.does
+
+
+def _entries(kind: str) -> list[list[str]]:
+    return [[name, name, it.does] for name, it in records().items() if it.kind == kind]
+
+
 def _pseudo_entries() -> Iterator[list[str]]:
-    for form, *texts in read_table("pseudo"):
-        if not form.endswith("*") and not texts[0].startswith("error"):
-            yield [form.split()[0], form, "; ".join(texts)]
+    for name, texts in expansions().items():
+        for text in texts:
+            form, _, instructions = text.partition(": ")
+            does = f"{records()[name].does} " if records()[name].kind == "pseudo-instruction" else ""
+            yield [name, form, f"{does}`{instructions}`"]
