@@ -14,7 +14,7 @@ from vecmon_lab.classes.messages import Message, Updates, add_words, request_of
 from vecmon_lab.classes.names import checked_name
 from vecmon_lab.classes.progress import Exercises, Try, starts_of
 from vecmon_lab.classes.requests import BadRequest, JsonObject, Lines, Request, SetName, read_request
-from vecmon_lab.classes.requests import Check, Draft, ReadVersion, Source, StepLine, TryCase
+from vecmon_lab.classes.requests import Check, Draft, ReadVersion, Source, StepLine, TryCase, Why
 from vecmon_lab.classes.shared_machine import Answers, MakeProgram, Result, SharedMachine, Steps, Turn
 from vecmon_lab.classes.student import Student
 from vecmon_lab.exercises.check import check
@@ -129,7 +129,7 @@ class Desk:
             case SetName(_, name):
                 self._name = checked_name(name)
                 return {}
-            case Source() | StepLine() | Draft() | ReadVersion() | Check() | TryCase():
+            case Source() | StepLine() | Why() | Draft() | ReadVersion() | Check() | TryCase():
                 return self._run(self.student.execute(request))
         raise BadRequest("a desk doesn't do that")
 

@@ -3,7 +3,7 @@
 import functools
 import json
 import lzma
-from collections.abc import Iterator, Sequence
+from collections.abc import Callable, Iterator, Sequence
 from typing import Any
 
 from support.places import DATA
@@ -67,21 +67,51 @@ def before_of(policy: str, vector: Vector) -> Before:
     return Before(CODE, word, x, control, bytes(v), has_ones, _read, lambda at, length: _permits(at, length, "w"))
 
 
+def drawn_before(drawn: Vector) -> Before:
+    """The state before a case of `vecmon-lab vectors`, in which all that isn't named is 0."""
+    x, v, control = [0] * 32, bytearray(32 * REGISTER_BYTES), [drawn[name] for name in ("vstart", "vxrm", "vxsat")]
+    for number, digits in drawn["x"].items():
+        x[int(number)] = int(digits, 16)
+    _write_vectors(v, drawn["v"])
+    pages = {int(page, 16): letters for page, letters in drawn["pages"].items()}
+    memory = _bytes_of(drawn["memory"])
+
+    def permits(address: int, length: int, letter: str) -> bool:
+        numbers = range(address // PAGE_BYTES, (address + length - 1) // PAGE_BYTES + 1)
+        return all(letter in pages.get(page * PAGE_BYTES, "") for page in numbers)
+
+    def read(address: int, length: int) -> bytes | None:
+        data = bytes(memory.get(at, 0) for at in range(address, address + length))
+        return data if permits(address, length, "r") else None
+
+    registers = ControlRegisters(drawn["vl"], int(drawn["vtype"], 16), *control)
+    has_ones, word, pc = drawn["policy"] == "ones", int(drawn["word"], 16), int(drawn["pc"], 16)
+    return Before(pc, word, x, registers, bytes(v), has_ones, read, lambda at, length: permits(at, length, "w"))
+
+
+def drawn_as_vector(drawn: Vector) -> Vector:
+    """A case of `vecmon-lab vectors` with its result as golden vectors have it: the last pc, and the address of a fault."""
+    after = {"pc": drawn["pc"], **drawn["after"]}
+    return {**drawn, "after": after | ({"value": drawn["value"]} if drawn["end"] == "fault" else {})}
+
+
+def _bytes_of(runs: dict[str, str]) -> dict[int, int]:
+    return {int(at, 16) + k: byte for at, run in runs.items() for k, byte in enumerate(bytes.fromhex(run))}
+
+
 def _write_vectors(v: bytearray, registers: dict[str, str]) -> None:
     for number, digits in registers.items():
         v[int(number) * REGISTER_BYTES : (int(number) + 1) * REGISTER_BYTES] = bytes.fromhex(digits)
 
 
-def differences(vector: Vector, before: Before, after: After) -> Iterator[str]:
-    """What differs between QEMU's result of a vector and that of a formula, by name."""
+def differences(vector: Vector, before: Before, after: After, old: Callable[[int], int] = start_byte) -> Iterator[str]:
+    """What differs between the result of a vector and that of a formula, by name. old: the bytes of memory before it."""
     told, control = vector["after"], dict(vars(before.control))
     control |= {name: told[name] for name in ("vl", "vstart", "vxrm", "vxsat") if name in told}
     control |= {"vtype": int(told["vtype"], 16)} if "vtype" in told else {}
     v = bytearray(before.v)
     _write_vectors(v, told.get("v", {}))
-    memory = {
-        int(at, 16) + k: b for at, run in told.get("memory", {}).items() for k, b in enumerate(bytes.fromhex(run))
-    }
+    memory = _bytes_of(told.get("memory", {}))
     x = {int(number): int(digits, 16) for number, digits in told.get("x", {}).items()}
     pairs = {
         "control registers": (control, vars(after.control)),
@@ -89,7 +119,7 @@ def differences(vector: Vector, before: Before, after: After) -> Iterator[str]:
         "fault": (int(told["value"], 16) if "value" in told else None, after.fault),
         "scalar registers": (x, {at: value for at, value in after.x.items() if value != before.x[at]}),
         "vector registers": (v, after.v),
-        "memory": tuple({at: it for at, it in each.items() if it != start_byte(at)} for each in (memory, after.memory)),
+        "memory": tuple({at: it for at, it in each.items() if it != old(at)} for each in (memory, after.memory)),
     }
     yield from (name for name, (wanted, found) in pairs.items() if wanted != found)
 

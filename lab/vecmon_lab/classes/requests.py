@@ -58,6 +58,13 @@ class StepLine:
 
 
 @dataclass(frozen=True)
+class Why:
+    """A register or an element, such as `v8[5]`, whose value after the last single step is to be explained."""
+
+    name: str
+
+
+@dataclass(frozen=True)
 class Settings:
     """Of a clock: whether it is on, how many slices it grants at once, and how many milliseconds it waits before.
 
@@ -192,7 +199,7 @@ class Reset(_OfSeat):
     """That a seat's machine is taken away."""
 
 
-SeatsRequest = Source | StepLine | Draft | OpenExercise | ReadVersion | Check | TryCase
+SeatsRequest = Source | StepLine | Why | Draft | OpenExercise | ReadVersion | Check | TryCase
 StudentRequest = Lines | SeatsRequest | SetName | CloseNotice | Compare
 TeacherRequest = (
     Give | TakeBack | Write | Reset | SetClock | SetRights | Renew | LookOver | PutOnWall | ShowCodes | ReadAnswer
@@ -215,6 +222,7 @@ _OF_STUDENTS: Mapping[str, Reader] = {
     "source": lambda it: Source(_source(it), _number(it) if "number" in it else -1),
     "again": lambda it: Source(None),
     "step-line": lambda it: StepLine(),
+    "why": lambda it: Why(_name(it, "name")),
     "draft": lambda it: Draft(_source(it), _number(it), _name(it, "exercise"), bool(it.get("keep"))),
     "open": lambda it: OpenExercise(_name(it, "exercise")),
     "answer": lambda it: ReadAnswer("", _name(it, "exercise"), _number(it)),

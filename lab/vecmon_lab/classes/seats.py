@@ -40,6 +40,7 @@ class Seat:
     output: the last of what the program has put out, in hexadecimal digits, in blocks by number
     stands, is_stuck, since: how its program stands, in a few words beside the state's `run`; whether its student may need
         somebody; and since when both are so, in seconds since 1970
+    stepped: the state before the last line, if that stepped one instruction
     used: the bytes of the script that are the seat's
     slices, seen: how many were granted to the program, about, since it stopped last or its student let it go; and when
         somebody looked at it last while it ran, in seconds of the event loop, or 0
@@ -63,6 +64,7 @@ class Seat:
     stands: str = ""
     is_stuck: bool = False
     since: float = field(default_factory=time.time)
+    stepped: State | None = None
     used: int = 0
     slices: float = 0.0
     seen: float = 0.0
@@ -160,10 +162,14 @@ class Seats:
             states[digit] = state, with_rows(state, seat.rows.rows(seat.sight, 1 + seat.sight.is_compiled))
         return states
 
-    def take(self, states: dict[str, tuple[State, State]]) -> None:
-        """Takes up states that `look` made."""
+    def take(self, states: dict[str, tuple[State, State]], done: Sequence[Done] = ()) -> None:
+        """Takes up states that `look` made after these lines."""
+        lines = [line for line, _ in done if not is_look(line) and not is_servers(line)]
         for digit, pair in states.items():
-            self.users[digit].follow(*pair)
+            seat = self.users[digit]
+            if lines:
+                seat.stepped = seat.state if lines == [f"{digit} step 1"] and seat.state["run"] == "stopped" else None
+            seat.follow(*pair)
 
     def observe(self, line: str, answer: Sequence[str], is_told: bool) -> None:
         """Tells seats of a line and its answer. Lines of the clock, and those that grant own slices, aren't told.

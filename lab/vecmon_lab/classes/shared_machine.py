@@ -9,12 +9,17 @@ from dataclasses import dataclass, field
 from functools import partial
 from typing import Protocol, TypeVar
 
+from .. import LabError
 from ..assembler.source import Program, SourceError, in_order, refusal
 from ..compilers.compiled import CompiledProgram
-from ..machine.answers import Granted, Listing, Position, Refused, read
+from ..guest.changes import Carried
+from ..guest.guest import Guest
+from ..machine.answers import Granted, Listing, Position, Refused, Stop, read
 from ..machine.lines import is_look
 from ..machine.session import TOGETHER, ScriptFull, Session
-from ..page.state import State
+from ..meanings.stepped import explanation_of
+from ..meanings.why import NO_STEP, read_name
+from ..page.state import State, registers_of
 from .languages import SourceText
 from .live import server_line, with_output
 from .requests import BadRequest, Lines
@@ -158,6 +163,28 @@ class SharedMachine:
         self._check_share(seat, [f"{seat.digit} step {LINE_BLOCKS}"] * LINE_BLOCKS)
         yield Turn(partial(self._step_line, seat, seat.program), seat)
 
+    def why(self, seat: Seat, name: str) -> Steps[str]:
+        """Why a register or an element has its value after a seat's last single step. Raises BadRequest."""
+        if seat.stepped is None:
+            raise BadRequest(NO_STEP)
+        found = list[str]()
+        yield Turn(lambda turn: found.append(self._why(seat, seat.stepped or seat.state, name)))
+        return found[0]
+
+    def _why(self, seat: Seat, before: State, name: str) -> str:
+        line, stop = before["code"].get(before["pc"], "00000000 "), seat.stop and read([f"{seat.digit} {seat.stop}"])
+        is_own = isinstance(stop, Stop) and f"{stop.pc:x}" == before["pc"]
+        carried = Carried(
+            int(before["pc"], 16), int(line[:8], 16), line[9:], [], stop if isinstance(stop, Stop) and is_own else None
+        )
+        try:
+            explanation = explanation_of(
+                Guest(self.session, int(seat.digit)), registers_of(before), registers_of(seat.state).control, carried
+            )
+            return explanation.why(*read_name(name)).text
+        except LabError as error:
+            raise BadRequest(str(error)) from error
+
     def reset(self, seat: Seat) -> Steps[None]:
         """Takes a seat's machine away, however much of its share of the script is used up."""
         yield TakeSeat()
@@ -196,7 +223,7 @@ class SharedMachine:
         """Reports to the seats what was done. Lines that aren't the asker's are the clock's, or grant own slices."""
         for line, answer in turn.done:
             self.seats.observe(line, answer, turn.asker is not None and line[0] == turn.asker.digit)
-        self.seats.take(turn.states)
+        self.seats.take(turn.states, [*turn.before, *turn.done])
 
     def do(self, turn: Turn, *lines: str) -> list[list[str]]:
         """Sends lines to the machine. Those that change it are recorded before they are sent."""

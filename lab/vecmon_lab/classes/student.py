@@ -7,7 +7,7 @@ from ..exercises.check import mistakes_told
 from .languages import LANGUAGES, SourceText
 from .messages import Message, shown, source_view
 from .progress import Exercises
-from .requests import Check, Draft, Lines, OpenExercise, ReadVersion, SeatsRequest, Source, StepLine, TryCase
+from .requests import Check, Draft, Lines, OpenExercise, ReadVersion, SeatsRequest, Source, StepLine, TryCase, Why
 from .seats import Seat
 from .shared_machine import SEAT_BYTES, SharedMachine, Steps
 from .sources import SeatSource, kept_program
@@ -56,6 +56,8 @@ class Student:
                 return (yield from self._write(source, number))
             case StepLine():
                 yield from self.machine.step_line(self.seat)
+            case Why(name):
+                return {"why": (yield from self.machine.why(self.seat, name))}
             case Draft(source, number, name, is_kept):
                 if name:
                     self.exercises.exercise(name)

@@ -8,7 +8,7 @@ from .codes import TEACHER, WALL
 from .messages import Message, add_words, request_of
 from .names import checked_name
 from .requests import BadRequest, Check, CloseNotice, Compare, Draft, JsonObject, Lines, OpenExercise, ReadAnswer
-from .requests import ReadVersion, Request, SetName, Source, StepLine, TryCase, read_request
+from .requests import ReadVersion, Request, SetName, Source, StepLine, TryCase, Why, read_request
 from .seats import Seat
 from .shared_machine import Answers
 from .student import text_of
@@ -93,7 +93,7 @@ class TabRequests:
                 return text_of(
                     members.checks.answer(members.seat(seat_name if is_teacher else tab.who).name, name, number)
                 )
-            case Source() | StepLine() | Draft() | OpenExercise() | ReadVersion() | Check() | TryCase():
+            case Source() | StepLine() | Why() | Draft() | OpenExercise() | ReadVersion() | Check() | TryCase():
                 seen = tab.shoulder.name if tab.shoulder else ""  # whose versions a teacher reads
                 student = members.student(seen if is_teacher else tab.who)
                 return await members.rooms[student.seat.name[0]].run(student.seat, student.execute(request))

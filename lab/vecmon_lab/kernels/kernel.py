@@ -26,6 +26,7 @@ from ..instructions.accesses import PAGE_BYTES
 from ..machine.answers import Memory, Refused, ScalarRegisters, Stop
 from ..machine.program import find_program
 from ..machine.session import Session
+from ..meanings.stepped import Step
 from ..runs.beginning import beginning_at
 from ..runs.counts import Counts
 from ..runs.recorder import record
@@ -153,11 +154,9 @@ class Kernel(contextlib.AbstractContextManager["Kernel"]):
         `ones`; `both` calls twice. counted: whether instructions are counted; of `both`, those under `keep`. Raises
         CallStopped, PoliciesDiffer, and LabError for what can't be called so.
         """
-        if symbol not in self._symbols.addresses:
-            raise LabError(f"{self._path} has no symbol {symbol}")
         if ticks < 1:
             raise LabError(f"a call has a tick at least, and not {ticks}")
-        values, places, given = _laid(arguments)
+        values, places, given = self._laid(symbol, arguments)
         registers = [f"set x{FIRST_ARGUMENT + number} {value:x}" for number, value in enumerate(values)]
         lines = [*(line for place in places for line in place.lines), *registers]
         policies = ("keep", "ones") if policy == "both" else (policy,)
@@ -167,25 +166,63 @@ class Kernel(contextlib.AbstractContextManager["Kernel"]):
         value, found, output = first
         return Result(value, [_like(data, each) for data, each in zip(given, found)], output, counts)
 
+    def steps(
+        self, symbol: str, *arguments: "int | Array | Placed", policy: str = "keep", most: int = 100_000
+    ) -> Iterator[Step]:
+        """The instructions of a call, which is as `call` has it, one after another, up to its return or its stop.
+
+        Each is executed when it is asked for; `step.why("v8", 5)` says why an element has its value then. Raises LabError.
+        """
+        values, places, _ = self._laid(symbol, arguments)
+        registers = [f"set x{FIRST_ARGUMENT + number} {value:x}" for number, value in enumerate(values)]
+        self._renew()
+        self._begin_call(symbol, policy, [*(line for place in places for line in place.lines), *registers])
+        guest, stepper, self._is_stopped = self._guest, Stepper(self._guest), True
+        for _ in range(most):
+            before = stepper.registers.copy()
+            carried = stepper.step()
+            if guest.pc == carried.pc and carried.pc == RETURN:
+                return
+            yield Step(guest, before, stepper.registers.control, carried)
+            if carried.stop or guest.pc == RETURN:
+                return
+
     def _opened(self) -> Guest:
         """A guest on a machine of its own, who has entered."""
         guest = Guest(Session(find_program(), self._images, quantum=QUANTUM), report=self._report)
         guest.ask("enter")
         return guest
 
+    def _laid(
+        self, symbol: str, arguments: Sequence["int | Array | Placed"]
+    ) -> tuple[list[int], list[_Place], list[Array]]:
+        """What `_laid` makes of the arguments of a function. Raises LabError where there is none of this name."""
+        if symbol not in self._symbols.addresses:
+            raise LabError(f"{self._path} has no symbol {symbol}")
+        return _laid(arguments)
+
+    def _renew(self) -> None:
+        """Takes another session where the script of this one is long, or its program may run."""
+        if self._guest.session.size > RENEWED_BYTES or not self._is_stopped:
+            self.close()
+            self._guest = self._opened()
+
+    def _begin_call(self, symbol: str, policy: str, lines: Sequence[str]) -> Sequence[str]:
+        """Brings the program in, and sets what a call begins with; the commands. Raises LabError where one is refused."""
+        before = [*self._begin, f"policy {policy}", *lines, f"setpc {self._symbols.addresses[symbol]:x}"]
+        for command, answer in zip(before, self._guest.ask(*before)):
+            if isinstance(answer, Refused):
+                raise LabError(f"{symbol}: {command[:60]}: {refusal_in_words(f'1 {command}', answer)[-1]}")
+        return before
+
     def _left(
         self, symbol: str, policy: str, lines: Sequence[str], places: Sequence[_Place], ticks: int, counted: bool
     ) -> tuple[_Left, Counts | None]:
         """What a call leaves under a policy, and what was counted."""
-        if self._guest.session.size > RENEWED_BYTES or not self._is_stopped:
-            self.close()
-            self._guest = self._opened()
+        self._renew()
         guest, self._is_stopped = self._guest, False
-        before = [*self._begin, f"policy {policy}", *lines, f"setpc {self._symbols.addresses[symbol]:x}"]
         looks = ["regs", *(look for place in places for look in peeks(place.address, len(place.data)))]
-        for command, answer in zip(before, guest.ask(*before)):
-            if isinstance(answer, Refused):
-                raise LabError(f"{symbol}: {command[:60]}: {refusal_in_words(f'1 {command}', answer)[-1]}")
+        before = self._begin_call(symbol, policy, lines)
         counts = None
         if counted:
             counts = record(beginning_at(guest, self._images.get("image"), [f"1 {line}" for line in before]), ticks)

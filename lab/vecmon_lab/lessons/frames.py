@@ -11,10 +11,11 @@ from ..assembler.commands import log_entries
 from ..compilers.compiled import variable_rows
 from ..guest.guest import Guest
 from ..guest.notebook import registers_html
-from ..machine.answers import Answer, ControlRegisters, Position, Refused, by_whom, read
+from ..instructions.accesses import REGISTER_BYTES
+from ..machine.answers import Answer, Position, Refused, by_whom, read
 from ..machine.lines import DIGITS, BadLine, is_look, words_of
 from ..machine.session import Session
-from ..page.state import ABSENT, RowChoice, Sight, State, look_at, with_rows
+from ..page.state import ABSENT, RowChoice, Sight, State, look_at, registers_of, with_rows
 from .script import Script, Step, refused_statement
 
 MOST_NAMED = 40  # rows of memory that variables of a source in C have for certain
@@ -42,10 +43,9 @@ class Frame:
         """The note, the line, its answers, and the user's registers, as a notebook shows them."""
         state, registers = self.states.get(self.user, ABSENT), ""
         if "x" in state:
-            x, v = ([given[f"{number}"] for number in range(32)] for given in (state["x"], state["v"]))
-            told = state["vl"], int(state["vtype"], 16), state["vstart"], state["vxrm"], state["vxsat"]
-            scalars, vectors = [int(digits, 16) for digits in x], [bytes.fromhex(digits) for digits in v]
-            registers = registers_html(int(state["pc"], 16), scalars, ControlRegisters(*told), vectors)
+            held = registers_of(state)
+            vectors = [bytes(held.v[at : at + REGISTER_BYTES]) for at in range(0, len(held.v), REGISTER_BYTES)]
+            registers = registers_html(int(state["pc"], 16), held.x, held.control, vectors)
         note, line, log = (html.escape(text) for text in (self.note, self.line, "\n".join(self.log)))
         return f"<p>{note}</p><p><b>{line}</b></p><pre>{log}</pre>{registers}"
 

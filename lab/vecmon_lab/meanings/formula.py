@@ -102,7 +102,8 @@ def rounded(value: int, bits: int, mode: int) -> int:
 
 def quotient(value: int, divisor: int) -> int:
     """value / divisor, rounded towards 0."""
-    return abs(value) // abs(divisor) * (1 if (value < 0) == (divisor < 0) else -1)
+    size = abs(value) // abs(divisor)
+    return size if (value < 0) == (divisor < 0) else -size
 
 
 def _flat(values: Iterable[int | Iterable[int]]) -> list[int]:
@@ -111,7 +112,7 @@ def _flat(values: Iterable[int | Iterable[int]]) -> list[int]:
 
 
 def _combined(operation: Callable[[int, int], int]) -> Callable[..., int]:
-    return lambda *values: functools.reduce(operation, _flat(values))
+    return lambda *values: int(functools.reduce(operation, _flat(values)))
 
 
 FUNCTIONS: Mapping[str, Callable[..., int]] = {
@@ -185,7 +186,8 @@ def condition(text: str) -> ast.expr:
 
 @functools.lru_cache(maxsize=4096)
 def _code(node: ast.expr) -> CodeType:
-    return compile(ast.fix_missing_locations(ast.Expression(node)), "a formula", "eval")
+    code: CodeType = compile(ast.fix_missing_locations(ast.Expression(node)), "a formula", "eval")
+    return code
 
 
 def _assignment(text: str, whole: str) -> Assignment:

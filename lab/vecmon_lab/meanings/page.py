@@ -9,7 +9,7 @@ _INTRO = """This page is for people who write or read instructions. It says [wha
 [encodings](#encodings) of all names, with the definitions of what they compute and when they are legal.
 
 In the console `help vadd.vv` prints all that there is to say of an instruction, with an example, and `help add with carry` searches;
-`why v8[5]` puts the numbers of the last step into the formula ([DEBUGGING.md](DEBUGGING.md)). The [book](../CONTRIBUTING.md) has a page for
+`why v8[5]` puts the numbers of the last step into the formula ([DEBUGGING.md](DEBUGGING.md)). The book of these pages as HTML has a page for
 each family.
 
 ## What each instruction does

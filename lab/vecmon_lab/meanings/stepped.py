@@ -1,11 +1,13 @@
 """Why a register has its value after the instruction that was stepped last, at a guest's machine."""
 
 import functools
+from collections.abc import Callable, Sequence
 
 from .. import LabError
-from ..guest.changes import Carried, Registers, Stepper
+from ..guest.changes import Carried, Change, Registers, Stepper
 from ..guest.guest import Guest
 from ..instructions.accesses import LINE_BYTES, vector_instruction
+from ..instructions.words import LOAD, LOAD_FP
 from ..machine.answers import ControlRegisters, Memory
 from .executed import Before
 from .why import NO_STEP, Explanation, Reason
@@ -17,6 +19,25 @@ def why_stepped(stepper: Stepper, name: str, element: int | None = None) -> Reas
         raise LabError(NO_STEP)
     before, carried = stepper.last
     return explanation_of(stepper.guest, before, stepper.registers.control, carried).why(name, element)
+
+
+class Step:
+    """An instruction of a call that was stepped: its address, word and text, its changes, and why registers have their values."""
+
+    def __init__(self, guest: Guest, before: Registers, after: ControlRegisters, carried: Carried) -> None:
+        self.pc, self.word, self.text = carried.pc, carried.word, carried.text
+        self.changes: Sequence[Change] = carried.changes
+        self._explanation: Callable[[], Explanation] = lambda: explanation_of(guest, before, after, carried)
+        if carried.word & 0x7F in (LOAD, LOAD_FP) and carried.text and carried.stop is None:
+            made = self._explanation()  # before later steps change memory
+            self._explanation = lambda: made
+
+    def __str__(self) -> str:
+        return f"{self.pc:x} {self.text}: {' '.join(map(str, self.changes))}".rstrip(": ")
+
+    def why(self, name: str, element: int | None = None) -> Reason:
+        """Why a register, or an element of a vector register, has its value after this step. Raises LabError."""
+        return self._explanation().why(name, element)
 
 
 def explanation_of(guest: Guest, before: Registers, after: ControlRegisters, carried: Carried) -> Explanation:

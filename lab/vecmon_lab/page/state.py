@@ -6,6 +6,7 @@ from collections.abc import Iterable, Iterator, Mapping, Sequence
 from typing import Any, TypedDict
 
 from ..guest.calls import shown_calls
+from ..guest.changes import Registers
 from ..guest.guest import Guest
 from ..instructions.accesses import PAGE_BYTES, ROW_BYTES
 from ..instructions.calls import ECALL, unsupported_call
@@ -178,6 +179,13 @@ def look_at(
         state.update({"instruction": state["pc"], "faulted": True})
     sight.trace = trace
     return state
+
+
+def registers_of(state: State) -> Registers:
+    """The registers of a state that has them."""
+    x, v = ([given[f"{number}"] for number in range(32)] for given in (state["x"], state["v"]))
+    control = (state["vl"], int(state["vtype"], 16), state["vstart"], state["vxrm"], state["vxsat"])
+    return Registers([int(digits, 16) for digits in x], ControlRegisters(*control), bytearray.fromhex("".join(v)))
 
 
 class RowChoice:
