@@ -1,7 +1,7 @@
 #!/usr/bin/env python3
 """Compares docs/INSTRUCTIONS.md and the lab with the definitions: `tools/instructions.py [write]`, in the top folder.
 
-The page begins with what each instruction does, by the lab's records (`vecmon_lab/meanings/page.py`). Then comes the list that
+The page begins with what each instruction does, by the lab's records (`support/instruction_page.py`). Then comes the list that
 `test_assembler` prints, with which its stored output begins, and three columns more: the formula, which docs/instructions.csv has by
 names, the legality, which is read from the definitions, and the section of the manual, which the records have. That a formula is one that the instruction's own line of a step rests on is seen too. The elements that
 the lab has for each vector operation (`body_of`, `elements_of`) are compared with `elements/Bodies` of the definitions.
@@ -20,9 +20,9 @@ import definitions as counted
 
 sys.path[:0] = ["lab"]
 from support.elements import elements_of
+from support.instruction_page import records_text
 from vecmon_lab.instructions.accesses import REGISTER_BITS, body_of, vector_instruction
 from vecmon_lab.machine.answers import ControlRegisters
-from vecmon_lab.meanings.page import records_text
 from vecmon_lab.meanings.record import record_of
 
 PAGE, RULES, PRINTED = Path("docs/INSTRUCTIONS.md"), Path("docs/instructions.csv"), Path("crates/test_assembler/stdout")

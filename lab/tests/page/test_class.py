@@ -176,6 +176,11 @@ def test_first_sight_and_keys(sit: Sit) -> None:
     tab.keys("#line", "help peek\n")
     assert tab.text("#stop") == "peek ADDR N: prints 1 to 256 bytes from ADDR"
     assert tab.run("!id('reference').hidden && one('#entries code').textContent") == "peek ADDR N"
+    tab.keys("#line", "help vadd.vi\n")
+    told = "Adds the elements of vs1 to those of vs2; the sums wrap around. vd[i] = vs2[i] + vs1[i]"
+    assert tab.text("#stop") == f"vadd.vi vd, vs2, imm[, v0.t]: {told}"
+    tab.keys("#line", "help vfadd.vv\n")
+    assert tab.text("#stop").startswith("vfadd.vv: Floating point isn't supported")
     tab.keys("#line", "help dance\n")
     assert "no command and no instruction dance" in tab.text("#stop")
     tab.keys("#line", "pe")
@@ -184,7 +189,7 @@ def test_first_sight_and_keys(sit: Sit) -> None:
     tab.keys("#line", Keys.HOME)
     tab.wait("id('hint').textContent.startsWith('peek ADDR N')")
     tab.keys("#line", Keys.CONTROL, "a", Keys.NULL, Keys.DELETE, Keys.F1)
-    tab.wait("all('#entries code').length > 700 && all('#entries h3').length === 5")
+    tab.wait("all('#entries code').length > 700 && all('#entries h3').length === 7")
     assert "help" not in tab.text("#log")
 
 

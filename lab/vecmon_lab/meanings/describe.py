@@ -46,15 +46,14 @@ def example_lines(record: Record) -> list[str]:
     return [f"Example under e32, m1, vl 8: {text}", *before.split("; "), f"after it {after}"]
 
 
-def operand_lines(row: Row) -> Iterator[str]:
-    """EEW and EMUL of each vector register operand."""
+def operand_cells(row: Row) -> Iterator[tuple[str, str, str]]:
+    """Each vector register operand: its place, EEW and EMUL."""
     instruction = sample(row)
     for operand in instruction.operands if instruction else []:
-        place = "vs3" if operand.noun == "data" else operand.place
-        yield f"{place}: EEW {_width(operand, row)}, EMUL {_multiplier(operand, row)}"
+        yield "vs3" if operand.noun == "data" else operand.place, _width(operand), _multiplier(operand)
 
 
-def _width(operand: Operand, row: Row) -> str:
+def _width(operand: Operand) -> str:
     if operand.part is None:
         return f"{operand.eew}"
     return _scaled("SEW", operand.part)
@@ -65,7 +64,7 @@ def _scaled(name: str, part: Fraction) -> str:
     return f"{part}*{name}" if part > 1 else name if part == 1 else f"{name}/{part.denominator}"
 
 
-def _multiplier(operand: Operand, row: Row) -> str:
+def _multiplier(operand: Operand) -> str:
     if operand.is_whole:
         return f"{operand.group}"
     fields = len(operand.registers) // operand.group
@@ -134,7 +133,7 @@ def _instruction_lines(name: str) -> Iterator[str]:
     formula = record.formula_of(name)
     if formula:
         yield f"  {formula.text}{_scalar_note(row, formula.text)}"
-    if operands := list(operand_lines(row)):
+    if operands := [f"{place}: EEW {width}, EMUL {group}" for place, width, group in operand_cells(row)]:
         yield f"  {'; '.join(operands)}"
     if record.elements:
         yield f"  {record.elements}"

@@ -2,8 +2,8 @@
 
 from collections.abc import Iterator
 
-from .formula import CLIPS, FUNCTIONS, NUMBERS
-from .record import Record, instruction_records
+from vecmon_lab.meanings.formula import CLIPS, FUNCTIONS, NUMBERS
+from vecmon_lab.meanings.record import Record, instruction_records
 
 _INTRO = """This page is for people who write or read instructions. It says [what each instruction does](#what-each-instruction-does), then has the
 [encodings](#encodings) of all names, with the definitions of what they compute and when they are legal.
