@@ -1,4 +1,4 @@
-"""The program under test: where it is, what a run of it gives, and which of its answers belongs to which line of a
+"""The program under test: where it is, its output and status, and the answers to each line of a
 script."""
 
 import os
@@ -14,7 +14,7 @@ SHOWN = 12  # lines from it on
 
 @dataclass(frozen=True)
 class Run:
-    """What a run of the program gave. Texts have a character for each byte."""
+    """The output of a run of the program. Texts have a character for each byte."""
 
     stdout: str
     stderr: str
@@ -62,7 +62,7 @@ def answers(program: pathlib.Path, words: Sequence[str], lines: Sequence[str], f
 
 
 def difference(told: str, stored: str) -> str:
-    """The first lines where what was told isn't what is stored; no text where nothing differs."""
+    """The first lines that differ from the stored text; empty if there are none."""
     if told == stored:
         return ""
     now, wanted = told.split("\n"), stored.split("\n")

@@ -1,9 +1,9 @@
 #!/usr/bin/env python3
-"""Sees that each must-fail edit can be applied, and is told once: `tools/check_edits.py`, at the top of the repository.
+"""Checks that each must-fail edit can be applied, and is listed once: `tools/check_edits.py`, at the top of the repository.
 
-Each text after `old: ` in a file `crates/NAME/must-fail/*.edit` has to stand exactly once in the file that the line `file: ` before it
+Each text after `old: ` in a file `crates/NAME/must-fail/*.edit` must be exactly once in the file that the line `file: ` before it
 names, once the pairs before it are applied. The table at the end of docs/GUARANTEES.md has to name each edit exactly once, and no other.
-This takes no proof; whether an edit is refused, only `rt ci` tells. The status is 1 where something isn't so.
+This takes no proof; only `rt ci` shows whether an edit is refused. The status is 1 if a check fails.
 """
 
 import collections
@@ -37,7 +37,7 @@ def fault_of(edit: pathlib.Path) -> str | None:
 
 
 def told_edits() -> collections.Counter[str]:
-    """How often the table of docs/GUARANTEES.md names each edit: in its second column stand, for each crate, its name and its edits'."""
+    """How often the table of docs/GUARANTEES.md names each edit: its second column has the name of each crate and those of its edits."""
     table = pathlib.Path("docs/GUARANTEES.md").read_text(encoding="utf-8").partition("\n## Edits that must fail\n")[2]
     lists = (it for row in re.findall(r"^\|.*\|(.*)\|$", table, re.MULTILINE) for it in re.findall("`(.*?)`: ([^;]*)", row))
     return collections.Counter(f"crates/{crate}/must-fail/{name}.edit" for crate, names in lists for name in names.strip().split(", "))

@@ -3,7 +3,7 @@
 
 A declaration in `crates/NAME/proofs` is reached if the code, a contract, a definition, an edit that must fail, an answer or a declaration
 that is reached names it. Names are compared as words, whatever module they are of, and one that a line `use` brings in isn't reached by
-that. It prints where each declaration stands that isn't reached, and the status is 1 if there is one.
+that. It prints the place of each declaration that isn't reached, and the status is 1 if there is one.
 """
 
 import re
@@ -37,7 +37,7 @@ def words_of(text: str) -> set[str]:
 
 
 def declarations(file: Path) -> Iterator[Declaration]:
-    """What a file declares, one after another. The words of the head of a section stand under no name."""
+    """The declarations of a file, in order. The words before a section's first declaration have no name."""
     text = IMPORT.sub(lambda it: "\n" * it[0].count("\n"), file.read_text(encoding="utf-8"))
     sections: list[int] = []
     last = Declaration(str(file), "")

@@ -3,12 +3,12 @@
 
 Without names it reads all crates. It prints
 
-- each clause that stands in more than eight contracts, with their number and the crates: a condition that so many functions ask
+- each clause in more than eight contracts, with their number and the crates: a condition that this many functions ask
   for belongs in a type;
 - each function with more than six parameters, `self` among them;
 - each line of more than 120 characters.
 
-A clause is what stands between the braces of `requires` or `ensures`, without its name. docs/DECISIONS.md, "Forms", tells why some
+A clause is the text between the braces of `requires` or `ensures`, without its name. docs/DECISIONS.md, "Forms", tells why some
 of what it prints stays.
 """
 
@@ -24,7 +24,7 @@ CLOSING = {"(": ")", "{": "}", "[": "]", "<": ">"}
 
 
 def closed(text: str, start: int) -> int:
-    """Where the bracket that stands at `start` is closed."""
+    """The place where the bracket at `start` is closed."""
     opening, depth = text[start], 0
     for at in range(start, len(text)):
         depth += (text[at] == opening) - (text[at] == CLOSING[opening] and text[at - 1] not in "-=")

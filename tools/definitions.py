@@ -5,8 +5,8 @@ With no word it prints the modules of `rv_model/specs`, but for `lending`, with 
 items cite beyond these, with all that it rests on: definitions of `lending` and of each other crate, and constants of `src`. Last come the
 lines that the headline rests on, those that are read for one vector addition, and the modules of the kit that are cited.
 
-With names it prints, file by file, what they rest on: `monitor_script::run` is a contract, `monitor_script::run.headline` one of its
-clauses, `step.Step.step` a definition of `rv_model`. With `--case`, clauses and rows for siblings of these variants are left out.
+With names it prints, file by file, the definitions they rest on: `monitor_script::run` is a contract, `monitor_script::run.headline` one of
+its clauses, `step.Step.step` a definition of `rv_model`. With `--case`, clauses and rows for siblings of these variants are left out.
 
 Blank lines, comments and `use` lines aren't counted; the lines that name a module's files are. Of `src` constants
 are counted, and types aren't: definitions name their variants and fields.
@@ -51,7 +51,7 @@ class Name:
 
 @dataclass(frozen=True)
 class Text:
-    """What stands under a name: its file, its text, and what words mean there."""
+    """A declaration: its file, its text, and the meaning of names there."""
 
     path: Path
     text: str
@@ -68,7 +68,7 @@ def key(name: str) -> str:
 
 
 def taken(text: str) -> dict[str, Name]:
-    """What each word that a text takes from elsewhere is."""
+    """The declaration of each name that a text takes from elsewhere."""
     found: dict[str, Name] = {}
     for crate, module, names, alias in USE.findall(text):
         for name in filter(None, map(str.strip, names.split(","))):
@@ -142,7 +142,7 @@ def source_of(path: Path) -> str:
 
 
 def text_of(name: Name) -> Text | None:
-    """What stands under a name that is resolved; nothing where it is one of the kit."""
+    """The declaration of a resolved name; None if it is the kit's."""
     if name.module == "type":
         return types_of(name.crate).get(name.name)
     if not name.module.startswith("declared"):
@@ -194,7 +194,7 @@ def of_cases(text: Text, cases: frozenset[str]) -> Text:
 
 
 def is_for(names: Iterable[Name], cases: frozenset[str]) -> bool:
-    """Whether of each type of which these names have variants, and the cases too, one is in both."""
+    """Return whether one of the names is a variant of each type that these names have variants of, the cases too."""
     found: defaultdict[str, set[str]] = defaultdict(set)
     for name in names:
         owner, variant = declared(name) if name.module.startswith("declared.") else (resolved(name), name.name)
@@ -206,7 +206,7 @@ def is_for(names: Iterable[Name], cases: frozenset[str]) -> bool:
 
 @dataclass(frozen=True)
 class Part:
-    """What of definitions is read: of these variants their siblings' clauses are left out, and so are these names."""
+    """The part of definitions that is read: clauses of these variants' siblings are left out, and so are these names."""
 
     cases: frozenset[str] = frozenset()
     left_out: frozenset[str] = frozenset()
@@ -227,7 +227,7 @@ def closure(start: Iterable[Name], part: Part = Part()) -> dict[Name, Text]:
     return found
 
 
-# One command of one user, that carries out `vadd.vv`
+# One command of one user, which executes `vadd.vv`
 CASES = (
     "Kind.Of Event.Command Cmd.Running RunningCommand.Step Instr.Vector VectorInstr.Arith VectorOp.Binary BinaryOp.Vadd "
     "Source.V Form.V VEnd.Done"
@@ -319,7 +319,7 @@ def contracts(crate: str) -> list[Contract]:
 
 
 def scope_of(crate: str, source: str) -> dict[str, Name]:
-    """What words of a file of `src` mean: definitions, and types of the crates."""
+    """The meaning of names in a file of `src`: definitions, and types of the crates."""
     types: dict[str, Name] = {}
     for origin, names, one in RUST_USE.findall(source):
         for name in filter(None, map(str.strip, (names or one).split(","))):
@@ -330,7 +330,7 @@ def scope_of(crate: str, source: str) -> dict[str, Name]:
 
 @cache
 def types_of(crate: str) -> dict[str, Text]:
-    """What the values of a crate's types are, and what the ghosts of its traits are of."""
+    """The definitions that give the values of a crate's types and the ghosts of its traits."""
     found: dict[str, Text] = {}
     for it in contracts(crate):
         if it.ghost not in ("", *OWN):
@@ -352,7 +352,7 @@ def exported(crate: str) -> Iterator[Contract]:
 
 
 def cited(text: Text, clause: str = "") -> set[Name]:
-    """What a contract, or one clause of it, cites, with the types of its signature."""
+    """The names that a contract or one of its clauses cites, with the types of its signature."""
     kept: list[str] = []
     is_asked_for = True
     for line in text.text.split("\n"):
@@ -409,8 +409,8 @@ def module_files() -> dict[str, dict[str, int]]:
 
 
 def others(left_out: Container[str] = OWN) -> dict[Name, Text]:
-    """What exported contracts of all crates cite, with what it rests on. A type's invariant, which its crate is proved to keep, and how
-    its values are stored are left out, as the type's own: no contract says more or less by them."""
+    """The names that exported contracts of all crates cite, with those that these rest on. A type's invariant, which its crate is proved to
+    keep, and how its values are stored are left out, as the type's own: no contract says more or less by them."""
     crates = sorted(it.name for it in CRATES.iterdir() if not re.match("test_|draws", it.name))
     handed = (it for crate in crates for it in exported(crate) if it.ghost not in left_out)
     return closure({name for it in handed for name in met(it.text)})
@@ -429,7 +429,7 @@ def definitions(left_out: Container[str] = OWN) -> dict[Name, Text]:
 
 
 def by_part(files: dict[Path, int]) -> dict[str, int]:
-    """The lines of files beside the modules of `rv_model/specs`: of other crates, of `lending`, and of constants in `src`."""
+    """The lines of files outside `rv_model/specs`: of other crates, of `lending`, and of constants in `src`."""
     parts: defaultdict[str, int] = defaultdict(int)
     for path, lines in files.items():
         crate, folder, *rest = path.parts

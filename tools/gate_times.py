@@ -1,9 +1,9 @@
 #!/usr/bin/env python3
-"""Runs a command and tells what the proofs in it took, crate by crate: `tools/gate_times.py OUT COMMAND...`, say
+"""Runs a command and prints the time of its proofs, crate by crate: `tools/gate_times.py OUT COMMAND...`, say
 `tools/gate_times.py /tmp/times bash .ci/run` at the top of a fresh clone.
 
 The file OUT gets a table in seconds of processor: each crate's own proof, that of its tests, the first check of its must-fail edits (of the
-crate as it stands, from which each edit begins), the checks of the edits, and how many those were. Below it stand the seconds of each edit,
+crate without an edit, from which each edit begins), the checks of the edits, and their number. Below it are the seconds of each edit,
 the dearest first. The last line has the processor time of the whole command, with its programs, tests and compilers, and the time by the
 clock. Each process of the prover is looked at twice a second, so the last half second of each may be missing above; it is in the whole.
 """
@@ -23,7 +23,7 @@ KINDS = ("proof", "tests", "first edit", "edits")
 
 @dataclass
 class Check:
-    """One process of the prover: its crate, what it is for, which edit it tries, if it tries one, and its seconds of processor so far, with
+    """One process of the prover: its crate, its purpose, the edit it tries, if it tries one, and its seconds of processor so far, with
     those of its children."""
 
     crate: str
@@ -33,7 +33,7 @@ class Check:
 
 
 def kind_of(words: list[str], folder: str) -> str:
-    """What a check is for, by its words and the folder that it runs in."""
+    """The purpose of a check, by its arguments and its working folder."""
     if "--incremental" in words and words[0] == "check":
         return "first edit" if words[words.index("--incremental") + 1].endswith("/seed") else "edits"
     if os.path.basename(folder).startswith("rt-edit-"):
@@ -50,13 +50,13 @@ def edit_of(words: list[str], crate: str) -> str:
 
 
 def fields_of(process: str) -> list[str]:
-    """What the system tells of a process, from its state on (proc(5), "stat")."""
+    """The fields of a process, from its state on (proc(5), "stat")."""
     with open(f"/proc/{process}/stat", encoding="utf-8") as it:
         return it.read().rpartition(")")[2].split()
 
 
 def words_of(process: str) -> list[str]:
-    """The words of a process of the prover; none for any other one."""
+    """The arguments of a process of the prover; none for any other process."""
     with open(f"/proc/{process}/cmdline", encoding="utf-8", errors="replace") as it:
         program, *words = it.read().rstrip("\0").split("\0")
     return words if os.path.basename(program) == "rattle" and "--crate-name" in words else []

@@ -33,7 +33,7 @@ operation, that is the one. `Legality` is the shape of the operands (`OperandSha
 what else is asked for; scalar instructions have none. `Section` is one of the manual, of the V extension for vector instructions.
 """
 
-# What a step does with an instruction: functions with a line for each layout, or for each kind of vector operation
+# The functions of a step: functions with a line for each layout, or for each kind of vector operation
 STEPS = (
     ("step.ScalarStep", "scalar_step"),
     ("step.ScalarStep", "csr_executed"),
@@ -102,7 +102,7 @@ def names_of(text: str) -> str:
 
 
 def entries(name: str) -> Iterator[tuple[str, frozenset[str]]]:
-    """The names of operations beside their bits, each with the operation."""
+    """The names of operations with their bits, each with the operation."""
     module = "instructions.Operations" if name in ("vector_entry", "carry_entry") else "instructions.FixedBits"
     for it in clauses(module, name):
         yield re.findall(r'codes "(\S+)"', it.says.text)[0], it.variants
@@ -169,7 +169,7 @@ def rules() -> list[tuple[re.Pattern[str], str]]:
 
 
 def cells_of(name: str) -> list[str]:
-    """What the three columns say of an instruction."""
+    """The three columns of an instruction."""
     if name.startswith("."):
         return ["", "", ""]
     variants = variants_of(name)

@@ -1,5 +1,5 @@
 #!/usr/bin/env python3
-"""Measures each kind of instruction beside QEMU, and draws what was measured. At the top of the repository:
+"""Measures each kind of instruction compared with QEMU, and draws the results. At the top of the repository:
 
     tools/debian_packages measurements
     tools/kinds.py time VECMON FILE                  nanoseconds an instruction, of QEMU and of VECMON in turn
@@ -8,7 +8,7 @@
     tools/kinds.py table FILE                        the times of FILE as a table of Markdown, and what they come to
 
 FILE is a CSV, `docs/kinds.csv` say, with a line for each kind: an instruction, SEW and LMUL. `time` and `count` write their figures over
-those that stand there; with `--before` they go to the columns of an earlier program. `--only TEXT` measures the kinds alone whose instruction
+those in the table; with `--before` they go to the columns of an earlier program. `--only TEXT` measures the kinds alone whose instruction
 has that text.
 
 A kind is a loop of 16 equal instructions, an addi and a branch, in an image that both programs run; the time of one turn is taken
@@ -126,7 +126,7 @@ TICKS = 256  # at most, of an instruction
 SECONDS = 0.15  # at least, of the turns that are timed
 COLUMNS = ["instruction", "sew", "lmul", "qemu_ns", "ns", "ns_before", "count", "count_before"]
 RATIOS = [0.25, 0.5, 1, 2, 4, 8, 16, 32]  # marked in the picture
-Run = Callable[[int], float]  # what so many turns take
+Run = Callable[[int], float]  # the time of a number of iterations
 
 
 class Kind:
@@ -136,7 +136,7 @@ class Kind:
         self.text, self.sew, self.lmul, self.room = text.format(sew=sew, lmul=lmul), sew, lmul, room
 
     def image(self, turns: int) -> str:
-        """The path of an image that goes round so many times."""
+        """The path of an image with a loop of this many iterations."""
         path = f"{self.room}/{turns}"
         if not os.path.exists(path):
             source = SOURCE.format(sew=self.sew, lmul=self.lmul, turns=turns, text=self.text)
@@ -152,7 +152,7 @@ class Kind:
         return path
 
     def on_vecmon(self, program: str, turns: int) -> list[str]:
-        """The words of a run on vecmon."""
+        """The command of a run on vecmon."""
         return [program, "--quantum", "1000", self.script(turns), f"image={self.image(turns)}"]
 
 
@@ -167,7 +167,7 @@ def run(words: list[str]) -> tuple[float, str]:
 
 
 def nanoseconds(taken: Run, turns: int) -> tuple[float, int]:
-    """The nanoseconds of an instruction, and in how many turns it was measured: so many, or more."""
+    """The nanoseconds of an instruction, and the number of iterations measured, at least the given one."""
     taken(1)
     while True:
         seconds = taken(turns) - taken(1)
@@ -259,14 +259,14 @@ def table(file: pathlib.Path) -> Iterator[str]:
 
 
 def ratios(file: pathlib.Path, column: str) -> dict[str, float]:
-    """QEMU's time over vecmon's of the kinds that take QEMU more than 5 ns, as those do that it carries out by a call."""
+    """QEMU's time over vecmon's of the kinds that take QEMU more than 5 ns, such as those it executes by a call."""
     lines = [it for it in read(file).values() if it.get(column) and float(it["qemu_ns"]) > 5]
     name = "{instruction}, e{sew}, {lmul}"
     return {name.format(**it): float(it["qemu_ns"]) / float(it[column]) for it in lines}
 
 
 def summary(file: pathlib.Path) -> Iterator[str]:
-    """What the times come to, before and now."""
+    """The geometric mean of these ratios, before and now, and the slow kinds."""
     for column in ("ns_before", "ns"):
         found = ratios(file, column)
         if found:

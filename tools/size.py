@@ -32,7 +32,7 @@ NO_CODE = {tokenize.COMMENT, tokenize.NL, tokenize.NEWLINE, tokenize.INDENT, tok
 
 
 def kinds_of(source: str) -> Iterator[str]:
-    """The kind of each line of a source. What isn't code goes on until its brackets are closed."""
+    """The kind of each line of a source. A comment, a contract or a proof lasts until its brackets are closed."""
     kind, depth = "code", 0
     for line in map(str.strip, source.splitlines()):
         if not line or line.startswith("//"):

@@ -3,7 +3,7 @@
 
 It runs README's first script, a script file with images in small slices, mistakes in the words, files that can't be
 read, an output that is full, and too little memory; and it writes lines to a program that waits for more. Output,
-standard error and status have to be exactly those that stand here, in README.md and in `crates/vecmon`, where they were
+standard error and status have to be exactly those that are here, in README.md and in `crates/vecmon`, where they were
 worked out by hand. The status is 1 where something differs.
 """
 
@@ -24,7 +24,7 @@ SECONDS = 60
 
 
 class Run(NamedTuple):
-    """The words after the program's name, its standard input, and what has to come of it."""
+    """The arguments after the program's name, its standard input, and the expected result."""
 
     words: list[str | bytes]
     script: str = ""
@@ -66,7 +66,7 @@ def runs() -> list[Run]:
 
 
 def differences(program: str, run: Run) -> list[str]:
-    """What came otherwise than it should of a run."""
+    """The differences of a run from the expected result."""
 
     def limit() -> None:
         if run.memory is not None:

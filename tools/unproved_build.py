@@ -2,7 +2,7 @@
 """Builds a program without its proofs, optimized: `tools/unproved_build.py CRATE OUT [MODULE]`, at the top of the repository.
 
 So a change is measured before it is proved. `rt try` compiles a program with checks of its own; this keeps the module that it gives to
-clang, drops the checks, marks the functions that stand under `#[inline(..)]`, and compiles the rest at -O3. Counts of machine instructions lay
+clang, drops the checks, marks the functions that have `#[inline(..)]`, and compiles the rest at -O3. Counts of machine instructions lay
 within 3 % of the proved program's where both took the same functions in line; the compiler of the proved one drops some of those marks,
 and then they differ much. Nothing else may be concluded from it: the program that counts is the proved one.
 

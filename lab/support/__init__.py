@@ -1,1 +1,1 @@
-"""What tests and tools share."""
+"""Code shared by tests and tools."""

@@ -89,6 +89,6 @@ def press(browser: "Chrome", *keys: str) -> None:
 
 
 def media(browser: "Chrome", **features: str) -> None:
-    """What the reader prefers, by the names of media features."""
+    """The reader's preferences, by the names of media features."""
     wanted = [{"name": name.replace("_", "-"), "value": value} for name, value in features.items()]
     browser.execute_cdp_cmd("Emulation.setEmulatedMedia", {"features": wanted})

@@ -53,7 +53,7 @@ class Served:
         self._begin([*command, *self.words])
 
     def _begin(self, command: Sequence[str]) -> None:
-        """Begins the server, which tells its port, and the code of one page."""
+        """Start the server, which prints its port and the code of one page."""
         environment = os.environ | {"VECMON": str(self.program), "PYTHONPATH": str(TOP)}
         self.server = subprocess.Popen(command, stdout=subprocess.PIPE, stderr=self.log, text=True, env=environment)
         assert self.server.stdout
@@ -110,7 +110,7 @@ class Explored(Served):
     """One's own page for a source, served so."""
 
     def __init__(self, folder: pathlib.Path, program: pathlib.Path, source: pathlib.Path, *words: str) -> None:
-        """folder: where a log goes beside it"""
+        """folder: the folder of its log"""
         self.source = source
         super().__init__(folder, program, *words, takes_c=True)
 
@@ -131,7 +131,7 @@ class Tab:
     """A tab of the browser at a seat, the teacher's, or the wall's."""
 
     def __init__(self, browser: "Chrome", served: Served, who: str, before: str = "") -> None:
-        """before: a script that is carried out before the page's."""
+        """before: a script that runs before the page's"""
         self.browser, self.served, self.who = browser, served, who
         browser.switch_to.new_window("tab")
         self.handle = browser.current_window_handle
@@ -147,13 +147,13 @@ class Tab:
         return self.browser
 
     def run(self, script: str, *arguments: Any) -> Any:
-        """What a script of the page's answers; in it, `id`, `one` and `all` find elements."""
+        """The value of a script in the page; in it, `id`, `one` and `all` find elements."""
         helpers = """const id = (name) => document.getElementById(name), one = (css) => document.querySelector(css),
             all = (css) => [...document.querySelectorAll(css)];"""
         return self.front().execute_script(f"{helpers} return {script}", *arguments)
 
     def wait(self, script: str, *arguments: Any) -> Any:
-        """What a script answers as soon as that is true, and what was told till then is painted."""
+        """Wait until a script's value is true and the page is painted; return the value."""
         from selenium.common.exceptions import TimeoutException
         from selenium.webdriver.support.wait import WebDriverWait
 
@@ -183,7 +183,7 @@ class Tab:
         Select(self.front().find_element(By.CSS_SELECTOR, selector)).select_by_visible_text(text)
 
     def save(self, selector: str, path: pathlib.Path, is_whole: Callable[[bytes], bool] = bool) -> bytes:
-        """What a click has the browser save as a file, as soon as it is whole: a file is there, and empty, before it is written."""
+        """Return the file that a click saves, once it is complete: the browser creates it empty before it writes it."""
         # the headless shell takes this for one tab alone
         folder = {"behavior": "allow", "downloadPath": str(path.parent)}
         self.front().execute_cdp_cmd("Browser.setDownloadBehavior", folder)
@@ -196,7 +196,7 @@ class Tab:
 
     def command(self, *lines: str) -> None:
         """Enters lines at the command line, and waits until all are answered."""
-        self.run("all('#log li').forEach((item) => item.classList.add('before'))")  # of which there are 500 at most
+        self.run("all('#log li').forEach((item) => item.classList.add('before'))")  # 500 at most
         self.run("arguments[0].forEach((line) => (id('line').value = line, id('command').requestSubmit()))", lines)
         asked = "all('#log .asked:not(.before)').length"
         self.wait(f"{asked} >= arguments[0] && !one('#log li:last-child').matches('.asked')", len(lines))
@@ -218,7 +218,7 @@ class Tab:
 
 
 def digest_of(teacher: Tab) -> str:
-    """The digest of all answers, as the teacher is told it, once the page knows the whole script."""
+    """The digest of all answers, as the teacher's page shows it once it has the whole script."""
     size = len(teacher.served.fetch("A/script"))
     teacher.wait("one('.figures').textContent.includes(arguments[0])", f" {size:,} of ")
     digest: str = teacher.run("one('.figures').textContent.match(/[0-9a-f]{64}/)[0]")

@@ -28,7 +28,7 @@ Message = dict[str, Any]
 
 
 def patched(value: Any, patch: Any) -> Any:
-    """What a merge patch makes of a value: the pseudo-code of RFC 7396, section 2."""
+    """The value after a merge patch: the pseudo-code of RFC 7396, section 2."""
     if not isinstance(patch, dict):
         return patch
     result = dict(value) if isinstance(value, dict) else {}
@@ -127,7 +127,7 @@ class Served:
         return await asyncio.wait_for(self.server.wait(), SECONDS)
 
     async def check_replay(self, machine: str = "A", is_saved: bool = True) -> tuple[bytes, bytes]:
-        """Script and transcript: a plain run of the script answers what the class was told, and what is kept."""
+        """Script and transcript: a plain run of the script gives the same answers as the class and its files."""
         teacher = await self.sit("teacher")
         script = (await self.get(f"{machine}/script"))[1]
         images = [f"{name}={self.folder}/images/{name}.elf" for name in teacher.view["images"]]

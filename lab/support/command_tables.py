@@ -1,4 +1,4 @@
-"""Tables of pages in docs/, made from `vecmon_lab/tables`: commands, refusals; and one there, made of a page."""
+"""Tables of pages in docs/, made from `vecmon_lab/tables`: commands, refusals; and one there, made from a page."""
 
 import itertools
 import operator

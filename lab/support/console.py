@@ -15,7 +15,7 @@ def carried_out(lines: list[str] | bytes, *words: object) -> subprocess.Complete
 
 
 def shown(lines: list[str] | bytes, *words: object) -> list[str]:
-    """What it shows, when all has gone well."""
+    """The output of the console, after a run without errors."""
     run = carried_out(lines, *words)
     assert (run.returncode, run.stderr) == (0, b"")
     return run.stdout.decode("ascii").splitlines()

@@ -1,4 +1,4 @@
-"""A student's seat at a machine of its own, in one thread and without a server: what a page without a server does."""
+"""A student's seat at a private machine, in one thread and without a server, as a page without a server has it."""
 
 import fnmatch
 import pathlib
@@ -85,7 +85,7 @@ class Desk:
         return hello
 
     def news(self) -> Message:
-        """What the page hasn't been sent."""
+        """The changes that the page doesn't have yet."""
         more: dict[str, object] = {"name": self._name, "images": [], "clock": self.has_clock, "own_slices": True}
         more |= {"notices": [], "no_c": NO_C, "against": [], "ready": True, "trouble": ""}
         return self._sent.news(self.student.view(more), [self.seat])
@@ -122,7 +122,7 @@ class Desk:
         yield self.machine.grant(SLICES)
 
     def _execute(self, request: Request, done: Answers) -> Message:
-        """Executes a request; what its answer has of its own. Raises BadRequest."""
+        """Execute a request; return the fields of its answer. Raises BadRequest."""
         match request:
             case Lines():
                 return {"do": done, "look": self._run(self.machine.lines(self.seat, request, done))}

@@ -1,7 +1,7 @@
 """A disk whose power may be cut: it records what a server writes, flushes and renames, and makes the states that may be left.
 
 The strictest reading of POSIX: until a file is flushed, any of its writes may be missing, or be there in part; until a folder
-is flushed, any of its new names, renames and removals may be missing. What was flushed is there.
+is flushed, any of its new names, renames and removals may be missing. Flushed data is there.
 """
 
 import os
@@ -24,7 +24,7 @@ class Inode:
     changes: list[tuple[int, bytes | None]] = field(default_factory=list)
 
     def contents(self, choose: Callable[[int], int]) -> bytes:
-        """What is left: of each change `choose` returns how many bytes are, of so many; of a new size one means that it is."""
+        """The contents after a cut. `choose` gets a change's bytes, or 1 for a new size; it returns those on disk."""
         data = bytearray(self.flushed)
         for place, written in self.changes:
             if written is None:
@@ -55,7 +55,7 @@ def any_of(drawn: random.Random) -> Callable[[int], int]:
 class Disk:
     """The functions of `os` that write below a folder, recorded: it takes the place of `os` in the modules that write there.
 
-    operations: so many were recorded; `before_each` is called before each one; flushes: whether `fsync` does anything
+    operations: their number so far; `before_each` is called before each one; flushes: whether `fsync` does anything
     """
 
     def __init__(self, folder: pathlib.Path, flushes: bool = True) -> None:
@@ -142,7 +142,7 @@ class Disk:
         self._changes.append((str(pathlib.Path(name).parent), name, None))
 
     def states(self, draws: int, seed: int) -> list[Contents]:
-        """States that a cut now may leave: no change since the flush, each one, and so many that are drawn."""
+        """States that a cut now may leave: no change since the flush, each one, and a drawn number of them."""
         drawn = random.Random(seed)
         chosen = [none, every, *(any_of(drawn) for _ in range(draws))]
         return [self._state(choose) for choose in chosen]

@@ -63,7 +63,7 @@ class Block:
         return found[2].split(", ") if found and found[2] else []
 
     def steps(self) -> list[tuple[str, str]]:
-        """Its commands, each with what it prints. A block that is no session is one command, of which nothing is compared."""
+        """Its commands, each with its output. A block that is no session is one command, whose output isn't known."""
         if not self.is_session:
             return [("\n".join(self.lines), "")]
         parts = re.split(r"^\$ ", "\n".join(self.lines) + "\n", flags=re.MULTILINE)[1:]
@@ -89,7 +89,7 @@ class Chain:
         return sorted({name for block in self.blocks for name in block.needs})
 
     def faults(self, folder: pathlib.Path, variables: Mapping[str, str]) -> Iterator[str]:
-        """Run the blocks in a folder, and tell which of them fails, or prints otherwise than it should."""
+        """Run the blocks in a folder; return those that fail, and those whose output differs from the page."""
         steps = [(block, *step) for block in self.blocks for step in block.steps()]
         lines = ["set +e", "status=0", "exec 2>&1"]
         for at, (block, command, _) in enumerate(steps):

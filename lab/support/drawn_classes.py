@@ -21,7 +21,7 @@ VALUES = {
 
 
 def drawn_class(draws: random.Random, number: int) -> list[str]:
-    """About so many lines of a class in which all kinds of hidden state come about."""
+    """About this number of lines of a class; they lead to all kinds of hidden state."""
     digits = draws.sample("12345678", draws.choice((1, 2, 3, 5, 8)))
     lines = [line for digit in digits for line in _beginning(draws, digit)]
     while len(lines) < number:
@@ -47,7 +47,7 @@ def _beginning(draws: random.Random, digit: str) -> list[str]:
 
 
 def _deed(draws: random.Random) -> Iterator[str]:
-    """What a user does: mostly a program is written and runs."""
+    """The lines of a user: mostly a program is written and runs."""
     kind = draws.randrange(8)
     if kind == 0:
         yield f"vset v{draws.choice((0, 0, 1, 8))} {draws.choice((draws.randbytes(32), bytes(32))).hex()}"

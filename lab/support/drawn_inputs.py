@@ -11,7 +11,7 @@ OUT, IN, MORE = 0x20000, 0x30000, 0x30800  # in pages that the exercises have
 
 @dataclass(frozen=True)
 class Drawn:
-    """What an answer is given, and what is expected of it."""
+    """The input of an answer, and the expected result."""
 
     registers: dict[str, int]
     memory: list[Numbers]
@@ -19,7 +19,7 @@ class Drawn:
 
 
 def numbers(random: Random, kind: str, count: int) -> list[int]:
-    """So many numbers of a type, of which some are at its ends."""
+    """This number of values of a type, some of them at its limits."""
     bits = int(kind[1:])
     least = -(1 << bits - 1) if kind[0] == "i" else 0
     most = least + (1 << bits) - 1
@@ -45,7 +45,7 @@ def _given(*values: int) -> dict[str, int]:
 def _written(
     random: Random, registers: dict[str, int], memory: list[Numbers], kind: str, results: Sequence[int]
 ) -> Drawn:
-    """An input after which these results stand at OUT, and behind them what stood there before."""
+    """An input with these expected results at OUT, and unchanged bytes after them."""
     before, behind = numbers(random, kind, len(results)), numbers(random, kind, 3)
     place = Numbers(OUT, kind, [*results, *behind])
     return Drawn(registers, [*memory, Numbers(OUT, kind, before + behind)], Results({}, [place], None))

@@ -1,4 +1,4 @@
-"""What vector instructions do with the elements of their groups, as the recorder is to count them."""
+"""The accesses of vector instructions to the elements of their groups, as the recorder must count them."""
 
 from collections.abc import Sequence
 from dataclasses import dataclass

@@ -1,4 +1,4 @@
-"""What gdb is given when a program runs to its end."""
+"""The packets that gdb receives when a program runs to its end."""
 
 import pathlib
 import re

@@ -8,7 +8,7 @@ from vecmon_lab.instructions.accesses import PAGE_BYTES
 from vecmon_lab.machine.session import Session
 
 FLAGS = {"rx": 5, "rw": 6}
-MARCH = "-march=rv64im_zicsr_zve64x_zvl256b"  # what docs/COMPILING.md has for compilers
+MARCH = "-march=rv64im_zicsr_zve64x_zvl256b"  # the options of docs/COMPILING.md
 
 
 def make_image(program: pathlib.Path, path: pathlib.Path, source: str) -> dict[str, int]:

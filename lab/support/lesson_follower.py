@@ -1,4 +1,4 @@
-"""What a lesson's page shows of a frame, and what a machine of one's own says of it."""
+"""A frame on a lesson's page, compared with the state of a private machine."""
 
 import re
 from dataclasses import dataclass
@@ -32,7 +32,7 @@ return [...texts, groups, Object.fromEntries(shown)];
 
 @dataclass(frozen=True)
 class Told:
-    """What the machine tells of a frame's user; masked-off elements by register, and registers that changed."""
+    """The machine's state of a frame's user; masked-off elements by register, and registers that changed."""
 
     vl: int
     vstart: int
@@ -79,7 +79,7 @@ class Follower:
         return dict(zip(regs[2::2], regs[3::2])) | vectors
 
     def _masked(self, user: str, answers: list[str], vl: int, vstart: int) -> dict[int, int]:
-        """The masked-off elements of the result of the instruction that was just carried out, if it is a masked one."""
+        """The masked-off elements of the result of the last instruction, if it is masked."""
         trace = self._session.look(f"{user} trace")[0].split()[2:]
         if not trace or not any(" stepped " in answer for answer in answers):
             return {}

@@ -34,7 +34,7 @@ def with_operands(bits: str, operands: int) -> int:
 
 @dataclass(frozen=True)
 class Case:
-    """A word, and the state in which it is carried out: what vsetvl is asked for, and what is written to vstart."""
+    """A word, and the state in which it executes: the arguments of vsetvl, and the value written to vstart."""
 
     word: int
     vtype: int
@@ -97,7 +97,7 @@ def view_of(answer: str) -> ControlRegisters:
 
 
 def machine_says(program: pathlib.Path, cases: list[Case]) -> list[tuple[ControlRegisters, str]]:
-    """The state in which the machine carries out each case's word, and its answer to that step, in one process.
+    """The state in which the machine executes each case's word, and its answer to that step, in one process.
 
     Programs may not write the page of the code, so that no store changes it.
     """

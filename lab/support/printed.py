@@ -1,4 +1,4 @@
-"""Answers as the machine printed them, without the digits of users."""
+"""The machine's answers as it printed them, without the digits of users."""
 
 from vecmon_lab.machine.answers import (
     Addresses,

@@ -47,7 +47,7 @@ def alive(processes: Collection[Process]) -> list[Process]:
 
 
 def end_all(processes: Collection[Process], seconds: float = SECONDS) -> list[Process]:
-    """Wait until processes have ended; after so many seconds, kill the groups of those that go on, and return these."""
+    """Wait until processes have ended; after a number of seconds, kill the groups of the others, and return these."""
     left = _wait(processes, seconds)
     for each in left:
         with contextlib.suppress(ProcessLookupError):
@@ -58,7 +58,7 @@ def end_all(processes: Collection[Process], seconds: float = SECONDS) -> list[Pr
 
 
 def _wait(processes: Collection[Process], seconds: float) -> list[Process]:
-    """Wait at most so many seconds until processes have ended; those that haven't."""
+    """Wait at most a number of seconds until processes have ended; return those that haven't."""
     end = time.monotonic() + seconds
     while (left := alive(processes)) and time.monotonic() < end:
         time.sleep(0.02)

@@ -52,7 +52,7 @@ class Terminal:
         os.write(self._file, text.encode())
 
     def interrupt(self) -> None:
-        """Types Ctrl-C once the program waits for input. A signal that came just before would be told after the next line alone."""
+        """Press Ctrl-C once the program waits for input. An earlier signal would show only after the next line."""
         with open(f"/proc/{self._child.pid}/stat", "rb") as file:
             while file.read().rpartition(b") ")[2][:1] != b"S":
                 time.sleep(0.01)
@@ -60,7 +60,7 @@ class Terminal:
         self.type(INTERRUPT)
 
     def expect(self, text: str, is_raw: bool = False) -> str:
-        """Waits until a text is shown; what was shown up to its end. Without escape sequences, unless it is raw."""
+        """Wait until a text is shown; return the output up to its end, without escape sequences unless `raw`."""
         while True:
             shown = self._unread if is_raw else _plain(self._unread)
             if text in shown:

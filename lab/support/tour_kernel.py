@@ -18,7 +18,7 @@ DIGITS = 128  # of a line that writes bytes: a table of the tour's page has no r
 
 
 def made() -> tuple[str, str]:
-    """The script, and what is told of the source beside it."""
+    """The script, and the data of the source next to it."""
     text = (TOURS / f"{KERNEL}.c").read_text("ascii")
     program = compile_c(text, COMPILER, choice_of(OPTIONS), TOURS)
     lines = ["enter", *short_lines(program), f"setpc {program.entry:x}", "step 256", "out"]

@@ -1,4 +1,4 @@
-"""What tests share: the program, a session, a browser, and an emulator."""
+"""Fixtures that tests share: the program, a session, a browser, and an emulator."""
 
 import importlib.util
 import pathlib
@@ -51,7 +51,7 @@ def session(program: pathlib.Path) -> Iterator[Session]:
 
 @pytest.fixture
 def lab(monkeypatch: pytest.MonkeyPatch, capfdbinary: pytest.CaptureFixture[bytes], program: pathlib.Path) -> Lab:
-    """What runs commands of the lab."""
+    """Run commands of the lab."""
     return Lab(monkeypatch, capfdbinary)
 
 

@@ -1,4 +1,4 @@
-"""The launcher of a package: which Python carries out the lab, and what is said where a library is missing."""
+"""The launcher of a package: which Python runs the lab, and the message if a library is missing."""
 
 import os
 import pathlib
@@ -30,7 +30,7 @@ def installed(tmp_path_factory: pytest.TempPathFactory) -> pathlib.Path:
 
 
 def run(installed: pathlib.Path, *words: object, python: str = "") -> tuple[int, str, str]:
-    """Runs the launcher, where VECMON_PYTHON is `python`: its status, and what it tells."""
+    """Run the launcher with VECMON_PYTHON set to `python`; return its status and its output."""
     command = [sys.executable, "-EB", str(installed / "bin" / "vecmon-lab"), *map(str, words)]
     done = subprocess.run(
         command, cwd=installed, env={**os.environ, "VECMON_PYTHON": python}, input="", capture_output=True, text=True
@@ -39,7 +39,7 @@ def run(installed: pathlib.Path, *words: object, python: str = "") -> tuple[int,
 
 
 def completed(folder: pathlib.Path, *words: str) -> list[str]:
-    """What completion makes of the last of these words, with functions of bash-completion as simple as can be."""
+    """The completions of the last of these words, with functions of bash-completion as simple as can be."""
     code = f"""
         vecmon-lab() {{ {sys.executable} -m vecmon_lab "$@"; }}
         _init_completion() {{ words=("${{WORDS[@]}}"); cword={len(words)}; cur=${{words[cword]}}; }}

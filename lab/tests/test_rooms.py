@@ -1,4 +1,4 @@
-"""The rooms of the lab and the modules of a class, as docs/ARCHITECTURE.md lists them: each stands on those above it alone."""
+"""The rooms of the lab and the modules of a class, as in docs/ARCHITECTURE.md: each uses only those above it."""
 
 import ast
 import pathlib
@@ -15,7 +15,7 @@ CORE, SERVER = names_in("### The synchronous core"), names_in("### The server of
 
 
 def imported(path: pathlib.Path, level: int) -> set[str]:
-    """What a module imports by so many dots: of its own room, or other rooms."""
+    """The modules that a module imports by this number of dots: of its own room, or other rooms."""
     nodes = [node for node in ast.walk(ast.parse(path.read_text("utf-8"))) if isinstance(node, ast.ImportFrom)]
     return {str(node.module).split(".")[0] for node in nodes if node.level == level and node.module}
 

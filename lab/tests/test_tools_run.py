@@ -1,4 +1,4 @@
-"""tools/run: which program it takes, when it builds, an interruption, and each refusal. The build is a stand-in that takes no time."""
+"""tools/run: the program it takes, when it builds, an interruption, and each refusal. A fake build takes no time."""
 
 import os
 import pathlib
@@ -35,7 +35,7 @@ Run = subprocess.CompletedProcess[str]
 
 
 class Clone:
-    """A folder with tools/run, small crates, and stand-ins for rt, lab/setup and the build."""
+    """A folder with tools/run, small crates, and fakes of rt, lab/setup and the build."""
 
     def __init__(self, top: pathlib.Path, program: pathlib.Path) -> None:
         self.top, self.unproved, self.run_tool = top, top / "build" / "unproved", top / "tools" / "run"

@@ -2,7 +2,7 @@
 
 Prints medians, and the ninth of ten, in ms: a click on Step until it is painted, alone, while seven others step, while they
 run with the clock as it begins, with 3,900 rows in the listing, and while 29 students of four machines step; a stop until
-it stands on the teacher's page.
+the teacher's page shows it.
 """
 
 import asyncio
@@ -62,7 +62,7 @@ def told(name: str, taken: Sequence[float]) -> None:
 
 
 def clicks(tab: Tab, count: int) -> list[float]:
-    """What so many clicks on Step take, one after the other."""
+    """The time of a number of clicks on Step, one after the other."""
     taken: list[float] = tab.front().execute_async_script(CLICKS, count)
     return taken
 

@@ -133,7 +133,7 @@ def picture_exercise(browser: "Chrome", served: Served, folder: pathlib.Path) ->
 
 
 def picture_kernels(browser: "Chrome", served: Served, own: Served, folder: pathlib.Path) -> None:
-    """A student's page, and one's own: in C the instructions beside their lines, and the line in the source."""
+    """A student's page and a private page: in C the instructions next to their lines, and the line in the source."""
     for page, kernel, mark, name in (
         (served, "saxpy", "__riscv_vmacc", "kernel"),
         (own, GREY.stem, "vwmaccu", "explore"),

@@ -1,7 +1,7 @@
 """How soon a machine answers again whose process was killed: `python lab/tools/replay_times.py [SECONDS]`, with VECMON.
 
 Prints seconds by the clock, and of processor, of the lab and of the program. Without SECONDS: 3.5 MB of steps of eight
-users, carried out again without a checkpoint, and a server that begins with them. With SECONDS: after so long a class
+users, executed again without a checkpoint, and a server that begins with them. With SECONDS: after so long a class
 whose eight seats run endless loops with the clock as it begins, and have no spare.
 """
 
@@ -95,13 +95,13 @@ async def run_on(tab: Tab) -> None:
 
 
 async def read_until(tab: Tab, end: float) -> None:
-    """Takes what a tab is told, as long as it isn't time."""
+    """Receive the messages of a tab until the time is over."""
     while time.monotonic() < end:
         await tab.receive()
 
 
 def machine_of(room: Served) -> int:
-    """The number of the machine's process, where processes beside the class come and go."""
+    """The number of the machine's process, while other processes of the class come and go."""
     while True:
         with contextlib.suppress(FileNotFoundError, ValueError):
             return room.machine()

@@ -1,6 +1,6 @@
-"""What a class's server does in a second: `python lab/tools/server_times.py`, with VECMON as for the lab.
+"""The throughput of a class's server: `python lab/tools/server_times.py`, with VECMON as for the lab.
 
-Prints requests a second of eight clients; how long a stop takes to a teacher's tab, in ms; what the teacher waits while eight
+Prints requests a second of eight clients; how long a stop takes to a teacher's tab, in ms; the teacher's wait while eight
 clients flood; the bytes of a script of two hours; how long eight checks at once take.
 """
 
@@ -78,7 +78,7 @@ async def hours(room: Served, tabs: list[Tab]) -> str:
 
 
 async def checks(folder: pathlib.Path) -> str:
-    """Eight students check a right answer at once, five times, until each has been told."""
+    """Eight students check a correct answer at once, five times, until each has the result."""
     source, taken = (OURS / "byte_sum" / "good.s").read_text("utf-8"), []
 
     async def check(tab: Tab, tries: int) -> None:

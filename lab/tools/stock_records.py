@@ -87,7 +87,7 @@ def constants(draw: random.Random) -> str:
 
 
 def record(source: pathlib.Path, folder: pathlib.Path) -> str:
-    """What the stock tools make of a source."""
+    """The output of the stock tools for a source."""
     made, linked, layout = folder / "made.o", folder / "linked", folder / "layout"
     layout.write_text(LAYOUT)
     subprocess.run(["clang-19", *FLAGS, str(source), "-o", str(made)], check=True)

@@ -74,7 +74,7 @@ def _shown(line: str) -> str:
 
 
 def _program_run(program: pathlib.Path, words: str) -> Iterator[str]:
-    """What a run of the program tells at a terminal, and its status."""
+    """The output of a run of the program at a terminal, and its exit status."""
     is_full, pipe = words.endswith(FULL), subprocess.PIPE
     with open("/dev/full", "wb") as full:
         ran = subprocess.run(
@@ -91,7 +91,7 @@ def _program_run(program: pathlib.Path, words: str) -> Iterator[str]:
 
 
 def _steps(name: str, told: Iterator[tuple[str, list[str]]]) -> Iterator[str]:
-    """A script beside what is answered, in steps. Raises ValueError where the steps don't take all lines."""
+    """A script next to its answers, in steps. Raises ValueError if the steps don't cover all lines."""
     steps = [step.split(" ", 1) for step in lines_of(read(f"{name}.steps", TOURS))]
     if sum(int(count) for count, _ in steps) != len(_script_lines(f"@steps {name}")):
         raise ValueError(f"the steps of {name} don't take its lines")

@@ -75,6 +75,4 @@ def record(program: pathlib.Path, line: str) -> str:
 def printed(program: pathlib.Path) -> dict[str, str]:
     """Return the output of the program now, by the name in `expected/` of the file or folder that stores it."""
     pages = {f"pages/{name}": page(program, template) for name, template in ALL_TEMPLATES.items()}
-    return pages | {
-        name: "".join(record(program, line) for line in lines) for name, lines in lines_by_file().items()
-    }
+    return pages | {name: "".join(record(program, line) for line in lines) for name, lines in lines_by_file().items()}

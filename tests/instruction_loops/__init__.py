@@ -1,8 +1,8 @@
-"""Loops of one kind of instruction, and kernels: what they leave, and scripts with which a loop is measured from
+"""Loops of one kind of instruction, and kernels: their results, and scripts with which a loop is measured from
 outside.
 
-- `data/loops`: each loop: a line with its name, the assembler's text of what is carried out, an instruction a line, to
-  a loop that goes round until x9 is 0, and a line without text. Sixteen equal instructions stand in a loop of one kind,
+- `data/loops`: each loop: a line with its name, the assembler's text of its instructions, one a line, of
+  a loop that goes round until x9 is 0, and a line without text. A loop of one kind has sixteen equal instructions,
   with elements of 8 or 64 bits, in groups of one register or eight, masked or not. The last four are kernels as they
   are written by hand: the length of a string of 1,000 bytes, a copy of as many, three times 250 numbers added to
   others, and the product of two matrices of 16 rows of 16 numbers;

@@ -16,7 +16,7 @@ LOOPS = dict(text.split("\n", 1) for text in (DATA / "loops").read_text("ascii")
 
 
 def script(name: str, count: int) -> str:
-    """The script of a loop that goes round so many times, from new registers and memory to `leave`."""
+    """The script of a loop with this number of iterations, from new registers and memory to `leave`."""
     user = [*_commands("before"), f"set x9 {count:x}", *_code(LOOPS[name]), f"setpc {CODE:x}", "go"]
     lines = [f"1 {command}" for command in user]
     lines += ["* slices 1000"] * (1 + count // TURNS)
@@ -45,7 +45,7 @@ def _code(code: str) -> Iterator[str]:
 
 
 def _left(visit: str) -> str:
-    """What a visit answers behind its slices, in the last of which the loop came to its EBREAK."""
+    """The answers of a visit after its slices; in the last slice the loop reaches its EBREAK."""
     before, _, left = visit.rpartition("* granted ")
     if "\n1 ebreak pc=" not in before:
         raise ValueError(f"a loop doesn't come to its end: {visit[-1000:]}")

@@ -1,4 +1,4 @@
-"""Compares all, with so many rounds of hostile scripts: `python3 -m tests.isolation ROUNDS`, at the top of the
+"""Compares all, with ROUNDS rounds of hostile scripts: `python3 -m tests.isolation ROUNDS`, at the top of the
 repository."""
 
 import sys

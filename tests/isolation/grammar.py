@@ -1,10 +1,10 @@
 """Texts made by chance, by a grammar that is a file.
 
-Between two of its rules stands a line without text. The first line of a rule is its name, and each other line is a
-choice; but where a `:` follows the name, all the lines together are one. What a rule stands for is one of its choices,
-drawn where there are several, in which words in braces stand for more, from left to right:
+An empty line separates two of its rules. The first line of a rule is its name, and each other line is a
+choice; but where a `:` follows the name, all the lines together are one. A rule expands to one of its choices,
+drawn where there are several, in which words in braces expand further, from left to right:
 
-- `{NAME}`: what that rule stands for;
+- `{NAME}`: the expansion of that rule;
 - `{x 1+28}` and `{x 22fff-40}`: a number drawn below the second one, added to the first one or taken from it, all
   hexadecimal;
 - `{d 1+28}`: the same, written as a decimal number;
@@ -31,17 +31,17 @@ class Grammar:
             self._rules[name.removesuffix(":")] = [body] if name.endswith(":") else body.split("\n")
 
     def choice(self, draws: Draws, name: str) -> tuple[int, str]:
-        """A choice of a rule with its place, as it stands in the file."""
+        """A choice of a rule with its place, as it is in the file."""
         choices = self._rules[name]
         place = draws.below(len(choices)) if len(choices) > 1 else 0
         return place, choices[place]
 
     def text(self, draws: Draws, name: str) -> str:
-        """What a rule stands for."""
+        """The expansion of a rule."""
         return re.sub("{([^}]*)}", lambda braces: self._braces(draws, braces[1]), self.choice(draws, name)[1])
 
     def _braces(self, draws: Draws, words: str) -> str:
-        """What braces with these words stand for."""
+        """The expansion of braces with these words."""
         if words in ("", "n"):
             return "\n" if words else ""
         if words == "w":

@@ -15,11 +15,11 @@ LONGEST_LINE = 1024  # bytes
 
 
 def compare(program: pathlib.Path, grammar: Grammar, rounds: int) -> Iterator[str]:
-    """Mixes hostile scripts. What was answered, a text a round, and then how much was compared, a line.
+    """Mix hostile scripts; yield the answers, a text for each round, and then a line with the number of comparisons.
 
     Raises AssertionError for a difference.
     """
-    came: set[tuple[int, str]] = set()  # which commands came at which standing of their user
+    came: set[tuple[int, str]] = set()  # the commands, each with its user's state
     count = slices = 0
     for seed in range(rounds):
         with Machines(program, QUANTA[seed % len(QUANTA)]) as machines:

@@ -1,4 +1,4 @@
-"""One machine of eight users beside eight machines of one user each."""
+"""One machine of eight users, and eight machines of one user each."""
 
 import pathlib
 import subprocess
@@ -14,18 +14,18 @@ MOST_PENDING = 32_768  # bytes of lines that are written at once; a pipe takes t
 
 
 class PrivateMachine:
-    """A machine that a user has alone: a process that is told lines and grants one slice at a time."""
+    """A private machine of one user: a process that takes lines and grants one slice at a time."""
 
     def __init__(self, program: pathlib.Path, user: int, quantum: int) -> None:
         words = [str(program), "--quantum", str(quantum), "/dev/stdin", *IMAGES]
         self._process = subprocess.Popen(words, cwd=DATA, stdin=subprocess.PIPE, stdout=subprocess.PIPE)
         self._user = user
-        self._is_idle = True  # whether it is known that the program doesn't run: nothing was told since it stopped
+        self._is_idle = True  # whether the program is known not to run: it printed nothing since it stopped
         self._pending: list[tuple[str, list[str]]] = []
         self._size = 0
 
     def tell(self, line: str) -> list[str]:
-        """Has a line carried out at some time before the next slice. Its answer comes into the list."""
+        """Queue a line, which the machine executes before the next slice. Its answer is added to the list."""
         answer: list[str] = []
         self._pending.append((line, answer))
         self._size += len(line)
@@ -35,7 +35,7 @@ class PrivateMachine:
         return answer
 
     def carry_out(self) -> None:
-        """Has all lines carried out that were told."""
+        """Execute all queued lines."""
         assert self._process.stdin and self._process.stdout
         lines = (part for line, _ in self._pending for part in (line, mark_behind(line)[0]))
         self._process.stdin.write("".join(f"{line}\n" for line in lines).encode("latin-1"))
@@ -58,13 +58,13 @@ class PrivateMachine:
         return None if granted == "* granted 0\n" else stop
 
     def end(self) -> None:
-        """Ends the process, with all lines carried out."""
+        """End the process after executing all queued lines."""
         self.carry_out()
         self._process.communicate()
 
 
 class Machines:
-    """The script of the machine that has all users, and what it should answer, which the private machines tell."""
+    """The script of the machine with all users, and its expected answers, which the private machines give."""
 
     def __init__(self, program: pathlib.Path, quantum: int) -> None:
         self.commands = 0
@@ -98,11 +98,11 @@ class Machines:
                 self.command(user, command)
 
     def operators(self, user: int) -> list[str]:
-        """What the operator of a user's own machine is told about it; the answer comes into the list."""
+        """Send `* list` to a user's private machine; the answer is added to the list."""
         return self._private[user].tell("* list")
 
     def slices_in_turn(self, count: int) -> None:
-        """The operator grants at most so many slices in turn."""
+        """The operator grants up to this number of slices in turn."""
         told: list[str] = []
         granted = 0
         while granted < count and (stop := self._turn()) is not None:
@@ -116,7 +116,7 @@ class Machines:
         self._grant(f"* run {user}", stop or [], 0 if stop is None else 1)
 
     def difference(self) -> tuple[str, str]:
-        """What the machine that has all users answers, and where that isn't what it should."""
+        """The answers of the machine with all users, and the first difference from the expected ones."""
         for machine in self._private.values():
             machine.carry_out()
         script = "".join(f"{line}\n" for line in self._script)
@@ -133,7 +133,7 @@ class Machines:
         return None
 
     def _grant(self, line: str, told: list[str], granted: int) -> None:
-        """An operator's line that grants slices, and what these told."""
+        """An operator's line that grants slices, and the answers."""
         self.slices += granted
         self._add(line, [*told, f"* granted {granted}\n"])
 

@@ -1,4 +1,4 @@
-"""Eight users who act in good faith at one machine, beside machines of their own."""
+"""Eight users who act in good faith on one machine, compared with private machines."""
 
 import pathlib
 

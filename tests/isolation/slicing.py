@@ -1,4 +1,4 @@
-"""Programs in slices of each length, beside slices of one tick."""
+"""Programs in slices of each length, compared with slices of one tick."""
 
 import pathlib
 import re
@@ -24,8 +24,8 @@ PROGRAMS = ("unit-stride", "strided", "indexed", "segments", "fault-only-first")
 
 x5 has a vector length, x9 how often the program is gone through, x10 and x12 to x15 have addresses, x11 a stride. They
 are loads and stores with unit stride, with masks, of other widths than the vector type's, of whole registers and of
-masks; strided ones of several widths; indexed ones, of which a load's registers are those of its indices; segments of
-two and three fields; and fault-only-first loads, of which each goes on where the one before it ended.
+masks; strided ones of several widths; indexed ones, whose loads write the registers of their indices; segments of
+two and three fields; and fault-only-first loads, each of which continues after the previous one.
 """
 
 
@@ -39,14 +39,14 @@ class Counts:
     faults: int = 0
 
     def add(self, told: str) -> None:
-        """Counts the slices of some runs, by what they were told."""
+        """Counts the slices of some runs, by their answers."""
         self.slices += sum(map(int, re.findall(r"\n\* granted (\d+)", told)))
         self.stops += sum(told.count(f"\n1 {reason} ") for reason in ("break", "ebreak", "exit", "outfull", "fault"))
         self.faults += told.count("\n1 fault ")
 
 
 def compare_program(program: pathlib.Path, grammar: Grammar, name: str) -> str:
-    """Compares the runs of a program, and tells how many there were. Raises AssertionError where two differ."""
+    """Compares the runs of a program, and returns their number. Raises AssertionError where two differ."""
     counts = Counts()
     for seed in range(ROUNDS):
         before = grammar.text(Draws(seed), name).split("\n")
@@ -60,7 +60,7 @@ def compare_program(program: pathlib.Path, grammar: Grammar, name: str) -> str:
 
 
 def _runs(program: pathlib.Path, before: list[str], quantum: int, counts: Counts) -> list[str]:
-    """What a user is told in runs of a program, to its end, and then after each number of slices, one and more."""
+    """The answers to a user in runs of a program to its end, and then after each number of slices from one on."""
     after = (DATA / "leaving").read_text("ascii").splitlines()
     scripts = [_whole(quantum), *(["1 go", f"* slices {slices}"] for slices in range(1, LONGEST // quantum + 1))]
     lines = [line for script in scripts for line in (*_commands(before), *script, *_commands(after))]

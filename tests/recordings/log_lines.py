@@ -1,4 +1,4 @@
-"""What stands in a log of instructions, and the registers and the memory that its lines lead to."""
+"""The lines of a log of instructions, and the registers and the memory after them."""
 
 from collections.abc import Iterator
 from dataclasses import dataclass, field, replace
@@ -7,15 +7,15 @@ from vecmon_lab.instructions.accesses import REGISTER_BYTES
 from vecmon_lab.machine.answers import ControlRegisters
 
 CONTROLS = {"c8_vstart": "vstart", "c9_vxsat": "vxsat", "c10_vxrm": "vxrm", "c3104_vl": "vl", "c3105_vtype": "vtype"}
-PLACE = "core   0: 0 0x"  # what each line begins with
+PLACE = "core   0: 0 0x"  # the beginning of each line
 
 
 @dataclass
 class LogLine:
-    """What a line says.
+    """The content of a line.
 
-    scalars, vectors: what these registers hold then; vectors as bytes, the lowest first
-    controls: what these control registers hold then, by their fields; type_and_length: as `e32 m1 l8`
+    scalars, vectors: the values of these registers after the line; vectors as bytes, the lowest first
+    controls: the values of these control registers, by their fields; type_and_length: as `e32 m1 l8`
     loads: the addresses of the elements that were loaded; stores: address and bytes of each that was stored
     """
 

@@ -1,4 +1,4 @@
-"""The recorder under test: where it is, what a run of it gives, and what stands in a file of counts."""
+"""The recorder under test: its path, the results of a run, and the form of a file of counts."""
 
 import os
 import pathlib
@@ -15,7 +15,7 @@ BUILT = TOP / "crates/vecmon_record/out/vecmon_record"
 
 @dataclass(frozen=True)
 class Recorded:
-    """What a run of the recorder gave, and its counts, if it wrote some."""
+    """The output of a run of the recorder, and its counts, if it wrote some."""
 
     stdout: bytes
     stderr: str
@@ -25,7 +25,7 @@ class Recorded:
 
 @dataclass(frozen=True)
 class RecordedLog:
-    """What a run of the recorder gave, and its log, if it wrote one."""
+    """The output of a run of the recorder, and its log, if it wrote one."""
 
     stdout: bytes
     stderr: str
@@ -35,10 +35,10 @@ class RecordedLog:
 
 @dataclass(frozen=True)
 class Counts:
-    """What stands in a file of counts.
+    """The content of a file of counts.
 
     words: by address and word how often, ticks, and elements that were active, masked off and of the tail
-    lengths: by vtype and vl how often; calls: by where a jump stands and where it leads how often
+    lengths: by vtype and vl how often; calls: counts by the address of a jump and its target
     end: why the program stopped and where, as the monitor says it; instructions, ticks: of all the run
     """
 
@@ -51,7 +51,7 @@ class Counts:
 
 
 def built_recorder() -> pathlib.Path:
-    """The recorder that VECMON_RECORD names; else the one beside VECMON; else the one that is built in this checkout."""
+    """The recorder named by VECMON_RECORD; else the one in VECMON's folder; else the one built in this checkout."""
     named, monitor = os.environ.get("VECMON_RECORD"), os.environ.get("VECMON")
     beside = pathlib.Path(monitor).with_name("vecmon-record") if monitor else BUILT
     return pathlib.Path(named or beside).absolute()
@@ -80,7 +80,7 @@ def record_log(folder: pathlib.Path, *words: object) -> RecordedLog:
 
 
 def read_counts(text: str) -> Counts:
-    """What stands in a file of counts. Raises ValueError for a line that isn't one, or a key with two lines."""
+    """The content of a file of counts. Raises ValueError for a line of another form, or a key with two lines."""
     words = dict[tuple[int, int], tuple[int, ...]]()
     lengths, calls = dict[tuple[int, int], int](), dict[tuple[int, int], int]()
     *rows, last = lines_of(text)

@@ -1,4 +1,4 @@
-"""What the recorder counts, by the monitor's own steps: one instruction after another, by the registers before it."""
+"""The recorder's counts, from the monitor's own steps: one instruction at a time, by the registers before it."""
 
 import pathlib
 from collections import Counter
@@ -18,7 +18,7 @@ LINKS = (1, 5)  # the registers that hold where a call returns to
 
 
 def stepped(image: pathlib.Path, policy: str = "keep", most: int | None = None) -> tuple[Counts, bytes]:
-    """What is counted of an image until it stops, or until so many instructions; and what it puts out."""
+    """The counts of an image until it stops, or for `most` instructions; and its output."""
     words = dict[tuple[int, int], tuple[int, ...]]()
     lengths, calls = Counter[tuple[int, int]](), Counter[tuple[int, int]]()
     instructions = 0
@@ -49,7 +49,7 @@ class Place:
 
 
 def stepped_changes(image: pathlib.Path, places: Sequence[Place], most: int) -> tuple[int, list[str]]:
-    """The ticks of an image until it stops, or until so many instructions; and the lines of what changed in places.
+    """The ticks of an image until it stops, or for `most` instructions; and the lines of the changes in places.
 
     The places are looked at after each step.
     """

@@ -1,4 +1,4 @@
-"""What a run begins with, as the program itself shows it: registers, memory, and what `load` leaves."""
+"""The state at the start of a run, as the program itself shows it: registers, memory, and the state after `load`."""
 
 import os
 import pathlib

@@ -1,4 +1,4 @@
-"""Changes of watched places: worked out by hand, and of images beside the monitor's own steps."""
+"""Changes of watched places: worked out by hand, and of images compared with the monitor's own steps."""
 
 import pathlib
 
@@ -12,7 +12,7 @@ from tests.recordings.test_refusals import GOOD
 
 MOST = 1500  # instructions that are stepped of an image
 STACK = [Place(0x7FFFEF00, 192), Place(0x7FFFEF80, 64), Place(0x7FFFEFB9, 7), Place(0x7FFFEFFF, 1)]
-"""Places below where x2 begins, the second and third of which lie in the first."""
+"""Places below the initial x2; the second and third lie in the first."""
 
 
 def watched(folder: pathlib.Path, places: list[str], *words: object) -> tuple[Recorded, list[str]]:
@@ -142,7 +142,7 @@ def test_changes_that_can_not_be_written(tmp_path: pathlib.Path) -> None:
 
 @pytest.mark.parametrize("asked, written, told", [(0x100, 256, 0), (0x101, 256, 1), (0x2000, 256, 1), (0, 0, 0)])
 def test_calls_that_wrote_less(tmp_path: pathlib.Path, asked: int, written: int, told: int) -> None:
-    """A call writes at most 256 bytes. One that failed wrote nothing, and isn't told."""
+    """A call writes at most 256 bytes. A call that fails writes nothing, and isn't listed."""
     program = lay(tmp_path, WRITE_AND_EXIT, f"x10 1\nx11 2000\nx12 {asked:x}\n")
     ran = record(tmp_path, *program)
     assert (ran.status, ran.stdout) == (0, bytes(written))

@@ -1,4 +1,4 @@
-"""Counts that were worked out by hand, those of images beside the monitor's own steps, and the order of QEMU's."""
+"""Counts worked out by hand, counts of images compared with the monitor's own steps, and the order of QEMU's."""
 
 import pathlib
 import re

@@ -1,4 +1,4 @@
-"""The log of instructions: replayed beside the monitor's own steps, and lines that were worked out by hand."""
+"""The log of instructions: replayed next to the monitor's own steps, and lines that were worked out by hand."""
 
 import pathlib
 
@@ -11,7 +11,7 @@ from vecmon_lab.guest.changes import Carried, MemoryChange, Stepper
 from vecmon_lab.guest.guest import started
 
 HERE = pathlib.Path(__file__).parent
-LOOKS = 25  # after so many instructions the monitor is asked for all registers, also for those that an instruction needn't write
+LOOKS = 25  # instructions between two comparisons of all registers, also of those that no instruction wrote
 
 
 def unlike(lines: list[LogLine], stepper: Stepper) -> list[str]:

@@ -1,4 +1,4 @@
-"""The examples of the recorder's page, which is its manual page too, carried out as they stand there."""
+"""Run the examples of the recorder's page, which is its manual page too, as written."""
 
 import os
 import pathlib
@@ -13,7 +13,7 @@ SESSIONS = [block for block in re.findall(r"^```sh\n(.*?)^```$", PAGE, re.MULTIL
 
 
 def test_examples(tmp_path: pathlib.Path) -> None:
-    """Behind a `$ ` stands a command, and below it what it says."""
+    """A command follows `$ `, and its output is below it."""
     (tmp_path / "vecmon-record").symlink_to(built_recorder())
     environment = {**os.environ, "PATH": f"{tmp_path}:{os.environ['PATH']}"}
     for session in SESSIONS:

@@ -1,4 +1,4 @@
-"""What the recorder refuses, with its statuses and messages; and what it can't write."""
+"""The recorder's refusals, with their statuses and messages; and outputs that it can't write."""
 
 import os
 import pathlib
@@ -86,7 +86,7 @@ def test_memory(tmp_path: pathlib.Path, place: str, size: int, message: str) -> 
 
 
 def test_the_most_memory(tmp_path: pathlib.Path) -> None:
-    """All 256 pages of a user, the last one of which ends where addresses do."""
+    """All 256 pages of a user; the last one ends at the highest address."""
     (tmp_path / "file").write_bytes(bytes(255 * 4096))
     (tmp_path / "page").write_bytes(bytes(4096))
     ran = record(tmp_path, "--memory", "0:x:file", "--memory", "fffffffff000:r:page")

@@ -1,4 +1,4 @@
-"""The table of commands: the manuals have their tables from it, the machine takes what it names, and refusals are told by it."""
+"""The table of commands: the manuals' tables come from it, the machine accepts its commands, refusals refer to it."""
 
 import pathlib
 import re

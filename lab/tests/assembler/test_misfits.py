@@ -1,4 +1,4 @@
-"""Words that don't fit: told where the machine answers E04, and nowhere else; and in which words."""
+"""Arguments that don't fit: explained where the machine answers E04, and only there; and the explanations."""
 
 import random
 

@@ -1,4 +1,4 @@
-"""Assembler source, compared with what stock tools made of the same source, and with what the machine answers."""
+"""Assembler source, compared with the output of stock tools for the same source, and with the machine's answers."""
 
 import pathlib
 import re
@@ -20,7 +20,7 @@ PURE = settings(derandomize=True, database=None, deadline=None)
 
 
 def load(session: Session, program: Program) -> None:
-    """Enters, and does all lines of a program, none of which may be refused."""
+    """Enter, and execute all lines of a program; the machine must refuse none."""
     for line in ["enter", *program.lines, f"setpc {program.entry:x}"]:
         [answer] = session.do(f"1 {line}")
         assert re.fullmatch(r"1 (?:entered|ok|[0-9a-f]{16} [0-9a-f]{8})", answer), line
@@ -291,7 +291,7 @@ def test_a_refusal_of_the_machine_names_the_place_in_the_source(
 
 
 def reached(program: Program) -> int:
-    """What the instructions of a li leave in a0, as the unprivileged manual says for each."""
+    """The value of a0 after the instructions of a li, by the unprivileged manual."""
     value = 0
     for statement in program.statements:
         name, *operands = statement.text.replace(",", "").split()
@@ -359,7 +359,7 @@ def test_any_text_is_assembled_or_has_an_error_in_it(text: str) -> None:
 
 
 def test_lines_beside_words() -> None:
-    """Beside the first word of a line stands the line, with its comment, or with one that stands alone above it."""
+    """The first word of a source line has the line next to it, with its comment, or the comment of the line above."""
     text = "# Counts.\nloop: one: addi t0, t0, 1 # up\n// Two words.\n\tli a0, 0x12345\n\n# none\n.data\n.word 1\n.text\nnop\r\n ret\n"
     assert read_source(text).source_lines(text) == {
         "10000": "addi t0, t0, 1 # up",

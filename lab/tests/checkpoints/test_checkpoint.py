@@ -19,7 +19,7 @@ TURNS = [f"{digit} {word}" for digit in DIGITS for word in ("stop", "leave", "en
 
 
 def answers(session: Session, script: bytes, tail: Sequence[str]) -> Iterator[object]:
-    """What lines behind a script are answered, with the counts of the vector unit from the first of them on."""
+    """The answers to lines after a script, with the counts of the vector unit from the first of them on."""
     list(session.do_script(script))
     first = dict[str, int]()
     for line in tail:

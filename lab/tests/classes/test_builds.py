@@ -31,14 +31,14 @@ ENDLESS = "#if __INCLUDE_LEVEL__ < 100\n#include __FILE__\n#include __FILE__\n#e
 
 @pytest.fixture
 def builds(clang: Compiler) -> Builds:
-    """What compiles in the sandbox, as a class's that isn't root's."""
+    """The compiler in the sandbox, as in a class that root doesn't serve."""
     if shutil.which("bwrap") is None:
         leave_out(NO_SANDBOX)
     return Builds(clang)
 
 
 async def run(tab: Tab) -> tuple[str, str]:
-    """Lets a seat's program run to its end: the last stop, and what was put out, in hexadecimal digits."""
+    """Run a seat's program to its end; return the last stop, and the output in hexadecimal digits."""
     await tab.do("go")
     while tab.view["state"]["run"] == "running":
         if "error" in await tab.ask("lines", do=[], slices=100):
@@ -47,7 +47,7 @@ async def run(tab: Tab) -> tuple[str, str]:
 
 
 async def test_a_kernel(tmp_path: pathlib.Path, builds: Builds) -> None:
-    """Its lines stand in the listing; the script has it whole, and a class goes on with it without a compiler."""
+    """The listing has its lines; the script has it whole, and a class restores it without a compiler."""
     async with served(tmp_path / "class", builds=builds) as room:
         tab, teacher = await room.sit("A3"), await room.sit("teacher")
         assert tab.view["languages"] == [each.name for each in LANGUAGES] and not tab.view["no_c"]
@@ -186,7 +186,7 @@ async def test_messages(tmp_path: pathlib.Path, builds: Builds) -> None:
 
 
 async def test_files_of_the_system_are_not_there(tmp_path: pathlib.Path, builds: Builds) -> None:
-    """Neither in what a seat is told, nor in the script, nor any path of the server's."""
+    """Neither a seat's messages nor the script have it, nor any path of the server's."""
     async with served(tmp_path / "class", builds=builds) as room:
         tab = await room.sit("A1")
         for line in ("#include </etc/passwd>", '__asm__(".incbin \\"/etc/passwd\\"");', f'#include "{__file__}"'):
@@ -220,7 +220,7 @@ async def test_an_endless_compile_costs_others_nothing(
 
 
 async def test_what_is_too_large(tmp_path: pathlib.Path, clang: Compiler, builds: Builds) -> None:
-    """An image has its most, which the teacher sets; and a seat its share, of which the refusal tells what is left."""
+    """An image has a limit, which the teacher sets, and a seat its share; the refusal has the remaining bytes."""
     async with served(tmp_path / "class", builds=Builds(clang, most=200)) as room:
         tab = await room.sit("A1")
         assert "200 bytes that aren't zeros are the most" in (await tab.ask("source", text=EMPTY, language=C))["error"]

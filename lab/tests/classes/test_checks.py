@@ -1,4 +1,4 @@
-"""Answers checked in a class: what a seat is told, and isn't; what the teacher is; and what bad ones cost the others."""
+"""Answers checked in a class: the messages to seats and to the teacher, and the cost of bad answers to the others."""
 
 import asyncio
 import csv
@@ -50,7 +50,7 @@ SECRETS = ("5ec4e7", "6210791", str(0x5EC4E7**2), "private remark", "exercise.to
 
 @pytest.fixture
 def square(tmp_path: pathlib.Path) -> pathlib.Path:
-    """An exercise of one's own."""
+    """A custom exercise."""
     folder = tmp_path / "square"
     folder.mkdir()
     (folder / "exercise.toml").write_text(SQUARE)
@@ -70,7 +70,7 @@ async def room(tmp_path: pathlib.Path, square: pathlib.Path, monkeypatch: pytest
 
 
 async def check(tab: Tab, name: str, text: str, language: int = 0) -> Any:
-    """What is told of an answer."""
+    """The messages about an answer."""
     before = tab.view["exercises"][name]
     told = await tab.ask("check", exercise=name, text=text, language=language)
     assert "error" not in told, told
@@ -109,7 +109,7 @@ async def test_a_seat_tries_until_it_passes(room: Served) -> None:
     ],
 )
 async def test_mistakes_of_form_are_no_try(room: Served, text: str, mistakes: list[tuple[int, int, str]]) -> None:
-    """No try is counted or kept, no hint is due, and what a seat was told before isn't taken back."""
+    """No try is counted or kept, no hint is due, and earlier messages to a seat stay."""
     tab = await room.sit("A1")
     told = (await check(tab, "doubles", text))["mistakes"]
     assert [(it["line"], it["column"]) for it in told] == [(line, column) for line, column, _ in mistakes]
@@ -124,7 +124,7 @@ async def test_mistakes_of_form_are_no_try(room: Served, text: str, mistakes: li
 
 
 async def test_rows_are_cut_at_the_same_place(room: Served) -> None:
-    """Of long rows some numbers are told, those that are given beside those that are found; and how many more there are."""
+    """Of long rows, some numbers are shown, expected and found next to each other; and how many more there are."""
     tab = await room.sit("A1")
     told = await check(tab, "strip_mined_copy", (OURS / "strip_mined_copy" / "wrong" / "one_round.s").read_text())
     rows = [told[key][-2] for key in ("given", "expected", "found")]
@@ -190,7 +190,7 @@ async def test_a_lesson_of_the_case_that_fails(room: Served) -> None:
 
 
 async def test_the_lesson_before_an_exercise(room: Served) -> None:
-    """It is made once, for whoever opens it; an exercise without one has no link."""
+    """It is made once, for all who open it; an exercise without one has no link."""
     tab = await room.sit("A1")
     assert [tab.view["exercises"][name]["before"] for name in ("square", "doubles")] == ["", "lesson/doubles"]
     pages = [await room.get("lesson/doubles") for _ in range(2)]
@@ -326,7 +326,7 @@ async def test_bad_exercises_are_told(tmp_path: pathlib.Path, square: pathlib.Pa
 
 
 async def test_a_seat_answers_in_c(tmp_path: pathlib.Path, sandboxed_clang: Compiler, square: pathlib.Path) -> None:
-    """What a function is given and returns is as in assembler; nothing of it is in the script, and a class goes on with it."""
+    """Arguments and result are as in assembler; the script has nothing of it, and a class restores it."""
     async with served(tmp_path / "class", exercises=[square], builds=Builds(sandboxed_clang)) as room:
         tab, teacher = await room.sit("A1"), await room.sit("teacher")
         told = await check(tab, "square", RIGHT_IN_C.replace("b * b", "a"), C)
@@ -351,7 +351,7 @@ async def test_a_seat_answers_in_c(tmp_path: pathlib.Path, sandboxed_clang: Comp
 
 
 async def test_a_start_in_c(tmp_path: pathlib.Path, square: pathlib.Path) -> None:
-    """It may be the only one, or beside the one in assembler; which of them comes first is the exercise's to say."""
+    """It may be the only one, or one next to assembler; the exercise says which of them comes first."""
     (square / "start.c").write_text(RIGHT_IN_C)
     (square / "exercise.toml").write_text(SQUARE.replace("start.s", "start.c"))
     async with served(tmp_path / "class", exercises=[square, pathlib.Path("doubles")]) as room:

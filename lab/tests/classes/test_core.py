@@ -1,4 +1,4 @@
-"""The synchronous core: what a student's request does needs no event loop, thread, subprocess or socket."""
+"""The synchronous core: a student's request needs no event loop, thread, subprocess or socket."""
 
 import json
 import pathlib

@@ -25,7 +25,7 @@ Sent = list[list[Message]]
 
 
 async def answered_by_server(members: Class, requests: Iterable[Request], has_clock: bool) -> Sent:
-    """What a class sends a student."""
+    """The messages of a class to a student."""
     desk, tab, room = TabRequests(members), Tab(SEAT), members.rooms["A"]
     room.set_clock({"on": has_clock, "ms": 10, "limit": LIMIT})
     clock = asyncio.create_task(room.clock.run())
@@ -40,7 +40,7 @@ async def answered_by_server(members: Class, requests: Iterable[Request], has_cl
 
 
 def answered_by_desk(members: Class, requests: Iterable[Request], has_clock: bool) -> Sent:
-    """What a desk with the same exercises sends."""
+    """The messages of a desk with the same exercises."""
     desk = Desk(members.store.program, members.checks.exercises.by_name, LIMIT)
     desk.has_clock = has_clock
     sent: Sent = [[desk.hello()]]
@@ -51,7 +51,7 @@ def answered_by_desk(members: Class, requests: Iterable[Request], has_clock: boo
 
 
 def answered(folder: pathlib.Path, requests: list[Request], names: Iterable[str], has_clock: bool) -> tuple[Sent, Sent]:
-    """What a class and a desk with exercises of these names send."""
+    """The messages of a class and of a desk with exercises of these names."""
     exercises = [pathlib.Path(name) for name in names]
     members = Class(Store(folder, find_program()), SECONDS, exercises=exercises)
     try:

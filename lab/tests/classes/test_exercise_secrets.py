@@ -1,4 +1,4 @@
-"""What a seat's page gets of an exercise: neither its good answers nor its hidden cases."""
+"""The parts of an exercise on a seat's page: neither its good answers nor its hidden cases."""
 
 import json
 import pathlib

@@ -1,4 +1,4 @@
-"""`explore`: one's own page for a source, served to this computer alone."""
+"""`explore`: a private page for a source, served to this computer alone."""
 
 import asyncio
 import json

@@ -1,4 +1,4 @@
-"""What goes wrong in a class: programs that end or hang, servers that are killed, a full disk, floods."""
+"""Failures of a class: programs that end or hang, servers that are killed, a full disk, floods."""
 
 import asyncio
 import json
@@ -102,7 +102,7 @@ async def test_a_program_that_is_replaced(tmp_path: pathlib.Path) -> None:
         new.rename(program)  # as an upgrade does it
         os.kill(room.machine(), signal.SIGKILL)
         with pytest.raises((EOFError, AssertionError)):
-            await tab.do("step 1")  # which no new program carries out
+            await tab.do("step 1")  # no new program executes this
         assert await asyncio.wait_for(room.server.wait(), SECONDS) == 2
         errors = (await room.server.stderr.read()).decode()
     assert errors == f"vecmon-lab: the class has ended, since {program} is another program now\n"
@@ -278,7 +278,7 @@ async def test_a_full_disk(tmp_path: pathlib.Path) -> None:
             await tab.do(*["step 1"] * 10)
         await teacher.until(lambda view: "isn't saved" in view["machines"]["A"]["trouble"])
         await tab.until(lambda view: "isn't saved" in view["trouble"])
-        await teacher.ask("renew", seat="A2")  # codes are kept, or it is told that they aren't
+        await teacher.ask("renew", seat="A2")  # codes are kept, or the teacher gets an error
         assert (folder / "A.script").stat().st_size <= 2000
         assert len((await room.check_replay(is_saved=False))[0]) > 2500
         assert room.server
@@ -406,7 +406,7 @@ async def test_an_address_that_cannot_be_had(tmp_path: pathlib.Path, words: list
 
 
 def refused(folder: pathlib.Path, *words: object) -> str:
-    """What the command says of a class that it doesn't serve."""
+    """The output of the command for a class that it doesn't serve."""
     line = [sys.executable, "-m", "vecmon_lab", "class", str(folder), *map(str, words)]
     done = subprocess.run(line, cwd=TOP, capture_output=True, text=True, timeout=SECONDS)
     assert (done.returncode, done.stdout) == (2, "")
@@ -414,7 +414,7 @@ def refused(folder: pathlib.Path, *words: object) -> str:
 
 
 async def test_a_torn_connection(tmp_path: pathlib.Path) -> None:
-    """What a tab sent before it went away is carried out once, or not at all."""
+    """A tab's last request before it went away is executed once, or not at all."""
     async with served(tmp_path / "class") as room:
         for _ in range(7):
             tab = await room.sit("A1")

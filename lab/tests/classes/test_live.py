@@ -1,4 +1,4 @@
-"""What programs put out, and how they run, comes to pages by itself."""
+"""Pages show the output and the state of running programs without a request."""
 
 import asyncio
 import pathlib
@@ -22,7 +22,7 @@ HELLO = """
         .data
 text:   .ascii "hello\\n"
 """
-# Writes eight bytes as often as s0 says, counts in s1, and waits for a while that is another one each time.
+# Writes eight bytes s0 times, counts in s1, and waits for another time in each turn.
 WRITES = """
         li s0, {times}
 next:   addi s1, s1, 1
@@ -42,7 +42,7 @@ text:   .ascii "1234567\\n"
 
 
 def output(view: Message) -> bytes:
-    """What the page shows of the output."""
+    """The output on the page."""
     blocks: dict[str, str] = view["state"].get("outputs", {})
     return bytes.fromhex("".join(blocks[number] for number in sorted(blocks, key=int)))
 

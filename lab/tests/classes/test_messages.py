@@ -1,4 +1,4 @@
-"""What a teacher writes to seats, and a seat that is reset."""
+"""The teacher's messages to seats, and the reset of a seat."""
 
 import pathlib
 
@@ -34,7 +34,7 @@ async def test_a_teacher_writes_to_one_seat_or_all(tmp_path: pathlib.Path) -> No
 
 
 async def test_a_seat_is_reset(tmp_path: pathlib.Path, monkeypatch: pytest.MonkeyPatch) -> None:
-    """Whether its program stands or runs, or there is none; and where its share is used up."""
+    """Whether its program is stopped or runs, or there is none; and when its share is used up."""
     async with served(tmp_path / "class") as room:
         tab, other, teacher = [await room.sit(who) for who in ("A1", "A2", "teacher")]
         await other.do(*LOOP, "step 1")

@@ -1,4 +1,4 @@
-"""Names of those who sit at seats: who is told them, where they are kept, and how they are deleted."""
+"""Students' names: who receives them, where they are saved, and how they are deleted."""
 
 import csv
 import io

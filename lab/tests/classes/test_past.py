@@ -1,4 +1,4 @@
-"""What seats are told of the lines that a server carries out again when it begins."""
+"""The state of seats after the lines that a server replays when it starts."""
 
 from collections.abc import Sequence
 
@@ -14,7 +14,7 @@ STEPS = 2 * LOG_ENTRIES
 
 
 def told(session: Session, blocks: Sequence[Sequence[str]], set_up: int = 0) -> Seats:
-    """Seats that were told of lines, block by block."""
+    """Seats after these lines, block by block."""
     past, seats = Past(set_up), Seats("A")
     for block in blocks:
         for lines, answers in session.do_blocks("".join(f"{line}\n" for line in block).encode()):
@@ -39,7 +39,7 @@ def test_what_seats_know_by_lines_in_blocks(session: Session, size: int) -> None
 
 
 def test_lines_that_set_a_machine_up(session: Session) -> None:
-    """They are told to nobody, and no share is charged for them; what is watched is known by them."""
+    """Nobody receives them, and no share is charged for them; seats know by them what is watched."""
     seats = told(session, [SCRIPT], set_up=len(SCRIPT) - 3)
     two = seats.users["2"]
     assert list(two.log)[:2] == [">2 go", "<2 running pc=0000000000010000"] and two.sight.breaks == {0x10004}

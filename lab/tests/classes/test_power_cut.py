@@ -20,8 +20,8 @@ from vecmon_lab.classes.store import BadFolder, Store, script_name
 from vecmon_lab.classes.view import Class
 
 TICK, TICKS = 0.05, 96  # seconds, and their number
-EVERY = round(KEEP_SECONDS / TICK)  # ticks between looks at what is to be saved; the batch has that as many ticks later
-RENEWED = 40  # ticks between new codes, each of which waits for the disk
+EVERY = round(KEEP_SECONDS / TICK)  # ticks between looks at unsaved data; the batch has it that many ticks later
+RENEWED = 40  # ticks between new codes; each waits for the disk
 DRAWS = 2  # states with some of the writes, at each moment
 EXERCISE = pathlib.Path("doubles")
 
@@ -112,7 +112,7 @@ class Lesson:
 
 
 async def told(*_: object) -> bytes:
-    """What a check reports: this test checks no answers."""
+    """The message of a check: this test checks no answers."""
     return json.dumps({"cases": [True] * 5}).encode()
 
 

@@ -1,4 +1,4 @@
-"""What is a request, and whose; what else comes in is refused."""
+"""Valid requests, by who may send them; all other input is refused."""
 
 import pytest
 

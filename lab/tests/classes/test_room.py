@@ -1,4 +1,4 @@
-"""Turns at a machine, without a transport, a clock, or even the machine: a stand-in waits until it is told to go on."""
+"""Turns at a machine, without a transport, a clock, or the machine: a stand-in waits until a test lets it go on."""
 
 import asyncio
 import pathlib
@@ -47,7 +47,7 @@ class StandIn:
 
 
 class Machine:
-    """A room with a stand-in."""
+    """A room with a fake machine."""
 
     def __init__(self, folder: pathlib.Path) -> None:
         self.session: Any = StandIn(folder / "A.script")
@@ -59,7 +59,7 @@ class Machine:
         return asyncio.create_task(self.room.lines(seat, Lines("", list(lines), 0, []), []))
 
     async def order(self, count: int, *tasks: "asyncio.Task[Any]") -> str:
-        """Whose lines were carried out, in this order, when so many were let go."""
+        """The users whose lines were executed, in order, after this number of turns."""
         for _ in range(5):
             await asyncio.sleep(0)  # so that each has begun to wait
         self.session.go.release(count)
@@ -101,7 +101,7 @@ async def test_the_clock_has_its_turn(tmp_path: pathlib.Path) -> None:
 
 
 async def test_slices_wait_where_checkpoints_fall_behind(tmp_path: pathlib.Path) -> None:
-    """Who presses on is told so; the clock skips; lines of students go on, and so does all once there is a checkpoint."""
+    """A student who presses on gets a message; the clock skips; students' lines go on; a checkpoint ends the wait."""
     machine = Machine(tmp_path)
     room, session = machine.room, machine.session
     room.seats.users["8"].state = {"run": "running", "pc": "0"}

@@ -54,7 +54,7 @@ async def test_looks_are_not_recorded_and_change_nothing(room: Served) -> None:
     told = await tab.ask("lines", do=[*LOOP, "step 5", "peek 10000 16"], look=looks)
     assert [len(answer) for answer in told["look"]] == [9, 1, 1, 2, 1, 1, 1, 1]
     assert told["look"][4] == ["peek 0000000000010000 93821200"]
-    assert tab.logs["A1"][-2] == ">1 peek 10000 16"  # a look that was typed is told, and not recorded
+    assert tab.logs["A1"][-2] == ">1 peek 10000 16"  # a look that was typed is logged, and not recorded
     assert not [entry for entry in tab.logs["A1"] if "vcsr" in entry]
     script, transcript = await room.check_replay()
     assert script.decode().splitlines() == [f"1 {line}" for line in [*LOOP, "step 5"]] and b"peek" not in transcript
@@ -273,7 +273,7 @@ async def test_a_stop_comes_by_itself(room: Served) -> None:
     assert not [entry for entry in teacher.logs.get("A", []) if "slices" in entry]
     assert await other.do("stop") and other.view["state"]["run"] == "stopped"
     await teacher.do("list", machine="A")
-    lines = teacher.view["machines"]["A"]["lines"]  # nobody runs, so the clock stands
+    lines = teacher.view["machines"]["A"]["lines"]  # no program runs, so the clock is stopped
     await asyncio.sleep(0.1)
     await teacher.do("list", machine="A")
     assert teacher.view["machines"]["A"]["lines"] == lines
@@ -505,13 +505,13 @@ async def test_clients_that_do_not_read(room: Served) -> None:
         assert connection and connection.transport
         connection.transport.abort()
     assert (members := room.members)
-    while any(tab.who == "A2" for tab in members.tabs):  # which it keeps until all that they asked is carried out
+    while any(tab.who == "A2" for tab in members.tabs):  # they stay until all their requests are executed
         await asyncio.sleep(0.01)
     await room.check_replay()
 
 
 async def test_a_tab_whose_request_waits_long(tmp_path: pathlib.Path, monkeypatch: pytest.MonkeyPatch) -> None:
-    monkeypatch.setattr(class_server, "READ_SECONDS", 1.0)  # between pings, of which each wants an answer in half of it
+    monkeypatch.setattr(class_server, "READ_SECONDS", 1.0)  # between pings; each needs an answer in half of it
     async with served(tmp_path / "class") as room:
         tab = await room.sit("A1")
         await tab.do("enter")
@@ -529,7 +529,7 @@ async def test_more_requests_than_may_wait(room: Served) -> None:
     os.kill(machine, signal.SIGSTOP)
     for number in range(70):
         await tab.socket.send_json({"id": number, "ask": "lines", "do": [f"set x5 {number:x}" if number else "enter"]})
-    told = [await tab.receive() for _ in range(5)]  # one is carried out, and 64 wait
+    told = [await tab.receive() for _ in range(5)]  # one is executed, and 64 wait
     assert [each["id"] for each in told] == [65, 66, 67, 68, 69]
     assert all(each["error"].startswith("64 requests of this tab wait already") for each in told)
     await tab.socket.close()
@@ -537,7 +537,7 @@ async def test_more_requests_than_may_wait(room: Served) -> None:
     again = await room.sit("A1")
     await again.until(
         lambda view: view["state"].get("x", {}).get("5") == "40"
-    )  # what waited isn't dropped with its tab
+    )  # the waiting requests aren't dropped with their tab
     assert (await room.check_replay())[0] == b"1 enter\n" + b"".join(b"1 set x5 %x\n" % each for each in range(1, 65))
 
 

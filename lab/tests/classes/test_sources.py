@@ -85,7 +85,7 @@ async def test_a_draft_that_comes_late_is_a_version(room: Served) -> None:
 
 
 async def test_a_source_that_is_given(room: Served) -> None:
-    """The teacher gives a source to one seat or to all; what the student had is a version of the seat."""
+    """The teacher gives a source to one seat or to all; the student's previous text is a version of the seat."""
     tab, other, teacher = await room.sit("A1"), await room.sit("A2"), await room.sit("teacher")
     await tab.ask("draft", text="mine", number=0)
     await teacher.ask("give", seat="A1", text="theirs")
@@ -151,7 +151,7 @@ async def test_messages_stay_until_closed(tmp_path: pathlib.Path) -> None:
 
 
 async def test_versions_are_kept(room: Served, monkeypatch: pytest.MonkeyPatch) -> None:
-    """Writes are versions, and each half minute of typing; the last 50 of a seat stand in the folder."""
+    """Writes are versions, and each half minute of typing; the folder has the last 50 of a seat."""
     tab, members = await room.sit("A1"), room.members
     assert members
     assert (await tab.ask("source", text="nop"))["mistakes"] == [] and (await tab.ask("source", text="nop 5"))[
@@ -201,7 +201,7 @@ async def test_a_class_that_goes_on_has_its_sources(tmp_path: pathlib.Path) -> N
 
 
 async def test_a_full_disk(room: Served, monkeypatch: pytest.MonkeyPatch) -> None:
-    """What the disk doesn't take is told, stays with the class, and is kept as soon as there is room."""
+    """The class reports data that the disk refuses, keeps it, and saves it as soon as there is room."""
     tab, teacher, members = await room.sit("A1"), await room.sit("teacher"), room.members
     assert members
 

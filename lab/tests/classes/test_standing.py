@@ -1,4 +1,4 @@
-"""How seats stand, as their teacher is told it."""
+"""The state of seats, as their teacher sees it."""
 
 import pathlib
 import time
@@ -20,7 +20,7 @@ FAULT = """
 
 
 def seat(teacher: Tab, digit: str) -> Message:
-    """What the teacher's table has of a seat of machine A."""
+    """The row of a seat of machine A in the teacher's table."""
     told: Message = teacher.view["machines"]["A"]["seats"][digit]
     return told
 

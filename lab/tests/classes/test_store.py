@@ -244,7 +244,7 @@ async def test_an_image_that_is_damaged(tmp_path: pathlib.Path, program: pathlib
 
 @pytest.mark.asyncio
 async def test_a_damaged_program_of_a_seat(tmp_path: pathlib.Path, program: pathlib.Path) -> None:
-    """What a compiler made of the source in a seat's machine: the seat has no listing of it, which is reported."""
+    """The compiled source in a seat's machine: the seat has no listing of it, which is reported."""
     folder = tmp_path / "class"
     Store(folder, program).close()
     (folder / "A2.written.O2.c").write_text("int main(void) { return 0; }")

@@ -1,4 +1,4 @@
-"""What a student takes home."""
+"""The files that a student takes home."""
 
 import asyncio
 import io

@@ -90,7 +90,7 @@ async def test_no_frame_of_the_wall_has_another_code(room: Served) -> None:
 
 
 async def test_codes_are_told_on_demand(room: Served) -> None:
-    """The teacher's view has none; a student is told none; a new code for the wall ends its tabs."""
+    """The teacher's view has none; a student receives none; a new code for the wall ends its tabs."""
     teacher, tab, wall = await room.sit("teacher"), await room.sit("A1"), await room.sit("wall")
     assert not [code for code in codes(room).values() if code in json.dumps(teacher.view)]
     assert (await teacher.ask("codes", seat="A3"))["codes"] == {"A3": codes(room)["A3"]}
@@ -106,7 +106,7 @@ async def test_codes_are_told_on_demand(room: Served) -> None:
 
 
 async def test_pictures_for_a_sheet(room: Served) -> None:
-    """Each is of another address. Without one that the server was told there are none."""
+    """Each is of another address. A server without an address makes none."""
     teacher = await room.sit("teacher")
     assert (await teacher.ask("codes", seat="", pictures=True))["pictures"] == {}
     assert room.members

@@ -1,4 +1,4 @@
-"""Sources in C: what their images become, what compilers say of them, and six kernels beside the same in Python."""
+"""Sources in C: their images, the compilers' messages, and six kernels compared with the same in Python."""
 
 import os
 import pathlib
@@ -39,7 +39,7 @@ OUTPUTS = {
 
 
 def run(session: Session, clang: Compiler, text: str, choice: int = 0) -> tuple[bytes, int]:
-    """What a source puts out, and its status."""
+    """The output of a source, and its status."""
     program = compile_c(text, clang, choice, KERNELS)
     assert not program.mistakes, program.mistakes
     guest = Guest(session)
@@ -239,7 +239,7 @@ numbers: .zero 8 * 4
 
 
 def test_a_source_for_a_stock_assembler(session: Session, clang: Compiler) -> None:
-    """Its lines stand at its instructions, those of a macro's too; it begins at `_start`, or with its first one."""
+    """Its lines are at its instructions, a macro's too; it begins at `_start`, or with its first instruction."""
     stock, expected = choice_of("stock"), struct.pack("<8i", *range(0, 64, 8))
     assert run(session, clang, DOUBLES, stock) == (expected, 5)
     program = compile_c(DOUBLES, clang, stock, KERNELS)

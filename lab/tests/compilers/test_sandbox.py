@@ -1,4 +1,4 @@
-"""Hostile sources in the sandbox: what they try to read, to fill and to keep busy; and images that are crafted."""
+"""Hostile sources in the sandbox: attempts to read files, fill disks and keep it busy; and crafted images."""
 
 import json
 import os
@@ -46,7 +46,7 @@ inside.main()
 
 @pytest.fixture
 def answer(clang: Compiler) -> Ask:
-    """What asks for what is in the sandbox of a text, by options of this name."""
+    """Requests to compile a text in the sandbox, with the options of this name."""
     if shutil.which("bwrap") is None:
         leave_out(NO_SANDBOX)
 
@@ -175,7 +175,7 @@ def number(value: int) -> bytes:
 
 
 def crafted(variables: Sequence[tuple[str, bytes]], type_at: int = 21) -> str:
-    """A source whose debug data tells, beside its own, of variables with these expressions, and of a pointer to itself.
+    """A source whose debug data has, next to its own, variables with these expressions, and a pointer to itself.
 
     type_at: where in it the variables have their type
     """

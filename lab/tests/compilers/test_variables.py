@@ -1,4 +1,4 @@
-"""Variables of a source: their declarations as they stand in it, and where they lie, by the RISC-V ABI and DWARF 4."""
+"""Variables of a source: their declarations in it, and their places, by the RISC-V ABI and DWARF 4."""
 
 import re
 
@@ -70,7 +70,7 @@ def test_locals_lie_in_their_frame(clang: Compiler) -> None:
 
 
 def test_what_was_optimized_out_has_no_place(clang: Compiler) -> None:
-    """A vector is in no register that clang tells of, and 3 is a part of an instruction."""
+    """A vector is in no register that clang describes, and 3 is a part of an instruction."""
     found = {each[0]: each for each in compiled(clang, (KERNELS / "saxpy.c").read_text("ascii")).variables}
     for name, declared in (("sum", "vint32m2_t sum"), ("factor", "int32_t factor")):
         _, words, _, _, function, scopes, places = found[name]

@@ -1,4 +1,4 @@
-"""The console: lines from a pipe, a dumb terminal and one that can do more, beside values that are known otherwise."""
+"""The console: lines from a pipe, a dumb terminal and a full one, compared with values from other sources."""
 
 import pathlib
 import re
@@ -47,7 +47,7 @@ def terminal(tmp_path: pathlib.Path, *words: object, **environment: str) -> Term
 
 
 def test_an_image_runs_to_its_end() -> None:
-    lines = shown(["run", "vreg v8", "step"], SUM)  # what it writes, and where it ends, as in docs/COMPILING.md
+    lines = shown(["run", "vreg v8", "step"], SUM)  # its output and end, as in docs/COMPILING.md
     assert lines[:3] == [
         "=> 11190 _start  addi x2, x2, -16",
         "328350",
@@ -264,7 +264,7 @@ def test_a_source_that_does_not_assemble(tmp_path: pathlib.Path, source: str, to
 
 
 def bad_images(folder: pathlib.Path) -> Iterator[tuple[pathlib.Path, str]]:
-    """Paths of no image, and the reason that is told."""
+    """Paths of no image, and the reported reason."""
     yield folder / "missing", "No such file or directory"
     yield folder, "Is a directory"
     yield STOCK / "short", "E09 Short"
@@ -424,7 +424,7 @@ def test_no_number_is_broken(width: int, digits: int) -> None:
 
 @pytest.mark.parametrize("columns, rooms", [(12, (2, 1, 1, 1)), (38, (8, 4, 2, 2)), (120, (16, 8, 8, 4))])
 def test_elements_in_a_row(monkeypatch: pytest.MonkeyPatch, columns: int, rooms: tuple[int, ...]) -> None:
-    """The name and four columns stand before elements of so many bits, which have a digit for four and a space."""
+    """The name and four columns are before elements of this width, which have a digit for four bits and a space."""
     monkeypatch.setattr(Screen, "columns", columns)
     for width, room in zip((8, 16, 32, 64), rooms):
         rows = [*Screen(False).element_rows(VectorRegister(8, width, bytes(32)), ControlRegisters(), None)]
@@ -477,7 +477,7 @@ def test_a_dumb_terminal(tmp_path: pathlib.Path, forever: pathlib.Path) -> None:
 def test_ctrl_c_stops_the_program_and_not_the_machine(tmp_path: pathlib.Path, forever: pathlib.Path) -> None:
     with terminal(tmp_path, forever) as console:
         console.expect("vecmon> ")
-        console.type("\x1b[200~run\nregs\x1b[201~\r")  # what follows in the entry isn't carried out
+        console.type("\x1b[200~run\nregs\x1b[201~\r")  # the lines after it in the entry aren't executed
         console.expect("ready")
         console.type(INTERRUPT)
         console.expect("The program was stopped at 0x100")

@@ -39,7 +39,7 @@ def test_the_manual_lists_the_course() -> None:
 
 @pytest.mark.parametrize("name", COURSE)
 def test_an_exercise_is_whole(program: pathlib.Path, name: str) -> None:
-    """It has a text, hints, a lesson, cases of which some are hidden; a start and three or more wrong answers fail."""
+    """It has a text, hints, a lesson, cases, some of them hidden; a start and three or more wrong answers fail."""
     exercise = settled(program, read_exercise(pathlib.Path(name)))
     assert exercise.text and len(exercise.hints) >= 3 and set(exercise.files) == set(FILES)
     hidden = [case.is_hidden for case in exercise.cases]
@@ -47,7 +47,7 @@ def test_an_exercise_is_whole(program: pathlib.Path, name: str) -> None:
     assert not any(grade(program, exercise, exercise.files["good"]))
     too_long = list(zip(hidden, grade(program, exercise, exercise.files["reference"])))
     assert all("it takes more than" in reason for _, reason in too_long if reason)
-    assert any(reason for is_hidden, reason in too_long if not is_hidden)  # so that who writes no vectors is told
+    assert any(reason for is_hidden, reason in too_long if not is_hidden)  # an answer without vectors gets a reason
     wrong = sorted((exercise.folder / "wrong").glob("*.s"))
     assert len(wrong) >= 3
     for path in [exercise.files["start"], *wrong]:
@@ -73,7 +73,7 @@ def test_an_exercise_is_answered_in_c(
 
 
 def leave(guest: Guest, drawn: Drawn, begin: int) -> Results:
-    """What the answer that was brought in, and begins at an address, leaves of an input."""
+    """The values that the loaded answer, called at an address, leaves for an input."""
     written = [command for place in drawn.memory for command in pokes(place.address, place.data)]
     registers = [f"set {name} {value:x}" for name, value in drawn.registers.items()]
     guest.ask(*written, *registers, f"setpc {begin:x}")

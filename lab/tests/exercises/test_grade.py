@@ -68,7 +68,7 @@ Echo = Callable[[str | bytes, str], str]
 
 @pytest.fixture
 def echo(program: pathlib.Path, tmp_path: pathlib.Path) -> Echo:
-    """Grades what stands in a file of a name by the exercise ECHO: why it fails, or nothing."""
+    """Grade a file of this name by the exercise ECHO; return why it fails, or nothing."""
     (tmp_path / "exercise.toml").write_text(ECHO)
     exercise = settled(program, read_exercise(tmp_path))
 
@@ -259,7 +259,7 @@ def test_what_cannot_be_read_is_a_row(tmp_path: pathlib.Path) -> None:
 
 
 def test_the_table_of_the_manual(monkeypatch: pytest.MonkeyPatch) -> None:
-    """It tells nothing of hidden cases but that they fail."""
+    """It shows nothing of hidden cases except that they fail."""
     command = "$ vecmon-lab grade saturating_sum answers/*; echo $?\n"
     shown = (DOCS / "GRADING.md").read_text("utf-8").partition(command)[2].partition("```")[0]
     monkeypatch.chdir(EXAMPLES)
@@ -311,7 +311,7 @@ long answer(long a0, int32_t *places)
     ],
 )
 def test_an_answer_in_c(echo: Echo, sandboxed_clang: Compiler, change: tuple[str, str], reason: str) -> None:
-    """It is compiled in the sandbox, where not even the files beside it are."""
+    """It is compiled in the sandbox, which has not even the files next to it."""
     told = echo(IN_C.replace(*change), "answer.c")
     assert told.startswith(reason) if reason else not told
 
@@ -319,7 +319,7 @@ def test_an_answer_in_c(echo: Echo, sandboxed_clang: Compiler, change: tuple[str
 def test_no_c_is_graded_without_a_compiler_and_a_sandbox(
     lab: Lab, tmp_path: pathlib.Path, monkeypatch: pytest.MonkeyPatch, sandboxed_clang: Compiler
 ) -> None:
-    """That is told in a line, and no answer fails for it."""
+    """One line reports it, and no answer fails for it."""
     (tmp_path / "answer.c").write_text(IN_C)
     monkeypatch.setattr(os, "geteuid", lambda: 0)
     status, told, complaint = lab("grade", "strlen", tmp_path / "answer.c")
@@ -333,7 +333,7 @@ def test_no_c_is_graded_without_a_compiler_and_a_sandbox(
 
 
 def test_an_exercise_may_be_in_c(program: pathlib.Path, tmp_path: pathlib.Path, clang: Compiler) -> None:
-    """Its files are one's own, and may have headers beside them."""
+    """Its files are the author's own, and may have headers next to them."""
     (tmp_path / "exercise.toml").write_text(
         'reference = "reference.c"\n[[cases]]\nregisters = { a1 = 6 }\nexpected.registers = ["a0"]'
     )
@@ -359,7 +359,7 @@ BY_ROUNDS = "li a0, 0\nli t0, 6\nnext: add a0, a0, a1\naddi t0, t0, -1\nbnez t0,
     "source, reason",
     [
         ("mul a0, a1, a1\nret", ""),
-        (BY_ROUNDS.replace("ret", "ebreak"), ""),  # which has 20, since the one that stops isn't carried out
+        (BY_ROUNDS.replace("ret", "ebreak"), ""),  # it has 20, since the instruction that stops doesn't execute
         (BY_ROUNDS, "the results are right, but it takes more than 20 instructions: with vectors fewer will do"),
         (BY_ROUNDS.replace("6", "7"), "a0: expected 36, found 42"),
         ("j .", "it hasn't ended after 100,000 ticks (an instruction takes at least one); it is at line 1"),
@@ -408,7 +408,7 @@ def test_what_is_no_file_is_not_read(tmp_path: pathlib.Path) -> None:
 
 
 def test_reports_for_other_programs(tmp_path: pathlib.Path) -> None:
-    """JUnit's XML has all answers, and Gradescope's JSON one; of hidden cases both tell no more than that they fail."""
+    """JUnit's XML has all answers, and Gradescope's JSON one; of hidden cases both show only that they fail."""
     odd = tmp_path / "=HYPERLINK(1)<&.s"
     odd.write_bytes(b"\0")
     shutil.copy(answer("wraps.s"), tmp_path / "wraps.s")

@@ -130,7 +130,7 @@ def grade_in_container(folder: pathlib.Path, answer: str, *words: str) -> "subpr
 
 
 def test_root_of_a_container(shared: pathlib.Path, clang: Compiler) -> None:
-    """It is told about --no-sandbox, which then refuses an exercise that the compiler could read, and grades another one."""
+    """Its message is about --no-sandbox, which then refuses an exercise that the compiler could read."""
     if os.geteuid():
         with pytest.raises(LabError, match="is for root of a container"):
             check_container(shared)

@@ -1,4 +1,4 @@
-"""gdb's protocol: packets in and packets out, and gdb itself in its batch mode, beside values that are known otherwise."""
+"""gdb's protocol: packets in and out, and gdb itself in batch mode, compared with values from other sources."""
 
 import os
 import pathlib
@@ -201,7 +201,7 @@ def test_back_from_the_end(tmp_path: pathlib.Path, program: pathlib.Path) -> Non
 
 
 def test_watched_forth_and_back(tmp_path: pathlib.Path, program: pathlib.Path) -> None:
-    """As gdb has it for RISC-V, a place is told of before the instruction is carried out, or taken back."""
+    """As in gdb for RISC-V, a watched place is reported before the instruction executes, or is undone."""
     make_image(program, tmp_path / "image", COUNTDOWN)
     with Packets(tmp_path / "image") as packets:
         store, behind = little(0x1000C), little(0x10010)
@@ -367,7 +367,7 @@ def test_images_that_are_refused(path: pathlib.Path, reason: str) -> None:
 
 @pytest.fixture(scope="module")
 def gdb() -> Callable[..., str]:
-    """gdb in its batch mode: what it says when it is connected to an image, and these commands are given.
+    """gdb in batch mode: its output when it is connected to an image and gets these commands.
 
     Where there is none, a test that wants it is left out and counted; where CI is set, it fails.
     """

@@ -1,4 +1,4 @@
-"""What an instruction changed: rows worked out by hand, and random instructions against looks at everything."""
+"""The changes of an instruction: rows worked out by hand, and random instructions compared with the whole state."""
 
 import pathlib
 import random
@@ -97,7 +97,7 @@ def _random_register(draws: random.Random) -> bytes:
 
 
 def test_random_instructions(program: pathlib.Path) -> None:
-    """Undone, the changes lead back to all that was before; so none is missing, and none is told that isn't."""
+    """Undone, the changes lead back to the whole earlier state; so none is missing, and none is false."""
     draws, kinds = random.Random(7), set[str]()
     with Session(program) as session:
         session.do_all(["1 enter", f"1 map {CODE:x} 1 rx", f"1 map {DATA:x} {DATA_BYTES // 4096} rw"])
@@ -118,7 +118,7 @@ def test_random_instructions(program: pathlib.Path) -> None:
 
 
 def _kind(change: Change) -> str:
-    """What kind of place it is."""
+    """The kind of a place."""
     if isinstance(change, MemoryChange):
         return "memory"
     return f"e{change.width}" if isinstance(change, ElementsChange) else re.sub("x[0-9]+", "x", change.name)

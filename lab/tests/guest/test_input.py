@@ -1,4 +1,4 @@
-"""A file laid at a program's symbols: what the program finds there; and images without them, or without room."""
+"""A file at a program's symbols: the data that the program finds there; and images without them, or without room."""
 
 import pathlib
 import subprocess

@@ -9,12 +9,12 @@ from support.places import NAMESAKES, PREFIX_SUMS, SUM, SUM_DWARF4, SUM_DWARF5, 
 from vecmon_lab.guest.source_lines import Copy, SourceLines, SourceRow, innermost, line_addresses
 
 BY_CLANG = {
-    9: "11190 111ac 111b4 11340 11348",  # `for` of the copy that nothing calls, of which main's has no test before the loop
+    9: "11190 111ac 111b4 11340 11348",  # `for` of the copy that nothing calls; main's has no test before the loop
     10: "111c0 11354",
     12: "111c8 111d4 111dc 11368",
     17: "111a4 11338",
     25: "111e8 11204 1120c",  # of a function that isn't inlined
-    54: "11354",  # a call of which no instruction is left; 11330 jumps to where the loop of the copy begins
+    54: "11354",  # a call without any instruction left; 11330 jumps to the start of the copy's loop
     56: "1138c",  # the next one, not the row at 113cc behind what is inlined
 }
 BY_GCC = {6: "1018c 101b8 101dc", 8: "10190 101bc 101f4", 10: "1020c", 16: "10120 10178", 18: "1018c", 20: "101b4"}

@@ -18,7 +18,7 @@ def test_names_and_places() -> None:
 
 
 def test_which_of_several_symbols_names_an_address() -> None:
-    """At 11008 stand the object `table` and the untyped `_edata` and `__bss_start`, and before it `count`."""
+    """At 11008 are the object `table` and the untyped `_edata` and `__bss_start`, and before it `count`."""
     symbols = Symbols.read(SQUARES_DWARF5)
     assert symbols.place(0x11008) == "table" and symbols.place(0x11000) == "count"
     assert [symbols.place(address) for address in (0x10120, 0x10174, 0x10184, 0x10188, 0x1018C)] == [

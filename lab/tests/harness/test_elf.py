@@ -1,4 +1,4 @@
-"""ELF files: what pyelftools reads of one, and what the machine loads."""
+"""ELF files: the fields that pyelftools reads, and the segments that the machine loads."""
 
 import io
 import pathlib

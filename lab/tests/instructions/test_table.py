@@ -1,4 +1,4 @@
-"""The list of instructions, beside the page that the program `test_assembler` prints."""
+"""The list of instructions, compared with the page that the program `test_assembler` prints."""
 
 from support.command_tables import with_instructions
 from support.places import DOCS

@@ -1,4 +1,4 @@
-"""The tables of words beside the list of instructions: what one lacks that the other has. No program is run here."""
+"""The tables of words, compared with the list of instructions in both directions. No program is run here."""
 
 import itertools
 import random
@@ -19,7 +19,7 @@ def test_the_tables_have_each_instruction() -> None:
 
 
 def _faults(name: str, bits: str, draws: random.Random) -> Iterator[str]:
-    """What the tables lack of an instruction, or have otherwise, by one of its words."""
+    """The differences between the tables and an instruction, by one of its words."""
     opcode = int(bits[-7:], 2)
     is_operation = opcode == OP_V and not name.startswith("vset")
     word = with_operands(bits, READS_VSTART if opcode == SYSTEM else draws.getrandbits(32))
@@ -40,7 +40,7 @@ def test_each_shape_is_that_of_an_instruction() -> None:
 
 
 def test_a_word_is_an_instruction_exactly_where_an_encoding_fits() -> None:
-    """But for accesses of control registers, which only some numbers have, and fences, of which one has an encoding."""
+    """Except accesses of control registers, which only some numbers have, and fences, with only one encoding."""
     by_place: dict[int, list[tuple[int, int]]] = {}
     for _, bits in encodings():
         mask, value = fixed_bits(bits)
@@ -53,7 +53,7 @@ def test_a_word_is_an_instruction_exactly_where_an_encoding_fits() -> None:
 
 
 def _places() -> Iterator[int]:
-    """Words with all opcodes, funct3 and funct7, and all numbers in another field that tells instructions apart."""
+    """Words with all opcodes, funct3 and funct7, and all numbers in another field that distinguishes instructions."""
     for opcode, funct3, funct7 in itertools.product(range(128), range(8), range(128)):
         place = opcode | funct3 << 12 | funct7 << 25
         if opcode == OP_V:

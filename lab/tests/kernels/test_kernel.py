@@ -1,4 +1,4 @@
-"""Functions called from Python: what they are given, what is read back, and what is told where a call doesn't return."""
+"""Functions called from Python: their arguments, their results, and the message if a call doesn't return."""
 
 import array
 import asyncio

@@ -1,4 +1,4 @@
-"""What notebooks show of the lab's objects: HTML, whose cells are what was worked out by hand."""
+"""The lab's objects in notebooks: HTML, whose cells were worked out by hand."""
 
 import pathlib
 from html.parser import HTMLParser

@@ -1,4 +1,4 @@
-"""Lessons: their frames beside what a plain run of the program prints, their files, and bad input."""
+"""Lessons: their frames compared with the output of a plain run of the program, their files, and bad input."""
 
 import json
 import os
@@ -29,7 +29,7 @@ from vecmon_lab.tables.table import read_table
 
 
 def transcript(program: pathlib.Path, script: str) -> list[str]:
-    """What a plain run of the program prints."""
+    """The output of a plain run of the program."""
     done = subprocess.run([program], input=script.encode("utf-8"), stdout=subprocess.PIPE, check=True)
     return done.stdout.decode("ascii").splitlines()
 

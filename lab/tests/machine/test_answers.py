@@ -1,4 +1,4 @@
-"""What answers say: each line that is stored is read, and printed as it was."""
+"""The form of answers: each stored line is read, and printed as it was."""
 
 import re
 from collections import Counter

@@ -65,7 +65,7 @@ def drawn_lines(seed: int, count: int) -> Iterator[str]:
 
 
 def plain_run(program: pathlib.Path, script: str) -> list[str]:
-    """What a plain run of the program prints."""
+    """The output of a plain run of the program."""
     words = [f"{name}={path}" for name, path in IMAGES.items()]
     run = subprocess.run([program, "/dev/stdin", *words], input=script.encode("ascii"), capture_output=True, check=True)
     return run.stdout.decode("ascii").splitlines()

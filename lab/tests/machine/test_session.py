@@ -253,7 +253,7 @@ def test_answers_that_are_none_to_a_recorded_script(session: Session) -> None:
 
 
 def test_a_program_that_ends_again_and_again(program: pathlib.Path, tmp_path: pathlib.Path) -> None:
-    """After the first line's answer, its process is gone: a line is tried twice, and then told."""
+    """After the first line's answer, its process is gone: a line is tried twice, and then the failure is reported."""
     once = stand_in(tmp_path, f'head -n 1 | "{program}"')
     with Session(once) as session:
         for _ in range(2):

@@ -41,7 +41,7 @@ def put_in(tab: Tab, text: str, language: str = "C, O2") -> None:
 
 
 def test_a_kernel_in_c(tabs: "Chrome", with_c: Served) -> None:
-    """It is compiled, stepped with its lines beside the instructions, and given to others with its language."""
+    """It is compiled, stepped with its lines next to the instructions, and given to others with its language."""
     from selenium.webdriver.common.keys import Keys
 
     tab, teacher = Tab(tabs, with_c, "A1"), Tab(tabs, with_c, "teacher")
@@ -71,7 +71,7 @@ def test_a_kernel_in_c(tabs: "Chrome", with_c: Served) -> None:
 
 
 def test_lines_are_stepped(tabs: "Chrome", with_c: Served) -> None:
-    """The line where the machine stands is marked in the source and its number, at which a click sets a breakpoint."""
+    """The current line is marked in the source and its number, at which a click sets a breakpoint."""
     from selenium.webdriver.common.keys import Keys
 
     tab = Tab(tabs, with_c, "A1")
@@ -167,7 +167,7 @@ def test_a_class_without_c_says_so(tabs: "Chrome", program: pathlib.Path, tmp_pa
 
 
 def test_a_source_is_handed_on(tabs: "Chrome", with_c: Served, tmp_path: pathlib.Path) -> None:
-    """A link fills the editor of whoever opens it at a seat, with its language, and compiles nothing; so does a file."""
+    """A link fills the editor of the seat that opens it, with its language, and compiles nothing; so does a file."""
     tab = Tab(tabs, with_c, "A1")
     put_in(tab, "int main(void) { return 'é'; } // ÿ\n", "C, O3-scalar")
     tab.click("#link")
@@ -222,7 +222,7 @@ def test_a_stock_assembler(tabs: "Chrome", with_c: Served, tmp_path: pathlib.Pat
 
 
 def test_listings_side_by_side(tabs: "Chrome", clang: Compiler, program: pathlib.Path, tmp_path: pathlib.Path) -> None:
-    """They open in a tab of their own, of what stands in the editor, with both profiles."""
+    """They open in a tab of their own, for the text in the editor, with both profiles."""
     if shutil.which("bwrap") is None:
         leave_out(NO_SANDBOX)
     page = Explored(tmp_path / "page", program, EXAMPLES / "kernels" / "plain_sum.c", "--cc", clang.name)

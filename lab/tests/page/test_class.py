@@ -144,7 +144,7 @@ def test_pastes(sit: Sit, served: Served) -> None:
 
 
 def test_first_sight_and_keys(sit: Sit) -> None:
-    """The source is open; it is written, stepped and changed by keys alone; names are told of."""
+    """The source is open; keys alone write, step and change it; names have explanations."""
     from selenium.webdriver.common.keys import Keys
 
     tab = sit("A6")
@@ -350,7 +350,7 @@ def test_lines_of_before_and_refusals(sit: Sit) -> None:
 
 
 def test_the_teacher_sees_and_settles(sit: Sit, tmp_path: pathlib.Path, served: Served) -> None:
-    """A student's stop stands on the teacher's page; rights, operator's lines, a new code, downloads; what is taken home."""
+    """The teacher's page has a student's stop; rights, operator's lines, a new code, downloads, files to take home."""
     tab, teacher = sit("A5"), sit("teacher")
     row = "tr[data-seat='A5']"
     tab.begin(*COUNT_UP)
@@ -412,7 +412,7 @@ def test_a_code_is_kept_for_the_tab_alone(sit: Sit, served: Served) -> None:
 
 
 def test_a_server_is_killed_and_begun_again(tabs: "Chrome", own_class: Served) -> None:
-    """Tabs go on without a reload; what was under way, and what wasn't sent, is said and not sent again."""
+    """Tabs go on without a reload; requests under way and unsent ones are reported and not sent again."""
     tab, teacher = Tab(tabs, own_class, "A1"), Tab(tabs, own_class, "teacher")
     tab.begin(*COUNT_UP)
     tab.click("#one")

@@ -35,7 +35,7 @@ def course(program: pathlib.Path, tmp_path_factory: pytest.TempPathFactory) -> I
 
 
 def check(tab: Tab, source: str, verdict: str) -> None:
-    """Checks a source, and waits for what is told."""
+    """Check a source, and wait for the result."""
     tab.run(TYPE, source)
     tries = tab.run("one('#exercise [role=status]').textContent")
     tab.click("#exercise .main")
@@ -94,7 +94,7 @@ def test_an_exercise_is_solved(tabs: "Chrome", course: Served) -> None:
 
 
 def test_an_exercise_is_solved_in_c(tabs: "Chrome", course: Served, sandboxed_clang: Compiler) -> None:
-    """Who chooses C has another source to begin with; a mistake, a wrong answer at the desk, and a right one."""
+    """A choice of C gives another source to begin with; a mistake, a wrong answer at the desk, and a right one."""
     tab = Tab(tabs, course, "A6")
     tab.wait("one('#exercise h2')")
     choose(tab, "saturating_sum")
@@ -163,7 +163,7 @@ def test_all_exercises_are_solved(tabs: "Chrome", course: Served) -> None:
 
 
 def test_an_endless_answer_holds_nobody_up(tabs: "Chrome", course: Served) -> None:
-    """Neither the others nor its own seat, whose machine steps while it is checked; it is told what went wrong."""
+    """Neither the others nor its own seat wait: its machine steps meanwhile; the seat gets the error."""
     tab, other = Tab(tabs, course, "A4"), Tab(tabs, course, "A5")
     for each in (tab, other):
         each.begin("addi x5, x5, 1", "jal x0, -4")
@@ -179,7 +179,7 @@ def test_an_endless_answer_holds_nobody_up(tabs: "Chrome", course: Served) -> No
 
 
 def test_the_panel_can_be_put_away(tabs: "Chrome", course: Served) -> None:
-    """It has a place beside the machine, and all of the width is the machine's without it."""
+    """It has a place next to the machine; without it, the machine has all of the width."""
     tab = Tab(tabs, course, "A3")
     width = "id('machine').getBoundingClientRect().width"
     tab.wait("one('#exercise h2')")

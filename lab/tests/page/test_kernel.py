@@ -31,7 +31,7 @@ def kernel(browser: "Chrome", program: pathlib.Path, tmp_path: pathlib.Path) -> 
 
 
 def opened(browser: "Chrome", folder: pathlib.Path, page: str) -> "Chrome":
-    """Opens a page; what the console says of it is gone then."""
+    """Open a page; earlier messages of the browser's console are dropped."""
     (folder / "page.html").write_text(page, "utf-8")
     browser.get("about:blank")
     browser.get_log("browser")

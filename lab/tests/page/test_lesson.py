@@ -1,4 +1,4 @@
-"""Lessons in Chromium: forth and back, beside what the machine says of the same steps."""
+"""Lessons in Chromium: forwards and backwards, compared with the machine's answers to the same steps."""
 
 import json
 import pathlib
@@ -23,7 +23,7 @@ if TYPE_CHECKING:
 
 @pytest.fixture
 def opened(browser: "Chrome", tmp_path: pathlib.Path) -> Callable[[str], "Chrome"]:
-    """Opens a page; what the console says of it is gone then."""
+    """Open a page; earlier messages of the browser's console are dropped."""
 
     def show(page: str) -> "Chrome":
         (tmp_path / "page.html").write_text(page, "utf-8")
@@ -278,7 +278,7 @@ def test_focus_is_seen_on_all_controls(opened: Callable[[str], "Chrome"], progra
 
 
 def test_the_tours_beginning(opened: Callable[[str], "Chrome"], tmp_path: pathlib.Path) -> None:
-    """Its links lead to the lessons beside it; each has a sentence and a picture, which a screen reader names."""
+    """Its links lead to the lessons in its folder; each has a sentence and a picture, which a screen reader names."""
     strip = {"name": "v1", "text": "", "cells": [("0a", "active"), ("ff", "tail")]}
     lessons = [{"name": name, "sentence": "Uses `v1`.", "strip": strip} for name in ("one", "two")]
     titled = [each | {"title": title} for each, title in zip(lessons, ["Masks & tails", "A <class>"])]

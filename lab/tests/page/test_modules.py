@@ -1,4 +1,4 @@
-"""Modules joined: by hand, those of all pages, and the scripts that stand in the pages."""
+"""Modules joined: by hand, those of all pages, and the scripts in the pages."""
 
 import base64
 import hashlib
@@ -111,5 +111,5 @@ def test_the_content_policy_names_one_script(name: str) -> None:
 
 
 def named(text: str) -> str:
-    """What a content policy calls a text: Content Security Policy Level 3, section 2.3.1."""
+    """The hash of a text in a content policy: Content Security Policy Level 3, section 2.3.1."""
     return f"'sha256-{base64.b64encode(hashlib.sha256(text.encode()).digest()).decode()}'"

@@ -1,4 +1,4 @@
-"""Operands as pages are told them: some by hand, and all instructions' beside the machine's texts and the decoder."""
+"""Operands of pages: some by hand, and all instructions' compared with the machine's texts and the decoder."""
 
 import random
 import re
@@ -57,7 +57,7 @@ def test_operands(session: Session, text: str, operands: list[Shown]) -> None:
 
 
 def test_operands_are_those_of_the_words(browser: "Chrome", session: Session) -> None:
-    """The registers that instructions' texts name; and what the page makes of them, beside the fields of legal words."""
+    """The registers that instructions' texts name; and those of the page, compared with the fields of legal words."""
     draws = random.Random(1)
     names = [name for name, bits in encodings() if name.startswith("v") and not name.startswith("vset")]
     words = [with_operands(dict(encodings())[name], draws.getrandbits(32)) for name in names for _ in range(12)]

@@ -1,4 +1,4 @@
-"""What a program puts out, on a seat's page: also one that never ends."""
+"""The output of a program on a seat's page: also of one that never ends."""
 
 import json
 from typing import TYPE_CHECKING
@@ -57,7 +57,7 @@ def test_a_program_that_prints_without_end_is_stopped(tabs: "Chrome", own_class:
     tab.wait("window.changes > 5")
     assert tab.run("id('output').scrollTop") == 100
     changes, frames = tab.run("[window.changes, window.frames]")
-    assert changes <= 2 * frames  # what stood there goes, and what stands there now comes
+    assert changes <= 2 * frames  # old output goes, and new output comes
     assert tab.front().execute_async_script(STOP) < 5000  # ms, on a machine that others use
     tab.run("(id('output').scrollTop = 1e9)")
     tab.command("step 1")

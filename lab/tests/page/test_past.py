@@ -8,7 +8,7 @@ DOUBLES = "vsetivli zero, 8, e32, m1, ta, ma\nvid.v v1\nvadd.vv v2, v1, v1\nli a
 
 
 def test_back_and_forth(sit: Sit) -> None:
-    """What was seen is shown again, plainly as the past, in which nothing can be done; Now returns, and so does a line."""
+    """An earlier state is shown, plainly as the past, where nothing can be done; Now returns, and so does a line."""
     from selenium.webdriver.common.keys import Keys
 
     tab, teacher = sit("A1"), sit("teacher")

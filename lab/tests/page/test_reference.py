@@ -1,4 +1,4 @@
-"""What a class's page tells of names, beside the pages of the manual."""
+"""The explanations of names on a class's page, compared with the pages of the manual."""
 
 import json
 import re

@@ -22,7 +22,7 @@ def empty(tab: Tab, field: str = "source") -> None:
 
 
 def begin_a_line(tab: Tab) -> None:
-    """Types the beginning of a name, of which several are offered then."""
+    """Type the beginning of a name, for which the page then offers several."""
     empty(tab)
     tab.keys("#source", "loop: vadd.v")
 
@@ -210,7 +210,7 @@ def _take_back(teacher: Tab, tab: Tab) -> None:
 
 
 def test_the_listing_has_the_sources_lines(sit: Sit) -> None:
-    """Beside a word stands its line where that says something else, or its comment; of one line's words beside the first."""
+    """A word has its source line next to it if that differs, or its comment; of one line's words, the first has it."""
     tab = sit("A6")
     tab.run("id('source').value = arguments[0]", COUNTS)
     tab.click("#assemble")

@@ -31,7 +31,7 @@ def served(program: pathlib.Path, tmp_path_factory: pytest.TempPathFactory) -> I
 
 
 def test_codes_and_the_sheet(sit: Sit, served: Served) -> None:
-    """Codes stand on the teacher's page while they are shown: one, all, or on a sheet to print, with pictures."""
+    """The teacher's page shows codes on request: one, all, or on a sheet to print, with pictures."""
     teacher, codes = sit("teacher"), served.codes
     teacher_code = codes.pop("teacher")
     seats = [f"A{number}" for number in range(1, 9)]

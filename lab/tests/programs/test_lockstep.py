@@ -1,4 +1,4 @@
-"""Logs of other devices beside the machine: one of Spike's form, worked by hand, and QEMU's own; with planted differences."""
+"""Logs of other devices: one of Spike's form, worked out by hand, and QEMU's own; with planted differences."""
 
 import pathlib
 import shutil
@@ -140,7 +140,7 @@ def test_a_log_of_qemus(lab: Lab, tmp_path: pathlib.Path) -> None:
 
 @pytest.mark.usefixtures("qemu")
 def test_what_a_call_answers_is_the_logs(lab: Lab, program: pathlib.Path, tmp_path: pathlib.Path) -> None:
-    """The number of the process, which the machine doesn't tell."""
+    """The number of the process, which the machine doesn't print."""
     make_image(program, tmp_path / "image", "li a7, 172\necall\nmv a1, a0\nli a0, 0\nli a7, 93\necall\n")
     log = qemu_log(tmp_path / "image")
     status, output, _ = lab("lockstep", tmp_path / "image", log)

@@ -1,4 +1,4 @@
-"""What lock-step compares of logs: accesses, vector types and control registers, worked by hand; how logs end; QEMU's vector unit."""
+"""Lock-step: accesses, vector types and control registers, worked out by hand; ends of logs; QEMU's vector unit."""
 
 import gzip
 import pathlib

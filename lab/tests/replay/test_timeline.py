@@ -1,4 +1,4 @@
-"""Instants of a run, forth and back, beside states that are counted by hand."""
+"""Instants of a run, forwards and backwards, compared with states that are counted by hand."""
 
 import itertools
 import pathlib
@@ -138,7 +138,7 @@ def test_changes_and_breakpoints(begin: Callable[[str], tuple[Timeline, Guest]])
 
 
 def test_changes_behind_what_was_written_by_hand(begin: Callable[[str], tuple[Timeline, Guest]]) -> None:
-    """Nine rounds in place of three, the first of which stores what is there."""
+    """Nine rounds in place of three; the first one stores the value that is there."""
     timeline, guest = begin(COUNTDOWN)
     timeline.step()
     guest.ask("set x5 9", "set x6 20", "poke 11008 09000000")

@@ -1,4 +1,4 @@
-"""What loads and stores access by their lines in a log, of which the words were encoded by hand."""
+"""The accesses of loads and stores, from their lines in a log, whose words were encoded by hand."""
 
 import pytest
 

@@ -4,7 +4,7 @@ from vecmon_lab.runs.callers import CallFrame, Callers
 
 
 def test_a_function_with_two_callers() -> None:
-    """60 ticks of `add` in six calls: one from `main`, five from `sum`, whose ten are its own beside these 50."""
+    """60 ticks of `add` in six calls: one from `main`, five from `sum`, whose own ten are added to these 50."""
     callers = Callers(
         {"main": 5, "sum": 10, "add": 60}, {("main", "sum"): 2, ("main", "add"): 1, ("sum", "add"): 5}, "main"
     )

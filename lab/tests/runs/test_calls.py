@@ -112,7 +112,7 @@ def test_what_is_supported_is_not_looked_at(program: pathlib.Path, tmp_path: pat
 
 
 def test_a_page_shows_them_at_the_instruction(session: Session) -> None:
-    """Those that the code shows, from the start on; one whose number comes from elsewhere once the program stands at it."""
+    """Those in the code, from the start on; a call with a computed number once the program reaches it."""
     guest = Guest(session)
     code = ["addi x17, x0, 63", "ecall", "addi x17, x10, 42", "ecall", "addi x17, x0, 93", "ecall"]
     guest.ask("enter", "map 10000 1 rx", *(f"asm {0x10000 + 4 * at:x} {text}" for at, text in enumerate(code)))

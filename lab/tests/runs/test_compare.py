@@ -48,7 +48,7 @@ UNWRITTEN = {
         "  which comes from memory from 7fffefbc on, where nothing has been written",
     ],
 }
-"""What is told of each program of the examples, by its labels; `*` stands for what is filled in."""
+"""The differences of each program of the examples, by its labels; `*` is replaced."""
 
 LATE = """
 # A sum of a tail, of which a branch makes something behind a million instructions.

@@ -82,7 +82,7 @@ def _word(session: Session, text: str) -> int:
 
 
 def test_ticks_are_those_of_slices(program: pathlib.Path, tmp_path: pathlib.Path) -> None:
-    """A slice of one tick is granted as often as ticks are counted."""
+    """A slice of one tick is granted once for each tick counted."""
     source = re.sub(r"vse32.v v10.*", "li a7, 93\n        ecall", re.sub(r"\|.*", "", CHANGES))
     make_image(program, tmp_path / "rows", source)
     for image in (SUM, tmp_path / "rows"):
@@ -94,7 +94,7 @@ def test_ticks_are_those_of_slices(program: pathlib.Path, tmp_path: pathlib.Path
 
 
 def test_counts_of_a_program() -> None:
-    """250 instructions are what QEMU 7.2 carries out, too. The loop at 1123c has 6 strips of 16 and one of 4."""
+    """QEMU 7.2 executes 250 instructions, too. The loop at 1123c has 6 strips of 16 and one of 4."""
     counts = record(beginning_of(SUM, ["sum"]))
     places = {
         place.address: (counts.texts[place.word], place.times, place.ticks, *place.elements) for place in counts.places
@@ -110,7 +110,7 @@ def test_counts_of_a_program() -> None:
 
 
 def test_a_run_that_begins_where_a_guest_stands(session: Session) -> None:
-    """Three elements of eight are added under a mask of 5, of which 4 is left: what was set before is there."""
+    """Under a mask of 5, three elements of eight are added, from 4 left over: the value set before is there."""
     guest, lines = Guest(session), ["1 enter", "1 map 10000 1 rx", "1 asm 10000 vadd.vi v8, v8, 1, v0.t"]
     lines += ["1 asm 10004 ebreak", "1 asm 10008 vsetivli x0, 3, e32, m1, ta, ma", "1 setpc 10008", "1 step 1"]
     lines += ["1 vset v0 " + "05" + "00" * 31, "1 setpc 10000", "1 policy ones"]

@@ -1,4 +1,4 @@
-"""`vecmon-lab run --log`: the recorder's log of an image, beside lines that were worked out by hand."""
+"""`vecmon-lab run --log`: the recorder's log of an image, compared with lines that were worked out by hand."""
 
 import os
 import pathlib

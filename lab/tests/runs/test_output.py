@@ -57,7 +57,7 @@ WRITES_ITS_CALL = """
 
 @pytest.fixture(scope="module")
 def image(clang: Compiler, tmp_path_factory: pytest.TempPathFactory) -> Callable[[str], pathlib.Path]:
-    """What compiles one of the programs, with what the lab gives programs in C."""
+    """Compile one of the programs, with the lab's options for programs in C."""
     folder = tmp_path_factory.mktemp("images")
 
     def made(name: str) -> pathlib.Path:
@@ -129,7 +129,7 @@ def test_a_call_that_the_program_writes_itself(session: Session) -> None:
 
 
 def test_ticks_of_a_program_that_writes_much(session: Session) -> None:
-    """A call writes 256 bytes: four of them count as a slice, of which the go has 100."""
+    """A call writes 256 bytes: four calls count as a slice; the go has 100 slices."""
     lines = ["addi x10, x0, 1", "lui x11, 0x10", "addi x12, x0, 256", "addi x17, x0, 64", "ecall", "jal x0, -20"]
     guest = with_code(session, "rx", lines)
     assert guest.go(10_000) is None and guest.ticks == 10_000 and guest.output() == guest.peek(0x10000, 256) * 400

@@ -1,4 +1,4 @@
-"""`vecmon-lab profile`: the table beside counts by hand, the CSV file, and the page in Chromium."""
+"""`vecmon-lab profile`: the table compared with counts by hand, the CSV file, and the page in Chromium."""
 
 import csv
 import pathlib
@@ -34,7 +34,7 @@ WIDTHS = "return [...document.querySelectorAll(arguments[0])].map((bar) => bar.g
 
 
 def cells(line: str) -> list[str]:
-    """The words of a line of the table."""
+    """The cells of a row of the table."""
     return line.split()
 
 
@@ -121,7 +121,7 @@ def test_loops_functions_and_calls(lab: Lab, program: pathlib.Path, tmp_path: pa
 
 
 def test_source_lines(lab: Lab) -> None:
-    """What the rows of a line have together, by the listing."""
+    """The sums of the rows of a line, by the listing."""
     tables = [table.splitlines() for table in lab("profile", SUM_DWARF4)[1].decode().split("\n\n")]
     assert tables[0][1].split() == "111d4 111f4 _start+0x44 sum.c:34-35 6 54 432 60 % 672 0 0 100 %".split()
     assert tables[0][2].split() == "1123c 11258 _start+0xac sum.c:20-23 7 56 149 21 % 200 0 24 89 %".split()
@@ -182,7 +182,7 @@ def test_the_page(browser: "Chrome", lab: Lab, program: pathlib.Path, tmp_path: 
 def test_the_flame_graph(
     browser: "Chrome", lab: Lab, program: pathlib.Path, tmp_path: pathlib.Path, scheme: str
 ) -> None:
-    """Of 74 ticks `long` has 46, and 33 of them are calls of `short`, which has 22 beside; a click makes 46 the whole."""
+    """Of 74 ticks `long` has 46, and 33 of them are calls of `short`, which has 22 more; a click makes 46 the whole."""
     make_image(program, tmp_path / "calls", CALLS)
     assert lab("profile", "-o", tmp_path / "page.html", tmp_path / "calls")[0] == 0
     browser.execute_cdp_cmd(

@@ -1,4 +1,4 @@
-"""The recorder: what a run is given reaches it, its refusals are told, and a file of counts is read as it says."""
+"""The recorder: it gets a run's arguments, the lab reports its refusals, and a file of counts is read as documented."""
 
 import pathlib
 

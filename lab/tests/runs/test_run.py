@@ -12,7 +12,7 @@ from support.images import MARCH, make_image
 from support.places import DATA, EXAMPLES, SORT, SQUARES, SQUARES_DWARF5, STOCK, SUM, TOP
 from support.sources import ARGUMENTS, EXIT, FOREVER, WRITES
 
-QEMU = DATA / "qemu"  # what qemu-riscv64 7.2.22 of Debian 12 told
+QEMU = DATA / "qemu"  # the output of qemu-riscv64 7.2.22 of Debian 12
 CTRL_C = 130
 NOT_THERE = "its page isn't mapped, or has no permission"
 JUMP = "10004: jalr x0, 0(x5)"
@@ -22,7 +22,7 @@ VID = "10000: vid.v v8: Illegal instruction at 0x10000: vid.v v8."
 
 @pytest.mark.by_command("run")
 def test_stock_programs(lab: Lab) -> None:
-    """As QEMU has it, which also carries out 509,200 instructions of the second one."""
+    """As in QEMU, which also executes 509,200 instructions of the second one."""
     assert lab("run", SUM) == (0, b"328350\n", "")
     assert lab("run", SORT) == (42, (QEMU / "sortgcc").read_bytes(), "")
     assert lab("run", "--policy", "ones", SUM, "one", "two") == (0, b"328350\n", "")

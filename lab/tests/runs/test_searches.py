@@ -25,7 +25,7 @@ def compiled(clang: Compiler, source: pathlib.Path) -> pathlib.Path:
 
 
 def copied(folder: pathlib.Path, name: str, changes: Mapping[str, str] = {}) -> pathlib.Path:
-    """One of the sources in a folder, with some texts changed that stand in it once."""
+    """One of the sources in a folder, with changes to some texts that are in it once."""
     text = (SEARCHES / name).read_text("utf-8")
     for old, new in changes.items():
         assert text.count(old) == 1
@@ -37,7 +37,7 @@ def copied(folder: pathlib.Path, name: str, changes: Mapping[str, str] = {}) -> 
 
 def test_a_length_that_is_taken_anew(lab: Lab, clang: Compiler, tmp_path: pathlib.Path) -> None:
     """A fifth of the text, so a 25th of a hundred million instructions. Of 22 characters that repeat 15 are small letters,
-    and the function is called once more than there are bytes, each of which it passes in four instructions."""
+    and the function is called once more than there are bytes; each takes four instructions."""
     shorter = {"BYTES 5000": "BYTES 1000"}
     letters = compiled(clang, copied(tmp_path / "first", "letters.c", shorter))
     once = {"i = 0; i < length(bytes)": "i = 0, end = length(bytes); i < end"}
@@ -54,7 +54,7 @@ def test_a_length_that_is_taken_anew(lab: Lab, clang: Compiler, tmp_path: pathli
 
 
 def test_pieces(lab: Lab, clang: Compiler, tmp_path: pathlib.Path) -> None:
-    """Two writes, of 994 bytes and of 60; of the first one 256 come out. All commands carry out as many instructions."""
+    """Two writes, of 994 bytes and of 60; 256 of the first come out. All commands execute equally many instructions."""
     pieces, trace = compiled(clang, copied(tmp_path / "first", "pieces.c")), tmp_path / "trace"
     status, output, told = lab("run", "--count", "--trace", trace, "--from", "18001", pieces)
     assert (status, output) == (0, SQUARES[:256] + SQUARES[994:]) and len(SQUARES) == 1054

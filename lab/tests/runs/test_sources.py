@@ -1,4 +1,4 @@
-"""Sources in C in place of images, as docs/RUNNING.md has it: of kernels, beside images of its commands, and with mistakes."""
+"""Sources in C in place of images, as in docs/RUNNING.md: of kernels, compared with images, and with mistakes."""
 
 import pathlib
 import shutil

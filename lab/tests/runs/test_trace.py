@@ -1,4 +1,4 @@
-"""`vecmon-lab run --trace`, whole and in windows: beside one of QEMU's, and beside lines that were worked out by hand."""
+"""`vecmon-lab run --trace`, whole and in windows: compared with QEMU's, and with lines worked out by hand."""
 
 import pathlib
 import re
@@ -11,7 +11,7 @@ from support.places import DATA, SUM
 from support.sources import EXIT
 from vecmon_lab.guest.changes import vtype_text
 
-QEMU = DATA / "qemu"  # what qemu-riscv64 7.2.22 of Debian 12 told
+QEMU = DATA / "qemu"  # the output of qemu-riscv64 7.2.22 of Debian 12
 ROUNDS = (0x2FB << 12) - 0x10
 LONG = f"""
         lui t0, 0x2fb

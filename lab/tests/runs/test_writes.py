@@ -1,4 +1,4 @@
-"""Calls that are given more bytes than they write: told once, unless the program goes on with the rest."""
+"""Calls with more bytes than they write: reported once, unless the program goes on with the rest."""
 
 import pathlib
 
@@ -48,7 +48,7 @@ def test_short_writes(
 
 
 def test_the_last_call(lab: Lab, program: pathlib.Path, tmp_path: pathlib.Path) -> None:
-    """Told where no other one follows, and beside why the program stopped."""
+    """Reported if no other call follows, next to the cause of the stop."""
     source = "li a0, 1\nlui a1, 0x10\nli a2, 500\nli a7, 64\necall\nebreak\n.zero 800"
     make_image(program, tmp_path / "writes", source)
     status, output, told = lab("run", tmp_path / "writes")

@@ -40,12 +40,12 @@ def golden(program: pathlib.Path, name: str, cases: int, base: int = 0) -> list[
 
 
 def cases_of(folder: pathlib.Path, name: str) -> list[dict[str, Any]]:
-    """The cases that stand beside a program."""
+    """The cases in the folder of a program."""
     return [json.loads(line) for line in (folder / f"{name}.jsonl").read_text("ascii").splitlines()]
 
 
 def output_of(words: list[str | pathlib.Path]) -> tuple[int, list[str]]:
-    """The status of a program, and the lines that it puts out."""
+    """The status of a program, and its lines of output."""
     done = subprocess.run(words, stdout=subprocess.PIPE, text=True)
     return done.returncode, done.stdout.splitlines()
 
@@ -127,7 +127,7 @@ def test_a_stock_assembler_makes_the_same(lab: Lab, tmp_path: pathlib.Path, envi
         link = ["riscv64-linux-gnu-ld", *options.split(","), "-o", f"{linked}", f"{made}"]
         subprocess.run(
             link, check=True, stderr=subprocess.DEVNULL
-        )  # it warns of a page that is written and carried out
+        )  # it warns of a page that is writable and executable
         if environment == "linux" and shutil.which("qemu-riscv64"):
             assert output_of([*on_qemu.QEMU, linked]) == output_of([*on_qemu.QEMU, source.with_suffix(".elf")])
     assert len(list(tmp_path.glob("*.linked"))) == (11 if environment == "linux" else 10)

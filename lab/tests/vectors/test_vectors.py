@@ -168,7 +168,7 @@ def test_cases_behind_one_that_ends_qemu(monkeypatch: pytest.MonkeyPatch) -> Non
 
 
 def reason_of(case: dict[str, Any], differing: dict[str, tuple[Any, Any]]) -> str:
-    """Why QEMU 7.2 differs: none where it doesn't; each reason stands in docs/GOLDEN_VECTORS.md."""
+    """Why QEMU 7.2 differs: empty if it doesn't; docs/GOLDEN_VECTORS.md has each reason."""
     if not differing:
         return "none"
     names, is_access = set(differing), int(case["word"], 16) & 0x7F in (0x03, 0x07, 0x23, 0x27)
