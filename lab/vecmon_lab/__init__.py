@@ -1,4 +1,4 @@
-"""A front end for vecmon: it speaks lines with the program, and shows what the machine told."""
+"""A front end for vecmon: it sends lines to the program, and shows the machine's answers."""
 
 import contextlib
 import importlib
@@ -13,7 +13,7 @@ __version__ = "1.0.0"  # of program, lab and packages; the newest one in CHANGEL
 
 
 class LabError(Exception):
-    """What the user of the lab can mend: its text is one line that says what is wrong, or one for each mistake in C."""
+    """An error that the user of the lab can correct: one line that says what is wrong, or one for each mistake in C."""
 
 
 @contextlib.contextmanager

@@ -14,7 +14,7 @@ COMMANDS = {name: (module, sentence) for name, module, sentence in read_table("l
 
 
 class _Parser(argparse.ArgumentParser):
-    """A parser that tells a mistake in one line."""
+    """A parser that reports a usage error in one line."""
 
     def error(self, message: str) -> NoReturn:
         self.exit(2, f"{self.prog}: {message}; --help says more\n")
@@ -35,7 +35,7 @@ def main() -> int:
         mistake = str(error)
     except ModuleNotFoundError as error:
         mistake = _missing(error.name or "")
-    except BrokenPipeError:  # whoever reads has gone, as `head` does; what is left is written nowhere
+    except BrokenPipeError:  # the reader has gone, as `head` does; the rest is dropped
         os.dup2(os.open(os.devnull, os.O_WRONLY), sys.stdout.fileno())
         return 141
     except OSError as error:
@@ -53,9 +53,9 @@ def _missing(module: str) -> str:
 
 
 def arguments_of(words: list[str]) -> argparse.Namespace:
-    """What the program's words are, with the function `run` of the command that they name.
+    """Parse the program's arguments, with the function `run` of the command that they name.
 
-    Options stand anywhere; but of a command that takes an image's own words, before the image.
+    Options may be anywhere; but before the image if a command takes the image's own arguments.
     """
     match words:
         case ["help", *more]:

@@ -48,7 +48,7 @@ def add_program(
     parser: argparse.ArgumentParser, told: str = "an ELF file, or a source in C (.c)", is_needed: bool = True
 ) -> None:
     """An image, and all words behind it as the program's own, options too; and a file as its input."""
-    parser.allow_abbrev = False  # so that no word of the program's is looked up among the options
+    parser.allow_abbrev = False  # so that no argument of the program is looked up among the options
     told = f"{told}; the arguments after it are the program's"
     metavar = "IMAGE" if is_needed else "[IMAGE]"
     image = parser.add_argument("image", metavar=metavar, nargs=argparse.PARSER, action=_Program, help=told)
@@ -72,7 +72,7 @@ def check_output(output: pathlib.Path | None, *inputs: pathlib.Path) -> None:
 
 
 def between(least: int, most: int) -> Callable[[str], int]:
-    """What reads a decimal number in these bounds from a word."""
+    """Return a function that reads a decimal number in these bounds from an argument."""
 
     def number(word: str) -> int:
         if not word.isdecimal() or not least <= int(word) <= most:

@@ -15,7 +15,7 @@ from .misfits import misfit
 
 @dataclass(frozen=True)
 class Command:
-    """A command of the monitor or the console: its form, as `peek ADDR N`, what it does, and the refusals of its own."""
+    """A command of the monitor or the console: its form, as `peek ADDR N`, its effect, and its own refusals."""
 
     form: str
     does: str
@@ -39,7 +39,7 @@ MEANINGS = {code: _plain(meaning) for code, meaning, _ in _REFUSALS}
 
 
 def help_on(name: str) -> list[str]:
-    """What a command does, or a refusal means; where the name is empty, the forms of all commands by section."""
+    """The effect of a command, or the meaning of a refusal; for an empty name, the forms of all commands by section."""
     if not name:
         sections = itertools.groupby(_COMMANDS, operator.itemgetter(0))
         return [f"{section}: {', '.join(form for _, form, *_ in rows)}" for section, rows in sections]
@@ -53,7 +53,7 @@ def help_on(name: str) -> list[str]:
 
 
 def refusal_in_words(line: str, answer: Refused) -> list[str]:
-    """What the refusal of a line means. Below a text that spells no instruction is marked where it doesn't fit."""
+    """The meaning of a line's refusal. Below a text that is no instruction, the wrong part is marked."""
     word = "".join(words_of(line)[:1])
     own, other, whose = (f"* {word}", word, "a user") if line[0] == "*" else (word, f"* {word}", "the operator")
     match answer.code:
@@ -79,7 +79,7 @@ def refusal_in_words(line: str, answer: Refused) -> list[str]:
 
 
 def refusal_on_pages(line: str, answer: Sequence[str]) -> str:
-    """What the refusal of a line means, as pages show it, with code between backquotes; "" where it isn't refused."""
+    """The meaning of a line's refusal, as pages show it, with code between backquotes; "" if it isn't refused."""
     said = read(answer) if is_refusal(answer) else None
     if not isinstance(said, Refused):
         return ""
@@ -88,6 +88,6 @@ def refusal_on_pages(line: str, answer: Sequence[str]) -> str:
 
 
 def log_entries(line: str, answer: Sequence[str]) -> list[str]:
-    """The lines of an answer as entries of a log. Behind one that refuses stands what that means, behind a newline."""
+    """The lines of an answer as entries of a log. A refusal is followed by a newline and its meaning."""
     words = refusal_on_pages(line, answer)
     return [f"<{part}\n{words}".rstrip("\n") for part in answer]

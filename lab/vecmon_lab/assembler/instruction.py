@@ -55,7 +55,7 @@ def refusal(statement: Statement, column: int) -> SourceError:
 
 @dataclass(frozen=True)
 class Instruction:
-    """An instruction or pseudo-instruction, and what it stands for; its operands wait for addresses."""
+    """An instruction or pseudo-instruction, and its expansion; its operands wait for addresses."""
 
     name: Token
     operands: list[Operand]
@@ -78,7 +78,7 @@ class Instruction:
             yield Statement(self.place.resolved() + 4 * index, self.name.line, text, tuple(columns))
 
     def _pieces(self, symbols: Symbols, operand: Operand, what: str) -> _Pieces:
-        """What stands in a hole: an operand as the machine takes it, or what the template makes of it."""
+        """The text for a hole: an operand as the machine takes it, or the value that the template makes from it."""
         texts, column, is_vector = [token.text for token in operand], operand[0].column, self.name.text.startswith("v")
         if what.startswith("label"):
             return [(self._distance(symbols, operand, what), column)]

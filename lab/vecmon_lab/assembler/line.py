@@ -16,11 +16,11 @@ _PIECE = re.compile(r"\\([0-7]{1,3})|\\x([0-9A-Fa-f]{1,2})(?![0-9A-Fa-f])|\\(.)|
 _LETTERS = {"b": "\b", "f": "\f", "n": "\n", "r": "\r", "t": "\t", '"': '"', "\\": "\\"}
 
 Kind = enum.Enum("Kind", "NAME NUMBER STRING MARK")
-"""What a token is; a mark is any other character."""
+"""The kinds of tokens; a mark is any other character."""
 
 
 class SourceError(LabError):
-    """What is wrong in a source, and the line and the column where it stands."""
+    """A mistake in a source, with its line and column."""
 
     def __init__(self, line: int, column: int, message: str) -> None:
         super().__init__(line, column, message)
@@ -30,7 +30,7 @@ class SourceError(LabError):
         return f"line {self.line}, column {self.column}: {self.message}"
 
     def told(self, name: str) -> str:
-        """The same in a line of a source of this name, also where it stands at no line of it, which is line 0."""
+        """The same in a line of a source of this name; line 0 if it is at no line."""
         return f"{name}:{self.line}:{self.column}: {self.message}" if self.line else f"{name}: {self.message}"
 
 
@@ -107,6 +107,6 @@ def split_operands(tokens: list[Token]) -> list[Operand]:
 
 
 def check_count(name: Token, operands: list[Operand], count: int) -> None:
-    """Raises SourceError unless there are so many operands."""
+    """Raise SourceError unless there is this number of operands."""
     if len(operands) != count:
         raise name.error(f"{name.text} takes {count} operand{'' if count == 1 else 's'}, not {len(operands)}")

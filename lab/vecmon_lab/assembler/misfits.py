@@ -1,4 +1,4 @@
-"""Which word of a line doesn't fit its command, and why."""
+"""Find the argument of a line that doesn't fit its command, and why."""
 
 import re
 

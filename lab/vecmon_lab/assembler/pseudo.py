@@ -1,6 +1,6 @@
-"""Pseudo-instructions: what each stands for, as stock assemblers expand it, in texts of the machine with holes.
+"""Pseudo-instructions: the expansion of each, as in stock assemblers, in texts of the machine with holes.
 
-A hole is {N:WHAT}, where N is the number of an operand. It is the operand as it stands, unless WHAT is `label`, the
+A hole is {N:WHAT}, where N is the number of an operand. It is the operand unchanged, unless WHAT is `label`, the
 distance to it; `label.high` and `label.low`, the parts of that distance for auipc and addi; or `imm-1`, one less.
 """
 
@@ -18,7 +18,7 @@ Operation = tuple[str, int]
 
 
 def templates(name: Token, operands: list[Operand], constant: Callable[[Operand], int]) -> list[str]:
-    """What a name with these operands stands for, which may depend on the value of a constant. Raises SourceError."""
+    """The expansion of a name with these operands, which may depend on the value of a constant. Raises SourceError."""
     if name.text == "li":
         check_count(name, operands, 2)
         return _load_constant(operands[1], constant(operands[1]))

@@ -54,9 +54,9 @@ class Program:
         return next((statement.line for statement in self.statements if statement.address == address), 0)
 
     def source_lines(self, text: str) -> dict[str, str]:
-        """What the lines of the source, which has this text, say behind their labels, by the address of their first word.
+        """The text of each line of the source after its labels, by the address of its first word.
 
-        Behind a line without a comment stands that of the line above, if that has nothing else.
+        A line without a comment has that of the line above, if that has nothing else.
         """
         lines, first = ["", *text.split("\n")], dict[int, Statement]()
         for statement in self.statements:
@@ -90,12 +90,12 @@ def read_source(text: str, origin: int = 0x10000) -> Program:
 
 
 def in_order(mistakes: Iterable[SourceError]) -> list[SourceError]:
-    """The first of the mistakes, as they stand in the source."""
+    """The first mistakes, in the order of the source."""
     return sorted(mistakes, key=lambda mistake: (mistake.line, mistake.column))[:MOST_MISTAKES]
 
 
 class _Assembler:
-    """Reads a source line by line, and then gives the program. What may need addresses is made at the end."""
+    """Reads a source line by line, and then gives the program. Parts that need addresses are made at the end."""
 
     def __init__(self) -> None:
         self._text, self._data, self._bss = Section("rx"), Section("rw"), Section("rw")
@@ -173,7 +173,7 @@ class _Assembler:
         return Value(self._section.size, self._section)
 
     def _put(self, name: Token, size: int, make: Callable[[], bytes] | None = None) -> None:
-        """Makes room in the section for so many bytes, which are made at the end; else they are zeros or instructions."""
+        """Make room in the section for this number of bytes, made at the end; without `make` zeros or instructions."""
         if make is not None and self._section is self._bss:
             raise name.error(".bss has zeros alone: .zero makes room there")
         if make is not None:

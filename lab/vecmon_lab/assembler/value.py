@@ -10,7 +10,7 @@ from .line import Kind, Operand, Token
 
 @dataclass(eq=False)
 class Section:
-    """What programs may do with it, its bytes so far, its address at the end, and what makes which bytes at the end."""
+    """A section: its permissions, its bytes so far, its address at the end, and functions for bytes made at the end."""
 
     permissions: str
     size: int = 0
@@ -88,7 +88,7 @@ class Symbols:
         return value.number
 
     def data(self, operand: Operand, here: Value, size: int) -> bytes:
-        """The value of an operand, signed or unsigned, as so many bytes. Raises SourceError if it has more."""
+        """The value of an operand, signed or unsigned, in this number of bytes. Raises SourceError if it needs more."""
         value, width = self.evaluate(operand, here).resolved(), 8 * size
         if not -(1 << width - 1) <= value < 1 << width:
             raise operand[0].error(f"{value} is out of range: {-(1 << width - 1)} to {(1 << width) - 1} fit")

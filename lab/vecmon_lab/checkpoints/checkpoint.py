@@ -35,7 +35,7 @@ def checkpoint(opening: Opening, script: bytes, images: Mapping[str, pathlib.Pat
 
 
 def whole_checkpoint(opening: Opening, script: bytes, images: Mapping[str, pathlib.Path]) -> bytes:
-    """The lines that stand for a whole script, once they were compared with it. Raises NoCheckpoint."""
+    """The lines that replace a whole script, once they were compared with it. Raises NoCheckpoint."""
     with opening() as session:
         machine = machine_after(session, script, images)
     waiting = [digit for digit, shown in machine.shown.items() if shown.is_at_breakpoint]
@@ -53,14 +53,14 @@ def whole_checkpoint(opening: Opening, script: bytes, images: Mapping[str, pathl
 
 
 def _stops_at_once(session: Session, machine: Machine, digit: str) -> bool:
-    """Whether a slice leaves a running program at the breakpoint where it stands: `go` passes that, and is all there is."""
+    """Whether a slice leaves a running program at the breakpoint it is at: `go` skips that, and no other line does."""
     granted = read(session.do(f"* run {digit}"))
     pc = machine.shown[digit].registers.pc
     return isinstance(granted, Granted) and any((stop.kind, stop.pc) == ("break", pc) for _, stop in granted.stops)
 
 
 def main(program: str, quantum: str, *images: str) -> None:
-    """Puts out the checkpoint of a script that comes in, behind the number of lines that it stands for."""
+    """Write the checkpoint of a script on standard input, after the number of lines that it replaces."""
     paths = images_of(list(images))
     opening = partial(Session, pathlib.Path(program), paths, quantum=int(quantum))
     made = checkpoint(opening, sys.stdin.buffer.read(), paths)

@@ -1,4 +1,4 @@
-"""All that a machine is: what the lines of its script say, what looks show, and what is found out by destroying it."""
+"""The whole state of a machine: from its script's lines, from looks, and from tests that destroy it."""
 
 import pathlib
 from collections.abc import Callable, Iterator, Mapping
@@ -34,7 +34,7 @@ _FOLLOWED = set(" elmv")  # how the commands begin that `_follow` knows
 
 @dataclass
 class User:
-    """What lines say of a user who is there.
+    """The state of a present user, known from lines.
 
     image: the name of the one that was loaded, if any
     maps: since then, each an address, a number of pages and a permission
@@ -53,7 +53,7 @@ class User:
 
 @dataclass(frozen=True)
 class Shown:
-    """What looks show of a user who is stopped, with memory by the addresses of pages."""
+    """The state of a stopped user, known from looks, with memory by the addresses of pages."""
 
     is_running: bool
     registers: ScalarRegisters
@@ -67,7 +67,7 @@ class Shown:
 
     @property
     def is_at_breakpoint(self) -> bool:
-        """Whether the program runs, and stands at a breakpoint."""
+        """Whether the program runs, and is at a breakpoint."""
         return self.is_running and self.registers.pc in self.breakpoints
 
 
@@ -115,7 +115,7 @@ def machine_after(session: Session, script: bytes, images: Mapping[str, pathlib.
 
 
 def fresh_memory(opening: Opening, user: User) -> dict[int, bytes]:
-    """What a user's pages hold before anything is written, by their addresses."""
+    """The contents of a user's new pages, by their addresses."""
     memory = dict.fromkeys(user.pages, bytes(PAGE_BYTES))
     if user.image:
         with opening() as session:

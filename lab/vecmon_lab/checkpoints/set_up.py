@@ -17,7 +17,7 @@ Memory = Mapping[int, bytes]
 def lines_of(machine: Machine, fresh: Mapping[str, Memory]) -> list[str]:
     """The lines that set a machine up in a state. Counts of the vector unit are as they come.
 
-    fresh: what the pages of each user hold before anything is written, by their addresses
+    fresh: the contents of each user's new pages, by their addresses
     """
     lines, users = list[str](), {digit: _SetUp(digit, machine, fresh[digit]) for digit in sorted(machine.users)}
     if machine.last != DIGITS[-1]:  # somebody's program faults at once
@@ -54,7 +54,7 @@ class _SetUp:
         self._has_type = (control.vl, control.vtype) != (0, VILL)
         self.has_vector_state = self._has_type or control.vstart != 0 or self._fixed_point != 0
         self._memory = {page: bytearray(data) for page, data in fresh.items()}  # as far as it is known
-        self._texts = dict[int, str]()  # instructions that stand there
+        self._texts = dict[int, str]()  # instructions at addresses
         self._x = {2: STACK_POINTER} if self.user.image else dict[int, int]()
         self._vectors = [bytes(REGISTER_BYTES)] * 32
         self._code = self.user.first("x") or 0
@@ -80,9 +80,9 @@ class _SetUp:
         return [f"{self._digit} {command}" for command in commands]
 
     def _carried_out(self, is_touching: bool) -> Iterator[str]:
-        """What instructions leave: output, control registers and the trace; and the vector registers."""
+        """The results of instructions: output, control registers and the trace; and the vector registers."""
         trace, vstart = self._shown.trace, self._shown.control.vstart if is_touching else 0
-        is_full = len(trace) == TRACED  # else each instruction that is carried out stands in it
+        is_full = len(trace) == TRACED  # else it has each executed instruction
         writes = [self._shown.output[at : at + LINE_BYTES] for at in range(0, len(self._shown.output), LINE_BYTES)]
         work = list(self._control_writes()) if is_touching else []
         has_room = is_full or len(writes) + len(work) < len(trace)
@@ -126,7 +126,7 @@ class _SetUp:
             pages = [page for page, allowed in self.user.pages.items() if permission in allowed]
             for end in [page + PAGE_BYTES for page in pages if page + PAGE_BYTES not in pages][:1]:
                 yield from self._step(self._code, text, x5=end - vstart)
-                self._vectors[:8] = [b""] * 8  # unknown now, as what stands in the page
+                self._vectors[:8] = [b""] * 8  # unknown now, as the contents of the page
                 self._spoil(end - vstart, vstart)
                 return
 

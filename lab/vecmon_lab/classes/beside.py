@@ -1,4 +1,4 @@
-"""Modules of the lab that run beside a class, in processes of their own."""
+"""Modules of the lab that run next to a class, in separate processes."""
 
 import asyncio
 import contextlib
@@ -28,7 +28,7 @@ def alone(seat: str, busy: set[str], refusal: LabError) -> Iterator[None]:
 
 
 class Beside:
-    """Places for so many processes at once: who comes later waits."""
+    """Room for this number of processes at once: later ones wait."""
 
     def __init__(self, places: int, seconds: float | None = None) -> None:
         """seconds: how long a process may take, counted from when it gets its place; None for no limit"""

@@ -1,4 +1,4 @@
-"""Sources in C of a class's seats: compiled in a sandbox, beside the machines, one at a time for a seat."""
+"""C sources of a class's seats: compiled in a sandbox, outside the machines, one at a time for a seat."""
 
 import asyncio
 import os
@@ -16,10 +16,10 @@ from .requests import BadRequest
 
 
 class Builds:
-    """What compiles: as many sources at once as there are cores; who comes later waits.
+    """Compiles as many sources at once as there are cores; later ones wait.
 
     no_c: why no C is taken; "" where it is
-    compiler, others: of sources, and those beside whose words its own may be shown
+    compiler, others: of sources, and those whose listings may be compared with its own
     """
 
     def __init__(
@@ -50,7 +50,7 @@ class Builds:
 
 
 def builds_by(name: str | None, most: int = IMAGE_BYTES, is_needed: bool = False) -> Builds:
-    """What compiles sources in C, which may be nothing. Raises LabError where a compiler of a name, or a needed one, can't."""
+    """Return what compiles C sources, perhaps nothing. Raises LabError for a named or needed compiler that can't."""
     try:
         return Builds(sandboxed_compiler(name), most=most)
     except LabError as error:

@@ -1,8 +1,8 @@
-"""The exercises of a class: seats' answers are checked beside its machines, in processes of their own, and kept.
+"""The exercises of a class: seats' answers are checked in separate processes, and saved.
 
 exercises.json: the folder of each exercise by its name
 answers/A3.doubles.2.json: the second answer of seat A3 to `doubles`: its time, its text and the suffix of its language, and
-what was told of it
+the result of its check
 """
 
 import asyncio
@@ -43,7 +43,7 @@ ExerciseTable = TypedDict("ExerciseTable", {"title": str, "of": int, "seats": di
 
 
 class Checks:
-    """Checks of answers, beside the class's machines; `exercises` has the exercises, and each seat's progress."""
+    """Checks of answers, in separate processes; `exercises` has the exercises, and each seat's progress."""
 
     def __init__(
         self, store: Store, folders: Iterable[pathlib.Path], tell: Callable[[Iterable[str]], object], builds: Builds
@@ -56,7 +56,7 @@ class Checks:
         kept = [pathlib.Path(path) for path in store.read(EXERCISES, texts, WITHOUT).values()]
         found: dict[str, Exercise] = {}
         for folder in list(folders) or kept:
-            exercise = settled(store.program, read_exercise(folder))  # so that a mistake is told now
+            exercise = settled(store.program, read_exercise(folder))  # so that a mistake is reported now
             name = exercise.folder.name
             if not re.fullmatch(r"[\w-]{1,40}", name, re.ASCII) or name in found:
                 raise BadFolder(f"{folder}: an exercise has a name of its own: 1 to 40 letters, digits, _ and -")
@@ -67,7 +67,7 @@ class Checks:
         self._tasks: set[asyncio.Task[None]] = set()
         self._unsaved: dict[str, Try] = {}
         self._lessons: dict[str, bytes] = {}  # before exercises, by name
-        self._good: dict[str, Taken] = {}  # what good answers take, as far as that was told
+        self._good: dict[str, Taken] = {}  # the instructions and work of good answers, if known
         self._making = asyncio.Lock()
         for seat, name, number, done in sorted(found_answers(store), key=itemgetter(0, 1, 2)):
             progress = self.exercises.progress(seat, name)
@@ -108,7 +108,7 @@ class Checks:
             del busy[seat]
 
     def answer(self, seat: str, name: str, number: int) -> SourceText:
-        """The source of a seat's try, the first of which is 1. Raises BadRequest."""
+        """The source of a seat's attempt; the first is 1. Raises BadRequest."""
         if not 1 <= number <= len(self.exercises.progress(seat, name).tries):
             raise BadRequest("there is no such answer")
         file = _file(seat, name, number)
@@ -120,7 +120,7 @@ class Checks:
             del self._unsaved[file]
 
     def table(self) -> dict[str, ExerciseTable]:
-        """What the teacher is told: of each exercise the seats that have tried it."""
+        """The teacher's view: for each exercise the seats that have tried it."""
         tables = {}
         for name, exercise in self.exercises.by_name.items():
             results = {seat: progress.result() for seat, progress in self.exercises.of(name).items()}
@@ -152,7 +152,7 @@ class Checks:
         self._tell([seat])
 
     async def _told(self, seat: str, name: str, source: SourceText) -> Told:
-        """The result of a check. What fails on the server's side is run once more, and its failure is the result then."""
+        """The result of a check. If the server's side fails, it runs once more, and a second failure is the result."""
         cause = ""
         for _ in range(RUNS):
             try:
@@ -181,7 +181,7 @@ class Checks:
 
 
 def kept_answers(store: Store, seat: str) -> dict[str, SourceText]:
-    """What a seat has answered by exercise, as the folder has it: the last try that passed; where none has, the last one."""
+    """A seat's answers by exercise, from the folder: the last attempt that passed; else the last one."""
     answers, passed = dict[str, SourceText](), set[str]()
     for of, name, _, done in sorted(found_answers(store), key=itemgetter(0, 1, 2)):
         cases = done["told"].get("cases", [])

@@ -31,7 +31,7 @@ class Codes:
         return next((name for name, match in zip(self.codes, matches) if match), None)
 
     def shown(self, name: str) -> dict[str, str]:
-        """The code of a seat or of the wall, or all of these for "", by name: what a teacher gives to others."""
+        """The code of a seat or of the wall, or all of these for "", by name: the codes that a teacher hands out."""
         return {each: code for each, code in self.codes.items() if each != TEACHER and name in ("", each)}
 
     def renew(self, seat: str) -> None:

@@ -124,7 +124,7 @@ def _serve(arguments: argparse.Namespace) -> None:
         raise LabError(f"--tls serves HTTPS, so the address of the class begins with https://: {arguments.address}")
     store = Store(arguments.folder, find_program(), images, arguments.quantum, arguments.machines)
     try:
-        doors = listening(host, arguments.port)  # before the class is carried out again, which may take a while
+        doors = listening(host, arguments.port)  # before the class is replayed, which may take a while
     except LabError:
         store.close()
         raise

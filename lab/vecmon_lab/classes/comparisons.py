@@ -1,4 +1,4 @@
-"""Two listings of a source in C side by side: it is compiled in the sandbox, and runs in a process beside the class."""
+"""Two listings of a C source side by side: it is compiled in the sandbox, and runs in a separate process."""
 
 import json
 import pathlib
@@ -15,9 +15,9 @@ MOST = 20  # that are kept of those that were asked for
 
 
 class Comparisons:
-    """What was asked for last; a page is made when it is fetched.
+    """The last request for listings; a page is made when it is fetched.
 
-    names: what a source may stand beside, of which a number chooses: compilers with their options; none in a class
+    names: compilers with their options, chosen by number, to compare a source with; none in a class
     """
 
     def __init__(self, builds: Builds, program: pathlib.Path) -> None:
@@ -28,7 +28,7 @@ class Comparisons:
         self._asked: dict[str, tuple[str, SourceText, int]] = {}
 
     def ask(self, seat: str, source: SourceText, other: int) -> str:
-        """What opens the page of a source by its own options and by others. Raises BadRequest."""
+        """Return the ticket for the page of a source by its own options and by others. Raises BadRequest."""
         if not source.suffix.endswith(".c") or not 0 <= other < len(self._others):
             raise BadRequest("side-by-side listings need a source in C, and options from the page's list")
         ticket = new_code()

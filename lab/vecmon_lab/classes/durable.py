@@ -29,7 +29,7 @@ class Flusher:
     def __init__(self, folder: pathlib.Path) -> None:
         self.troubles: dict[str, str] = {}
         self._folder = folder
-        self._waiting: dict[str, bytes | None] = {}  # None for a file that is to be removed
+        self._waiting: dict[str, bytes | None] = {}  # None for a file that will be removed
         self._appended: set[Appended] = set()
         self._lock, self._turn = threading.Lock(), threading.Lock()  # of what waits, and of a batch
         self._has_work, self._is_ending = threading.Event(), threading.Event()
@@ -51,7 +51,7 @@ class Flusher:
         self._has_work.set()
 
     def waiting(self, name: str) -> bytes | None:
-        """What a file is to be replaced by; None where nothing waits. Raises FileNotFoundError where it is to be removed."""
+        """The new contents of a file; None if nothing waits. Raises FileNotFoundError if it will be removed."""
         with self._lock:
             if name in self._waiting and self._waiting[name] is None:
                 raise FileNotFoundError(name)

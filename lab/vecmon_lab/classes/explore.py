@@ -32,7 +32,7 @@ def add_arguments(parser: argparse.ArgumentParser) -> None:
 
 
 def run(arguments: argparse.Namespace) -> int:
-    """Serves until it is told to end. Raises LabError and OSError for a bad source, or where nothing can be compiled."""
+    """Serve until a signal. Raises LabError and OSError for a bad source, or without a compiler."""
     from .server import listening, serve  # which needs aiohttp; --help doesn't
 
     os.umask(0o077)

@@ -1,4 +1,4 @@
-"""What the folder of a class has, and what of it is damaged: a report that changes nothing and serves nothing."""
+"""The contents of a class's folder, and its damage: a report that changes nothing and serves nothing."""
 
 import pathlib
 from collections.abc import Sequence

@@ -1,4 +1,4 @@
-"""What the folder of a class keeps as JSON, checked as it is read: a damaged file raises ValueError or TypeError."""
+"""The JSON files in the folder of a class, checked as they are read: a damaged file raises ValueError or TypeError."""
 
 import re
 from collections.abc import Mapping, Sequence
@@ -14,7 +14,7 @@ SCRIPT_NAME = re.compile(r"([A-L])(?:\.([2-9]|[1-9][0-9]+))?\.script")
 
 @dataclass(frozen=True)
 class Facts:
-    """What a class is begun with: the digest of the program, and those of the images by name."""
+    """The start of a class: the digest of the program, and those of the images by name."""
 
     program: str = ""
     quantum: int = 100
@@ -30,7 +30,7 @@ class Facts:
 
 @dataclass(frozen=True)
 class Notes:
-    """What is kept beside a machine's last script: how many lines were answered by a digest, the clock, rights;
+    """The notes with a machine's last script: the number of lines whose answers have the digest, the clock, rights;
     and of each script how many lines at its beginning set the machine up, as the one before left it."""
 
     lines: int = 0

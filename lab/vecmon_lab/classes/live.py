@@ -25,7 +25,7 @@ def is_servers(line: str) -> bool:
 
 
 def with_output(done: Iterable[tuple[str, Sequence[str]]], states: dict[str, State]) -> dict[str, bool]:
-    """Whose programs may have put something out and stand still now; and whether one goes on with an empty buffer.
+    """Return the users whose stopped programs may have output; and whether each goes on with an empty buffer.
 
     done: lines and their answers; states: those before, by digit
     """
@@ -47,9 +47,9 @@ def with_output(done: Iterable[tuple[str, Sequence[str]]], states: dict[str, Sta
 
 
 def _calls(state: State, steps: int) -> bool:
-    """Whether one of so many steps from a state on may call the system, as far as its listing tells."""
+    """Whether one of this number of steps from a state on may call the system, by its listing."""
     code = state.get("code", {})
     if steps == 1:
         return code.get(state.get("pc", ""), "ecall").endswith("ecall")
-    # a listing has so many of the instructions that were carried out
+    # a listing has only this number of executed instructions
     return steps > TRACED or any(text.endswith("ecall") for text in code.values())

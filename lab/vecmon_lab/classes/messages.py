@@ -46,14 +46,14 @@ class Message(TypedDict, total=False):
 
 
 class Updates:
-    """What a page has been sent: its view, and how many entries of each log."""
+    """The state of a page: its view, and the number of entries of each log."""
 
     def __init__(self) -> None:
         self.view: Mapping[str, object] = {}
         self.since: dict[str, int] = {}
 
     def news(self, view: Mapping[str, object], seats: Sequence[Seat]) -> Message:
-        """What it hasn't been sent: a patch of its view, and new entries of the logs of seats."""
+        """The changes since: a patch of its view, and new entries of the logs of seats."""
         patch, self.view = merge_patch(self.view, view), view
         news: Message = {"patch": patch} if patch else {}
         logs = Logs()
@@ -85,7 +85,7 @@ def add_words(answer: Message, digit: str, request: JsonObject, done: Answers) -
 
 
 def source_view(source: SeatSource, seat: Seat) -> SourceView:
-    """What pages show of a seat's source."""
+    """The source of a seat, for pages."""
     return {
         "text": source.own.text,
         "language": source.own.language,

@@ -1,4 +1,4 @@
-"""What was done at a machine before its server began, and what of that its seats are told."""
+"""The lines at a machine before its server started, and the part of them that its seats receive."""
 
 from collections import Counter, deque
 from collections.abc import Sequence
@@ -19,7 +19,7 @@ _PLACES = {"map", "pok", "asm", "bre", "unb"}  # how lines begin that name place
 class Past:
     """The lines that seats know something by: a script may have a million of them, so little is done with most.
 
-    Of each seat these are the last ones, the one that its last stop stands in, and those that name places of memory, or
+    Of each seat these are the last ones, the one with its last stop, and those that name places of memory, or
     show output, since its machine began.
     """
 

@@ -135,7 +135,7 @@ class Exercises:
         return next(found, None)
 
     def views(self, seat: str) -> dict[str, ExerciseView]:
-        """What a student's page shows."""
+        """The student's view."""
         return {name: self._view(seat, name, exercise) for name, exercise in self.by_name.items()}
 
     def _view(self, seat: str, name: str, exercise: Exercise) -> ExerciseView:

@@ -1,4 +1,4 @@
-"""What a tab asks for (docs/CLASS_PROTOCOL.md): each request is checked here, once."""
+"""Requests of a tab (docs/CLASS_PROTOCOL.md): each is checked here, once."""
 
 from collections.abc import Callable, Mapping
 from dataclasses import dataclass
@@ -13,7 +13,7 @@ MOST_SLICES = 100
 
 
 class BadRequest(LabError):
-    """A request that isn't carried out; the text says why."""
+    """A refused request; the text says why."""
 
 
 @dataclass(frozen=True)
@@ -33,7 +33,7 @@ class _OfExercise:
 
 @dataclass(frozen=True)
 class Lines:
-    """Lines without digits that are carried out, slices for the student's own program, and lines that look."""
+    """Lines to execute, without digits; slices for the student's own program; and read-only lines."""
 
     machine: str
     do: list[str]
@@ -79,7 +79,7 @@ class Settings:
 
 @dataclass(frozen=True)
 class SetClock:
-    """What a machine's clock is set to; what isn't named stays."""
+    """The settings of a machine's clock; others stay."""
 
     machine: str
     settings: Mapping[str, int]
@@ -159,7 +159,7 @@ class CloseNotice:
 
 @dataclass(frozen=True)
 class Compare:
-    """A source in C that is to stand beside what others make of it, by their number."""
+    """A C source to compare with the output of another compiler, by its number."""
 
     source: SourceText
     other: int
@@ -175,7 +175,7 @@ class TryCase(_OfExercise):
 
 @dataclass(frozen=True)
 class ReadAnswer(_OfSeat):
-    """The answer of a seat to an exercise, the first of which has the number 1; "" for the student's own seat."""
+    """The answer of a seat to an exercise; the first has the number 1; "" for the student's own seat."""
 
     exercise: str
     number: int
@@ -183,7 +183,7 @@ class ReadAnswer(_OfSeat):
 
 @dataclass(frozen=True)
 class SetName(_OfSeat):
-    """The name of whoever sits at a seat, which is the student's own unless a teacher says it; "" for none."""
+    """The name of the student at a seat: the sender's own, unless a teacher sends it; "" for none."""
 
     name: str
 
@@ -274,7 +274,7 @@ def _lines(message: JsonObject, is_teacher: bool) -> Lines:
 
 
 def _settings(message: JsonObject) -> Mapping[str, int]:
-    """What a message names of a clock's settings."""
+    """The settings of a clock in a message."""
     settings = {}
     for name in _LIMITS.keys() & message.keys():
         (least, most), value = _LIMITS[name], message[name]

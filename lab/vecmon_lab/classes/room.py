@@ -68,7 +68,7 @@ class Room:
     def restore(self, notes: Notes, progress: Callable[[str], object], lose: Callable[[str], object]) -> None:
         """Brings the machine to where an earlier server left it. Raises BadFolder where it takes no script.
 
-        progress: is told how far that is, a sentence at a time; lose: is called with sentences on lines that are lost
+        progress: is called with sentences on the progress; lose: is called with sentences on lines that are lost
         """
         self.session.progress = lambda percent: progress(rebuilding(self.letter, percent))
         past, self.scripts.set_up = Past(notes.scripts[-1]), notes.scripts

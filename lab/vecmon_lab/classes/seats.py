@@ -1,4 +1,4 @@
-"""The seats of a machine: what each has been told, and what is known of its user."""
+"""The seats of a machine: the messages to each, and the known state of its user."""
 
 import time
 from collections import deque
@@ -21,10 +21,10 @@ from ..page.state import ABSENT, RowChoice, Sight, State, look_at, with_rows
 
 LOG_ENTRIES = 500
 UNNAMED: State = {"labels": {}, "lines": {}}
-BLOCK_DIGITS, BLOCKS = 2048, 64  # of output, of which a page has the last 64 KB
+BLOCK_DIGITS, BLOCKS = 2048, 64  # of output; a page has the last 64 KB of it
 
 Done = tuple[str, Sequence[str]]
-"""A line that was carried out, and its answer."""
+"""An executed line, and its answer."""
 
 
 @dataclass(eq=False)
@@ -33,12 +33,12 @@ class Seat:
 
     log, number: its last entries, and how many there were
     state, shown: all that is known of the user, and what pages show of it
-    written, program: the source that stands in the machine, and its program
-    named: what pages show of that source: its labels, and its line for each word, by address; of one in C also where
+    written, program: the source in the machine, and its program
+    named: its parts for pages: its labels, and its line for each word, by address; of one in C also where
         instructions of its lines begin, the addresses of their breakpoints, and its variables
     stop, line, answer: the last stop, command and line of an answer, without the digit
-    output: the last of what the program has put out, in hexadecimal digits, in blocks by number
-    stands, is_stuck, since: how its program stands, in a few words beside the state's `run`; whether its student may need
+    output: the last output of the program, in hexadecimal digits, in blocks by number
+    stands, is_stuck, since: its program's condition, in words besides the state's `run`; whether its student may need
         somebody; and since when both are so, in seconds since 1970
     stepped: the state before the last line, if that stepped one instruction
     used: the bytes of the script that are the seat's
@@ -77,7 +77,7 @@ class Seat:
         self.number += 1
 
     def follow(self, state: State, shown: State) -> None:
-        """Takes up a state, and how the program stands then."""
+        """Set a state, and the program's condition in it."""
         before, self.state, self.shown = self.state, state, shown
         stands, is_stuck = _standing(state, self.stop)
         has_moved = state["run"] == "stopped" and before.get("pc") != state["pc"]
@@ -85,11 +85,11 @@ class Seat:
             self.stand(stands, is_stuck)
 
     def stand(self, stands: str, is_stuck: bool) -> None:
-        """Takes up how it stands from now on."""
+        """Set its condition from now on."""
         self.stands, self.is_stuck, self.since = stands, is_stuck, time.time()
 
     def take(self, source: SourceText, program: Program) -> None:
-        """Takes up which source stands in the machine now."""
+        """Set the source that is in the machine now."""
         self.written, self.program = source, program
         self.named = {"labels": program.names(), "lines": program.source_lines(source.text)}
         if isinstance(program, CompiledProgram) and program.rows:
@@ -103,7 +103,7 @@ class Seat:
             self.sight.take_compiled(program.text(), variable_rows(program.variables)[:MOST_NAMED])
 
     def put_out(self, digits: str) -> None:
-        """Takes up what the program has put out. Full blocks stay as they are, so that pages aren't told them again."""
+        """Append output of the program. Full blocks stay as they are, so that pages don't receive them again."""
         *full, last = list(self.output.items()) or [("0", "")]
         text = last[1] + digits
         blocks = (text[at : at + BLOCK_DIGITS] for at in range(0, len(text), BLOCK_DIGITS))
@@ -172,9 +172,9 @@ class Seats:
             seat.follow(*pair)
 
     def observe(self, line: str, answer: Sequence[str], is_told: bool) -> None:
-        """Tells seats of a line and its answer. Lines of the clock, and those that grant own slices, aren't told.
+        """Send seats a line and its answer. Lines of the clock, and those that grant own slices, are left out.
 
-        Of the server's own lines it is told how many bytes a program has put out.
+        For the server's own lines, seats receive the number of bytes of output.
         """
         asker, words = self.users.get(line[0], self.operator), words_of(line)
         if line[0] == "*" and isinstance(granted := read(answer), Granted):
@@ -209,12 +209,12 @@ class Seats:
 
 
 def _comes_again(entry: str) -> bool:
-    """Whether an entry tells of a full buffer, or that the server has emptied it."""
+    """Whether an entry is about a full buffer, or about the server that empties it."""
     return entry[0] == "=" or entry[2:10] == " outfull"
 
 
 def _standing(state: State, last: str) -> tuple[str, bool]:
-    """How a program stands in this state, in a few words, and whether with a fault; last is its last stop."""
+    """The condition of a program in this state, in a few words, and whether it has a fault; last is its last stop."""
     if state["run"] != "stopped":
         return "", False
     line = state["code"].get(state["pc"], "")

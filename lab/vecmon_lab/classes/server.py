@@ -36,7 +36,7 @@ PATIENCE = 10.0  # seconds for a first request, and for a tab's code
 UNKNOWN = 500  # connections without a whole request, and sockets without a code
 SOCKETS = 8  # of a seat; of the teacher twice as many
 WRONG_CODE_SECONDS = 0.5
-KEEP_SECONDS = 0.3  # between looks at what is to be saved; the disk has it as long after that, and so within a second
+KEEP_SECONDS = 0.3  # between saves; the disk has the data that long afterwards, so within a second
 HEADERS = {
     "Cache-Control": "no-store",
     "Referrer-Policy": "no-referrer",
@@ -140,7 +140,7 @@ class Server:
         return web.Response(body=table(), content_type="text/csv", charset="utf-8")
 
     async def _get_ticket(self, kind: Page, request: web.Request) -> web.Response:
-        """A lesson of an answer, or listings, with a policy of their own; who knows the ticket was told it at a seat."""
+        """A lesson of an answer, or listings, with its own content policy, for a seat that knows the ticket."""
         make = self.members.checks.lesson if kind is self._lesson else self.members.comparisons.page
         try:
             page = await make(request.match_info["ticket"])
@@ -191,7 +191,7 @@ class Server:
         return own
 
     async def _who(self, own: web.WebSocketResponse) -> str | None:
-        """Whose code the first message has; a wrong one is told after a while."""
+        """The owner of the code in the first message; a wrong code is refused after a while."""
         try:
             first = json.loads(await own.receive_str(timeout=PATIENCE))
         except (TypeError, ValueError, RecursionError, asyncio.TimeoutError):
@@ -203,7 +203,7 @@ class Server:
 
 
 def listening(host: str, port: int) -> list[socket.socket]:
-    """Sockets that listen, one at each address of a host. Raises LabError where one can't be had."""
+    """Sockets that listen, one at each address of a host. Raises LabError if one is unavailable."""
     try:
         found = dict.fromkeys(socket.getaddrinfo(host, port, type=socket.SOCK_STREAM, flags=socket.AI_PASSIVE))
         return [socket.create_server(address, family=family) for family, _, _, _, address in found]
@@ -295,7 +295,7 @@ def _abort(request: web.Request) -> None:
 
 
 def _is_ours(record: logging.LogRecord) -> bool:
-    """Whether a log tells of a fault of the server's: not of a request in bad form, as TLS is here, which gets status 400."""
+    """Whether a log is about a fault of the server; a malformed request, such as TLS here, gets status 400."""
     return not (record.exc_info and isinstance(record.exc_info[1], HttpProcessingError))
 
 
@@ -312,5 +312,5 @@ def _address(host: str, port: int, scheme: str) -> str:
 
 
 def _transcript(command: list[str], script: bytes) -> bytes:
-    """What a plain run of the program answers."""
+    """The transcript of a plain run of the program."""
     return subprocess.run(command, input=script, stdout=subprocess.PIPE, check=True).stdout

@@ -1,6 +1,6 @@
 """One machine that eight seats and the operator share: lines, sources and slices are executed, without threads or clocks.
 
-What takes several turns at the machine is a generator of steps. The server executes each step in the machine's thread, and
+A task of several turns is a generator of steps. The server executes each step in the machine's thread, and
 gives other seats their turns between two of them; a program without a server executes them one after another.
 """
 
@@ -32,13 +32,13 @@ LEAVES = "bje"  # first letters of scalar instructions that may branch, jump or 
 LEAVING: Mapping[str, Sequence[str]] = {"absent": [], "running": ["stop", "leave"], "stopped": ["leave"]}
 
 Answers = list[list[str]]
-"""Answers to lines, without the digits of their users."""
+"""The answers to lines, without the digits of their users."""
 Mistakes = Sequence[SourceError]
 """Mistakes of a source, or a compiler's warnings."""
 
 
 class Recorder(Protocol):
-    """What records a script as it grows."""
+    """Records a script as it grows."""
 
     def append(self, line: str) -> None:
         """Records a line that is about to be sent."""
@@ -49,7 +49,7 @@ class Recorder(Protocol):
 
 @dataclass
 class Turn:
-    """A turn at the machine: what it executes, and what came of it: lines with their answers, looks, new states.
+    """A turn at the machine: the lines to execute, and the results: lines with their answers, looks, new states.
 
     asker: whose lines its log shows; None for the clock's, which no log shows
     before, is_last: lines of earlier turns of the same request; whether this is the last one
@@ -205,7 +205,7 @@ class SharedMachine:
             seat.note(f"!The {who} stopped the program, since {why}. go lets it run on.")
 
     def has_run_long(self, seat: Seat, limit: int) -> str:
-        """Why a program that runs is to be stopped: it has run for so many ticks, about; "" where it hasn't."""
+        """Why a running program must stop: it has run for about this number of ticks; "" if it hasn't."""
         return f"it ran for {limit:,} ticks without a stop" if seat.slices * self.session.quantum >= limit else ""
 
     def execute(self, turn: Turn) -> None:

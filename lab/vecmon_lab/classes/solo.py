@@ -52,7 +52,7 @@ def solo(store: Store, seat: str) -> list[str]:
 
 
 def own_lines(session: Session, lines: Sequence[str], digit: str) -> list[str]:
-    """What a user is answered where these lines are carried out."""
+    """The answers to a user's lines."""
     script = "".join(f"{line}\n" for line in lines).encode("ascii")
     return [part for _, answer in session.do_script(script) for part in answer if part[0] == digit]
 
@@ -69,7 +69,7 @@ class OwnScript:
         self._granted = 0  # since the user's last line
 
     def follow(self, whole: Session, single: Session, script: bytes) -> None:
-        """Takes up a script, on two machines as it begins: one carries out its lines.
+        """Replay a script, on two machines as it begins: one executes its lines.
 
         The other one follows as far as the place of a stop among slices has to be found: there they are granted singly.
         """
@@ -92,7 +92,7 @@ class OwnScript:
         self.script += self._slices()
 
     def _slices(self) -> Iterator[str]:
-        """Lines that grant what the user was granted, of which nothing is left then."""
+        """Lines that grant the user's slices; none are left then."""
         while self._granted:
             number = min(self._granted, MOST_SLICES)
             self._granted -= number

@@ -1,8 +1,8 @@
 """The source of a seat: its text as it is, and the last versions of it, which the class's folder keeps.
 
-A3.s: the text, a second or two after it was typed; A3.written.s: that which stands in the machine, or nothing;
-A3.written.json: what a compiler made of it
-A3.exercise: the name of the exercise that is open; drafts/A3.doubles.s: the source of an exercise, of which A3.s is a copy
+A3.s: the text, a second or two after it was typed; A3.written.s: the source in the machine, or nothing;
+A3.written.json: its compiled form
+A3.exercise: the name of the exercise that is open; drafts/A3.doubles.s: the source of an exercise; A3.s is a copy
 while it is open
 sources/A3.17.typed.s: version 17, and why it is one: it was typed, written into memory, or given; its time is the file's
 sources/A3.18.typed@doubles.s: version 18, of the exercise `doubles`
@@ -122,7 +122,7 @@ class SeatSource:
     def keep(self, program: Program | None = None) -> bool:
         """Brings the folder up to date, as far as the disk takes it; whether there is a new version.
 
-        program: of the source that stands in the machine
+        program: of the source in the machine
         """
         before = self.versions
         if self.own != self._newest and time.time() - self._since >= TYPING_SECONDS:
@@ -143,7 +143,7 @@ class SeatSource:
         return self.versions is not before
 
     def _write_own(self) -> bool:
-        """Saves the source, and of which exercise it is, which is the last file; whether that succeeded."""
+        """Save the source, and its exercise, which is the last file; return whether that succeeded."""
         is_written = self._write(self._place(self.exercise), self.own)
         if is_written and self.exercise:
             is_written = self._write(self._name, self.own)
@@ -219,7 +219,7 @@ def kept_exercise(store: TextStore, seat: str) -> str:
 
 
 def kept_program(store: TextStore, seat: str) -> tuple[SourceText, Program]:
-    """The source that stands in a seat's machine, which may be an empty one, and its program. Raises LabError."""
+    """The source in a seat's machine, perhaps an empty one, and its program. Raises LabError."""
     source = kept_source(store, f"{seat}.written")
     try:
         if source.choice is None:

@@ -1,9 +1,9 @@
-"""The folder that keeps a class: what it was begun with, its codes, and each machine's script with what goes with it.
+"""The folder of a class: its program and images, its codes, and each machine's script with its notes.
 
 class.json: the digest (SHA-256) of the program, the quantum, the images by name with their digests, the machines
 codes.json: the code of each seat and of the teacher; names.json: names of those who sit there
-A3.s, A3.written.s, sources/: a seat's source as it is, that which stands in its machine, and versions of it
-A.script, A.2.script ..: a machine's scripts, each of which begins where the one before ended
+A3.s, A3.written.s, sources/: a seat's source now, the one in its machine, and versions of it
+A.script, A.2.script ..: a machine's scripts; each begins where the one before ended
 A.json: which lines of them set the machine up; how many of the last one's were answered by a digest, and what the
     teacher has set
 images/NAME.elf: the images, as they were when the class began
@@ -114,7 +114,7 @@ class ScriptFile:
         self.catch_up()
 
     def cut(self, size: int) -> None:
-        """Takes back what stands behind the first `size` bytes: a line that wasn't carried out."""
+        """Remove the bytes after the first `size`: a line that wasn't executed."""
         del self._waiting[max(0, size - self._saved) :]
         if size < self._saved:
             os.ftruncate(self._file, size)
@@ -272,7 +272,7 @@ class Store:
             self.lost.append(sentence)
 
     def session(self, patience: float) -> Session:
-        """A new machine of this class, of which each process has the program that the class was begun with."""
+        """A new machine of this class, whose processes all run the class's own copy of the program."""
         check, lock = self.check_program, threading.RLock
         return Session(self.program, self.images, quantum=self.quantum, patience=patience, check=check, lock=lock)
 
@@ -285,7 +285,7 @@ class Store:
             yield b"".join(lines[:begin]), b"".join(lines[begin:end])
 
     def check_program(self) -> bool:
-        """Whether the program is there. Raises BadFolder where another stands in its place, as after an upgrade."""
+        """Whether the program is there. Raises BadFolder if another is in its place, as after an upgrade."""
         try:
             if digest_of(self.program) == self._program_digest:
                 return True
@@ -294,9 +294,9 @@ class Store:
         raise BadFolder(f"the class has ended, since {self.program} is another program now")
 
     def read(self, name: str, kind: Callable[..., Kept], loss: str = "") -> Kept:
-        """What was kept, which is of this kind; what that is without words if there is nothing.
+        """The saved data of this kind; without any, an empty value.
 
-        A damaged file is set aside under another name, and `lost` has a sentence with `loss`, what that means.
+        A damaged file is set aside under another name, and `lost` has a sentence with `loss`, the consequence.
         """
         try:
             return self._read(name, kind)
@@ -309,7 +309,7 @@ class Store:
 
     @property
     def loss(self) -> str:
-        """What was lost, for a page: the first few sentences; empty if nothing was."""
+        """The losses, for a page: the first few sentences; empty if nothing is lost."""
         more = len(self.lost) - SHOWN
         told = [*self.lost[:SHOWN], *([f"and {more} more, which the terminal lists"] if more > 0 else [])]
         return f"Lost before the class was started: {'; '.join(told)}." if told else ""
@@ -413,7 +413,7 @@ class Store:
         return [int(parts[2] or 1) for parts in found if parts]
 
     def _kept_facts(self, quantum: int | None, machines: int | None) -> Facts:
-        """What the class was begun with. Where that is damaged, it is taken from the other files. Raises BadFolder."""
+        """The start of the class. If it is damaged, it is derived from the other files. Raises BadFolder."""
         name, is_there = "class.json", (self.folder / "class.json").exists()
         if self._is_readable(name, Facts):
             return self.read(name, Facts)
@@ -438,7 +438,7 @@ class Store:
         return self.folder / "images" / f"{name}.elf"
 
     def _begin(self, images: Mapping[str, pathlib.Path], quantum: int | None, machines: int | None) -> Facts:
-        """What a new class is begun with; the images are copied."""
+        """The start of a new class; the images are copied."""
         for name in images:
             if not re.fullmatch(r"[A-Za-z0-9._-]{1,32}", name):
                 raise BadFolder(f"image {name}: a name has 1 to 32 letters, digits, dots, underscores and hyphens")
@@ -468,7 +468,7 @@ class Store:
     def _facts(
         self, kept: Facts, images: Mapping[str, pathlib.Path], quantum: int | None, machines: int | None
     ) -> Facts:
-        """What the class was begun with, compared with what is named now."""
+        """The start of the class, compared with the options now."""
         if digest_of(self.program) != kept.program:
             raise BadFolder(f"{self.folder} was begun with another program than {self.program}")
         if images and {name: digest_of(path) for name, path in images.items()} != kept.images:

@@ -47,7 +47,7 @@ class Student:
         return self.source.keep(self.seat.program)
 
     def execute(self, request: SeatsRequest) -> Steps[Message]:
-        """Executes a request; what its answer has of its own. Raises BadRequest.
+        """Execute a request; return the fields of its answer. Raises BadRequest.
 
         Lines are the operator's as well: `SharedMachine.lines`.
         """
@@ -88,7 +88,7 @@ class Student:
         return {"mistakes": mistakes_told(mistakes), "warnings": mistakes_told(warnings)}
 
     def view(self, more: Mapping[str, object]) -> Mapping[str, object]:
-        """What the student's page shows; more: what isn't the seat's own."""
+        """The student's view; more: fields that aren't the seat's own."""
         return {
             "seat": self.seat.name,
             "state": shown(self.seat),

@@ -18,7 +18,7 @@ from .view import Class, Tab
 
 
 class TabRequests:
-    """Answers the tabs of a class."""
+    """Executes the requests of a class's tabs."""
 
     def __init__(self, members: Class) -> None:
         self._members = members
@@ -55,7 +55,7 @@ class TabRequests:
         return answer
 
     def news(self, tab: Tab) -> Message:
-        """What the tab hasn't been sent: a patch of its view, and entries of logs."""
+        """The changes for a tab: a patch of its view, and entries of logs."""
         tab.changed.clear()
         return tab.sent.news(self._view(tab), self._logs(tab))
 
@@ -77,7 +77,7 @@ class TabRequests:
         return operators if tab.shoulder is None else [*operators, tab.shoulder]
 
     async def _execute(self, tab: Tab, request: Request, done: Answers) -> Message:
-        """Executes a request; what its answer has of its own. Raises BadRequest, and LabError where the machine is down."""
+        """Execute a request; return the fields of its answer. Raises BadRequest, and LabError if no machine runs."""
         members, is_teacher = self._members, tab.who == TEACHER
         match request:
             case Lines(machine):

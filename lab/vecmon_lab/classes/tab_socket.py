@@ -1,4 +1,4 @@
-"""A tab's socket: requests are read, and carried out in turn; answers and news go to it (docs/CLASS_PROTOCOL.md)."""
+"""A tab's socket: requests are read, and executed in turn; answers and news go to it (docs/CLASS_PROTOCOL.md)."""
 
 import asyncio
 import contextlib
@@ -14,16 +14,16 @@ from .tab_requests import TabRequests
 from .view import Tab
 
 READ_SECONDS = 20.0  # in which a tab has to take a message
-MOST_WAITING, WAITING_BYTES = 64, 2_000_000  # requests of a tab that wait, besides the one that is carried out
+MOST_WAITING, WAITING_BYTES = 64, 2_000_000  # requests of a tab that wait, besides the one that executes
 TOO_MANY_WAIT = f"{MOST_WAITING} requests of this tab wait already, or they are too long: nothing was done"
 CLOSED = 4403  # why a socket is closed: its code is none, or none any more
 
 
 class TabSocket:
-    """What goes through the socket of a tab that has said its code.
+    """The messages through the socket of a tab that has sent its code.
 
-    Requests are read while others wait, so that the tab's pings are answered however long the machine takes. What waits
-    when the tab goes away is carried out all the same, unless its code opens the seat no more.
+    Requests are read while others wait, so that pings are answered however long the machine takes. Requests that wait
+    when the tab goes away are still executed, unless its code no longer opens the seat.
     """
 
     def __init__(self, tabs: TabRequests, socket: web.WebSocketResponse, tab: Tab, abort: Callable[[], object]) -> None:
@@ -42,7 +42,7 @@ class TabSocket:
                 with contextlib.suppress(ConnectionError):
                     await self._read()
                     code = 1001 if is_ending() else 1000 if self._tab.is_open else CLOSED
-                    await self._socket.close(code=code)  # as whoever closes it from elsewhere, who may come later
+                    await self._socket.close(code=code)  # as another task may close it, perhaps later
                 pusher.cancel()
                 if is_ending():
                     self._waiting.clear()
@@ -73,7 +73,7 @@ class TabSocket:
             self._has_come.clear()
 
     async def _push(self) -> None:
-        """Sends news as they come; what changes meanwhile goes together."""
+        """Send news as they come; changes meanwhile go together."""
         while self._tab.is_open:
             await self._tab.changed.wait()
             # an answer may have sent all of it meanwhile

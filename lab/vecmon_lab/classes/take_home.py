@@ -1,4 +1,4 @@
-"""What a student takes home: an archive with the source, the script, its images, a lesson of it for any browser, and answers."""
+"""An archive to take home: the source, the script, its images, a lesson of it for any browser, and answers."""
 
 import contextlib
 import io
@@ -29,7 +29,7 @@ MOST_FRAMES, MOST_ENTRIES = 500, 200  # of a lesson; and of a frame's log
 
 
 def steps_of(lines: Sequence[str]) -> list[Step]:
-    """The last steps of a student's script, so many that they make 500 frames at most; the first has all before them."""
+    """The last steps of a student's script, at most 500 frames; the first has all lines before them."""
     steps, left = list[Step](), MOST_FRAMES - 1
     for line in lines:
         joins = line[0] == "*" or is_servers(line)  # the program runs on, or its output is taken

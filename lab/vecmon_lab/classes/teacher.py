@@ -23,7 +23,7 @@ from .view import Class, Tab
 
 
 async def execute_teachers(members: Class, tab: Tab, request: TeacherRequest) -> Message:
-    """Executes a request of a teacher's tab; what its answer has of its own. Raises BadRequest."""
+    """Execute a request of a teacher's tab; return the fields of its answer. Raises BadRequest."""
     match request:
         case Give(name, source):
             replaced = [members.students[seat.name].source.give(source) for seat in members.seats(name)]

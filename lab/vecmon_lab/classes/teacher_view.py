@@ -1,4 +1,4 @@
-"""What the teacher's page and the wall show of a class."""
+"""The teacher's view of a class, and the wall's."""
 
 from collections.abc import Mapping
 from dataclasses import asdict
@@ -19,7 +19,7 @@ WallView = TypedDict("WallView", {"seat": str, "state": State, "stop": str, "tro
 
 
 class SeatView(TypedDict):
-    """What the teacher's page shows of a seat."""
+    """The teacher's view of a seat."""
 
     name: str
     tabs: int
@@ -33,7 +33,7 @@ class SeatView(TypedDict):
 
 
 class MachineView(TypedDict):
-    """What the teacher's page shows of a machine."""
+    """The teacher's view of a machine."""
 
     seats: dict[str, SeatView]
     clock: Mapping[str, int]
@@ -56,7 +56,7 @@ class Given(TypedDict, total=False):
 
 
 class TeacherView(TypedDict):
-    """What the teacher's page shows."""
+    """The teacher's view."""
 
     machines: dict[str, MachineView]
     share: int
@@ -77,7 +77,7 @@ class TeacherView(TypedDict):
 
 
 def wall_view(members: Class) -> WallView:
-    """What a wall shows: no code, nor anything of other seats."""
+    """The wall's view: no code, and nothing of other seats."""
     if members.wall is None:
         return {"seat": "", "state": {}, "stop": "", "trouble": ""}
     trouble = members.rooms[members.wall.name[0]].trouble
@@ -85,7 +85,7 @@ def wall_view(members: Class) -> WallView:
 
 
 def teacher_view(members: Class, tab: Tab) -> TeacherView:
-    """What the teacher's page shows in a tab."""
+    """The teacher's view in a tab."""
     return {
         "machines": {letter: _machine_view(members, room) for letter, room in members.rooms.items()},
         "share": SEAT_BYTES,

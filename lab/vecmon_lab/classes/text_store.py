@@ -1,4 +1,4 @@
-"""What keeps texts by their names: the folder of a class, or a page."""
+"""A store of texts by their names: the folder of a class, or a page."""
 
 from collections.abc import Iterator
 from typing import Protocol

@@ -46,7 +46,7 @@ def tls_context(certificate: pathlib.Path, key: pathlib.Path) -> ssl.SSLContext:
 def _check_validity(context: ssl.SSLContext, certificate: pathlib.Path) -> None:
     """Connects a client in memory that trusts this certificate. Raises LabError where the client refuses it."""
     client = ssl.create_default_context(cafile=certificate)
-    client.verify_flags |= ssl.VERIFY_X509_PARTIAL_CHAIN  # the certificate itself is trusted, whoever issued it
+    client.verify_flags |= ssl.VERIFY_X509_PARTIAL_CHAIN  # the certificate itself is trusted, regardless of its issuer
     client.check_hostname = False
     to_server, to_client = ssl.MemoryBIO(), ssl.MemoryBIO()
     sides = [client.wrap_bio(to_client, to_server), context.wrap_bio(to_server, to_client, server_side=True)]
@@ -61,7 +61,7 @@ def _check_validity(context: ssl.SSLContext, certificate: pathlib.Path) -> None:
 
 
 class HandshakeServer:
-    """Accepts connections at a socket, and serves each one after its TLS handshake: what a site needs of a server."""
+    """Accepts connections at a socket, and serves each after its TLS handshake, as a site's server does."""
 
     def __init__(
         self,

@@ -53,9 +53,9 @@ class Class:
     ) -> None:
         """Starts the machines, and brings each to where it was. Raises LabError where that can't be.
 
-        progress: is told how far that is, in sentences; clock: whether that of a new machine is on; has_spares: whether
+        progress: gets sentences on the progress; clock: whether that of a new machine is on; has_spares: whether
         a second process follows each machine; exercises: their folders, or those that the class had if there is none;
-        builds: what compiles sources in C
+        builds: compiles sources in C
         """
         self.has_spares, self.builds = has_spares, builds or Builds()
         self.comparisons = Comparisons(self.builds, store.program)
@@ -97,7 +97,7 @@ class Class:
         self.store.close()
 
     def keep(self, with_counts: bool = True) -> None:
-        """Keeps what has changed beside each script, and brings scripts up to date where the disk was full.
+        """Save the changed notes of each script, and write scripts again where the disk was full.
 
         with_counts: also notes that only count more lines; else those are kept once a second
         """
@@ -148,7 +148,7 @@ class Class:
         return [self.seat(name)] if name else [student.seat for student in self.students.values()]
 
     def student_view(self, student: Student) -> Mapping[str, object]:
-        """What a student's page shows."""
+        """The student's view."""
         room = self.rooms[student.seat.name[0]]
         more = {
             "name": self.names.get(student.seat.name, ""),
@@ -183,7 +183,7 @@ class Class:
         self.tell([seat])
 
     def set_name(self, seat: str, name: str) -> None:
-        """Keeps the name of whoever sits at a seat, or that nobody does."""
+        """Save the name of the student at a seat, or "" for nobody."""
         self.names = {each: kept for each, kept in (self.names | {seat: name}).items() if kept}
         self.store.write(NAMES, self.names)
         self.tell([seat])
@@ -198,7 +198,7 @@ class Class:
         self.tell([name])
 
     def table(self) -> bytes:
-        """Who sits where, and how each stands, as CSV."""
+        """The names and the conditions of all seats, as CSV."""
         rows: list[Sequence[object]] = [("seat", "name", "state", "details", "since", "bytes of the script")]
         for seat in self.seats(""):
             name, since = self.names.get(seat.name, ""), local_time(seat.since)
@@ -206,7 +206,7 @@ class Class:
         return as_csv(rows)
 
     def exercise_table(self) -> bytes:
-        """What seats have done of exercises, as CSV."""
+        """The results of seats in exercises, as CSV."""
         return as_csv(self.checks.rows(self.names))
 
     def _seat_students(self, room: Room) -> None:

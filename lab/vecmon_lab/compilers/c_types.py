@@ -15,7 +15,7 @@ _COUNTS = (("DW_AT_count", 0), ("DW_AT_upper_bound", 1))  # and what is added
 
 
 def declaration(entry: "DIE | None", inner: str) -> str:
-    """What declares something of a type, where `inner` is its name: `const int *from`, `int x[3][4]`.
+    """The declaration of a name of this type; `inner` is the name: `const int *from`, `int x[3][4]`.
 
     Raises RecursionError for a type that has itself in it.
     """
@@ -61,7 +61,7 @@ def shape(entry: "DIE | None") -> tuple[str, list[int]]:
 
 
 def _counts(entry: "DIE") -> list[int]:
-    """The dimensions of an array; 0 for one that isn't told as a number."""
+    """The dimensions of an array; 0 for one without a constant."""
     ranges = [child.attributes for child in entry.iter_children() if child.tag == "DW_TAG_subrange_type"]
     told = [[each[name].value + more for name, more in _COUNTS if name in each] for each in ranges]
     return [number[0] if number and isinstance(number[0], int) else 0 for number in told]

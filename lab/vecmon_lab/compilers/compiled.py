@@ -1,4 +1,4 @@
-"""A source compiled to lines of the monitor, which bring its image in; they are carried out again without a compiler."""
+"""A source compiled to lines of the monitor, which load its image; they replay without a compiler."""
 
 import bisect
 import json
@@ -32,9 +32,9 @@ Isolation = Callable[[Sequence[str], str], bytes]
 class CompiledProgram(Program):
     """A program that a compiler made.
 
-    told: what it was read from
+    told: the data it was read from
     rows: where instructions of a line of the source begin, with that line (0 for none) and the function that was inlined
-    there, in rising order; warnings: what the compiler warned of; variables: those of the source
+    there, in rising order; warnings: the compiler's; variables: those of the source
     stops: the addresses of a line's breakpoints, by its number; entries: where functions and their inlined copies are
     entered, by name
     """
@@ -104,7 +104,7 @@ def read_compiled_program(told: bytes, most: int = IMAGE_BYTES) -> CompiledProgr
         if errors:
             return CompiledProgram([], {}, [], 0, errors, (), warnings)
         program = program_of(answer["image"], warnings, most)
-        program.names()  # so that what is in bad form is told here
+        program.names()  # so that a malformed field is reported now
         return replace(program, told=told)
     except (ValueError, TypeError, LookupError, AttributeError, RecursionError) as error:
         raise LabError("the compiler's output can't be read") from error
@@ -168,7 +168,7 @@ def _own_line(line: str) -> int:
 
 
 def rights_by_page(segments: Iterable[tuple[int, str, int]]) -> dict[int, str]:
-    """What programs may do with each page, by its address: what the segments in it say together."""
+    """The permissions of each page, by its address, from all segments in it."""
     pages: dict[int, str] = {}
     for address, rights, size in segments:
         for page in range(address // PAGE_BYTES * PAGE_BYTES, address + size, PAGE_BYTES):

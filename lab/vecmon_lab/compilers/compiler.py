@@ -1,4 +1,4 @@
-"""The compilers that there are, and the words that they are called with: a closed list, of which a number chooses."""
+"""The available compilers, and their options: a closed list, chosen by a number."""
 
 import os
 import pathlib
@@ -33,7 +33,7 @@ _GCC = ("-no-pie", "-Wl,--no-relax", "-fno-diagnostics-show-caret", "-fmax-error
 class Choice:
     """Options that a page offers by their name; clang and gcc have words of their own for some.
 
-    source: the name that a source for them always has, of which the last letter is its language
+    source: the name of its sources, always the same; the last letter is the language
     """
 
     name: str

@@ -24,7 +24,7 @@ def compile_c(
 
     headers: the folder of your own source, which isn't isolated; None for a source of others
     is_answer: whether it is to answer an exercise
-    isolation: what compiles a source of others; None for the sandbox
+    isolation: compiles untrusted sources; None for the sandbox
     """
     words = words_for(text, compiler, choice, is_answer)
     isolated = isolation or answer_sandboxed
@@ -32,7 +32,7 @@ def compile_c(
 
 
 def compiled_image(path: pathlib.Path) -> pathlib.Path:
-    """The image of a source in C of one's own, by the first compiler, which is there until the command ends.
+    """The image of your own C source, by the first compiler, which is there until the command ends.
 
     It has the source's name without `.c`. Raises LabError where there is no compiler, or the source has mistakes, and OSError.
     """

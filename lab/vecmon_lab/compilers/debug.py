@@ -1,4 +1,4 @@
-"""What an image has, as JSON may: its segments, its symbols, the source's line of each instruction, and its variables."""
+"""The parts of an image, as JSON: its segments, symbols, the source line of each instruction, and its variables."""
 
 import pathlib
 from collections.abc import Iterator
@@ -22,7 +22,7 @@ _CODE = 4  # SHF_EXECINSTR: the section has instructions
 
 
 class Segment(NamedTuple):
-    """A part of memory: where it begins, what programs may do with it, its size, and its first bytes in hexadecimal."""
+    """A part of memory: its address, permissions, size, and its first bytes in hexadecimal."""
 
     address: int
     rights: str
@@ -54,9 +54,9 @@ class Image(TypedDict):
 
 
 def image_of(path: pathlib.Path) -> Image:
-    """What an image has, as far as its debug data can be read. Raises ValueError where it has too much.
+    """The parts of an image, as far as its debug data can be read. Raises ValueError if it has too many.
 
-    One that doesn't tell its entry begins at `_start`, or at its first code.
+    An image without an entry begins at `_start`, or at its first code.
     """
     from elftools.elf.elffile import ELFFile
 

@@ -48,7 +48,7 @@ class Failure(Exception):
 
 
 class Diagnostic(NamedTuple):
-    """What a compiler said of a place in the source; line 0 where it said it of something else."""
+    """A compiler's message at a place in the source; line 0 if it is at no line."""
 
     line: int
     column: int

@@ -12,7 +12,7 @@ _VECTOR, _LENGTH, _VECTOR_BYTES = 96, 7202, 32  # the numbers of v0 and of vlenb
 _NUMBER = re.compile("addr|const[1248]?[us]")
 
 Operation = tuple[int, str, list[int], int]
-"""An operation as pyelftools tells it: its code, its name, its arguments, and where it stands."""
+"""An operation as pyelftools has it: its code, its name, its arguments, and its place."""
 
 Sum = tuple[int, int]
 """The number of a scalar register, and what is added to it. Register 0 is zero, so that it is a number alone."""
@@ -49,7 +49,7 @@ def location(first: int, end: int, operations: Sequence[Operation], frame: Sum |
 
 
 def _sum(operations: Sequence[Operation], frame: Sum | None) -> Sum:
-    """What operations leave on their stack. Raises ValueError and IndexError."""
+    """The stack after operations. Raises ValueError and IndexError."""
     stack = list[Sum]()
     for code, name, arguments, _ in operations:
         kind = name.removeprefix("DW_OP_").rstrip("0123456789")
@@ -75,7 +75,7 @@ def _sum(operations: Sequence[Operation], frame: Sum | None) -> Sum:
 
 
 def _of(sign: str, one: Sum, other: Sum) -> Sum:
-    """What an operation makes of two. Raises ValueError where that isn't one register and a number."""
+    """The result of an operation on two values. Raises ValueError unless that is one register and a number."""
     match sign, one, other:
         case "plus", (register, number), (0, more):
             return register, number + more

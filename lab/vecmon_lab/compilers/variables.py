@@ -1,4 +1,4 @@
-"""The variables that debug data tells of a source: their types in C's words, and where they lie at which address of code."""
+"""The variables in the debug data of a source: their C types, and their places by addresses of code."""
 
 import re
 from collections.abc import Iterable, Iterator, Sequence
@@ -28,7 +28,7 @@ class Variable(NamedTuple):
 
     declaration: in C's words, as `int32_t x[37]`
     element: the kind of its numbers with their bits, as `i32`, or "" where it has none; counts: an array's dimensions
-    function: where it stands, also one that is inlined; "" for one of all functions
+    function: of the variable, also an inlined one; "" for a variable of all functions
     scopes: the addresses where it is known, each from the first to the one behind the last; none for everywhere
     locations: where none of them has the address, it was optimized out
     """
@@ -71,7 +71,7 @@ def read_variables(told: Iterable[Any]) -> list[Variable]:
 
 
 class _Unit:
-    """What a compiler made of one source."""
+    """The compiled form of one source."""
 
     def __init__(self, debug: "DWARFInfo", unit: "CompileUnit") -> None:
         from elftools.dwarf.dwarf_expr import DWARFExprParser
@@ -97,7 +97,7 @@ class _Unit:
                     yield from (_variable(each, name, own, ()) for each in _dropped(child))
 
     def _frame(self, entry: "DIE") -> Sum | None:
-        """The base of a function's frame, where the entry tells it: a scalar register."""
+        """The base of a function's frame, if the entry has it: a scalar register."""
         told = entry.attributes.get("DW_AT_frame_base")
         place = self._location(0, CODE_END, told.value, None) if told else None
         return (place.register, 0) if place and place.kind == "register" else None
@@ -140,7 +140,7 @@ def _variable(entry: "DIE", function: str, scopes: Sequence[Sum], locations: Seq
 
 
 def _dropped(entry: "DIE") -> list["DIE"]:
-    """The variables of a function that was inlined, of which its copy doesn't tell: they were optimized out."""
+    """The variables of an inlined function that its copy doesn't list: they were optimized out."""
     origin = entry_at(entry, "DW_AT_abstract_origin")
     kept = {source.offset for each in _all_within(entry) if (source := entry_at(each, "DW_AT_abstract_origin"))}
     whole = _all_within(origin) if origin else ()

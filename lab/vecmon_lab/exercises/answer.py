@@ -1,4 +1,4 @@
-"""Answers to exercises: an image, a source or a script, brought in and run for one case, and what it leaves."""
+"""Answers to exercises: an image, a source or a script, loaded and run for one case, and its results."""
 
 import contextlib
 import os
@@ -41,7 +41,7 @@ class Answer:
 
 @dataclass(frozen=True)
 class Attempt:
-    """What stands in the places of a case before an answer runs, and what it leaves there.
+    """The contents of the places of a case before an answer runs, and after it.
 
     is_long: whether it took more instructions than the exercise allows
     """
@@ -54,11 +54,11 @@ class Attempt:
 def read_answer(
     path: pathlib.Path, most: int = IMAGE_BYTES, is_own: bool = False, isolation: Isolation | None = None
 ) -> Answer:
-    """The answer in a file of so many bytes at most: an ELF image, a source (.s, .S, .c), or a script.
+    """The answer in a file of at most this number of bytes: an ELF image, a source (.s, .S, .c), or a script.
 
     Raises LabError with the reason, and ToolError where that isn't the answer's. Links, pipes and devices aren't read.
     is_own: whether it is your own file; C is compiled without a sandbox then, with the headers next to it
-    isolation: what compiles C of others; None for the sandbox
+    isolation: compiles untrusted C; None for the sandbox
     """
     try:
         with open(path, "rb", opener=_open) as file:
@@ -90,7 +90,7 @@ def read_answer(
 def source_answer(text: str, path: pathlib.Path, compiled: CompiledProgram | None = None) -> Answer:
     """The answer that a source is, which has this text, and is called so. Raises LabError where it has mistakes.
 
-    compiled: of one in C what a compiler made of it
+    compiled: of a C answer, its compiled form
     """
     source = read_compiled(text, path.name, compiled, True) if compiled else read_assembled(text, path.name)
     if not (source.statements or compiled):
@@ -100,7 +100,7 @@ def source_answer(text: str, path: pathlib.Path, compiled: CompiledProgram | Non
 
 
 def _open(name: str, flags: int) -> int:
-    """Opens a file, and no link; of a pipe without waiting for whoever writes there."""
+    """Open a file, but no link; a pipe without waiting for its writer."""
     return os.open(name, flags | os.O_NOFOLLOW | os.O_NONBLOCK)
 
 
@@ -189,7 +189,7 @@ def _run(guest: Guest, limits: Limits) -> tuple[Stop | None, bool]:
 def inputs(exercise: Exercise, case: Case, begin: int) -> list[str]:
     """The commands between an answer and its run, which begins at this address.
 
-    What is expected somewhere doesn't stand there before.
+    The places don't have the expected values before.
     """
     others = [(place.address, bytes(byte ^ TURNED for byte in place.data)) for place in case.expected.memory]
     places = [*others, *((place.address, place.data) for place in case.memory)]
@@ -212,7 +212,7 @@ def _junk(name: str, begin: int) -> Iterator[str]:
 
 
 def _results(guest: Guest, expected: Results, output: bytes) -> Results:
-    """What stands in the places where something is expected."""
+    """The contents of the places with expected values."""
     x = guest.told("regs", ScalarRegisters).x
     registers = {name: x[int(name[1:])] for name in expected.registers}
     memory = [place.holding(guest.peek(place.address, len(place.data))) for place in expected.memory]

@@ -1,4 +1,4 @@
-"""What authors of exercises need: a folder to begin with, and a try of the exercise, as students would find it."""
+"""Tools for authors of exercises: a folder to begin with, and a try of the exercise, as students would find it."""
 
 import argparse
 import pathlib
@@ -67,7 +67,7 @@ def _answers(exercise: Exercise) -> Iterator[tuple[pathlib.Path, bool]]:
 
 
 def _verdict(exercise: Exercise, outcomes: list[str]) -> str:
-    """What a student reads of an answer first: the first case that fails and isn't hidden, or else which ones fail."""
+    """The first line about an answer: the first visible case that fails, or the names of those that fail."""
     failing = [(case, reason) for case, reason in zip(exercise.cases, outcomes) if reason]
     if not failing:
         return f"passes {len(outcomes)} cases"

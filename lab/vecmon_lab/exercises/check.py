@@ -1,7 +1,7 @@
-"""What a student is told of an answer in a class, and a lesson of it in a case: each is made in a process of its own.
+"""The result of an answer in a class, and a lesson of it in a case: each is made in a separate process.
 
 The words are the program and what is asked for: `check`, the number of a case for a lesson of it, or `before` for the
-lesson before the exercise. The exercise with what is expected, the answer's source, what a compiler made of it, if that is
+lesson before the exercise. The exercise with its expected results, the answer's source, its compiled form, if that is
 in C, and what a good answer takes, if that is known, come pickled on standard input.
 """
 
@@ -32,14 +32,14 @@ MOST_SHOWN, BEFORE = 48, 4  # numbers of a row; and of them before the first wro
 CPU_SECONDS = 10
 UNCHECKED = "The answer couldn't be checked, which isn't your fault. Nothing was counted."
 NumberRow = TypedDict("NumberRow", {"where": str, "first": int, "numbers": list[str], "more": int, "wrong": list[int]})
-"""Numbers that stand one behind another: where, the number of the first one that is shown, how many more there are
+"""Numbers in a row: the place, the index of the first one shown, the number of those that follow
 behind those that are shown, and places of wrong ones."""
 Mistake = TypedDict("Mistake", {"line": int, "column": int, "message": str})
 """A mistake of the source's form."""
 
 
 class Told(TypedDict, total=False):
-    """Which cases pass; of the first that fails and isn't hidden its number and why; what an answer that passes takes.
+    """The cases that pass; of the first visible one that fails its number and why; the cost of an answer that passes.
 
     Rows have what is given there, expected and found, and notes what else holds there. Without cases the source has
     mistakes, and wasn't tried. Warnings are a compiler's.
@@ -82,9 +82,9 @@ def failed_check(cause: str) -> Told:
 def check(
     program: pathlib.Path, exercise: Exercise, text: str, compiled: CompiledProgram | None, good: Taken | None
 ) -> Told:
-    """What is told of a source, in an exercise with what is expected. Raises ToolError.
+    """The result of a source, in an exercise with expected results. Raises ToolError.
 
-    compiled: what a compiler made of it, if it is in C; good: what the exercise's good answer takes, if that is known
+    compiled: its compiled form, if it is in C; good: the cost of the exercise's good answer, if known
     """
     try:
         if len(text.encode()) > exercise.limits.size:
@@ -118,7 +118,7 @@ def check(
 
 
 def mistakes_told(errors: Iterable[SourceError]) -> list[Mistake]:
-    """Mistakes of a source, or warnings, as they are told."""
+    """Mistakes of a source, or warnings, as messages."""
     return [{"line": it.line, "column": it.column, "message": it.message} for it in errors]
 
 
@@ -154,7 +154,7 @@ def _page(title: str, script: Script, program: pathlib.Path) -> str:
 
 
 def _notes(exercise: Exercise, case: Case) -> list[str]:
-    """What holds before a case, beside numbers in registers and memory."""
+    """The state before a case, in addition to numbers in registers and memory."""
     agnostic = "Agnostic elements, of a tail or masked off, become all ones here: does the answer use one?"
     junk = "All other registers hold anything."
     return [junk] * exercise.junk + [agnostic] * (case.policy == "ones")
@@ -186,7 +186,7 @@ def _row(where: str, texts: Sequence[str], first: int = 0, wrong: Sequence[int] 
 
 
 def _strips(results: Results, with_addresses: bool = False) -> list[tuple[str, list[str]]]:
-    """Where numbers stand, and the numbers as texts; of registers addresses may be among them."""
+    """The places of numbers, and the numbers as texts; those of registers may include addresses."""
     strips = []
     for name, value in results.registers.items():
         is_address = with_addresses and ADDRESSES <= value < 1 << 48
@@ -200,7 +200,7 @@ def _strips(results: Results, with_addresses: bool = False) -> list[tuple[str, l
 
 
 def main(program: str, what: str) -> None:
-    """Writes what is told, in JSON, or a lesson, to standard output."""
+    """Write the result, in JSON, or a lesson, to standard output."""
     import resource  # which the synchronous core does without
 
     os.nice(10)

@@ -1,4 +1,4 @@
-"""Exercises: what a student reads, what an answer is given, what is expected of it, and its limits (exercise.toml)."""
+"""Exercises (exercise.toml): the text for students, an answer's input, the expected results, and the limits."""
 
 import pathlib
 import struct
@@ -54,7 +54,7 @@ class Results:
 
 @dataclass(frozen=True)
 class Case:
-    """What an answer is given, and what is expected of it."""
+    """An answer's input, and the expected results."""
 
     name: str
     is_hidden: bool
@@ -158,7 +158,7 @@ def _taken(where: str, entries: object, defaults: Mapping[str, object]) -> Simpl
 
 
 def _case(where: str, entries: object, by_reference: bool) -> Case:
-    """A case. What a reference is to give is named alone: registers in a list, how many numbers, and output = true."""
+    """A case. The results of a reference are named without values: registers in a list, a length, and output = true."""
     inputs = {"hidden": False, "policy": "keep", "registers": {}, "memory": []}
     table = _taken(where, entries, {"name": where.split(": ")[-1], "expected": {}, **inputs})
     results = {"registers": [], "output": False} if by_reference else {"registers": {}, "output": ""}

@@ -122,7 +122,7 @@ def graded(
 ) -> Graded:
     """As `grade`; and what an answer takes that passes, if that is counted.
 
-    isolation: what compiles C that isn't your own
+    isolation: compiles C that isn't your own
     """
     try:
         answer = read_answer(path, exercise.limits.size, is_own, isolation)
@@ -147,7 +147,7 @@ def graded_or_failure(
 
 
 def _cells(taken: Taken | None) -> list[str]:
-    """What an answer takes, as cells of a table; empty ones where it fails."""
+    """The cost of an answer, as cells of a table; empty ones if it fails."""
     return [f"{taken['instructions']}", f"{taken['work']} %"] if taken else ["", ""]
 
 

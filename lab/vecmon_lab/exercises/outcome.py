@@ -33,7 +33,7 @@ def outcome(program: pathlib.Path, answer: Answer, exercise: Exercise, case: Cas
 def difference(expected: Results, done: Attempt, given: Mapping[str, int]) -> str:
     """The first place where something else is found than is expected, in words; or nothing.
 
-    given: registers before, of which what is found may be near
+    given: registers before; a value found may be near one of them
     """
     for where, value, old, left in _numbers(expected, done.before, done.found):
         if left != value:

@@ -14,7 +14,7 @@ _NO_XML = re.compile("[^\t\n\r -\ud7ff\ue000-\ufffd\U00010000-\U0010ffff]")  # c
 
 
 def reason_shown(case: Case, reason: str) -> str:
-    """Why an answer fails in a case, as whoever wrote it may know: of a hidden case no more than that."""
+    """Why an answer fails in a case, as its author may know it: of a hidden case only that it fails."""
     return "fails" if case.is_hidden and reason else reason
 
 
@@ -34,7 +34,7 @@ def junit(exercise: Exercise, grades: Grades) -> str:
 
 
 def gradescope(exercise: Exercise, outcomes: list[str]) -> str:
-    """What Gradescope's autograder reads of one answer: a point for each case, and hidden ones aren't shown."""
+    """The input of Gradescope's autograder for one answer: a point for each case; hidden ones aren't shown."""
     tests = [
         {
             "name": case.name,

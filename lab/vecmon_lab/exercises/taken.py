@@ -1,4 +1,4 @@
-"""What an answer takes that passes: instructions, and the elements of its vector instructions that did work."""
+"""The cost of an answer that passes: instructions, and the share of elements that did work."""
 
 import pathlib
 from typing import TypedDict
@@ -7,11 +7,11 @@ from .answer import Answer, ready
 from .exercise import Exercise
 
 Taken = TypedDict("Taken", {"instructions": int, "work": int})
-"""What an answer takes for all cases that aren't hidden: instructions, and of 100 elements those that did work."""
+"""The cost of an answer in all visible cases: instructions, and of 100 elements those that did work."""
 
 
 def taken_by(program: pathlib.Path, answer: Answer, exercise: Exercise) -> Taken:
-    """What an answer takes that passes. Raises LabError where there is no recorder."""
+    """The cost of an answer that passes. Raises LabError without a recorder."""
     from ..runs.beginning import beginning_at  # which is for answers that pass
     from ..runs.recorder import record
 

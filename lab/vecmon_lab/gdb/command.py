@@ -2,7 +2,7 @@
 
 gdb begins the command and speaks with it over a pipe, so that nothing listens. Packets and their answers are those of gdb's manual, "gdb
 Remote Serial Protocol": a stop is `S` and a signal's number, an exit `W` and the status, output `O` and its bytes, an error `E` and a
-number, which is that of the machine's refusal; an empty answer says that such a packet isn't taken here. `T05` tells of a place that is
+number, which is that of the machine's refusal; an empty answer refuses a packet. `T05` reports a place that is
 watched, that there is nothing before the first instant, or that the next one is the program's end: there gdb can still go back.
 """
 
@@ -36,7 +36,7 @@ from ..replay.timeline import Timeline
 from ..replay.watches import Watch
 from .packets import Link
 
-BEGUN = "S00"  # no signal: gdb would tell of one where the last machine was stopped by one
+BEGUN = "S00"  # no signal: gdb would report a signal if the last machine was stopped by one
 INTERRUPTED, ILLEGAL, TRAPPED, MISALIGNED, UNMAPPED = "S02", "S04", "S05", "S0a", "S0b"  # SIGINT, ILL, TRAP, BUS, SEGV
 FAULTS = {0: MISALIGNED, 1: UNMAPPED, 2: ILLEGAL, 5: UNMAPPED, 7: UNMAPPED}  # by cause
 REFUSED, TOO_MANY, THERE_ALREADY = "E04", "E12", Refused("E13")
@@ -56,7 +56,7 @@ def add_arguments(parser: argparse.ArgumentParser) -> None:
 
 
 def run(arguments: argparse.Namespace) -> int:
-    """Answers gdb until it goes away. Raises LabError and OSError where the image isn't taken."""
+    """Serve gdb until it disconnects. Raises LabError and OSError for a bad image."""
     link, words = Link(), [arguments.image.name, *arguments.words]
     report, write = Reporter(Symbols.read(arguments.image).place), lambda data: link.send(f"O{data.hex()}")
     with started(arguments.image, arguments=words, file=arguments.input, write=write, report=report) as guest:
@@ -74,13 +74,13 @@ class Target:
         self.is_attached, self._image = True, image
         self._guest, self._link, self._timeline = guest, link, Timeline(guest)
         self._last = BEGUN  # the last stop
-        self._exit = ""  # what gdb is told if it goes on from where the program exits
+        self._exit = ""  # the answer if gdb resumes a program that has exited
 
     def answer(self, packet: str) -> str:
         """The answer to a packet; output comes before it, by itself. Raises EOFError where gdb ends the program."""
         try:
             return self._answer(packet[:1], re.split("[,:=]", packet[1:]))
-        except ValueError:  # what ought to be a number isn't
+        except ValueError:  # a field that should be a number isn't
             return REFUSED
 
     def _answer(self, letter: str, words: list[str]) -> str:
@@ -132,7 +132,7 @@ class Target:
         return ""
 
     def _stopped(self, stop: Stop | None, signal: str) -> str:
-        """A stop by its signal, or the last instant; without one the signal. Why it stopped for good is put out in words."""
+        """A stop by its signal, or the last instant; without one the signal. gdb's console explains a final stop."""
         self._last = self._trapped() if stop else signal
         if stop and stop.kind == "exit":
             self._tell(f"it exits here with status {stop.number}; continue ends it, reverse-continue goes back")
@@ -143,7 +143,7 @@ class Target:
         return self._last
 
     def _back(self, is_step: bool) -> str:
-        """Goes back by an instruction, or to a stop; where that isn't possible, it is put out why."""
+        """Go back by an instruction, or to a stop; if that isn't possible, print why."""
         try:
             if is_step:
                 is_there: bool | None = self._timeline.back()
@@ -210,7 +210,7 @@ class Target:
         return "\n".join([*(refusal_in_words(f"1 {line}", answer) if isinstance(answer, Refused) else rows), ""])
 
     def _do(self, command: str) -> str:
-        """What gdb is told after a command."""
+        """The answer after a command."""
         (answer,) = self._guest.ask(command)
         return "OK" if isinstance(answer, Done) or answer == THERE_ALREADY else str(answer)
 

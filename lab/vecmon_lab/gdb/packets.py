@@ -24,7 +24,7 @@ class Link:
         self._acknowledges = True
 
     def receive(self) -> str:
-        """The data of the next packet; what comes between packets is dropped. Raises EOFError at the end."""
+        """The data of the next packet; bytes between packets are dropped. Raises EOFError at the end."""
         while True:
             while not (packets := [*_PACKET.finditer(self._unread)]):
                 self._read()

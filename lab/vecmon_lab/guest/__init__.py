@@ -1,1 +1,1 @@
-"""One user's program: an image that runs or is stepped, what its instructions change, and its symbols."""
+"""One user's program: an image that runs or is stepped, the changes by its instructions, and its symbols."""

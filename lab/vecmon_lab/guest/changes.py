@@ -1,4 +1,4 @@
-"""What an instruction changed: registers, elements of vector registers, control registers and memory."""
+"""The changes by an instruction: registers, elements of vector registers, control registers and memory."""
 
 import itertools
 from collections.abc import Iterator, Sequence
@@ -47,7 +47,7 @@ class ElementsChange:
     """Elements of the group that begins at a vector register, one after another.
 
     register: the number of the group's first register
-    width: of an element, in bits; 1 in a mask, of which all bits from the first to the last one that changed stand here
+    width: of an element, in bits; 1 in a mask, with all bits from the first changed one to the last
     first: the number of the first element; before, after: values
     """
 
@@ -81,7 +81,7 @@ Change = RegisterChange | ElementsChange | MemoryChange
 
 @dataclass(frozen=True)
 class Carried:
-    """An instruction that was carried out, or that stopped the program instead.
+    """An instruction that was executed, or that stopped the program instead.
 
     word, text: 0 and "" where nothing can be fetched
     """
@@ -117,7 +117,7 @@ class Registers:
 
 
 class Stepper:
-    """Steps a guest, and tells what each instruction changed. Whoever changes the guest otherwise calls `look` then.
+    """Steps a guest, and returns the changes of each instruction. After other changes of the guest, call `look`.
 
     registers: as they are now
     last: the instruction that was stepped last, with the registers before it; None if anything else was done since
@@ -141,7 +141,7 @@ class Stepper:
         return self._changes_since(before, singles)
 
     def step(self) -> Carried:
-        """Carries out one instruction. What it writes to file 1 is handed on, or kept for `Guest.output`."""
+        """Execute one instruction. Output to file 1 is passed on, or kept for `Guest.output`."""
         pc, before = self.guest.pc, self.registers.copy()
         word, text = self.fetch(pc)
         if word == ECALL:

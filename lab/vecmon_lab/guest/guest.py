@@ -41,9 +41,9 @@ Told = TypeVar("Told", bound=Answer)
 
 
 class Guest:
-    """A user's program, alone in its session, which stands still between calls.
+    """A user's program, alone in its session, which is stopped between calls.
 
-    pc: where it stands, by what `start`, `go` and `step` were answered, or `regs` to a `Stepper`
+    pc: its place, from the answers to `start`, `go` and `step`, or from `regs` of a `Stepper`
     ticks: how many of them `go` has granted, in whole slices
     laid: the commands that `start` gave behind `load`, without the policy
     write: is given what the program writes
@@ -118,7 +118,7 @@ class Guest:
                 raise LabError(f"the machine refuses to write from {command.split()[1]} on ({answer})")
 
     def go(self, ticks: int | None = None, is_interrupted: Callable[[], bool] = lambda: False) -> Stop | None:
-        """The program runs to a stop; None where so many ticks, rounded up to slices, ran out, or it is interrupted.
+        """Run the program to a stop; None after this number of ticks, rounded up to slices, or an interruption.
 
         `is_interrupted` is asked between some slices. No call finds too little room for its output.
         """
@@ -147,7 +147,7 @@ class Guest:
         return stop, self.ask(*looks)
 
     def go_back(self, size: int, pc: int) -> None:
-        """Goes back to where the script had so many bytes, and the program counter this value: in another session."""
+        """Go back to where the script had this many bytes, and the program counter this value: in a new session."""
         session = self.session.rewound(self.session.script[:size])
         self.session.close()
         self.session, self.pc = session, pc
@@ -174,9 +174,9 @@ class Guest:
         return told if isinstance(told, Stop) else None, answers
 
     def pass_over(self, instructions: int, at_once: int = MOST_STEPS, most: int = OUTPUT_BYTES) -> bool:
-        """Carries out so many instructions, which don't stop the program, so many at once, and empties the buffer then.
+        """Execute a number of instructions, which don't stop the program, in groups, and empty the buffer after each.
 
-        False where it had more than so many bytes: no more is done then.
+        False if the program wrote more than this number of bytes: it stays there then.
         """
         while instructions:
             part = min(instructions, MOST_ROUNDS * at_once)
@@ -193,7 +193,7 @@ class Guest:
         self.hand_on(self.told("out", Output).data)
 
     def output(self) -> bytes:
-        """What the program has written since this was asked last; nothing where `write` is given it, now at least."""
+        """The output of the program since the last call; empty if `write` gets it, now at the latest."""
         self.empty_buffer()
         kept = b"".join(self._kept)
         self._kept.clear()
@@ -205,14 +205,14 @@ class Guest:
         return (told.words[0].word, told.words[0].text) if isinstance(told, Listing) else (0, "")
 
     def explain(self, stop: Stop) -> str:
-        """A stop in sentences, by what stands at its place."""
+        """A stop in sentences, by the instruction at its place."""
         word, text = self.word_at(stop.pc)
         return describe_stop(stop, word, self.told("vcsr", ControlRegisters), text)
 
     def tell(self, stop: Stop | None, place: str = "") -> str:
         """A stop in a line: its address, and the place by a symbol; the instruction there; and why, in sentences.
 
-        Without a stop the ticks ran out where the program stands.
+        Without a stop the ticks ran out where the program is.
         """
         if stop is None:
             return f"the ticks ran out at {self.pc:x} {place}".rstrip()
@@ -262,7 +262,7 @@ def check_image(path: pathlib.Path) -> None:
 
 
 def runs_of(addresses: Iterable[int]) -> list[list[int]]:
-    """The addresses of words in runs of at most 16 that stand one behind another."""
+    """The addresses of words in runs of at most 16 consecutive words."""
     runs: list[list[int]] = []
     for address in sorted(addresses):
         if not runs or len(runs[-1]) == 16 or address != runs[-1][-1] + 4:
@@ -272,7 +272,7 @@ def runs_of(addresses: Iterable[int]) -> list[list[int]]:
 
 
 def stepping(instructions: int, at_once: int = MOST_STEPS) -> Iterator[str]:
-    """The commands that carry out so many instructions, so many at once, and take the output behind each of these.
+    """The commands that execute a number of instructions in groups, and fetch the output after each group.
 
     It is taken behind the same ones each time, so that calls that write find the same room in a replay.
     """
@@ -293,7 +293,7 @@ def peeks(address: int, length: int) -> Iterator[str]:
 
 
 def argument_block(arguments: Sequence[str]) -> bytes:
-    """What the RISC-V ABI has on the stack when a program begins: how many arguments, their addresses, 0; no variables
+    """The stack at the start of a program, by the RISC-V ABI: the number of arguments, their addresses, 0; no variables
     of an environment, 0; no auxiliary entries, 0 and 0; and the arguments, each ended by a zero byte.
 
     It ends where the stack does, and begins where `load` leaves the stack pointer, or below. Raises LabError for more

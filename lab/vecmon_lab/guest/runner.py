@@ -72,7 +72,7 @@ class Runner:
         self._calls = self._bytes = 0  # stops at calls, and bytes of output, since the last slice was counted
 
     def go(self, slices: int | None, is_interrupted: Callable[[], bool]) -> Stop | None:
-        """The program runs to a stop; None where so many slices were used up, or it is interrupted.
+        """Run the program to a stop; None after this number of slices, or an interruption.
 
         Of a slice that ends before a call no ticks are counted; CALLS_OF_A_SLICE of them, or OUTPUT_BYTES of output, count
         as one slice.
@@ -179,7 +179,7 @@ class Runner:
         return stop, self._count_call(len(output)), output
 
     def _count_call(self, size: int) -> int:
-        """Counts a stop at a call with so many bytes of output; the slices, 0 or 1, that are used up by it."""
+        """Count a stop at a call with this number of bytes of output; return the slices, 0 or 1, that it uses up."""
         self.has_exact_ticks = False
         self._calls, self._bytes = self._calls + 1, self._bytes + size
         if self._calls < CALLS_OF_A_SLICE and self._bytes < OUTPUT_BYTES:
@@ -188,7 +188,7 @@ class Runner:
         return 1
 
     def _go_back(self, size: int, pc: int) -> None:
-        """Goes back to where the script had so many bytes, and takes the output more often from there on."""
+        """Go back to where the script had this number of bytes, and fetch the output more often from there on."""
         self._guest.go_back(size, pc)
         self._stops_at_calls, self._is_stepping = True, self._stops_at_calls
         self._choose_places()

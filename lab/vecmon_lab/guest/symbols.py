@@ -23,7 +23,7 @@ class Symbols:
     """The symbols of a file by name, and their places; empty where the file has no symbol table.
 
     addresses: of each name
-    sizes: of each name, 0 where the file doesn't tell it
+    sizes: of each name, 0 if the file doesn't have it
     places_of: all addresses of each name, which several files may have
     path: the file, whose source lines are read when one is asked for
     """
@@ -72,7 +72,7 @@ class Symbols:
         return name if address == start else f"{name}+{address - start:#x}"
 
     def room(self, name: str) -> int:
-        """How many bytes a symbol has, as the file tells, or else up to the next one or its section's end."""
+        """The number of bytes of a symbol, from the file, or else up to the next one or its section's end."""
         address = self.addresses[name]
         at = bisect.bisect_left(self._places, address, key=lambda place: place[0])
         if self.sizes.get(name) or not self._places[at : at + 1] or self._places[at][0] != address:
@@ -80,7 +80,7 @@ class Symbols:
         return min(self._places[at][1], *(place for place, _, _ in self._places[at + 1 : at + 2])) - address
 
     def line(self, address: int) -> str:
-        """The source line of an instruction, as `sum.c:12`; "" where the file doesn't tell it."""
+        """The source line of an instruction, as `sum.c:12`; "" if the file doesn't have it."""
         return self.source.at(address)
 
     @property
@@ -95,7 +95,7 @@ class Symbols:
 
 
 def _symbols(elf: "ELFFile") -> Iterator[tuple[int, int, int, str, int]]:
-    """The address of each symbol, how much it tells, the end of its section or 0 outside of it, its name and its size."""
+    """The address of each symbol, its rank, the end of its section or 0 outside of it, its name and its size."""
     allocated = [(at, each) for at, each in enumerate(elf.iter_sections()) if each["sh_flags"] & ALLOCATED]
     bounds = {at: (each["sh_addr"], each["sh_addr"] + each["sh_size"]) for at, each in allocated}
     for section in elf.iter_sections():

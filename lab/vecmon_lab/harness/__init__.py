@@ -1,1 +1,1 @@
-"""What stands around golden programs: their environments, their sources, and the ELF files that are made of them."""
+"""The environments of golden programs, their sources, and the ELF files built from them."""

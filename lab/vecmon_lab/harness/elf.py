@@ -24,7 +24,7 @@ class Segment:
 def elf(entry: int, segments: Sequence[Segment], symbols: Mapping[str, int]) -> bytes:
     """The file of an executable that begins at an address. Symbols have 8 bytes, as simulators ask of tohost.
 
-    A segment that can't be written has all of its bytes in the file: what loads it may write zeros behind them.
+    A segment that can't be written has all of its bytes in the file: a loader may write zeros after them.
     """
     headers, body = b"", b""
     for part in segments:

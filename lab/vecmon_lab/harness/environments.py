@@ -1,7 +1,7 @@
 """The environments of golden programs, and the code around what they try: assembled once, by the machine.
 
 A program has a page for an instruction, two pages of memory, the code and its data, and a list behind them: of cases, or
-what it carries out. Addresses stand in `Environment`; all of these move with its base.
+the words it executes. `Environment` has the addresses; all of these move with its base.
 """
 
 import functools
@@ -21,7 +21,7 @@ from ..machine.session import Session
 from .elf import EXECUTE, READ, WRITE, Segment, elf
 
 CODE, PC, MEMORY = 0x10000, 0x10800, 0x20000
-"""The page of the instruction, and where it stands in it; and the memory."""
+"""The page of the instruction, and its place in it; and the memory."""
 
 MEMORY_BYTES = 2 * PAGE_BYTES
 BLOCK_BYTES = 1344
@@ -31,7 +31,7 @@ SPARE = (31, 29, 27, 25)
 """The registers xS, by which a case comes back; xT is the one below it."""
 
 LIST = 0x40000
-"""How far behind the code the list of cases, or what is carried out, begins."""
+"""The distance from the code to the list of cases, or to the executed words."""
 
 
 @dataclass(frozen=True)
@@ -39,7 +39,7 @@ class Environment:
     """Where golden programs run.
 
     files: its sources, and code: where the program begins
-    ends: the numbers by which it tells how a case ended; what ends otherwise can't be tried there
+    ends: the numbers that report how a case ended; other ends can't be tested there
     base: what is added to the addresses of the instruction and of memory
     """
 
@@ -81,7 +81,7 @@ class Harness:
 
 @functools.cache
 def harness(environment: Environment, name: str, signature_words: int) -> Harness:
-    """The code around cases or around a program in an environment, with so many words of 64 bits for its signature."""
+    """The code around cases or around a program in an environment, with a signature of this number of 64-bit words."""
     base, code = environment.base, environment.code
     numbers = {"CODE": base + CODE, "PC": base + PC, "MEMORY": base + MEMORY, "READ_ONLY": base + MEMORY + PAGE_BYTES}
     numbers |= {"BLOCK_BYTES": BLOCK_BYTES, "MEMORY_BYTES": MEMORY_BYTES, "MEMORY_WORDS": MEMORY_BYTES // 8}
@@ -117,9 +117,9 @@ def _source(name: str) -> str:
 
 
 def _expanded(text: str) -> Iterator[str]:
-    """The lines of a source, without the two forms that these sources have beside those of all assemblers.
+    """The lines of a source, without the two forms that these sources have in addition to those of all assemblers.
 
-    `for NAME.. in VALUE.., ..: TEXT; ..` stands for the texts with each of the values; `save xT, xS` and `load xT, xS` for
+    `for NAME.. in VALUE.., ..: TEXT; ..` gives the texts with each value; `save xT, xS` and `load xT, xS` are for
     all scalar registers but these two, at their places in the block at xT.
     """
     for line in text.splitlines():

@@ -49,7 +49,7 @@ class Placed:
     """An array, and where it lies in its pages, before and behind which there is no page.
 
     offset: from the beginning of its first page on, 0 to 4,095; without one it ends where its last page does
-    permissions: what the program may do there: `r`, `w` or `rw`
+    permissions: of the program there: `r`, `w` or `rw`
     """
 
     data: Array
@@ -59,11 +59,11 @@ class Placed:
 
 @dataclass(frozen=True)
 class Result:
-    """What a call leaves.
+    """The results of a call.
 
-    value: what stands in a0, from 0 to 2^64 - 1
+    value: a0, from 0 to 2^64 - 1
     arrays: those of the call, in their order, each of the type that it was given in
-    output: what it wrote
+    output: of the call
     counts: of its instructions and their elements, where they were counted
     """
 
@@ -100,7 +100,7 @@ class _Place:
 
 
 _Left = tuple[int, list[bytes], bytes]
-"""What a call leaves: a0, the bytes of the arrays, and the output."""
+"""The results of a call: a0, the bytes of the arrays, and the output."""
 
 
 class Kernel(contextlib.AbstractContextManager["Kernel"]):
@@ -150,7 +150,7 @@ class Kernel(contextlib.AbstractContextManager["Kernel"]):
     ) -> Result:
         """Calls a function with whole numbers and the addresses of arrays, eight at most, in a0 to a7.
 
-        An array that isn't `Placed` ends where a page does. policy: what becomes of agnostic elements, `keep` or
+        An array that isn't `Placed` ends where a page does. policy: of agnostic elements, `keep` or
         `ones`; `both` calls twice. counted: whether instructions are counted; of `both`, those under `keep`. Raises
         CallStopped, PoliciesDiffer, and LabError for what can't be called so.
         """
@@ -218,7 +218,7 @@ class Kernel(contextlib.AbstractContextManager["Kernel"]):
     def _left(
         self, symbol: str, policy: str, lines: Sequence[str], places: Sequence[_Place], ticks: int, counted: bool
     ) -> tuple[_Left, Counts | None]:
-        """What a call leaves under a policy, and what was counted."""
+        """The results of a call under a policy, and its counts."""
         self._renew()
         guest, self._is_stopped = self._guest, False
         looks = ["regs", *(look for place in places for look in peeks(place.address, len(place.data)))]
@@ -239,7 +239,7 @@ class Kernel(contextlib.AbstractContextManager["Kernel"]):
         return (registers.x[FIRST_ARGUMENT], [_joined(place, parts) for place in places], output), counts
 
     def _stopped(self, what: str, stop: Stop | None, places: Sequence[_Place]) -> CallStopped:
-        """Why a call didn't return; of a fault in or beside an array also where that lies."""
+        """Why a call didn't return; for a fault in or near an array also the place in it."""
         text = f"{what}: " + self._guest.tell(stop, self._symbols.place(stop.pc if stop else self._guest.pc))
         for number, place in enumerate(places, 1):
             end = place.address + len(place.data)
@@ -316,7 +316,7 @@ def _like(given: Array, data: bytes) -> Array:
 
 
 def _differences(kept: _Left, ones: _Left) -> Iterator[str]:
-    """What a call leaves otherwise under `ones` than under `keep`."""
+    """The differences between the results under `ones` and under `keep`."""
     told = "{} under keep, {} under ones"
     if kept[0] != ones[0]:
         yield f"the result is {told.format(f'{kept[0]:#x}', f'{ones[0]:#x}')}"

@@ -1,4 +1,4 @@
-"""The frames of a lesson: what each line of a script answers, and what it leaves of each user."""
+"""The frames of a lesson: the answers to each line of a script, and each user's state after it."""
 
 import html
 import pathlib
@@ -23,10 +23,10 @@ MOST_NAMED = 40  # rows of memory that variables of a source in C have for certa
 
 @dataclass(frozen=True)
 class Frame:
-    """What a lesson shows at once.
+    """The content of one view of a lesson.
 
     user: the digit of the user whose state is shown
-    line: what was done, and how many lines more
+    line: the command, and the number of further lines
     note: the author's sentence
     log: lines behind `>`, their answers behind `<` (`log_entries`), and why a line wasn't sent behind `!`
     states: the state of each user after it, by the user's digit
@@ -64,7 +64,7 @@ def make_frames(
 
 
 class _Maker:
-    """Two machines carry out the script: one its very lines, whose answers the lesson tells; the other one a single
+    """Two machines carry out the script: one its very lines, whose answers the lesson shows; the other one a single
     instruction at a time where a line steps several, and that one is looked at."""
 
     def __init__(self, script: Script, whole: Session, single: Session) -> None:
@@ -92,7 +92,7 @@ class _Maker:
         self._add_frame(step, user, log, step.note)
 
     def _carry_out(self, line: str, log: list[str], answers: list[tuple[str, Answer]]) -> None:
-        """Adds a line and its answer to the log, and what the answer tells whom to the answers."""
+        """Add a line and its answer to the log, and the parts of the answer to their users."""
         log.append(f">{line}")
         try:
             parts = self._whole.do(line)
@@ -110,7 +110,7 @@ class _Maker:
         answers += by_whom(parts)
 
     def _step_singly(self, step: Step, number: int, log: list[str], answers: Sequence[tuple[str, Answer]]) -> None:
-        """Steps as often as the line did: up to its number, a stop, or a breakpoint behind its first instruction."""
+        """Step as often as the line did: up to its number, a stop, or a breakpoint after its first instruction."""
         line, user = step.lines[0], step.lines[0][0]
         for place in range(1, number + 1):
             state, part = self._states[user], by_whom(self._single.do(f"{user} step 1"))
@@ -139,7 +139,7 @@ class _Maker:
         self._frames.append(Frame(user, line, more, note, log, dict(self._states)))
 
     def finish(self) -> list[Frame]:
-        """The frames, with those rows of memory alone that tell most."""
+        """The frames, with only the most relevant rows of memory."""
         for user, sight in self._sights.items():
             if self._script.variables:  # and not what else the image has
                 sight.named = set(variable_rows(self._script.variables)[:MOST_NAMED])

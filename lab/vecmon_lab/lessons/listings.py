@@ -1,4 +1,4 @@
-"""What compilers make of a source in C: under each line its instructions, how often they were carried out, and with how
+"""The code that compilers generate for a C source: under each line its instructions, their counts, and with how
 many elements; listings side by side, as one page."""
 
 import json
@@ -24,11 +24,11 @@ MOST_TICKS, MOST_WORDS = 50_000, 4000
 
 @dataclass(frozen=True)
 class CompiledListing:
-    """What a compiler made of a source.
+    """The code of one compiler for a source.
 
-    name: of the compiler with its options; summary: what was carried out, in sentences
+    name: of the compiler with its options; summary: the counts, in sentences
     rows: of each instruction its address, the line of the source that it is of, the function that was inlined there,
-    its text, how often it was carried out, and its elements: active, masked off, in the tail
+    its text, its count, and its elements: active, masked off, in the tail
     """
 
     name: str

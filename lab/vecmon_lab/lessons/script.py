@@ -1,4 +1,4 @@
-"""What a lesson's file says: the lines for the monitor, and the author's sentences, which begin with `#`."""
+"""The file of a lesson: the lines for the monitor, and the author's sentences, which begin with `#`."""
 
 import re
 from collections.abc import Sequence
@@ -14,7 +14,7 @@ from ..machine.answers import Refused
 from ..machine.lines import is_look, words_of
 
 RUN_LINES = ["1 step 256", "1 out"]
-"""What a source's lesson does behind its set-up, if that carries nothing out."""
+"""The lines of a source's lesson after its set-up, if that executes nothing."""
 
 
 @dataclass(frozen=True)
@@ -50,7 +50,7 @@ class Script:
 
 
 def read_script(text: str) -> Script:
-    """The lesson of a script. Any line is taken: its answer will tell what is wrong with it."""
+    """The lesson of a script. Any line is accepted: its answer shows its fault."""
     title, waiting, steps = "", list[str](), list[Step]()
     for line in text.split("\n"):
         if line.startswith("##"):
@@ -128,7 +128,7 @@ def send(guest: Guest, commands: Sequence[str], source: Script | None = None) ->
 
 
 def _sentence(lines: list[str]) -> str:
-    """What stands behind the `#` of lines, as one text."""
+    """The text after the `#` of lines, joined."""
     return " ".join(filter(None, (line.lstrip("#").strip() for line in lines)))
 
 
@@ -155,7 +155,7 @@ def _source_notes(lines: list[str], program: Program) -> tuple[str, dict[int, st
 
 
 def _set_up_lines(line: str, program: Program) -> list[str]:
-    """The lines of a line of the set-up, which has no user's digit, and in which a label may stand for its address.
+    """The lines of a line of the set-up, which has no user's digit; a label in it is replaced by its address.
 
     `break` and the name of a function stops in its inlined copies, too.
     """

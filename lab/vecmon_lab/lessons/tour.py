@@ -39,7 +39,7 @@ def tours() -> dict[str, Script]:
 
 
 def _script(name: str, title: str) -> Script:
-    """A tour's script. Its sentences stand in a file of their own, each behind how many lines it is said of.
+    """A tour's script. A separate file has its sentences, each after the number of lines that it is about.
 
     In a kernel, which comes compiled, those are one frame.
     """

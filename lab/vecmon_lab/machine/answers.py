@@ -1,4 +1,4 @@
-"""What the monitor answers, as docs/COMMANDS.md has it: where an answer ends, and what it says.
+"""The monitor's answers, as in docs/COMMANDS.md: where an answer ends, and its meaning.
 
 No other module knows a column. A user's answer is one line, but for an accepted `regs` (9 lines) and an accepted
 `dis ADDR N` (N lines). An operator's answer is the stop lines of the slices that it granted, and then a line that
@@ -21,7 +21,7 @@ _WORDS = {"STOP": _STOP, "V16": "[0-9a-f]{16}", "WORD": "[0-9a-f]{8}", "HEX": "(
 
 
 def _pattern(form: str, who: str = "[1-8*]") -> re.Pattern[str]:
-    """What matches a line of a form, with what stands before it."""
+    """The pattern of a line of a form, with its prefix."""
     for word, expression in _WORDS.items():
         form = form.replace(word, expression)
     return re.compile(f"{who} (?:{form})")
@@ -30,11 +30,11 @@ def _pattern(form: str, who: str = "[1-8*]") -> re.Pattern[str]:
 _STOP_LINE = _pattern("STOP", "[1-8]")
 _LINES = {command: _pattern(form) for command, form in read_table("answers")}
 VILL = 1 << 63  # vtype where no type is set
-_COUNTS = {"regs": 9, "* slices": 0, "* run": 0}  # of lines, where it isn't one; 0 where stops stand before it
+_COUNTS = {"regs": 9, "* slices": 0, "* run": 0}  # of lines, if it isn't one; 0 if stops come before it
 
 
 class OutOfStep(LabError):
-    """What came from the program can't be the answer to the line that was sent."""
+    """The program's output can't be the answer to the line that was sent."""
 
 
 @dataclass(frozen=True)
@@ -81,7 +81,7 @@ class ScalarRegisters:
 
 @dataclass(frozen=True)
 class VectorRegister:
-    """The 32 bytes of a vector register, which are shown as elements of so many bits."""
+    """The 32 bytes of a vector register, which are shown as elements of this width in bits."""
 
     number: int
     width: int
@@ -181,7 +181,7 @@ class Stop(Standing):
 
 @dataclass(frozen=True)
 class Output:
-    """What the program has put out."""
+    """The output of the program."""
 
     data: bytes
 
@@ -196,7 +196,7 @@ class Granted:
 
 @dataclass(frozen=True)
 class Users:
-    """What the program of each user does, by the user's digit: `-` (absent), `stopped` or `running`."""
+    """The state of each user's program, by the user's digit: `-` (absent), `stopped` or `running`."""
 
     runs: dict[str, str]
 
@@ -236,7 +236,7 @@ _READERS: dict[str, Callable[..., Answer]] = {  # by the first word of an answer
 
 
 def read(answer: Sequence[str]) -> Answer:
-    """What a whole answer says, with the digits of its lines. Raises ValueError where it is none."""
+    """The meaning of a whole answer, with the digits of its lines. Raises ValueError for other lines."""
     *before, last = answer
     first, *others = words = last[2:].split(" ")
     if first in _READERS:
@@ -265,13 +265,13 @@ def read(answer: Sequence[str]) -> Answer:
 
 
 def by_whom(answer: Sequence[str]) -> list[tuple[str, Answer]]:
-    """A whole answer, by whom it tells: those whose programs stopped, and who is answered."""
+    """A whole answer, by users: those whose programs stopped, and the one who gets the answer."""
     said = read(answer)
     return [*(said.stops if isinstance(said, Granted) else ()), (answer[-1][0], said)]
 
 
 def elements_in(data: bytes, width: int) -> list[int]:
-    """The elements of registers, of so many bits each."""
+    """The elements of registers, of this width in bits."""
     if width == 1:
         return [byte >> bit & 1 for byte in data for bit in range(8)]
     size = width // 8
@@ -305,7 +305,7 @@ def is_whole(line: str, answer: Sequence[str]) -> bool:
 
 @functools.lru_cache(maxsize=1024)
 def _shape(line: str) -> tuple[re.Pattern[str] | None, int]:
-    """What matches a line of the answer, if it is accepted, and how many lines it has; 0 where stops stand before."""
+    """The pattern of the answer to an accepted line, and its number of lines; 0 if stops come before."""
     words = words_of(line)
     command = ("* " if line[0] == "*" else "") + "".join(words[:1])
     if command == "dis" and len(words) == 3 and words[2].isdecimal():

@@ -1,4 +1,4 @@
-"""What images are compiled for, and the permissions of their segments."""
+"""The target of images, and the permissions of their segments."""
 
 MARCH = "-march=rv64im_zicsr_zve64x_zvl256b"
 """The compiler's option for the machine's instruction set, as docs/COMPILING.md has it."""

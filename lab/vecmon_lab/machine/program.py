@@ -49,7 +49,7 @@ def find_recorder() -> pathlib.Path:
     found = shutil.which(named) if named else _first_built(BUILT_RECORDER, RECORDER)
     if found is None:
         if not os.environ.get("VECMON_RECORD"):
-            check_is_vecmon(find_program())  # beside which it isn't
+            check_is_vecmon(find_program())  # the recorder is missing next to it
         raise NoProgram(f"there is no program {named or RECORDER}; {HOW_TO_BUILD[RECORDER]}")
     return pathlib.Path(found).absolute()
 
@@ -98,7 +98,7 @@ def image_refusal(name: str, code: str) -> str:
 
 
 def segments_of(image: bytes) -> Iterator[tuple[int, str, int, bytes]]:
-    """What an image has loaded, by its program headers: an address, permissions, how many bytes, and the first of these."""
+    """The loaded parts of an image, by its program headers: address, permissions, size, and the first bytes."""
     (table,), (size, count) = struct.unpack_from("<Q", image, 32), struct.unpack_from("<HH", image, 54)
     for at in range(table, table + size * count, size):
         kind, flags, offset, address, _, in_file, length = struct.unpack_from("<IIQQQQQ", image, at)
@@ -112,7 +112,7 @@ def digest_of(path: pathlib.Path) -> str:
 
 
 def check_flags(image: pathlib.Path) -> None:
-    """Raises LabError for an image that was compiled for what the machine doesn't have, as its e_flags tell."""
+    """Raise LabError for an image compiled for features that the machine lacks, by its e_flags."""
     with image.open("rb") as file:
         header = file.read(64)
     is_riscv = header[:6] == b"\x7fELF\2\1" and header[18:20] == b"\xf3\0"

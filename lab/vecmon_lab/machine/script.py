@@ -23,7 +23,7 @@ class Checkpoint:
 
 
 class Script:
-    """Lines, each with its newline, and the answers to them, of which a digest and a mark each are kept.
+    """Lines, each with its newline, and a digest of their answers and a mark of each.
 
     `answers` is the digest, and `marks` has the CRC-32 of each answer, by which a replay is compared. `base` has the last
     checkpoint, and how many bytes of the script it replaces. `policy` has the policy for agnostic elements of each user who is there. `total` is how many

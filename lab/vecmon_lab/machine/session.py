@@ -1,6 +1,6 @@
 """One `vecmon` process behind its pipes, and the session that outlives it.
 
-Blocking, and for one thread at a time: whoever has an event loop calls a session from a thread.
+Blocking, and for one thread at a time: an event loop calls a session from a thread.
 """
 
 import contextlib
@@ -32,7 +32,7 @@ __all__ = [
 ]
 
 SCRIPT_BYTES = 15_000_000  # a process takes 16,777,216 bytes at most, and lines that look need room as well
-WEIGHTY_BYTES, WEIGHTY_SECONDS = 1_000_000, 1.0  # of lines that a new process carries out again
+WEIGHTY_BYTES, WEIGHTY_SECONDS = 1_000_000, 1.0  # of lines that a new process replays
 TOGETHER = 40  # lines that go to the program at once: each has to fit into its pipe
 _OTHER_LINE = re.compile(rb"^(?![1-8*] [ -~]{0,1022}\n)", re.MULTILINE)  # than a session records, or the end
 
@@ -50,7 +50,7 @@ def recorded_lines(script: bytes) -> bytes:
 class Session(contextlib.AbstractContextManager["Session"]):
     """A machine for eight users, and the script that makes it anew.
 
-    Its process is replaced where it ended, hangs, or has no room for more lines; then the new one carries out the
+    Its process is replaced where it ended, hangs, or has no room for more lines; then the new one executes the
     script again, or a checkpoint's lines and the lines since. `policy` has the policy for agnostic elements, `keep` or
     `ones`, of each user who is there: no command shows it. `quantum` is the ticks of a slice. `command` starts the program
     with the `images`, and `losses` says why processes that were asked gave no answer, and were replaced. `recorded` has the
@@ -148,7 +148,7 @@ class Session(contextlib.AbstractContextManager["Session"]):
     def do_script(self, script: bytes) -> Iterator[tuple[str, list[str]]]:
         """Does lines that a session recorded, in bulk: each line and its answer, as they come.
 
-        Nobody looks whether an answer is one to its line: the digest tells. Raises BadLine, ProgramGone and OutOfStep,
+        Answers aren't checked for their lines' forms: the digest covers them. Raises BadLine, ProgramGone and OutOfStep,
         and then the session is of no use any more, as where it isn't gone through to its end.
         """
         for lines, answers in self.do_blocks(script):
@@ -156,7 +156,7 @@ class Session(contextlib.AbstractContextManager["Session"]):
                 yield line, answer.split("\n")
 
     def do_blocks(self, script: bytes) -> Iterator[Block]:
-        """As `do_script`, in blocks as they come: for whoever does nothing with most lines."""
+        """As `do_script`, in blocks as they come: for callers that do nothing with most lines."""
         if len(recorded_lines(script)) < len(script):
             raise BadLine("a script has lines that no session records")
         began = time.monotonic()
@@ -174,7 +174,7 @@ class Session(contextlib.AbstractContextManager["Session"]):
 
     @property
     def weight(self) -> float:
-        """How much a new process would carry out: from 1 on it is time for a checkpoint."""
+        """The cost of a replay in a new process: from 1 on it is time for a checkpoint."""
         return (self.size - self.recorded.base[1]) / WEIGHTY_BYTES + self.recorded.spent / WEIGHTY_SECONDS
 
     def follow(self) -> None:
@@ -257,7 +257,7 @@ class Session(contextlib.AbstractContextManager["Session"]):
         return answers
 
     def _answers_to(self, lines: Sequence[str]) -> list[list[str]]:
-        """What the process answers, or a new one where that one is gone."""
+        """The answers of the process, or of a new one if that is gone."""
         if self._process:
             try:
                 return self._process.ask(lines)
@@ -267,7 +267,7 @@ class Session(contextlib.AbstractContextManager["Session"]):
         return self._replay().ask(lines)
 
     def _replay(self) -> Process:
-        """A process that has carried out the script, and has answered as the one before: the spare, or a new one."""
+        """A process that has executed the script, with the same answers as the one before: the spare, or a new one."""
         with self._spare_turn:
             spare, self._spare = self._spare, None
             if spare:
@@ -288,7 +288,7 @@ class Session(contextlib.AbstractContextManager["Session"]):
         return copy.process
 
     def _tell(self, percent: int) -> None:
-        """Tells how much of the script is carried out, where that is another number than before."""
+        """Report the percentage of the script that is executed, if it has changed."""
         if percent != self._percent:
             self._percent = percent
             self.progress(percent)

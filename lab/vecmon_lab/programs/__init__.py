@@ -1,1 +1,1 @@
-"""Random programs whose outcome the machine tells, and logs of other devices beside it."""
+"""Random programs with the machine's results, and comparisons of the machine with logs of other devices."""

@@ -28,7 +28,7 @@ from .draw import CHECKPOINT, DONE, FIRST, Drawn, draw_program, jump_bits
 
 _SIGNATURES = 256  # words of 64 bits: signatures have a multiple of them
 Coverage = Counter[tuple[str, int, bool, str]]
-"""How often an instruction stands in programs, by its name, the vector type, whether it is masked, and its tail."""
+"""The count of an instruction in programs, by its name, the vector type, whether it is masked, and its tail."""
 
 
 def add_arguments(parser: argparse.ArgumentParser) -> None:
@@ -87,7 +87,7 @@ def _write(arguments: argparse.Namespace, seed: int) -> tuple[int, Coverage]:
             raise LabError(f"{path} doesn't end as it should: {guest.tell(stop)}")
         left, size = _state(guest, code, stop), code.labels["end_signature"] - code.labels["begin_signature"]
         digests = [word for (word,) in struct.iter_unpack("<Q", guest.peek(code.labels["begin_signature"], size))]
-    if arguments.faults:  # what the handler of signals has of the state
+    if arguments.faults:  # the part of the state that the handler of signals has
         digests[drawn.digests - 1] = digest(left[:56] + left[1096:1328] + left[64:1088])
         digests[drawn.digests] = digest(left[BLOCK_BYTES:])
     _write_image(path, environment, drawn, state)
@@ -97,7 +97,7 @@ def _write(arguments: argparse.Namespace, seed: int) -> tuple[int, Coverage]:
 
 
 def _state(guest: Guest, code: Harness, stop: Stop) -> bytes:
-    """The state at the end of a program: what its last call left, or, of a fault, the machine's, by the signal's number."""
+    """The state at the end of a program: after its last call, or at a fault the machine's, by the signal's number."""
     base = code.environment.base
     memory, block = guest.peek(base + MEMORY, MEMORY_BYTES), guest.peek(code.labels["found"], BLOCK_BYTES)
     if stop.kind != "fault":
@@ -143,7 +143,7 @@ def _told(block: bytes, base: int) -> dict[str, object]:
 
 
 def _table(coverage: Coverage) -> Iterator[str]:
-    """What stands in programs, a line for each instruction, vector type, mask and tail; and the instructions that don't."""
+    """The instructions in programs, a line for each instruction, vector type, mask and tail; and those in none."""
     rows: list[Sequence[object]] = [("instruction", "type", "mask", "tail", "times")]
     for (name, vtype, is_masked, tail), count in sorted(coverage.items()):
         rows.append((name, vtype_text(vtype).partition(",t")[0], "masked" if is_masked else "-", tail, count))

@@ -1,4 +1,4 @@
-"""What a log shows otherwise than the machine after an instruction: registers, the vector type, and accesses to memory."""
+"""Differences between a log and the machine after an instruction: registers, the vector type, accesses to memory."""
 
 import itertools
 from collections.abc import Callable, Iterable, Iterator
@@ -21,7 +21,7 @@ Element = tuple[int, int]
 def differences(
     step: LoggedStep, after: Registers, shift: int, peek: Callable[[int, int], bytes]
 ) -> Iterator[Difference]:
-    """What the log shows otherwise than the machine, by the machine's registers after the instruction.
+    """The differences between the log and the machine, by the machine's registers after the instruction.
 
     shift: the distance from the machine's stack to the log's, in bytes
     peek: the machine's bytes after the instruction, by their address and number
@@ -37,7 +37,7 @@ def differences(
 
 
 def _of_scalars(step: LoggedStep, after: Registers, shift: int) -> Iterator[Difference]:
-    """Scalar registers. What the log doesn't name has the value from before."""
+    """Scalar registers. Registers that the log doesn't name keep their values."""
     for number in range(1, 32):
         there = step.commit.x.get(number, step.before.x[number])
         if there not in (after.x[number], after.x[number] + shift):
@@ -79,7 +79,7 @@ def _type_text(sew: int, lmul: Fraction, vl: int) -> str:
 
 
 def _of_control(step: LoggedStep, after: Registers) -> Iterator[Difference]:
-    """Control registers. What the log doesn't name has the value from before, once it has named one."""
+    """Control registers. Those that the log doesn't name keep their values, once it has named one."""
     values = {**vars(after.control), "vcsr": after.control.vxrm << 1 | after.control.vxsat, "vlenb": REGISTER_BYTES}
     before = vars(step.before.control) if "control" in step.commit.compared else {}
     for name, there in {**before, **step.commit.control}.items():

@@ -17,22 +17,22 @@ from .registers import DrawnRegisters, operands_of
 FIRST = ControlRegisters(vl=32, vtype=0)
 """The vector state before a program: e8, m1, tu, mu."""
 
-TENTH = 10  # of so many instructions each has a digest
-CHECKPOINT, DONE = -1, -2  # among words: the call for a digest, behind which stands which registers count; and the end
+TENTH = 10  # instructions between digests
+CHECKPOINT, DONE = -1, -2  # among words: the call for a digest, before the registers that count; and the end
 _BASE, _END = 29, 0x22  # the scalar register that has the middle of memory; the number of the page behind it
 _JUMPS, _BRANCH, _FENCE = (0x6F, 0x67), 0x63, 0x0F
 _CONTROL = {0x009: 2, 0x00A: 4, 0x00F: 8}  # vxsat, vxrm and vcsr, and how many values each takes
 _READ = (0x008, *_CONTROL, 0xC20, 0xC21, 0xC22)
 _LEFT_OUT = ("ecall", "ebreak")  # which end programs
-_UNORDERED, _STRIDED, _TRIES = 1, 2, 4  # what the field mop says; how often registers are drawn for an instruction
+_UNORDERED, _STRIDED, _TRIES = 1, 2, 4  # values of the field mop; draws of registers for an instruction
 
 
 @dataclass
 class Drawn:
     """A program: its words and CHECKPOINT and DONE among them, how many digests it makes, and what is met in it.
 
-    coverage: how often each instruction stands in it, by its name, the vector type, whether it is masked, and its tail
-    executed: how many instructions are carried out, if no branch is taken
+    coverage: the count of each instruction in it, by its name, the vector type, whether it is masked, and its tail
+    executed: the number of instructions that execute, if no branch is taken
     """
 
     words: list[int] = field(default_factory=list)
@@ -42,7 +42,7 @@ class Drawn:
 
 
 def draw_program(seed: str, length: int, has_choices: bool, faults: bool = False) -> Drawn:
-    """The program of this seed, in which some `length` instructions are carried out, from the vector state FIRST on.
+    """The program of this seed, which executes some `length` instructions, from the vector state FIRST on.
 
     faults: whether its last instruction is a load or store that may not be done
     """
@@ -105,7 +105,7 @@ class _Generator:
             self._registers.kept = set(self._counters)
 
     def _loop(self) -> None:
-        """Draws a loop of some instructions, which are carried out two to nine times."""
+        """Draw a loop of some instructions, which execute two to nine times."""
         times = self._draws.randrange(2, 10)
         counter = self._constant(times)
         self._counters = {counter}
@@ -121,7 +121,7 @@ class _Generator:
 
     def _emit(self, name: str, bits: int = 0, is_atomic: bool = False, /, **numbers: int) -> bool:
         """Appends an instruction with these registers, and the other bits of its operands. A digest comes before it, when
-        ten have gone by: what they wrote is known by then.
+        ten have gone by: their results are known by then.
 
         is_atomic: the next one has to follow at once
         """
@@ -150,7 +150,7 @@ class _Generator:
         self._since = 0
 
     def _refresh(self, fixed: list[int]) -> None:
-        """Loads registers of which less is fixed than it was."""
+        """Load registers with fewer fixed bits than before."""
         for number in range(32):
             if not self._registers.is_fixed(number, [fixed[number]]):
                 self._emit("vl1re8.v", rs1=self._base(), vd=number)

@@ -44,7 +44,7 @@ def run(arguments: argparse.Namespace) -> int:
 
 
 class _Lockstep:
-    """The machine, and a log beside it.
+    """The machine, and a log to compare it with.
 
     number: how many instructions were compared
     """
@@ -155,7 +155,7 @@ def _carried(stepper: Stepper, commit: Commit) -> Carried:
 
 
 def _report(steps: Sequence[LoggedStep], lines: dict[str, set[Cell]], is_trap: bool, symbols: Symbols) -> Iterator[str]:
-    """The lines of a difference: the instruction, what differs, and where the standard leaves it open, there or before."""
+    """The lines of a difference: the instruction, the parts that differ, and where the standard leaves them open."""
     yield from _shown(steps[-1], symbols)
     yield from lines
     places = set[Cell]().union(*lines.values())

@@ -37,7 +37,7 @@ class Commit:
     x, v, control: values of registers after the instruction, by number or name
     vector_type: SEW, LMUL and vl after the instruction
     loads: addresses that were read; stores: addresses that were written, each with its bytes
-    compared: which of `v`, `control` and `memory` the log shows: what isn't named there didn't change
+    compared: those of `v`, `control` and `memory` that the log shows: parts that it doesn't name didn't change
     is_done: False where the log doesn't show that the instruction was executed
     """
 
@@ -57,14 +57,14 @@ class Commit:
 class Log:
     """A log, which is read once. How it ends is known when all instructions have been read.
 
-    end: how the log ends; end_text: what it says there, as `SIGILL` or `exit 0`
+    end: how the log ends; end_text: its text, as `SIGILL` or `exit 0`
     has_calls: whether calls are in it, as QEMU's -d strace has them
     """
 
     def __init__(self, lines: Iterable[str]) -> None:
         self.end, self.end_text, self.has_calls = Kind.OPEN, "", False
         self._lines = lines
-        self._compared = {"v"}  # what a log in Spike's form has shown up to now
+        self._compared = {"v"}  # the parts that a log in Spike's form has shown up to now
         self._states: list[Commit] = []  # QEMU's, before an instruction each: the last one and this one
 
     def commits(self) -> Iterator[Commit]:
@@ -133,7 +133,7 @@ class Log:
         return len(last.x) == 32 and len(last.v) in (0, 32) and len(last.v) == len(first.v)
 
     def _changed(self) -> Iterator[Commit]:
-        """What an instruction changed, by QEMU's registers before it and after it, if there are both."""
+        """The changes by an instruction, from QEMU's registers before it and after it, if there are both."""
         for before, after in itertools.pairwise(self._states):
             compared = frozenset({"v", "control"} if after.v else set())
             yield Commit(

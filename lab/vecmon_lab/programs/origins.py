@@ -11,7 +11,7 @@ from ..runs.dataflow import Cell, Executed, Part, parts
 from ..tables.table import read_table
 from .logs import Commit
 
-LOOKS_BACK = 20_000  # so many instructions before a difference are looked at
+LOOKS_BACK = 20_000  # the number of instructions that are examined before a difference
 
 
 @dataclass(frozen=True)
@@ -27,7 +27,7 @@ def origin(
 ) -> tuple[LoggedStep, str] | None:
     """The last instruction that left open what differs after the last of some, and what it left open; None where none did.
 
-    places: where it differs; is_trap: whether one device carried out the last instruction and the other one didn't
+    places: where it differs; is_trap: whether only one device executed the last instruction
     is_part: whether it is enough that some of the elements that made these places are agnostic
     """
     last = steps[-1]
@@ -46,7 +46,7 @@ def origin(
 
 
 def _left_open(step: LoggedStep, met: Sequence[Part], is_trap: bool, is_part: bool, last: LoggedStep) -> str | None:
-    """What the standard leaves open where an instruction wrote some parts, or is refused."""
+    """The parts that the standard leaves open for an instruction, by the parts it wrote, or because it is refused."""
     text, kinds = step.carried.text, {kind for _, _, kind in met} - {""}
     agnostic = sorted(kinds - {"active"})
     if agnostic and (is_part or len(agnostic) == len(kinds)):

@@ -1,4 +1,4 @@
-"""What is known of registers while a random program is drawn: what the standard fixes of them, and what nothing has read yet."""
+"""Knowledge of registers while a random program is drawn: bits that the standard fixes, and values not yet read."""
 
 import functools
 import random
@@ -13,7 +13,7 @@ from ..machine.answers import ControlRegisters
 SCALARS = range(1, 29)
 """The scalar registers of programs: x29 has the middle of memory, and x30 and x31 are those of the code around them."""
 
-_TEMPLATE = {8: "vd", 16: "vs2", 24: "vs1"}  # where operands stand while a row is read
+_TEMPLATE = {8: "vd", 16: "vs2", 24: "vs1"}  # the places of operands while a row is read
 
 
 @functools.cache
@@ -64,7 +64,7 @@ class DrawnRegisters:
         return self._draws.choice(fits) if fits else None
 
     def is_fixed(self, first: int, wanted: Sequence[int]) -> bool:
-        """Whether the standard fixes so many bits of registers from one on."""
+        """Whether the standard fixes this number of bits in registers from one on."""
         return self._has_choices or all(self.fixed[first + at] >= bits for at, bits in enumerate(wanted))
 
     def write(self, name: str, operand: Operand, control: ControlRegisters, is_masked: bool) -> bool:

@@ -53,12 +53,12 @@ class Legs:
         self.size += len(line) + 1
 
     def cut(self, number: int, count: int, size: int, breaks: Iterable[int]) -> None:
-        """The script is another one now, of so many bytes: it ends with so many instructions of the leg of a number."""
+        """The script now has this number of bytes: it ends with this number of instructions of the leg of a number."""
         self.legs[number:] = [replace(self.legs[number], count=count)]
         self.size, self._breaks, self._is_written = size, frozenset(breaks), False
 
     def _take_up(self, command: str, words: Sequence[str], done: int) -> None:
-        """Takes up a user's command that was accepted; done: how many instructions a step has carried out."""
+        """Add a user's accepted command; done: the number of instructions that a step executed."""
         match command:
             case "step" if done or words == ["1"]:
                 self._steps(done)
@@ -76,13 +76,13 @@ class Legs:
                 self._is_written = True
 
     def _steps(self, done: int) -> None:
-        """Takes up so many instructions."""
+        """Add a number of instructions."""
         if self._is_written or not self.legs or self.legs[-1].count is None:
             self._begin(0)
         self.legs[-1].count = (self.legs[-1].count or 0) + done
 
     def _slices(self, ticks: int, has_stopped: bool) -> None:
-        """Takes up slices of so many ticks."""
+        """Add slices of this number of ticks."""
         last = self.legs[-1] if self.legs and not self._is_written else None
         if ticks == 0:
             return

@@ -1,4 +1,4 @@
-"""Where a run does what is watched for, or comes to a breakpoint, as the recorder tells of it."""
+"""Where a run changes watched places, or reaches a breakpoint, from the recorder's output."""
 
 import itertools
 import os
@@ -19,11 +19,11 @@ PC = slice(14, 30)  # in a line of a log
 
 Halt = tuple[int, Watch | None]
 """An instruction by its number, which is 1 for the first one, with the place that it changes or accesses; without one a
-breakpoint stands there."""
+breakpoint is there."""
 
 
 class Search:
-    """What a run does to places that are watched, and where it comes to breakpoints.
+    """The accesses of a run to watched places, and where it reaches breakpoints.
 
     beginning: of the run, with all of its memory
     """
@@ -34,7 +34,7 @@ class Search:
         self._accessed = [watch for watch in watches if watch.kind != "watch"]
 
     def first(self, ticks: int) -> tuple[Counts, list[Halt], int]:
-        """A run of so many ticks; its first halt, among others; and how many bytes it writes."""
+        """A run of a number of ticks; its first halt, among others; and the number of bytes it writes."""
         done, halts, written = self._changes(ticks)
         if self._needs_log(done):
             last = min([done.instructions, *(number for number, _ in halts)])
@@ -42,7 +42,7 @@ class Search:
         return done, halts, written
 
     def length(self, ticks: int, last: int) -> int:
-        """How many instructions a run has in so many ticks, up to a stop or a breakpoint at which it doesn't begin.
+        """The instructions of a run in a number of ticks, up to a stop or a breakpoint at which it doesn't begin.
 
         last: in how many of the last ticks the breakpoint is, unless it is one at which the run comes by more often
         """
@@ -53,9 +53,9 @@ class Search:
         return min([number - 1 for number, _ in halts] or [done.instructions - is_over])
 
     def back(self, ticks: int, count: int) -> Iterator[list[Halt]]:
-        """The last halts among so many instructions, among others: nothing where they are none of a window's, the last one first.
+        """The last halts among a number of instructions, among others, the last one first; none if the window has none.
 
-        ticks: as many as they take, or fewer
+        ticks: that they take, or fewer
         """
         ticks, done, changes = self._covering(ticks, count)
         least = changes[-1][0] if changes else 1
@@ -67,17 +67,17 @@ class Search:
         yield changes
 
     def _covering(self, ticks: int, count: int) -> tuple[int, Counts, list[Halt]]:
-        """How many ticks cover so many instructions, from a number on; a run of these; and where it changes places."""
+        """The ticks for a number of instructions, from a number on; a run of these; and where it changes places."""
         done, changes, _ = self._changes(ticks, count)
         covers = done.instructions >= count or isinstance(done.end, Stop)
         return (ticks, done, changes) if covers else self._covering(2 * ticks, count)
 
     def _needs_log(self, done: Counts) -> bool:
-        """Whether a log tells more of a run: of accesses, or of instructions at breakpoints that were carried out."""
+        """Whether a log has more of a run: accesses, or executed instructions at breakpoints."""
         return bool(self._accessed) or any(b"%016x" % place.address in self._breaks for place in done.places)
 
     def _changes(self, ticks: int, last: int = 1 << 63) -> tuple[Counts, list[Halt], int]:
-        """A run of so many ticks; where it changes places, up to an instruction; and how many bytes it writes."""
+        """A run of a number of ticks; where it changes places, up to an instruction; and its number of bytes written."""
         words = [word for watch in self._changed for place in self._places(watch) for word in ("--watch", place)]
         return self._run(ticks, [*words, "--changes"] if words else [], lambda file: self._halts_of_changes(file, last))
 
@@ -109,7 +109,7 @@ class Search:
                 yield f"{at:x}:{min(LINE_BYTES, end - at)}"
 
     def _halts_of_changes(self, file: BinaryIO, last: int) -> Iterator[Halt]:
-        """The changes that a file of them tells up to an instruction, of each instruction the first one."""
+        """The changes in a file of them up to an instruction, for each instruction the first one."""
         lines = itertools.takewhile(lambda line: line[:1].isdigit(), file)
         for number, (line, *_) in itertools.groupby(lines, lambda line: int(line.partition(b" ")[0])):
             if number <= last:
@@ -117,7 +117,7 @@ class Search:
                 yield number, next(it for it in self._changed if 0 <= address - it.address < it.length)
 
     def _halts_of_log(self, file: BinaryIO, first: int) -> Iterator[Halt]:
-        """What a log tells that begins with the instruction of a number."""
+        """The content of a log that begins with the instruction of a number."""
         for number, line in enumerate(file, first):
             if self._accessed and (watch := logged_access(self._accessed, line)):
                 yield number, watch
@@ -126,5 +126,5 @@ class Search:
 
 
 def _ends(halts: Iterator[Halt]) -> list[Halt]:
-    """The first halt and the last two: behind the one of them may stand the other one."""
+    """The first halt and the last two: one of them may follow the other."""
     return [*itertools.islice(halts, 1), *deque(halts, 2)]

@@ -1,6 +1,6 @@
 """A guest's run as instants, each behind one instruction: it goes back to earlier ones, and to where a place is accessed.
 
-An instant comes again by a replay: another session carries out the script up to there, with all that was written by hand.
+An instant comes again by a replay: another session executes the script up to there, with all lines typed by hand.
 """
 
 from collections.abc import Callable, Iterator, Sequence
@@ -17,16 +17,16 @@ from .legs import Leg, Legs
 from .recorded import Halt, Search
 from .watches import Watch, accessed
 
-FEW = 16  # instructions that are carried out on the machine itself before the recorder is asked
+FEW = 16  # instructions that execute on the machine itself before the recorder runs
 FIRST_TICKS, MOST_TICKS, LEAST_TICKS = 256, 1 << 20, 4  # that the recorder is given; of the least, all output has room
 MOST_BACK = 200_000_000  # ticks of a leg: a script takes no more steps
 TOO_FAR = f"there is no way back into a run of more than {MOST_BACK:,} ticks"
 
 
 class Timeline:
-    """The instants of a guest, who stands at the last one. Where it goes back, the later ones are forgotten.
+    """The instants of a guest, which is at the last one. Where it goes back, the later ones are forgotten.
 
-    watches: the places that `go`, `step`, `back` and `back_to_halt` stop at, before an instruction is carried out, or taken
+    watches: the places that `go`, `step`, `back` and `back_to_halt` stop at, before an instruction executes or is taken
         back, that does what is watched for: so gdb has it for RISC-V
     hit: the place of the last of these, where it stopped there
     """
@@ -46,7 +46,7 @@ class Timeline:
         return self._go_far(breaks, is_interrupted) if self.watches else self._guest.go(None, is_interrupted)
 
     def _go_far(self, breaks: Sequence[int], is_interrupted: Callable[[], bool]) -> Stop | None:
-        """As `go`, where places are watched: the recorder tells how far the program may run."""
+        """As `go`, with watched places: the recorder determines how far the program may run."""
         ticks = FIRST_TICKS
         while not is_interrupted():
             search = Search(self._beginning(self._guest.session.script), self.watches, breaks)
@@ -73,7 +73,7 @@ class Timeline:
         return stop
 
     def back(self, number: int = 1) -> bool:
-        """Goes back by so many instructions; whether there were as many, else to the first instant. Raises LabError."""
+        """Go back by a number of instructions; return whether there were enough, else be at the first. Raises LabError."""
         self._catch_up()
         before, legs, self.hit = self._held(), self._legs.legs, None
         for place in reversed(range(len(legs))):
@@ -96,7 +96,7 @@ class Timeline:
     def back_to_halt(self, breaks: Sequence[int], is_interrupted: Callable[[], bool]) -> bool | None:
         """Goes back to the last instruction at one of these addresses, or behind the last one that does what is watched for.
 
-        Whether there was one, else to the begin; None where it is interrupted, and stays where it is. Raises LabError.
+        Whether there was one, else to the start; None where it is interrupted, and stays where it is. Raises LabError.
         """
         self.hit = None
         self._catch_up()
@@ -150,11 +150,11 @@ class Timeline:
         self._legs.cut(place, count, session.size, breaks)
 
     def _breaks(self) -> Sequence[int]:
-        """Where breakpoints stand."""
+        """The addresses of breakpoints."""
         return self._guest.told("breaks", Addresses).addresses
 
     def _held(self) -> dict[Watch, bytes]:
-        """What stands where changes are watched for."""
+        """The contents of the places watched for changes."""
         changes = [watch for watch in self.watches if watch.kind == "watch"]
         return {watch: self._guest.peek(watch.address, watch.length) for watch in changes}
 
@@ -176,7 +176,7 @@ class Timeline:
         return leg.count
 
     def _beginning(self, script: bytes) -> Beginning:
-        """What a run begins with behind a script."""
+        """The state at the start of a run after a script."""
         with self._guest.session.rewound(b"") as session:
             pages = dict(pages_of(carry_out(session, script)[str(self._guest.user)], session.images))
             # by `go` the program may have written to each of them

@@ -1,4 +1,4 @@
-"""Places of memory that are watched: what instructions change or access there."""
+"""Watched places of memory: changes and accesses by instructions."""
 
 import re
 from collections.abc import Callable, Iterable, Iterator, Sequence
@@ -51,7 +51,7 @@ def _met(watches: Sequence[Watch], word: int, spans: Callable[[], Iterable[Span]
 
 
 def _logged_spans(line: bytes) -> Iterator[Span]:
-    """What a load or store has accessed, by its line in a log, which has the bytes of stores alone."""
+    """The accesses of a load or store, by its line in a log, which has the bytes of stores alone."""
     word = int(line[WORD], 16)
     loaded = 1 << (word >> 12 & 3)
     if word & 0x7F == LOAD_FP:
@@ -62,7 +62,7 @@ def _logged_spans(line: bytes) -> Iterator[Span]:
 
 
 def _spans(guest: Guest, word: int) -> Iterator[Span]:
-    """What a load or store accesses, by the registers before it: addresses, each with how many bytes."""
+    """The accesses of a load or store, by the registers before it: addresses, each with its number of bytes."""
     before = Stepper(guest).registers
     instruction = vector_instruction(word, before.control.vtype)
     if word & 0x7F not in VECTOR_ACCESSES:

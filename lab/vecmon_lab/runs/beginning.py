@@ -1,4 +1,4 @@
-"""What a run begins with: an image with its words and input, or where a guest stands."""
+"""The start of a run: an image with its arguments and input, or the state of a guest."""
 
 import pathlib
 from collections.abc import Iterable, Sequence
@@ -17,12 +17,12 @@ Laid = tuple[int, str, bytes]
 
 @dataclass(frozen=True)
 class Beginning:
-    """What a run begins with.
+    """The start of a run.
 
     image: an ELF file; without one there is no memory, and all registers are 0
     memory: what is laid over it, in this order
     registers: lines, each the name of a register and its value in hexadecimal digits
-    policy: what becomes of agnostic elements, `keep` or `ones`
+    policy: of agnostic elements, `keep` or `ones`
     """
 
     image: pathlib.Path | None = None
@@ -34,7 +34,7 @@ class Beginning:
 def beginning_of(
     image: pathlib.Path, arguments: Sequence[str], file: pathlib.Path | None = None, policy: str = "keep"
 ) -> Beginning:
-    """What a run of an image begins with, with arguments, the first of them its name; file: its input.
+    """The start of a run of an image, with arguments, the first of them its name; file: its input.
 
     Raises LabError and OSError where the image can't be read or isn't for this machine, or these have no room.
     """
@@ -47,7 +47,7 @@ def beginning_of(
 
 
 def beginning_at(guest: Guest, image: pathlib.Path | None = None, lines: Iterable[str] | None = None) -> Beginning:
-    """What a run begins with where a guest stands, whom these lines have brought there since it entered; else its script.
+    """The start of a run from a guest's state, after these lines since it entered; without them, its script.
 
     image: the one that they loaded, if any, whose other pages nothing has written to
     """
@@ -59,7 +59,7 @@ def beginning_at(guest: Guest, image: pathlib.Path | None = None, lines: Iterabl
                 pages |= dict.fromkeys(range(first, first + int(number) * PAGE_BYTES, PAGE_BYTES), permissions)
             case ["poke" | "asm" as command, address, text, *_]:
                 spans[int(address, 16), len(text) // 2 if command == "poke" else 4] = None
-            case ["step" | "go", *_]:  # what is carried out may write to any page
+            case ["step" | "go", *_]:  # the instructions may write to any page
                 spans |= dict.fromkeys((page, PAGE_BYTES) for page in pages)
     control, scalars = guest.told("vcsr", ControlRegisters), guest.told("regs", ScalarRegisters)
     registers = [f"pc {scalars.pc:x}", *(f"{name} {value:x}" for name, value in vars(control).items())]

@@ -1,4 +1,4 @@
-"""What functions have spent together with those that they call, by how often each is called from where."""
+"""The cost of functions together with those they call, by the number of calls from each place."""
 
 from collections import Counter, defaultdict
 from collections.abc import Iterator, Mapping
@@ -23,7 +23,7 @@ class CallFrame:
 class Callers:
     """The ticks of functions among their callers: divided by how often each calls them, as if all calls took the same.
 
-    A call that leads back to a function that is being carried out is left out, as are its ticks there: they stand where
+    A call that leads back to a running function is left out, as are its ticks there: they are where
     that one was called first.
     """
 
@@ -71,7 +71,7 @@ class Callers:
                     above[callee] = iter(self._known[callee])
 
     def _frames(self, shares: Mapping[str, float], least: float, room: int = MOST_FRAMES) -> tuple[CallFrame, ...]:
-        """The frames of functions of which such shares are there, but for those that have less than so many ticks."""
+        """The frames of functions by such shares, except those with fewer ticks than this."""
         shown = [name for name, share in shares.items() if room and self.total[name] * share >= least]
         frames = (self._frame(name, shares[name], least, room - 1) for name in shown)
         return tuple(sorted(frames, key=lambda frame: -frame.total))

@@ -96,7 +96,7 @@ def filled(beginning: Beginning, turned: int) -> Beginning:
 
 
 def _segments_in_stack(image: pathlib.Path) -> Iterator[tuple[int, str, bytes]]:
-    """What an image itself has in the pages of the stack, by its program headers."""
+    """The image's own bytes in the pages of the stack, by its program headers."""
     for address, _, length, data in segments_of(image.read_bytes()):
         if address < STACK_END and address + length > STACK_END - STACK_BYTES:
             yield address, "rw", data.ljust(length, b"\0")
@@ -123,7 +123,7 @@ def _relies(runs: dict[str, Beginning], symbols: Symbols, ticks: int) -> tuple[S
 
 
 def _reason(pair: Pair, names: Sequence[str], symbols: Symbols, ticks: int) -> list[str]:
-    """Why two runs part, in lines, the last of which says where it comes from."""
+    """Why two runs diverge, in lines; the last one has the origin."""
     number = alike_until(pair, ticks)
     try:
         return [*explain(pair, number, names, symbols)]

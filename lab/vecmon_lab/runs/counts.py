@@ -1,4 +1,4 @@
-"""How often instructions are carried out, and what vector instructions do with the elements of their groups."""
+"""The number of executions of instructions, and of active, masked-off and tail elements of vector instructions."""
 
 import functools
 from collections import Counter
@@ -17,7 +17,7 @@ from ..tables.table import html_table
 
 @dataclass(frozen=True)
 class CountedWord:
-    """What was carried out at an address: the word, how often, in how many ticks, and with how many elements.
+    """The executions at an address: the word, their number, their ticks, and their elements.
 
     elements: those that were active, that were masked off, and of the tail
     """
@@ -31,12 +31,12 @@ class CountedWord:
 
 @dataclass(frozen=True)
 class Counts:
-    """What was carried out. An exit's call is counted; an instruction that stops the program otherwise isn't.
+    """The executed instructions. An exit's call is counted; an instruction that stops the program otherwise isn't.
 
-    places: by addresses in rising order, one for each word that was carried out there
+    places: by addresses in rising order, one for each word that executed there
     lengths: how many vector instructions had which vector type and vl
     calls: by the address of a jump that links or returns, and by where it led, how often
-    end: the stop, or where the program stands whose ticks ran out
+    end: the stop, or the place of the program when its ticks ran out
     short_writes: how many calls wrote some bytes, but less than they were asked to
     """
 
@@ -81,7 +81,7 @@ class Counts:
 
 
 def read_counts(text: str) -> Counts:
-    """What stands in a file of counts. Raises LabError where it is none."""
+    """The content of a file of counts. Raises LabError if it is none."""
     places, lengths, calls = list[CountedWord](), Counter[tuple[str, int]](), dict[tuple[int, int], int]()
     try:
         *rows, last = text.splitlines()

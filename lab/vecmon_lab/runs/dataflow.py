@@ -1,4 +1,4 @@
-"""What an instruction wrote, bit by bit, what that is made of, and what else the instruction depends on."""
+"""The results of an instruction, bit by bit, their sources, and the other values that the instruction depends on."""
 
 import re
 from collections.abc import Iterator
@@ -26,7 +26,7 @@ Cell = tuple[str, int]
 or a control register and 0."""
 
 Part = tuple[set[Cell], set[Cell], str]
-"""What an instruction wrote, or told of, together: the places, what they are made of, and of elements their kind."""
+"""A result of an instruction, written or used for its effect: the places, their sources, and of elements their kind."""
 
 _VSTART = {("vstart", 0)}
 _ACROSS = re.compile("vw?red|vrgather|vslide|vcompress|viota|vms[bio]f")  # which read elements of other numbers
@@ -38,7 +38,7 @@ _CALLS = {93: (17, 10), 64: (17, 10, 11, 12)}  # registers that an exit and a wr
 
 @dataclass(frozen=True)
 class Executed:
-    """An instruction that was carried out, and the registers before it."""
+    """An executed instruction, and the registers before it."""
 
     carried: Carried
     before: Registers
@@ -75,7 +75,7 @@ def scalars_read(word: int, call: int = 0) -> Iterator[int]:
 
 
 def conditions(step: Executed) -> set[Cell]:
-    """What an instruction depends on beside the elements and bytes that it works on: scalar registers, its vector type
+    """The values that an instruction depends on, except its elements and bytes: scalar registers, its vector type
     and length, its mask, and of an access the indices."""
     control = step.before.control
     scalars = scalars_read(step.carried.word, step.before.x[17])
@@ -90,7 +90,7 @@ def conditions(step: Executed) -> set[Cell]:
 
 
 def parts(step: Executed) -> Iterator[Part]:
-    """What an instruction may have written, or told of."""
+    """The possible results of an instruction, written or used for its effect."""
     word, text, before = step.carried.word, step.carried.text, step.before
     opcode, rd = word & 0x7F, word >> 7 & 31
     if opcode in (LOAD, STORE):
@@ -135,7 +135,7 @@ def _moved(step: Executed, instruction: VectorInstruction, active: set[int]) -> 
 
 
 def _made(step: Executed, instruction: VectorInstruction, active: set[int]) -> Iterator[Part]:
-    """What an operation makes of vector registers, and the agnostic elements of a load as well."""
+    """The results of an operation in vector registers, and the agnostic elements of a load as well."""
     text, control, target = step.carried.text, step.before.control, instruction.operands[0]
     read = [operand for operand in instruction.operands if operand.noun == "source" or text.startswith(ACCUMULATES)]
     sources = [(256 * it.registers.start, it.eew, sum(needed(text, "vs2", it, control.vl))) for it in read]

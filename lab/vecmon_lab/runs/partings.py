@@ -1,4 +1,4 @@
-"""Where two runs of an image part, and where the value came from that told them apart."""
+"""Where two runs of an image diverge, and the origin of the value that made them diverge."""
 
 import bisect
 import itertools
@@ -21,14 +21,14 @@ from .counts import Counts
 from .dataflow import Cell, Executed, conditions, parts
 from .recorder import record
 
-STEPPED = 1000  # so many instructions are stepped at once, back from one that is looked for
+STEPPED = 1000  # instructions that are stepped together, backwards from the one to find
 EXACT_LEAPS = 2  # so often the last change of a value is looked for, and then the first one that made it differ
 MOST_WRITTEN, SHOWN = 256, 4
 _AGNOSTIC = {"tail": "the tail of", "masked off": "elements masked off by"}
 _CONTROLS = {(name, 0) for name in CONTROL}
 
 Pair = Sequence[Beginning]
-"""What two runs begin with."""
+"""The start of two runs."""
 
 Given = TypeVar("Given")
 Made = TypeVar("Made")
@@ -36,7 +36,7 @@ Made = TypeVar("Made")
 
 @dataclass(frozen=True)
 class CommonStep:
-    """An instruction that two runs carry out, its number from 1 on, and what it is in each of them."""
+    """An instruction that two runs execute, its number from 1 on, and its state in each of them."""
 
     number: int
     runs: Sequence[Executed]
@@ -53,15 +53,15 @@ class CommonStep:
 
 
 def recorded(beginning: Beginning, ticks: int | None) -> tuple[Counts, bytes]:
-    """What a run carries out, and its output."""
+    """The executed instructions of a run, and its output."""
     output = list[bytes]()
     return record(beginning, ticks, output.append), b"".join(output)
 
 
 def alike_until(pair: Pair, ticks: int) -> int:
-    """How many instructions two runs that differ within so many ticks carry out before the one that tells them apart.
+    """The number of instructions that two runs execute before the divergence, if they diverge within these ticks.
 
-    What tells is where they go next or stop, what they put out, and how many elements are active.
+    They diverge in the next address, a stop, the output, or the number of active elements.
     """
 
     def are_unlike(most: int) -> bool:
@@ -76,9 +76,9 @@ def alike_until(pair: Pair, ticks: int) -> int:
 
 
 def explain(pair: Pair, number: int, names: Sequence[str], symbols: Symbols) -> Iterator[str]:
-    """Lines of the instruction behind so many that tells two runs apart, of what it reads, and where that came from.
+    """Lines of the instruction at which two runs diverge, of the values it reads, and of their origin.
 
-    names: how each run is told of
+    names: of the runs, in sentences
     """
     first = max(0, number - STEPPED)
     with _guests_at(pair, first) as guests:
@@ -101,9 +101,9 @@ def explain(pair: Pair, number: int, names: Sequence[str], symbols: Symbols) -> 
 def _source(
     pair: Pair, first: int, steps: Sequence[CommonStep], places: set[Cell], chain: list[CommonStep], symbols: Symbols
 ) -> str:
-    """What left open what differs behind some instructions, in words; "" where it isn't found.
+    """The cause of the undefined value that differs after some instructions, in words; "" if it isn't found.
 
-    first: how many stand before these; chain: is given those that handed it on, the last one first
+    first: the number of instructions before these; chain: gets those that passed it on, the last one first
     """
     leaps = 0
     while places:
@@ -142,9 +142,9 @@ def _followed(
 
 
 def _last_change(pair: Pair, number: int, places: set[Cell], is_exact: bool) -> int:
-    """The number of the instruction that gave places what they hold behind so many; 0 where it is none.
+    """The number of the instruction that gave places their values after a number of instructions; 0 for none.
 
-    It is looked for in leaps, between which nothing else is taken to stand there. is_exact: else only that they differ
+    It is searched in leaps, between which the value is taken to be unchanged. is_exact: else only that they differ
     counts, and of what differs from the beginning on it is 0
     """
     now = _contents(pair, number, places)
@@ -163,7 +163,7 @@ def _last_change(pair: Pair, number: int, places: set[Cell], is_exact: bool) -> 
 
 
 def _never_written(pair: Pair, number: int, places: set[Cell]) -> set[Cell]:
-    """Those of places that hold behind so many instructions what they began with, and differ."""
+    """The places that still have their initial values after a number of instructions, and differ."""
     begin, now = (_contents(pair, count, places) for count in (0, number))
     names = {name for name, value in begin[0].items() if value != begin[1][name]}
     names = {name for name in names if all(run[name] == later[name] for run, later in zip(begin, now))}
@@ -171,7 +171,7 @@ def _never_written(pair: Pair, number: int, places: set[Cell]) -> set[Cell]:
 
 
 def _contents(pair: Pair, number: int, places: set[Cell]) -> Sequence[dict[str, int]]:
-    """What stands in places in both runs behind so many instructions."""
+    """The values of places in both runs after a number of instructions."""
     with _guests_at(pair, number) as guests:
         return _side_by_side(lambda guest: _values(places, guest, Stepper(guest).registers), guests)
 
@@ -193,7 +193,7 @@ def _name(place: Cell) -> str:
 
 
 def _values(places: set[Cell], guest: Guest, registers: Registers) -> dict[str, int]:
-    """What stands where places are, by name. A page that isn't there has zeros."""
+    """The values of places, by name. A page that isn't there has zeros."""
     values = dict[str, int]()
     for kind, at in sorted(places):
         name = _name((kind, at))
@@ -214,7 +214,7 @@ def _listed(places: set[Cell]) -> str:
 
 
 def _put_out_otherwise(guests: Sequence[Guest], before: Registers) -> Iterator[Cell]:
-    """The bytes of what a call puts out that differ."""
+    """The bytes of a call's output that differ."""
     address, length = before.x[11], min(before.x[12], MOST_WRITTEN)
     for at, pair in enumerate(zip(*(guest.peek(address, length) for guest in guests))):
         if pair[0] != pair[1]:
@@ -223,13 +223,13 @@ def _put_out_otherwise(guests: Sequence[Guest], before: Registers) -> Iterator[C
 
 @contextmanager
 def _guests_at(pair: Pair, number: int) -> Iterator[Sequence[Guest]]:
-    """The guests of both runs, each on a machine of its own, behind so many instructions."""
+    """The guests of both runs, each on a private machine, after a number of instructions."""
     with ExitStack() as stack:
         yield _side_by_side(lambda beginning: _carried_on(beginning, number, stack), pair)
 
 
 def _carried_on(beginning: Beginning, number: int, stack: ExitStack) -> Guest:
-    """A guest of a run behind so many instructions, until the stack ends."""
+    """A guest of a run after a number of instructions, until the stack ends."""
     assert beginning.image
     for pace in PACES:
         guest = stack.enter_context(started(beginning.image, policy=beginning.policy, report=unreported))
@@ -260,6 +260,6 @@ def _stepped(guests: Sequence[Guest], first: int, last: int) -> list[CommonStep]
 
 
 def _side_by_side(work: Callable[[Given], Made], pair: Sequence[Given]) -> Sequence[Made]:
-    """What is made of each of two, at the same time."""
+    """The results of a function for each of two values, at the same time."""
     with ThreadPoolExecutor(2) as pool:
         return list(pool.map(work, pair))

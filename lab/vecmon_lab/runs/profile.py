@@ -69,7 +69,7 @@ def _profiled(arguments: argparse.Namespace, image: pathlib.Path) -> tuple[Count
 
 
 def _rows(counts: Counts, symbols: Symbols) -> Iterator[TableRow]:
-    """A row for each instruction that was carried out, by addresses in rising order."""
+    """A row for each executed instruction, by addresses in rising order."""
     for place in counts.places:
         where = (f"{place.address:x}", symbols.place(place.address), symbols.line(place.address))
         yield [*where, counts.texts[place.word], place.times, place.ticks, *elements_row(place.elements)]
@@ -83,7 +83,7 @@ def _shown(table: Table) -> Iterator[str]:
 
 
 def summary_of(counts: Counts, end: str) -> Iterator[str]:
-    """What was carried out in all, and how it ended."""
+    """The total of the executed instructions, and how the run ended."""
     elements = counts.elements
     yield f"{counts.instructions:,} instructions in {counts.ticks:,} ticks; {end}"
     if sum(elements):

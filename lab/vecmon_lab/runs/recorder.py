@@ -1,4 +1,4 @@
-"""The program vecmon-record, which carries out a run of one user alone: what it is given, and what it has counted."""
+"""The program vecmon-record, which executes a run of one user alone: its input, and its counts."""
 
 import contextlib
 import io
@@ -19,7 +19,7 @@ LARGE_PAGES = "glibc.malloc.hugetlb=1"  # which spare a short run a third of its
 
 @dataclass(frozen=True)
 class Record:
-    """A record beside the counts: the recorder's words for it, without its file; and the file, which is closed then."""
+    """A record in addition to the counts: the recorder's options for it, without its file; and the file, then closed."""
 
     words: Sequence[str]
     file: io.FileIO
@@ -33,7 +33,7 @@ def record(
 ) -> Counts:
     """Carries out a run to its end, or until its ticks have run out. `write` is given its output as it comes.
 
-    more: what else is recorded. Raises LabError where there is no recorder, or it refuses what it is given.
+    more: further records. Raises LabError without a recorder, or if it refuses its arguments.
     """
     registers, counts = "\n".join(beginning.registers).encode(), _in_memory()
     given = [(["--memory"], f"{at:x}:{permissions}:", _in_memory(data)) for at, permissions, data in beginning.memory]

@@ -80,7 +80,7 @@ def counted(
     write: Callable[[bytes], object] | None = None,
     more: Sequence[Record] = (),
 ) -> Counts:
-    """What an image's run carries out, by the words of a command; more: what else is recorded.
+    """The counts of an image's run, by the arguments of a command; more: further records.
 
     Raises LabError and OSError for bad input.
     """
@@ -114,7 +114,7 @@ def report_calls(arguments: argparse.Namespace, counts: Counts, symbols: Symbols
 
 
 def total(counts: Counts) -> str:
-    """How many instructions were carried out, in how many ticks."""
+    """The number of executed instructions, and of their ticks."""
     return f"{counts.instructions:,} instructions in {counts.ticks:,} ticks"
 
 
@@ -130,7 +130,7 @@ def stats(counts: Counts) -> Iterator[str]:
 
 
 def status_of(stop: Stop | None) -> int:
-    """The status that tells how a program stopped, 0 where it exited. Without a stop its ticks ran out."""
+    """The exit status for a program's stop, 0 for an exit. Without a stop its ticks ran out."""
     return TICKS_RAN_OUT if stop is None else {"exit": 0, "fault": FAULT}.get(stop.kind, BREAKPOINT)
 
 

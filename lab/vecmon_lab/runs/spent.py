@@ -20,7 +20,7 @@ ELEMENTS = ("active", "masked off", "tail", "work")
 
 @dataclass(frozen=True)
 class Table:
-    """A table of a profile: what it is of, its columns, of which so many are texts, and its rows, those first that took
+    """A table of a profile: its title, its columns, the number of text columns, and its rows, those first that took
     most."""
 
     name: str
@@ -33,7 +33,7 @@ class Table:
 
 
 class Spent:
-    """What a run has spent, by the places of an image whose entry is at this address."""
+    """The cost of a run, by the places of an image whose entry is at this address."""
 
     def __init__(self, counts: Counts, symbols: Symbols, entry: int) -> None:
         self._counts, self._symbols = counts, symbols
@@ -45,7 +45,7 @@ class Spent:
         for (pc, target), times in calls.items():
             self._calls[self.function(pc), self.function(target)] += times
         self.callers = Callers(self.ticks(False), self._calls, self.function(entry))
-        """What functions spent with those that they call."""
+        """The cost of functions with those that they call."""
 
     def function(self, address: int) -> str:
         """The function that an address is in: it begins where a call leads, or a symbol that has a size, or the run."""
@@ -79,7 +79,7 @@ class Spent:
 
     @property
     def has_lines(self) -> bool:
-        """Whether some instruction that was carried out has a source line."""
+        """Whether some executed instruction has a source line."""
         return any(self._symbols.line(place.address) for place in self._counts.places)
 
     def _loops(self) -> Iterator[TableRow]:
@@ -134,7 +134,7 @@ def share(number: int, whole: int) -> str:
 
 
 def compared(ours: Spent, theirs: Spent) -> Iterator[Table]:
-    """The ticks of two runs side by side, what got cheaper first: by source lines, where both have some, and functions."""
+    """The ticks of two runs side by side, largest savings first: by source lines, if both have some, and functions."""
     for by_line in (True, False) if ours.has_lines and theirs.has_lines else (False,):
         mine, others = ours.ticks(by_line), theirs.ticks(by_line)
         rows = [(name, mine[name], others[name], mine[name] - others[name]) for name in dict.fromkeys([*mine, *others])]

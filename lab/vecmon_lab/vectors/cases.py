@@ -1,4 +1,4 @@
-"""Single instructions, each with a state to carry it out in, drawn by chance from what tells most.
+"""Single instructions, each with a state to execute it in, drawn by chance from the most revealing values.
 
 A case depends on its instruction, its number and the seed alone.
 """
@@ -29,10 +29,10 @@ from ..instructions.words import (
 from ..machine.answers import VILL, ControlRegisters
 
 CODE, PC = 0x10000, 0x10800
-"""The page of the code, and where the instruction stands."""
+"""The page of the code, and the place of the instruction."""
 
 DATA, READ_ONLY, DATA_END = 0x20000, 0x21000, 0x22000
-"""Where two pages of data begin and end, of which the second can only be read."""
+"""The limits of two pages of data; the second can only be read."""
 
 _LOADS, _STORES = (LOAD, LOAD_FP), (STORE, STORE_FP)
 PLACES = {"rd": 7, "vd": 7, "rs1": 15, "vs1": 15, "rs2": 20, "vs2": 20, "csr": 20, "vtypei": 20}  # lowest bits
@@ -44,7 +44,7 @@ _WILD = (0, 8, 0x7FC, 1 << 31, 1 << 40, (1 << 48) - 4, 1 << 48, (1 << 64) - 4096
 
 @dataclass(frozen=True)
 class Kind:
-    """What a case is drawn for: a vector type, a mask or none; to be illegal, or to access where it may not."""
+    """The purpose of a case: a vector type, a mask or none; to be illegal, or to access where it may not."""
 
     vtype: int
     is_masked: bool = False
@@ -86,7 +86,7 @@ class _Draws(random.Random):
         return data if is_offset else self.choice((self.randbytes(32), data))
 
     def stride(self, vl: int) -> int:
-        """A stride that keeps so many elements within reach."""
+        """A stride that keeps a number of elements within reach."""
         most = _REACH // max(1, vl)
         return self.choice((0, min(most, 8), self.randrange(-most, most + 1), self.randrange(-most, most + 1) & ~7))
 
@@ -108,7 +108,7 @@ def touches_memory(row: Row) -> bool:
 
 @functools.cache
 def plan(row: Row, seed: int) -> list[Kind]:
-    """What cases of an instruction are drawn for: each type under which it is legal, with and without a mask; faults."""
+    """The purposes of an instruction's cases: each type under which it is legal, with and without a mask; faults."""
     draws, types, masks = _Draws(f"{seed} {row.name}"), [VILL] * _SCALAR_CASES, (False, True)
     if _is_vector(row):
         types = [vtype for vtype in SUPPORTED if not illegal_reasons(*_draw_word(row, Kind(vtype), _Draws(0), [8]))]
@@ -141,7 +141,7 @@ def draw_case(row: Row, number: int, seed: int) -> Case:
 
 
 def moved(case: Case, row: Row, base: int) -> Case:
-    """A case whose memory lies so many bytes further on."""
+    """A case whose memory is a number of bytes further on."""
     address = 11 if row.name == "ecall" else case.register("rs1")
     x = case.x | ({address: (case.x[address] + base) % (1 << 64)} if touches_memory(row) else {})
     return replace(case, x=x, memory={base + first: data for first, data in case.memory.items()})
@@ -165,7 +165,7 @@ def _operands(row: Row, word: int, view: ControlRegisters) -> list[Operand]:
 
 
 def _draw_word(row: Row, kind: Kind, draws: _Draws, steps: Sequence[int]) -> tuple[int, ControlRegisters]:
-    """A word of the row and a state that are legal together, or illegal; either, if _DRAWS draws find none. Never one that is odd.
+    """A word of the row and a state that are legal together, or illegal; either, if _DRAWS draws find none. Never an odd one.
 
     steps: of one of these numbers the numbers of vector registers are multiples
     """

@@ -1,4 +1,4 @@
-"""Golden results of single instructions: what the machine makes of each, a JSON line a case (docs/GOLDEN_VECTORS.md).
+"""Golden results of single instructions: the machine's results, a JSON line a case (docs/GOLDEN_VECTORS.md).
 
 Or, as `self_checking` writes them, programs that try them and compare.
 """
@@ -49,7 +49,7 @@ def add_arguments(parser: argparse.ArgumentParser) -> None:
 
 
 def names() -> list[str]:
-    """What NAME may be."""
+    """The values of NAME."""
     return ["all", *instruction_table()]
 
 
@@ -79,7 +79,7 @@ def run(arguments: argparse.Namespace) -> int:
 def golden_results(
     program: pathlib.Path, row: Row, cases: int | None = None, seed: int = 0, policy: str = "keep", base: int = 0
 ) -> Iterator[dict[str, object]]:
-    """So many cases of an instruction, or its whole plan, with what the machine made of each. Raises as `Session` does.
+    """A number of cases of an instruction, or its whole plan, with the machine's results. Raises as `Session` does.
 
     base: how much further on than the page on the format says all addresses lie
     """
@@ -91,7 +91,7 @@ def golden_results(
 
 
 def carry_out(session: Session, row: Row, case: Case, policy: str = "keep", base: int = 0) -> dict[str, object]:
-    """A case with what the machine made of it, as the page on the format has it. User 1 enters, and leaves again.
+    """A case with the machine's results, as in the page on the format. User 1 enters, and leaves again.
 
     base: how much further on than that page says the instruction and the memory of the case lie
     """

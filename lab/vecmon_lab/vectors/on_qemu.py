@@ -75,7 +75,7 @@ def expected(case: Case) -> State:
 
 
 def found(case: Case, result: bytes | None) -> State:
-    """The same by a result of QEMU's. A signal at another place tells that the instruction ran."""
+    """The same by a result of QEMU's. A signal at another place means that the instruction ran."""
     if result is None:
         return {**expected(case), "end": "QEMU ended"}
     values = dict(zip(NAMES, LAYOUT.unpack(result)))

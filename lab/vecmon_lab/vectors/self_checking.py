@@ -33,7 +33,7 @@ class Writer:
             folder.mkdir(parents=True, exist_ok=True)
 
     def write(self, name: str, goldens: Sequence[Case]) -> None:
-        """Writes the programs of an instruction's cases, and beside each its cases and its signature."""
+        """Write the programs of an instruction's cases, and next to each its cases and its signature."""
         kinds = [kind_of(golden, self._environment.base) for golden in goldens]
         shown = [golden for golden, kind in zip(goldens, kinds) if kind in self._environment.ends]
         self._left_out.update(kind for kind in kinds if kind not in self._environment.ends)
@@ -43,7 +43,7 @@ class Writer:
             self._write_part(f"{name}_{first // CASES_OF_A_PROGRAM + 1}" if first else name, part)
 
     def told(self) -> Iterator[str]:
-        """What was written, and what can't be tried in the environment, each in a line."""
+        """The written files, and the cases that can't run in the environment, each in a line."""
         yield f"{self._cases:,} cases in {self._programs:,} programs"
         yield from (f"left out: {count:,} of {kind}" for kind, count in sorted(self._left_out.items()))
 
@@ -84,7 +84,7 @@ def kind_of(golden: Case, base: int) -> str:
 
 
 def case_words(golden: Case, environment: Environment) -> tuple[list[int], int]:
-    """The words of 64 bits by which the code carries out a case, and the digest of the state after it."""
+    """The 64-bit words for the code to execute a case, and the digest of the state after it."""
     word, has_memory = int(str(golden["word"]), 16), f"{environment.base + MEMORY:x}" in held(golden, "pages")
     named = {word >> 7 & 31, word >> 15 & 31, word >> 20 & 31}
     spare = next(number for number in SPARE if not {number, number - 1} & named)
@@ -96,7 +96,7 @@ def case_words(golden: Case, environment: Environment) -> tuple[list[int], int]:
 
 
 def _runs(old: bytes, new: bytes) -> Iterator[int]:
-    """Where new words of 64 bits stand, in runs: how many, and above it where; then these; 0 ends the runs."""
+    """The places of new 64-bit words, in runs: their number, and above it the place; then these; 0 ends the runs."""
     one, other = (struct.unpack(f"<{len(data) // 8}Q", data) for data in (old, new))
     for first, last in runs(one, other):
         yield last - first | 8 * first << 32
