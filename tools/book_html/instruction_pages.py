@@ -2,7 +2,7 @@
 
 import re
 import sys
-from collections.abc import Iterator
+from collections.abc import Iterator, Sequence
 from pathlib import Path
 
 TOP = Path(__file__).resolve().parents[2]
@@ -24,10 +24,14 @@ def write_instruction_pages(stage: Path) -> None:
         (stage / FOLDER / f"{record.name}.md").write_text(page_of(record), "utf-8")
     rows = "".join(f"| [{it.name}]({it.name}.md) | {it.does} |\n" for it in families)
     entries = "\n".join(it.name for it in families)
-    text = f"# Instructions by name\n\nA page for each family of instructions.\n\n| family | effect |\n|---|---|\n{rows}"
+    text = (
+        f"# Instructions by name\n\nA page for each family of instructions.\n\n| family | effect |\n|---|---|\n{rows}"
+    )
     (stage / FOLDER / "index.md").write_text(f"{text}\n```{{toctree}}\n:hidden:\n\n{entries}\n```\n", "utf-8")
     with (stage / "index.md").open("a", encoding="utf-8") as index:
-        index.write(f"\n## Instructions\n\n- **[Instructions by name]({FOLDER}/index.md)**: A page for each family of instructions.\n")
+        index.write(
+            f"\n## Instructions\n\n- **[Instructions by name]({FOLDER}/index.md)**: A page for each family of instructions.\n"
+        )
         index.write(f"\n```{{toctree}}\n:hidden:\n:caption: Instructions\n\n{FOLDER}/index\n```\n")
 
 
@@ -54,7 +58,9 @@ def _parts(record: Record) -> Iterator[str]:
     yield from _example(record)
     yield "## Encoding"
     shown = record.members[:MOST_PICTURES]
-    yield from (f"`{name} {instruction_table()[name].operands}`\n\n{picture(instruction_table()[name])}" for name in shown)
+    yield from (
+        f"`{name} {instruction_table()[name].operands}`\n\n{picture(instruction_table()[name])}" for name in shown
+    )
     if rest := record.members[MOST_PICTURES:]:
         yield f"{len(rest)} more have the same fields: {', '.join(f'`{name}`' for name in rest)}."
     yield from _references(record)
@@ -66,7 +72,9 @@ def _example(record: Record) -> Iterator[str]:
         return
     text, before, after = examples()[record.name]
     rows = [(each.partition(": ")[0], *each.partition(": ")[2].split()) for each in before.split("; ")]
-    rows += [(f"{each.partition(': ')[0]} after", *each.partition(": ")[2].split()) for each in after.split("; ") if each]
+    rows += [
+        (f"{each.partition(': ')[0]} after", *each.partition(": ")[2].split()) for each in after.split("; ") if each
+    ]
     width = max(map(len, rows))
     padded = [(*row, *[""] * (width - len(row))) for row in rows]
     yield f"## Example\n\n`{text}` under e32, m1 and vl 8:\n\n" + _table(("", *map(str, range(width - 1))), padded)
@@ -83,7 +91,7 @@ def _references(record: Record) -> Iterator[str]:
         yield f"Related: {', '.join(related)}."
 
 
-def _table(head: tuple[str, ...], rows: list[tuple[str, ...]]) -> str:
+def _table(head: tuple[str, ...], rows: Sequence[tuple[str, ...]]) -> str:
     lines = [head, ("---",) * len(head), *rows]
     return "\n".join(f"| {' | '.join(row)} |" for row in lines)
 
@@ -96,7 +104,9 @@ def picture(row: Row) -> str:
         for at, text in enumerate(name if is_fixed else " " * bits):
             x = left + at * BOX
             fill = "" if is_fixed else ' class="operand"'
-            boxes.append(f'<rect x="{x}" y="14" width="{BOX}" height="{BOX}"{fill}/><text x="{x + BOX // 2}" y="30">{text}</text>')
+            boxes.append(
+                f'<rect x="{x}" y="14" width="{BOX}" height="{BOX}"{fill}/><text x="{x + BOX // 2}" y="30">{text}</text>'
+            )
         boxes.append(f'<text x="{left + BOX // 2}" y="10" class="bit">{bit}</text>')
         label = "" if is_fixed else name
         boxes.append(f'<text x="{left + width // 2}" y="52">{label}</text>')

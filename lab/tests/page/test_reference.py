@@ -26,7 +26,9 @@ def test_each_entry_begins_with_its_name() -> None:
     assert pseudo["ret"] == "Returns from a function: jumps to the address in ra. `jalr x0, 0(x1)`"
     assert pseudo["vmsge.vx vd, vs2, rs1"].count(";") == 1
     told = {name: does for name, _, does in reference()["Instructions"]}
-    assert told["vadd.vi"] == "Adds the elements of vs1 to those of vs2; the sums wrap around. `vd[i] = vs2[i] + vs1[i]`"
+    assert (
+        told["vadd.vi"] == "Adds the elements of vs1 to those of vs2; the sums wrap around. `vd[i] = vs2[i] + vs1[i]`"
+    )
     assert all(told.values())
 
 

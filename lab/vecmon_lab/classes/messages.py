@@ -39,6 +39,7 @@ class Message(TypedDict, total=False):
     error: str
     done: Answers
     words: list[str]
+    why: str
     codes: dict[str, str]
     pictures: dict[str, str]
     patch: dict[str, object]

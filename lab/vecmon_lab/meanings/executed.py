@@ -3,13 +3,13 @@
 import ast
 import enum
 import functools
-from collections.abc import Callable, Iterator, Sequence
+from collections.abc import Callable, Sequence
 from dataclasses import dataclass, field, replace
 
 from .. import LabError
 from ..instructions.accesses import REGISTER_BYTES, active_of, body_of, vector_instruction
 from ..instructions.table import Row, row_of
-from ..instructions.words import LOAD_FP, OP_V, STORE, STORE_FP, SUPPORTED, Operand, VectorInstruction
+from ..instructions.words import LOAD_FP, OP_V, STORE, SUPPORTED, Operand, VectorInstruction
 from ..machine.answers import VILL, ControlRegisters
 from .formula import Assignment, Bits, Formula, evaluate, sext
 from .record import Record, record_of

@@ -121,7 +121,7 @@ FUNCTIONS: Mapping[str, Callable[..., int]] = {
     "zext": zext,
     "round": rounded,
     "quotient": quotient,
-    "remainder": lambda value, divisor: value - quotient(value, divisor) * divisor,
+    "remainder": lambda value, divisor: int(value - quotient(value, divisor) * divisor),
     "sum": lambda *values: sum(_flat(values)),
     "min": lambda *values: min(_flat(values)),
     "max": lambda *values: max(_flat(values)),
@@ -129,8 +129,8 @@ FUNCTIONS: Mapping[str, Callable[..., int]] = {
     "bitand": _combined(lambda one, other: one & other),
     "bitor": _combined(lambda one, other: one | other),
     "bitxor": _combined(lambda one, other: one ^ other),
-    "first": lambda values: next(iter(values), -1),
-    "nth": lambda number, values: list(values)[number],
+    "first": lambda values: int(next(iter(values), -1)),
+    "nth": lambda number, values: int(list(values)[number]),
 }
 CLIPS = ("clip", "clipu")
 """The nearest number that the target holds, with or without a sign; where that is another one, vxsat becomes 1."""

@@ -8,7 +8,7 @@ import functools
 import pathlib
 import re
 import tomllib
-from collections.abc import Iterable, Iterator, Mapping
+from collections.abc import Mapping
 from dataclasses import dataclass, field
 
 from .. import LabError

@@ -99,7 +99,7 @@ def _why_element(execution: Execution, after: After, register: int, element: int
 
 def _why_of(execution: Execution, after: After, target: str, place: tuple[int, int, int]) -> Reason:
     """Why an element has its value. place: the first register of its group, the number of the field, and its own."""
-    operand, control = execution.operand, execution.before.control
+    operand = execution.operand
     assert operand
     first, field, index = place
     unit = 8 if operand.eew == 1 and execution.target.kind != "mask" else operand.eew  # masks are loaded by bytes
