@@ -3,8 +3,9 @@
 of the repository.
 
 In docs/DEFINITIONS.md: the lines and the files of each row of the hour's table and of the table of all modules, and each sum that is
-said. In docs/GUARANTEES.md: the modules of the kit whose names contracts and definitions cite; and, where OUTPUT is a file with what
-`rt ci` printed when it proved `vecmon`, the kit's crates and how many C functions it rests on. The status is 1 where something differs.
+said. In docs/GUARANTEES.md: the contracts behind the statements about a crate, functions with their clauses; the modules of the kit whose
+names contracts and definitions cite; and, where OUTPUT is a file with what `rt ci` printed when it proved `vecmon`, the kit's crates and how
+many C functions it rests on. The status is 1 where something differs.
 """
 
 import re
@@ -93,6 +94,33 @@ def wrong_kit(page: str) -> Iterator[str]:
             yield f"of {crate} these modules are cited: {', '.join(f'`{it}`' for it in sorted(is_so.get(crate, set())))}"
 
 
+CITED = re.compile(r"\((`[\w:]+`(?:: `\w+`(?:, `\w+`)*)?(?:; `[\w:]+`(?:: `\w+`(?:, `\w+`)*)?)*)\)")
+
+
+def clauses_of(crate: str) -> dict[str, set[str]]:
+    """Return the names of the clauses and ghosts of a crate's contracts, by the names of functions and types."""
+    found = dict[str, set[str]]()
+    for it in counted.contracts(crate):
+        clauses = (counted.CLAUSE.match(line) for line in it.text.text.split("\n"))
+        found.setdefault(it.name, set()).update({it.ghost} if it.ghost else {clause[1] for clause in clauses if clause})
+    return found
+
+
+def wrong_contracts(page: str) -> Iterator[str]:
+    """Yield a message for each statement about a crate without a contract, and for each contract that isn't in the crate."""
+    for crate, section in re.findall(r"^### `(\w+)`\n(.*?)(?=^##)", page, re.MULTILINE | re.DOTALL):
+        clauses = clauses_of(crate)
+        for statement in re.split(r"^- ", section, flags=re.MULTILINE)[1:]:
+            contracts = CITED.findall(re.sub(r"\s+", " ", statement))
+            if not contracts:
+                yield f"a statement about {crate} names no contract: {statement[:60]}"
+            for name, _, cited in (it.partition(": ") for cell in contracts for it in cell.split("; ")):
+                if name.strip("`") not in clauses:
+                    yield f"{crate} has no contract {name}"
+                for clause in set(re.findall(r"\w+", cited)) - clauses.get(name.strip("`"), {*re.findall(r"\w+", cited)}):
+                    yield f"the contract {name} of {crate} has no clause {clause}"
+
+
 def wrong_axioms(page: str, output: str) -> Iterator[str]:
     """What is wrong of the C functions and the kit's crates; nothing where `vecmon` wasn't proved anew."""
     proved = output.partition("\nrt: vecmon proved\n")
@@ -112,7 +140,7 @@ def main() -> int:
     guide, guarantees = (Path("docs", it).read_text(encoding="utf-8") for it in ("DEFINITIONS.md", "GUARANTEES.md"))
     found = {
         "DEFINITIONS.md": [*wrong_hour(guide), *wrong_modules(guide)],
-        "GUARANTEES.md": [*wrong_kit(guarantees), *wrong_axioms(guarantees, output)],
+        "GUARANTEES.md": [*wrong_contracts(guarantees), *wrong_kit(guarantees), *wrong_axioms(guarantees, output)],
     }
     for page, faults in found.items():
         for fault in faults:

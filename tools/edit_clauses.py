@@ -1,5 +1,6 @@
 #!/usr/bin/env python3
-"""Lists the must-fail edits that can break each clause of a public call: `tools/edit_clauses.py [CRATE..]`, at the top of the repository.
+"""Lists the must-fail edits that can break each clause of a public call: `tools/edit_clauses.py [CRATE.. | --page]`, at the top of the
+repository. With `--page` it writes the table of docs/GUARANTEES.md instead: each edit once, behind the function or constant that it changes.
 
 A public call is a function that a crate exports and whose contract has clauses `ensures`, or a method of another crate's trait that the
 crate implements. For each call the tool prints its clauses (`-` for one without a name), the edits of the function itself, and, behind
@@ -25,6 +26,8 @@ from definitions import CLAUSE, CRATES, blocks_of, contracts, exported, head_of
 
 BLOCK = re.compile(r"(?:pub(?:\(\w+\))? )?(?P<kind>impl|trait)\b(?:<.*?>)? (?:(?P<trait>[\w:]+)(?:<.*>)? for )?(?P<owner>\w+)")
 CALL = re.compile(r"(?:(?P<qualifier>\w+)(?:::<[^<>]*>)?::|(?P<dot>\.))?\b(?P<name>[A-Za-z_]\w*)\b")
+PAGE = Path("docs/GUARANTEES.md")
+LONGEST = 240  # characters of a cell
 NO_CODE = re.compile(r"//[^\n]*|^\s*ghost [^;]*;", re.MULTILINE)
 
 
@@ -158,7 +161,41 @@ def print_crate(crate: str) -> None:
     print(f"  {sum(edits_of(item, edits) == 'no edit' for _, _, item in calls)} calls without an edit")
 
 
+def changed_names(crate: str, edit: Path) -> str:
+    """Return the functions and constants that an edit changes, or the files if it changes definitions alone."""
+    names = sorted({it.title for it in changed(crate, edit)})
+    lines = edit.read_text(encoding="utf-8").splitlines()
+    return " and ".join(f"`{it}`" for it in names or [it.removeprefix("file: ").strip() for it in lines if it.startswith("file: ")])
+
+
+def rows_of_edits(crate: str) -> Iterator[str]:
+    """Return the rows of a crate: its edits by what they change, at most LONGEST characters in a cell."""
+    edits: defaultdict[str, list[str]] = defaultdict(list)
+    for edit in sorted((CRATES / crate / "must-fail").glob("*.edit")):
+        edits[changed_names(crate, edit)].append(f"`{edit.stem}`")
+    cell = ""
+    for item in (f"{names}: {', '.join(edits[names])}" for names in sorted(edits)):
+        if cell and len(f"{cell}; {item}") > LONGEST:
+            yield f"| `{crate}` | {cell} |"
+            cell = ""
+        cell = f"{cell}; {item}" if cell else item
+    yield f"| `{crate}` | {cell} |"
+
+
+def with_table(page: str) -> str:
+    """Return docs/GUARANTEES.md with the table of all edits in place of the one below its heading."""
+    before, heading, section = page.partition("\n## Edits that must fail\n")
+    text, _, rest = section.partition("\n| crate | ")
+    after = rest.partition("\n\n")[2]
+    rows = [row for it in sorted(CRATES.glob("*/must-fail")) for row in rows_of_edits(it.parent.name)]
+    table = "\n".join(["| crate | edits, by the functions and constants that they change |", "|---|---|", *rows])
+    return f"{before}{heading}{text}\n{table}\n" + (f"\n{after}" if after else "")
+
+
 def main(names: list[str]) -> int:
+    if names == ["--page"]:
+        PAGE.write_text(with_table(PAGE.read_text(encoding="utf-8")), encoding="utf-8")
+        return 0
     if any(it.startswith("-") for it in names):
         sys.exit(__doc__)
     crates = names or sorted(it.parent.name for it in CRATES.glob("*/must-fail"))
