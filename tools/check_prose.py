@@ -64,11 +64,11 @@ class Limits:
     long: float
 
 
-# To be lowered with each page that is rewritten, to at most Limits(1, 3, 2) for all but engineers' pages and comments.
+# To be lowered with each page that is rewritten, to at most Limits(1, 3, 2) for all but comments.
 LIMITS = {
     "users": Limits(1, 3, 2),
     "teachers": Limits(1, 3, 2),
-    "engineers": Limits(11.5, 18, 9),
+    "engineers": Limits(1, 3, 2),
     "messages": Limits(1, 3, 0.5),
     "comments": Limits(17, 30, 1),
 }
