@@ -106,6 +106,16 @@ def quotient(value: int, divisor: int) -> int:
     return size if (value < 0) == (divisor < 0) else -size
 
 
+def remainder(value: int, divisor: int) -> int:
+    """What `quotient` leaves, which has the sign of the value."""
+    return value - quotient(value, divisor) * divisor
+
+
+def nth(number: int, values: Iterable[int]) -> int:
+    """The number at a place of a list."""
+    return list(values)[number]
+
+
 def _flat(values: Iterable[int | Iterable[int]]) -> list[int]:
     """Numbers, and those of lists among them."""
     return [each for value in values for each in ([value] if isinstance(value, int) else value)]
@@ -121,7 +131,7 @@ FUNCTIONS: Mapping[str, Callable[..., int]] = {
     "zext": zext,
     "round": rounded,
     "quotient": quotient,
-    "remainder": lambda value, divisor: int(value - quotient(value, divisor) * divisor),
+    "remainder": remainder,
     "sum": lambda *values: sum(_flat(values)),
     "min": lambda *values: min(_flat(values)),
     "max": lambda *values: max(_flat(values)),
@@ -129,8 +139,8 @@ FUNCTIONS: Mapping[str, Callable[..., int]] = {
     "bitand": _combined(lambda one, other: one & other),
     "bitor": _combined(lambda one, other: one | other),
     "bitxor": _combined(lambda one, other: one ^ other),
-    "first": lambda values: int(next(iter(values), -1)),
-    "nth": lambda number, values: int(list(values)[number]),
+    "first": lambda values: next(iter(values), -1),
+    "nth": nth,
 }
 CLIPS = ("clip", "clipu")
 """The nearest number that the target holds, with or without a sign; where that is another one, vxsat becomes 1."""
