@@ -1,4 +1,4 @@
-"""A prompt at one user's machine: lines of the monitor without the user's digit, and some commands beside them."""
+"""A prompt at one user's machine: lines of the monitor without the user's digit, and some additional commands."""
 
 import argparse
 import contextlib
@@ -45,7 +45,7 @@ def run(arguments: argparse.Namespace) -> int:
                 console.do(prompt())
             except EOFError:
                 break
-            except KeyboardInterrupt:  # at the prompt; what is carried out takes Ctrl-C otherwise
+            except KeyboardInterrupt:  # at the prompt; a running command handles Ctrl-C itself
                 if not is_terminal:
                     raise
                 print()
@@ -78,7 +78,7 @@ def _console(arguments: argparse.Namespace, screen: Screen) -> Iterator[Console]
 
 
 def _plain_line(mark: str) -> str:
-    """The next line of standard input; what isn't UTF-8 in it is no ASCII either. Raises EOFError at the end."""
+    """The next line of standard input; bytes that aren't UTF-8 become non-ASCII characters. Raises EOFError."""
     print(mark, end="", flush=True)
     line = sys.stdin.buffer.readline()
     if not line:

@@ -12,7 +12,7 @@ from ..instructions.table import ABI_NAMES
 from ..machine.answers import Addresses, ControlRegisters, ScalarRegisters
 
 REGISTERS = {name: number for number, name in ABI_NAMES.items()} | {"fp": "x8"} | {name: name for name in NAMES}
-"""What scalar and control registers are called, and their names in NAMES."""
+"""The names of scalar and control registers, and their names in NAMES."""
 
 _SIGNS = {"==": eq, "!=": ne, "<=": le, ">=": ge, "<": lt, ">": gt}
 _FORM = re.compile(rf"(\S+?)\s*({'|'.join(_SIGNS)})\s*(\S+)")

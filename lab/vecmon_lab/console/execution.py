@@ -70,13 +70,13 @@ class Execution:
         self.tell_place()
 
     def step(self, number: int) -> None:
-        """Steps so many instructions, and shows each with what it changed."""
+        """Step a number of instructions, and show each with its changes."""
         for carried in self._stepped(range(number)):
             self._tell_step(carried)
         self.tell_place()
 
     def back(self, number: int) -> None:
-        """Goes back so many instructions."""
+        """Go back a number of instructions."""
         self._guest.ask("stop")
         self._tell_back(self._timeline.back(number))
 
@@ -99,7 +99,7 @@ class Execution:
         self._tell_back(is_there)
 
     def look(self) -> list[Change]:
-        """Looks at all registers again, where the machine shows them; what has changed."""
+        """Look at all registers again, if the machine shows them; return the changes."""
         return self._stepper.look() if state_of(self._guest)[0] == "stopped" else []
 
     def tell_place(self) -> None:
@@ -146,7 +146,7 @@ class Execution:
         self._tell_changes()
 
     def _tell_changes(self) -> None:
-        """What has changed since it was looked at last, and the next instruction."""
+        """The changes since the last look, and the next instruction."""
         self.has_mask = False
         self.changes = rows = self._change_rows(self.look())
         if len(rows) > MOST_ROWS:
@@ -160,14 +160,14 @@ class Execution:
         self._screen.say(*self._change_rows(carried.changes), kind="changed")
 
     def _change_rows(self, changes: Sequence[Change]) -> list[str]:
-        """What changed: scalar and control registers first, then each vector register, and memory, in rows of their own."""
+        """The changes: scalar and control registers first, then each vector register, and memory, in separate rows."""
         rows = list[str]()
         for _, group in itertools.groupby(changes, lambda change: (type(change), getattr(change, "register", 0))):
             rows += change_rows(map(change_text, group), self._screen.width)
         return rows
 
     def _value(self, name: str) -> object:
-        """What a register holds, by what was looked at last."""
+        """The value of a register, at the last look."""
         registers = self._stepper.registers
         if name in VECTORS:
             return bytes(registers.v[VECTORS[name] * REGISTER_BYTES :][:REGISTER_BYTES])

@@ -1,4 +1,4 @@
-"""What the console does with a line: commands of its own, and those of the monitor with names for numbers."""
+"""Lines of the console: its own commands, and those of the monitor with names for numbers."""
 
 import pathlib
 import re
@@ -47,7 +47,7 @@ HELP_ON_PLACES = {
 
 
 class Console:
-    """One user's machine, at which lines are carried out. It is open until `quit`."""
+    """One user's machine, which executes lines. It is open until `quit`."""
 
     def __init__(self, guest: Guest, screen: Screen, symbols: Symbols) -> None:
         self.is_open = True
@@ -58,7 +58,7 @@ class Console:
         self._source = SourceListing(self.names)
         places = Places(self.names, self._source)
         self._breakpoints = Breakpoints(guest, screen, self.names, places, self._conditions)
-        self._program: Sequence[str] = ["load", "image"]  # what brought the program in
+        self._program: Sequence[str] = ["load", "image"]  # the command that loaded the program
 
     def do(self, entry: str) -> None:
         """Carries out the lines of an entry, up to the one during which Ctrl-C comes; that stops the program alone."""
@@ -86,7 +86,7 @@ class Console:
         self.execution.look()
 
     def bar(self) -> str:
-        """Where the program stands, the vector type, vl and the policy."""
+        """The program's place, the vector type, vl and the policy."""
         run, pc = state_of(self._guest)
         if run != "stopped":
             return run
@@ -94,7 +94,7 @@ class Console:
         return f"pc {self.names.place(pc)}   vtype {vtype_text(control.vtype)}   vl {control.vl}   policy {policy}"
 
     def _carry_out(self, line: str) -> None:
-        """Carries out a line; what is wrong with it is told."""
+        """Execute a line; report its mistakes."""
         try:
             match self.names.words(line):
                 case ["help", *name]:
@@ -138,7 +138,7 @@ class Console:
             self._screen.say(str(error), kind="refused")
 
     def _monitor(self, words: Sequence[str]) -> Answer:
-        """Carries out a line of the monitor, whose user or operator may stand before it; shows the answer."""
+        """Execute a line of the monitor, perhaps with a user or the operator before it; show the answer."""
         has_user = len(words[0]) == 1 and words[0] in "12345678*"
         if not has_user:
             check_text(" ".join(words))
@@ -194,7 +194,7 @@ class Console:
             run()
 
     def _until(self, word: str) -> None:
-        """Runs the program to a place, each address of which ends the run."""
+        """Run the program to a place; each of its addresses ends the run."""
         place = self._breakpoints.find(word)
         self._breakpoints.check_room(word, place)
         self._screen.say(*filter(None, [place.taken]))

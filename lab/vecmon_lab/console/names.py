@@ -17,7 +17,7 @@ DIGITS = "[0-9a-fA-F]+"
 LEFT_OUT = {"dis": "{pc:x} {number}", "load": "image", "peek": "ADDR 16", "step": "1", "vreg": "vN {sew}"}
 LEFT_OUT |= {"list": "{pc:x}", "back": "1"}
 PLACES = ("ADDR", "VALUE", "PLACE")  # arguments that may be a symbol; the last one may also be a register
-AS_TYPED = ("break", "unbreak", "until", "list")  # of which the console itself finds the places
+AS_TYPED = ("break", "unbreak", "until", "list")  # the console itself finds their places
 VECTORS = {f"v{number}": number for number in range(32)}
 CHOICES = {kind: words.split() for kind, words in read_table("choices")} | {"COMMAND": list(COMMANDS)}
 
@@ -30,7 +30,7 @@ class Names:
         self._guest, self._stepper = guest, stepper
 
     def choices(self, kind: str) -> Iterable[str]:
-        """The words that may take the place of a word of a command's form."""
+        """The values that an argument of a command's form may have."""
         registers = [*REGISTERS, *VECTORS] if kind == "PLACE" else []
         return (
             [*{*self.symbols.addresses, *self.symbols.source.functions}, *registers]
@@ -39,7 +39,7 @@ class Names:
         )
 
     def words(self, line: str) -> list[str]:
-        """The words of a line as the monitor takes them: with what may be left out, and with names as what they name."""
+        """The arguments of a line for the monitor: with defaults filled in, and with names replaced by their values."""
         name = line.split()[0]
         form = COMMANDS[name].form.split() if name in COMMANDS else [name]
         words = line.split(None, max(len(form) - 1, 1))

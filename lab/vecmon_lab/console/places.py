@@ -17,7 +17,7 @@ class Place(NamedTuple):
     """A place of code.
 
     addresses: in hexadecimal digits, or a word that the monitor refuses
-    taken: what a number was taken as, in words; "" if it is plain
+    taken: the meaning of a number, in words; "" if it is plain
     is_address: whether an address or a symbol with one address was named
     """
 

@@ -14,11 +14,11 @@ from prompt_toolkit.output import ColorDepth
 from ..assembler.commands import COMMANDS
 
 Choices = Callable[[str], Iterable[str]]
-"""What may stand for a word of a command's form, as xN."""
+"""The names that an argument of a command's form may have, as xN."""
 
 
 def terminal_prompt(mark: str, choices: Choices, bar: Callable[[], str]) -> Callable[[], str]:
-    """What asks for an entry, of one line or of several that are pasted. It raises EOFError at Ctrl-D."""
+    """Reads an entry of one line, or of several pasted ones. It raises EOFError at Ctrl-D."""
     session: PromptSession[str] = PromptSession(
         mark,
         completer=_Names(choices),
@@ -37,7 +37,7 @@ class _Names(Completer):
         self._choices = choices
 
     def get_completions(self, document: Document, complete_event: CompleteEvent) -> Iterable[Completion]:
-        """What the word before the cursor may be."""
+        """The completions of the word before the cursor."""
         *before, word = re.split(" +", document.current_line_before_cursor.lstrip())
         form = COMMANDS[before[0]].form.split() if before and before[0] in COMMANDS else ["COMMAND"]
         kind = form[len(before)] if len(before) < len(form) else ""

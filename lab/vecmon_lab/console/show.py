@@ -1,4 +1,4 @@
-"""What the console shows: the program's output, rows of text, registers by both names, and elements in the colour of how they lie."""
+"""The console's output: the program's output, rows of text, registers by both names, and coloured elements."""
 
 import itertools
 import os
@@ -20,7 +20,7 @@ WIDTH, ELEMENTS_WIDTH = 96, 72  # characters of a row, and of the elements of on
 
 
 class Screen:
-    """Standard output, with colours or without; a row begins a line of its own, also behind what the program has put out."""
+    """Standard output, with colours or without; a row begins a new line, also after output of the program."""
 
     def __init__(self, has_colours: bool) -> None:
         self._has_colours = has_colours
@@ -37,7 +37,7 @@ class Screen:
         return min(WIDTH, self.columns)
 
     def write(self, data: bytes) -> None:
-        """Puts out what the program has put out, as it is."""
+        """Print the program's output unchanged."""
         sys.stdout.flush()
         write_out(data)
         self._is_new_line = data.endswith(b"\n")
@@ -91,7 +91,7 @@ def change_text(change: Change) -> str:
 
 
 def change_rows(texts: Iterable[str], width: int) -> Iterator[str]:
-    """Changes in rows of so many characters; where one is too long for a row, it is divided between its numbers."""
+    """Changes in rows of this number of characters; one that is too long for a row is divided between its numbers."""
     pieces = [(number, piece) for text in texts for number, piece in enumerate(_pieces(text, width - 8))]
     row = " " * 4
     for number, piece in pieces:
@@ -104,7 +104,7 @@ def change_rows(texts: Iterable[str], width: int) -> Iterator[str]:
 
 
 def _pieces(text: str, most: int) -> list[str]:
-    """A change in pieces, of so many characters at most, that end behind a number or a name, or a byte's digits."""
+    """A change in pieces of this number of characters at most, which end after a number, a name or a byte's digits."""
     if len(text) <= most:
         return [text]
     if "," in text:

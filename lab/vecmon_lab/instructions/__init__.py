@@ -1,1 +1,1 @@
-"""The instruction set: words decoded, what they access, and why one is illegal."""
+"""The instruction set: decoded words, their accesses, and why a word is illegal."""

@@ -68,7 +68,7 @@ def body_of(word: int, instruction: VectorInstruction, control: ControlRegisters
 
 
 def active_of(instruction: VectorInstruction, body: range, v: bytes) -> list[int]:
-    """The elements of a body that the mask doesn't leave out, by the bytes of v0, which stand first."""
+    """The elements of a body that the mask selects, by the bytes of v0, which come first."""
     return [element for element in body if not instruction.leaves_out or v[element // 8] >> element % 8 & 1]
 
 

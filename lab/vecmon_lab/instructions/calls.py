@@ -40,7 +40,7 @@ def unsupported_call(x: Sequence[int]) -> str:
 
 @functools.cache
 def _systems() -> Mapping[str, Mapping[int, Sequence[str]]]:
-    """Of each system its calls by number: what they do, and what to write here."""
+    """The calls of each system by number: their effect, and the text for this system."""
     systems: dict[str, dict[int, Sequence[str]]] = {"Linux": {}, "RARS": {}, "Venus": {}}
     for system, number, *cells in read_table("calls"):
         systems[system][int(number)] = cells

@@ -1,4 +1,4 @@
-"""Stops in words: what a stop line says, and why an instruction is illegal.
+"""Stops in words: the meaning of a stop line, and why an instruction is illegal.
 
 An instruction is illegal where the RISC-V "V" manual, version 1.0, reserves it, by the choices in docs/DECISIONS.md.
 """
@@ -14,7 +14,7 @@ ELEN = 64
 
 
 def illegal_reasons(word: int, view: ControlRegisters) -> list[str]:
-    """Why a word is illegal in this state, a sentence each, the most telling first; empty where it is legal."""
+    """Why a word is illegal in this state, a sentence each, the most specific first; empty if it is legal."""
     try:
         instruction = decode(word, view.sew, view.lmul)
     except NoInstruction as problem:

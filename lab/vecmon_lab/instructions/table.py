@@ -33,7 +33,7 @@ class Row:
 REGISTERS = dict(read_table("registers"))
 """The numbers of scalar registers, as x10, by their names in the ABI."""
 
-ABI_NAMES = {number: name for name, number in reversed(REGISTERS.items())}  # x8 is s0, which stands first
+ABI_NAMES = {number: name for name, number in reversed(REGISTERS.items())}  # x8 is s0, which comes first
 
 
 @functools.cache

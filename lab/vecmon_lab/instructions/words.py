@@ -18,7 +18,7 @@ SUPPORTED = [sew << 3 | lmul for sew in range(4) for lmul in (0, 1, 2, 3, 5, 6, 
 CARRIES = ("vmerge", "vadc", "vsbc", "vmadc", "vmsbc")  # where vm is 0, v0 is an operand and no mask
 
 Trait = enum.Enum("Trait", "APART ANYWHERE V0_TOO UNTYPED FROM_ZERO BELOW_64")
-"""What an instruction asks for beside the widths of its operands; the table of shapes says what each one is."""
+"""The requirements of an instruction besides the widths of its operands; the table of shapes defines each one."""
 
 
 class NoInstruction(ValueError):
@@ -41,7 +41,7 @@ class Operand:
 
 @dataclass(frozen=True)
 class VectorInstruction:
-    """A vector instruction: its name or kind, what it asks for, whether v0 is its mask, and its operands, vd first."""
+    """A vector instruction: its name or kind, its requirements, whether v0 is its mask, and its operands, vd first."""
 
     name: str
     traits: frozenset[Trait]
@@ -112,7 +112,7 @@ def _operation(fields: Mapping[str, int]) -> tuple[str, list[str]]:
 
 
 def _operand(noun: str, place: str, cell: list[str], fields: Mapping[str, int], sew: int, lmul: Fraction) -> Operand:
-    """The operand at a place, by the words of a cell in the table of shapes."""
+    """The operand at a place, by a cell in the table of shapes."""
     width, *others = cell
     part = _PARTS.get(width)
     eew = int(part * sew) if part else _WIDTHS[fields["funct3"]] if width == "EEW" else int(width)

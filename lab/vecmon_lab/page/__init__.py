@@ -1,1 +1,1 @@
-"""What pages show of a machine, and their files."""
+"""A machine's state on pages, and the files of pages."""

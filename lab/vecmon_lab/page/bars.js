@@ -16,6 +16,6 @@ export function elementsBar(numbers) {
   return all ? bar("elements", Object.keys(KINDS).map((kind, place) => [kind, numbers[place] / all])) : make("td", "");
 }
 
-/** What the parts of elements' bars are. */
+/** The meanings of the parts of elements' bars. */
 export const legend = () =>
   make("p", "kinds", ...Object.entries(KINDS).map(([kind, words]) => make("small", "", make("span", kind), words)));

@@ -1,4 +1,4 @@
-// A tab of the class: its code, what it was told, and whose page it is.
+// A tab of the class: its code, its messages, and its page.
 
 import { Connection } from "./connection.js";
 import { ask, byId, put, say } from "./elements.js";
@@ -17,7 +17,7 @@ function sitDown(code) {
   history.replaceState(null, "", location.pathname);
 }
 
-/** Takes up what stands behind the address's #: a source, which waits for a seat, or a code. */
+/** Takes the part of the address after #: a source, which waits for a seat, or a code. */
 function takeHash() {
   const { hash } = location;
   if (!isLink(hash)) return sitDown(hash.slice(1));
@@ -33,7 +33,7 @@ function askForCode(words) {
   byId("code").focus();
 }
 
-/** What the server tells a tab becomes a page: a student's, or the teacher's. */
+/** Makes a page from the server's first message: a student's, or the teacher's. */
 class ClassTab {
   constructor(code) {
     const ended = (words) => (sessionStorage.removeItem("code"), askForCode(words));

@@ -3,21 +3,21 @@
 import { offerFile } from "./elements.js";
 
 const [FIRST_PAUSE, LONGEST_PAUSE] = [500, 15000]; // ms
-const LONGEST_SILENCE = 60000; // until a request without an answer tells that the connection is broken
+const LONGEST_SILENCE = 60000; // until a request without an answer means a broken connection
 const QUIET = { shoulder: "", wall: "", draft: "", "close-notice": "" };
 const EXERCISES = { check: "the check", open: "the exercise", answer: "the earlier answer" };
 const SOURCE = { source: "the source", again: "the source", "step-line": "a step of a line" };
 const NAMES = { lines: "slices", name: "the name", ...EXERCISES, ...SOURCE, ...QUIET };
 const ENDINGS = { 4403: "This code isn't valid, or not any more.", 4429: "This seat is open in too many tabs." };
 
-/** What a request is called where it is lost; "" where whoever asked asks again. */
+/** The name of a lost request in a message; "" if its sender repeats it. */
 function nameOf({ ask, do: lines = [] }) {
   const some = lines.length > 4 ? `${lines[0]} and ${lines.length - 1} lines more` : lines.join(", ");
   return some || (NAMES[ask] ?? ask);
 }
 
 export class Connection {
-  /** told: is given each message; gone: a sentence while the server is gone, or what was lost; ended: why it ended. */
+  /** told: receives each message; gone: a sentence while the server is gone, or the lost requests; ended: why it ended. */
   constructor(code, told, gone, ended) {
     Object.assign(this, { code, told, gone, ended, pause: FIRST_PAUSE, number: 0, lost: "" });
     this.waiting = []; // requests; the first one is under way
@@ -47,7 +47,7 @@ export class Connection {
     done(message);
   }
 
-  /** What the server answers to a request; null where there is no answer, and then that is said. */
+  /** The server's answer to a request; null without an answer, which is then reported. */
   ask(request) {
     const words = nameOf(request);
     if (!this.isReady) {

@@ -15,7 +15,7 @@ export class Cursor {
     }
   }
 
-  /** What keys have come to in a box, if they have. */
+  /** The place that keys have reached in a box, if any. */
   place(box) {
     return [...box.querySelectorAll("[data-edit]")].find(({ dataset }) => dataset.edit === this.at[box.id]);
   }

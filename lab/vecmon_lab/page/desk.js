@@ -1,4 +1,4 @@
-// A seat's machine, live: what was told of it is painted where it changed.
+// A seat's machine, live: paints the parts of its state that changed.
 
 import { byId, make } from "./elements.js";
 import { Past } from "./past.js";
@@ -26,7 +26,7 @@ export class Desk {
     if (isAnew || !state.v) this.used = new Set();
     usedIn(state).forEach((number) => this.used.add(number));
     this.past.add({ state, before: this.before, used: this.used, entry: byId("log").lastElementChild });
-    this.frame ??= requestAnimationFrame(() => this.paint()); // once, however much is told before it
+    this.frame ??= requestAnimationFrame(() => this.paint()); // once, for all messages before it
   }
 
   /** Paints it, or the moment of the past that is shown. A machine that runs may never have been looked at. */

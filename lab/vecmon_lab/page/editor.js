@@ -10,11 +10,11 @@ const [MOST_STATES, MOST_LETTERS] = [300, 4e6]; // that undo goes back to, and o
 const columnOf = (text) => [...text].reduce((at, letter) => at + (letter === "\t" ? INDENT - (at % INDENT) : 1), 0);
 
 export class Editor {
-  /** changed: is called when the text has become another one; language: a list of languages, of which one is chosen. */
+  /** changed: is called when the text has become another one; language: a list of languages, one of them chosen. */
   constructor(field, changed = () => {}, language = make("select", "")) {
     const [numbers, colours, choices] = [make("pre", "numbers"), make("pre", "colours"), make("ul", "choices")];
     Object.assign(this, { field, changed, language, numbers, colours, choices, past: [], future: [], kind: "", time: 0 });
-    Object.assign(this, { told: new Map(), here: 0, stops: [] }); // messages by line; where the machine stands, and breakpoints
+    Object.assign(this, { told: new Map(), here: 0, stops: [] }); // messages by line; the machine's place, and breakpoints
     numbers.ariaHidden = colours.ariaHidden = "true";
     const box = make("div", "lines", numbers);
     field.replaceWith(box);
@@ -102,7 +102,7 @@ export class Editor {
     if (isLetter) this.suggest(2);
   }
 
-  /** Undoes, or does again, what an event asks for. */
+  /** Undoes or redoes a change, as the event asks. */
   turn(event, isBack) {
     event.preventDefault();
     const [from, to] = isBack ? [this.past, this.future] : [this.future, this.past];
@@ -114,7 +114,7 @@ export class Editor {
     this.took(start, end);
   }
 
-  /** What a key does; where that answers false, the browser does its own. */
+  /** Handles a key; returns false if the browser handles it. */
   pressed(event) {
     const wasLeaving = this.isLeaving;
     this.isLeaving = wasLeaving && ["Shift", "Tab"].includes(event.key);
@@ -175,7 +175,7 @@ export class Editor {
     return this.edit(first, last, moved, ...(isSelected ? [first, first + moved.length] : [caret]));
   }
 
-  /** Offers names that go on from the word before the caret, if it has so many letters. */
+  /** Offers names that go on from the word before the caret, if it has this number of letters. */
   suggest(least) {
     if (!this.isC) this.offer(choicesAt(this.field.value, this.field.selectionEnd, least));
   }
@@ -231,13 +231,13 @@ export class Editor {
     numbers.scrollTop = field.scrollTop;
   }
 
-  /** Marks the line where the machine stands, which comes into sight, and those of breakpoints. */
+  /** Marks the machine's line, which comes into sight, and those of breakpoints. */
   mark(here, stops) {
     Object.assign(this, { here, stops });
     this.paint();
   }
 
-  /** Has the line where the machine stands in sight, once. */
+  /** Scrolls the machine's line into sight, once. */
   bringIntoSight(height) {
     const { field, here } = this;
     const [first, last] = [field.scrollTop / height, (field.scrollTop + field.clientHeight) / height - 1];

@@ -13,10 +13,10 @@ export function make(tag, kind, ...contents) {
 /** A button whose name says more than its text. */
 export const button = (text, ariaLabel, onclick) => Object.assign(make("button", "", text), { ariaLabel, onclick });
 
-/** A link to a page that opens beside this one. */
+/** A link to a page that opens in a new tab. */
 export const link = (href, text) => Object.assign(make("a", "", text), { href, target: "_blank", rel: "noopener" });
 
-/** Words for whoever can't see colour and form. */
+/** Words for readers who can't see colour and form. */
 export const unseen = (text) => make("span", "unseen", text);
 
 /** A column's or a row's header. */
@@ -25,7 +25,7 @@ export const header = (scope, ...contents) => Object.assign(make("th", "", ...co
 /** A table with a caption that is only heard. */
 export const table = (caption, ...parts) => make("table", "", make("caption", "unseen", caption), ...parts);
 
-/** A text of the author's, in which backquotes stand around what is code, as elements. */
+/** A text of the author's, with backquotes around code, as elements. */
 export const prose = (text) => text.split("`").map((part, place) => (place % 2 ? make("code", "", part) : part));
 
 /** A time in seconds since 1970 as `14:05`. */

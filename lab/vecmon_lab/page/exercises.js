@@ -1,4 +1,4 @@
-// The exercises of a class, at a seat: the text, hints that are due, and what was told of the answer that was checked last.
+// The exercises of a class, at a seat: the text, hints that are due, and the result of the last check.
 
 import { blocks } from "./blocks.js";
 import { byId, link, make, prose, put } from "./elements.js";
@@ -36,7 +36,7 @@ export class Exercises {
     this.panel.hidden = !isOpen;
   }
 
-  /** Shows what the server tells of all exercises, at a seat that has this source. */
+  /** Shows the server's data of all exercises, at a seat that has this source. */
   show(all, source) {
     const names = Object.keys(all);
     const name = names.includes(source.exercise) ? source.exercise : names[0];
@@ -105,7 +105,7 @@ export class Exercises {
     return href ? [make("p", "", link(href, "The lesson before it"), " solves another problem of the kind, step by step.")] : [];
   }
 
-  /** Brings what was just told into sight. */
+  /** Scrolls the last result into sight. */
   tell({ mistakes, warnings }) {
     this.awaited = "";
     this.reading.scrollTop = this.state.parentElement.offsetTop;
@@ -113,7 +113,7 @@ export class Exercises {
     if (mistakes) this.student.showSide("source");
   }
 
-  /** Sends the source that stands in the editor. */
+  /** Sends the source in the editor. */
   async checkSource() {
     this.check.disabled = true; // so that a click more checks nothing
     await this.student.request({ ask: "check", exercise: this.name, ...this.editor.source });

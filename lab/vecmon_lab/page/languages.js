@@ -1,4 +1,4 @@
-// The language of a source, which is chosen beside its editor: the first one is the assembler, all others take a compiler.
+// The language of a source, chosen next to its editor: the first one is the assembler, all others take a compiler.
 
 import { make } from "./elements.js";
 

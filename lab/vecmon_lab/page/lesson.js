@@ -7,7 +7,7 @@ import { STOP_LINE, entryParts, logEntry } from "./transcript.js";
 import { paintState, showStep, showStop, usedIn } from "./view.js";
 
 const LINKS = { prev: "Previous lesson", index: "All lessons", next: "Next lesson" };
-const ADDRESS_DELAY = 300; // ms: a browser takes only so many new addresses in a time
+const ADDRESS_DELAY = 300; // ms: a browser limits the rate of new addresses
 
 class Lesson {
   constructor({ frames, links = [], ...source }) {
@@ -112,7 +112,7 @@ class Lesson {
     }
   }
 
-  /** The author's sentence, which stands until the next one, what was done, and what stopped or was refused. */
+  /** The author's sentence, shown until the next one, the command, and the stop or refusal. */
   showStage(frame, state, user, states) {
     const note = this.frames.slice(0, this.place + 1).findLast((each) => each.note)?.note ?? "";
     put(byId("sentence"), note, prose(note));
@@ -125,14 +125,14 @@ class Lesson {
     showStep(state, ...parts);
   }
 
-  /** What an entry of a frame's log tells of a stop or a refusal, in words; "" for most. */
+  /** The stop or refusal in an entry of a frame's log, in words; "" for most. */
   entryWords(log, place, states) {
     const [text, refusal] = entryParts(log[place]);
     if (log[place][0] === "!") return text;
     if (log[place][0] === ">") return "";
     const stop = STOP_LINE.test(text) ? (states[text[0]]?.stop ?? "") : "";
     if (stop) return this.users.length > 1 ? `User ${text[0]}: ${stop}` : stop;
-    const isFirst = place < 2; // then its line stands beside it
+    const isFirst = place < 2; // then its line is next to it
     return refusal && !isFirst ? `\`${log[place - 1].slice(1)}\`: ${refusal}` : refusal;
   }
 

@@ -1,4 +1,4 @@
-// A field for lines of the monitor: Enter carries out all that stand in it, and arrow keys bring back those of before.
+// A field for lines of the monitor: Enter executes all lines in it, and arrow keys bring back earlier ones.
 
 import { byId } from "./elements.js";
 
@@ -20,7 +20,7 @@ export function unfitLines(lines) {
   return "";
 }
 
-/** The requests that carry lines out, of so many each. */
+/** The requests that execute lines, at most a fixed number each. */
 export function requestsOf(lines) {
   const parts = Array.from({ length: Math.ceil(lines.length / MOST_TOGETHER) }, (_, place) => place * MOST_TOGETHER);
   return parts.map((first) => ({ ask: "lines", do: lines.slice(first, first + MOST_TOGETHER) }));

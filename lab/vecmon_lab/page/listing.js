@@ -1,4 +1,4 @@
-// The program: labels, breakpoints, the program counter, the instruction that is told of, and words that are new.
+// The program: labels, breakpoints, the program counter, the current instruction, and new words.
 
 import { byId, header, make, unseen } from "./elements.js";
 import { RowTable, placesOf } from "./rows.js";
@@ -9,7 +9,7 @@ const NAMES = ["marks", "address", "word", "instruction", "source"];
 const COLUMNS = 20; // of an instruction, as the style has it
 const rows = new RowTable(byId("listing"), "Program", NAMES, "No program in memory yet.");
 let [code, labels, places] = [null, null, []];
-let [pc, seen] = ["", ""]; // where the program stood, and what was brought into sight
+let [pc, seen] = ["", ""]; // the program's last place, and the row scrolled into sight
 
 export function paintListing(state, before) {
   const abi = byId("names").value === "abi";

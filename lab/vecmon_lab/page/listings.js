@@ -1,9 +1,9 @@
-// Listings of a source side by side: under each of its lines what each compiler made of it.
+// Listings of a source side by side: under each of its lines the code of each compiler.
 
 import { elementsBar, legend } from "./bars.js";
 import { byId, header, make, table } from "./elements.js";
 
-/** The instructions of a line in one listing, with a gap where others stand between. */
+/** The instructions of a line in one listing, with a gap where others lie between. */
 function listingOf(rows, line) {
   let end = "";
   const own = rows.filter((row) => row[1] === line).flatMap(([address, , inlined, text, times, ...elements]) => {

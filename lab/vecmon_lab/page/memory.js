@@ -1,5 +1,5 @@
 // Memory in rows of 16 bytes, with a gap where rows are left out, and with numbers where variables have them; and what the
-// program has put out.
+// program has printed.
 
 import { byId, header, make } from "./elements.js";
 import { RowTable, placesOf } from "./rows.js";
@@ -37,7 +37,7 @@ function showOutput() {
   if (scrollTop + clientHeight > scrollHeight - 18) byId("output").scrollTop = byId("output").scrollHeight;
 }
 
-/** The kind of the number that stands at a place, and its bytes; one byte where no variable has a number there. */
+/** The kind of the number at a place, and its bytes; one byte where no variable has a number there. */
 function elementAt(place, arrays) {
   const length = ({ element, counts }) => (element.slice(1) / 8) * counts.reduce((product, count) => product * count, 1);
   const array = arrays.find((each) => each.at <= place && place < each.at + BigInt(length(each)));

@@ -1,4 +1,4 @@
-"""The vector register operands of an instruction as a page is told them, once for all vector types."""
+"""The vector register operands of an instruction for pages, once for all vector types."""
 
 import functools
 from collections.abc import Sequence

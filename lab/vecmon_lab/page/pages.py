@@ -14,7 +14,7 @@ FILES = pathlib.Path(__file__).parent
 
 
 class Page:
-    """A page of this folder by its name, with which its styles begin. Its style and its script stand in line, and its policy allows these alone."""
+    """A page of this folder by its name, with which its styles begin; only its inline style and script are allowed."""
 
     def __init__(self, name: str) -> None:
         frame, body, machine = map(page_file, ("page.html", f"{name}.html", "machine.html"))
@@ -59,7 +59,7 @@ def merge_patch(old: Mapping[str, object], new: Mapping[str, object]) -> dict[st
 
 
 def _digest(text: str) -> str:
-    """What a content policy calls a text that stands in line."""
+    """The hash of an inline text for a content policy."""
     return f"'sha256-{base64.b64encode(hashlib.sha256(text.encode('utf-8')).digest()).decode('ascii')}'"
 
 

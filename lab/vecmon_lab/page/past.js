@@ -2,14 +2,14 @@
 
 import { byId, say } from "./elements.js";
 
-const MOST_MOMENTS = 240; // so that the entries of most still stand in the transcript
-const BESIDES = ["labels", "lines", "outputs"]; // what changes of a state without a line
+const MOST_MOMENTS = 240; // so that the transcript still has the entries of most
+const BESIDES = ["labels", "lines", "outputs"]; // parts of a state that change without a line
 
 const isAlike = (one, other) =>
   Object.keys({ ...one, ...other }).every((key) => BESIDES.includes(key) || one[key] === other[key]);
 
 export class Past {
-  /** shown: is called when another moment is to be shown. */
+  /** shown: is called to show another moment. */
   constructor(shown) {
     Object.assign(this, { shown, moments: [], isStill: false, place: null }); // null: the present is shown
     const on = (id, event, place) => byId(id).addEventListener(event, () => this.show(place()));
@@ -29,7 +29,7 @@ export class Past {
     return this.moments.length - this.isStill;
   }
 
-  /** Takes up a moment: its state, what that was before, and what is told with it. Of one that runs nothing is kept. */
+  /** Adds a moment: its state, the state before, and their explanation. Moments of a running program aren't kept. */
   add(moment) {
     const last = this.moments.at(-1);
     if (last && isAlike(last.state, moment.state)) last.state = moment.state;

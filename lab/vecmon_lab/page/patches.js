@@ -1,6 +1,6 @@
-// What was told as a change of what was told before.
+// Merge patches: a message as the change of the one before.
 
-/** What a merge patch (RFC 7396) makes of a value, which stays as it is. */
+/** The value after a merge patch (RFC 7396); the old value stays unchanged. */
 export function patched(value, patch) {
   if (patch === null || typeof patch !== "object" || Array.isArray(patch)) return patch;
   const result = { ...value };

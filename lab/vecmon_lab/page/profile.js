@@ -1,4 +1,4 @@
-// A profile: bars beside the disassembly, and vector lengths.
+// A profile: bars next to the disassembly, and vector lengths.
 
 import { bar, elementsBar, legend } from "./bars.js";
 import { byId, make } from "./elements.js";

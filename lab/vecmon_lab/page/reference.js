@@ -1,4 +1,4 @@
-// Commands, instructions and refusals: all that the server's tables tell, and the entry of a name.
+// Commands, instructions and refusals: the server's tables, and the entry of a name.
 
 import { byId, make, prose, put } from "./elements.js";
 
@@ -13,14 +13,14 @@ const entryItem = ([, form, does]) => make("li", "", make("code", "", form), ...
 const absentEntry = (name) =>
   ABSENT.filter(([title, form]) => new RegExp(`^(?:${form.slice(title.length + 1)})$`).test(name)).map(([, , does]) => [name, name, does]);
 
-/** What is told of a name, with code between backquotes; "" of none. */
+/** The entry of a name, with code between backquotes; "" without one. */
 export function entryText(name) {
   const here = ENTRIES.filter(([each]) => [name, `* ${name}`].includes(each));
   const own = here.length ? here : absentEntry(name);
   return own.map(([, form, does]) => `\`${form}\`${does && `: ${does}`}`).join("\n");
 }
 
-/** The word of a text that a place stands in, or at whose end it stands. */
+/** The word of a text around a place, or ending at it. */
 function wordAt(text, place) {
   const [before] = /[\w.]*$/.exec(text.slice(Math.max(0, place - 99), place));
   return before + /^[\w.]*/.exec(text.slice(place, place + 99))[0];
@@ -40,7 +40,7 @@ export function showReference(text) {
   byId("entries").replaceChildren(...(parts.length ? parts : [make("p", "empty", "Nothing is called so.")]));
 }
 
-/** Shows in an element what is told of the name that the caret of a field stands in. */
+/** Shows in an element the entry of the name at the caret of a field. */
 export function tellName(element, field) {
   const words = entryText(wordAt(field.value, field.selectionStart));
   put(element, words, prose(words));

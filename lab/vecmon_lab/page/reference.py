@@ -1,4 +1,4 @@
-"""What a page's Help says of names: commands, instructions and refusals, from the tables of the manuals and the records."""
+"""The explanations of names on a page: commands, instructions and refusals, from the manuals' tables and the records."""
 
 import json
 from collections.abc import Iterator
@@ -32,7 +32,7 @@ def reference() -> dict[str, list[list[str]]]:
 
 
 def reference_text() -> str:
-    """The reference in JSON, as it may stand in a page."""
+    """The reference in JSON, in a form for a page."""
     return json.dumps(reference(), separators=(",", ":")).replace("<", "\\u003c")
 
 

@@ -10,7 +10,7 @@ export const inOrder = (addresses) =>
   addresses.sort((one, other) => one.length - other.length || (one < other ? -1 : 1));
 
 /**
- * What stands in a table of rows by address, so many bytes each: { address } for a row, { text, kind } for a gap where
+ * The content of a table of rows by address, of equal sizes: { address } for a row, { text, kind } for a gap where
  * one doesn't follow the one before, and for a label.
  */
 export function placesOf(addresses, bytes, labels = {}) {
@@ -30,7 +30,7 @@ export function placesOf(addresses, bytes, labels = {}) {
 
 /**
  * A table in a box that scrolls, of whose many rows those that are out of sight aren't made; all are equally high.
- * Where the box stands and how high it is are told by events, so that nobody waits for a layout.
+ * Events give the place and the height of the box, so that nothing waits for a layout.
  */
 export class RowTable {
   /** names: of its columns; empty: a sentence where there are no rows. */
@@ -40,7 +40,7 @@ export class RowTable {
     this.table = table(caption, make("thead", "", heads), this.body);
     Object.assign(this, { box, empty: make("p", "empty", empty), columns: names.length, places: [], made: "" });
     Object.assign(this, { top: 0, room: 0, height: 18 }); // px: what is scrolled away, what is in sight, a row
-    // A box that has become lower may be scrolled by that alone, and be told of it first.
+    // A box that has become lower may be scrolled by that alone, and gets that event first.
     box.addEventListener("scroll", () => (box.clientHeight === this.room ? this.moved(box.scrollTop) : this.resized()));
     new ResizeObserver(() => this.resized()).observe(box);
   }
@@ -71,7 +71,7 @@ export class RowTable {
     if (Math.abs(this.room - room) > 60) this.bringIntoSight(); // it was hidden, or the window is another one
   }
 
-  /** Has two rows before the one that is to be seen, and two behind it, in sight; else it comes to the upper third. */
+  /** Scrolls the row into sight with two rows before it and two after it; else it comes to the upper third. */
   bringIntoSight() {
     const { top, room, seen, height } = this;
     const place = this.places.findIndex(({ address }) => address && address === seen) * height;
@@ -99,7 +99,7 @@ export class RowTable {
     return make("tr", "", Object.assign(make("td", kind, text), { colSpan: this.columns }));
   }
 
-  /** The room of so many rows that aren't made. */
+  /** The room of a number of rows that aren't made. */
   space(count) {
     return Object.assign(make("tr", ""), { hidden: count === 0, style: `height: ${count * this.height}px` });
   }

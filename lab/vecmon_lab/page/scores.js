@@ -1,4 +1,4 @@
-// The teacher's table of exercises: what each seat has tried, and the answers.
+// The teacher's table of exercises: the attempts of each seat, and the answers.
 
 import { byId, button, header, make, put, table, timeText } from "./elements.js";
 

@@ -1,4 +1,4 @@
-// The table of a class's seats: how each one stands, and for how long; who is stuck stands at its top.
+// The table of a class's seats: the condition of each one, and for how long; stuck students come first.
 
 import { ask, button, byId, header, make, put } from "./elements.js";
 
@@ -47,7 +47,7 @@ class SeatRow {
     this.look.ariaPressed = `${isLookedAt}`;
   }
 
-  /** Says how it stands, and for how long; now is the server's time in seconds. */
+  /** Shows its condition, and for how long; now is the server's time in seconds. */
   age(now) {
     const { run, stands, since } = this.told;
     const isThere = run !== "absent" || stands;

@@ -1,4 +1,4 @@
-// How the vector registers are best shown: by the operands of the listing's instructions, which the server tells.
+// The best form of the vector registers: by the operands of the listing's instructions, from the server.
 
 /**
  * An instruction's operands under a vector type, a register group each:
@@ -17,7 +17,7 @@ export function operandGroups(operands, type) {
 }
 
 /**
- * How each register that a program names is best shown: as the instruction that is told of takes it, else as all
+ * How each register that a program names is best shown: as the current instruction takes it, else as all
  * instructions take it, if they agree. A map from a register to { width, group, mask }.
  */
 export function registerShapes({ operands }, told, type) {

@@ -4,7 +4,7 @@ import { byId } from "./elements.js";
 
 const PANELS = { listing: "listing", source: "editor", reference: "reference" };
 
-/** Lets one choose among those sides that there are; what it answers shows the side of a name. */
+/** Offers the sides that there are; returns a function that shows the side of a name. */
 export function chooseSides(names) {
   const show = (shown) => {
     for (const name of names) {

@@ -49,7 +49,7 @@ export class Source {
     this.timer ??= setTimeout(() => this.send(), PAUSE);
   }
 
-  /** Sends what was typed, with the number that it was typed at: what others wrote meanwhile stays. */
+  /** Sends the typed text, with the number that it was typed at: text that others wrote meanwhile stays. */
   async send() {
     clearTimeout(this.timer);
     this.timer = null;
@@ -69,7 +69,7 @@ export class Source {
     return answer;
   }
 
-  /** Brings what is in the editor to the server, with the exercise that it is for; where it is to be kept, it becomes a version. */
+  /** Sends the editor's text to the server, with its exercise; a text to keep becomes a version. */
   bringOwn(keep) {
     const [own, { number, exercise }] = [this.editor.source, this.told];
     return this.bring(own, () => this.connection.ask({ ask: "draft", ...own, number, exercise, keep }));
@@ -128,12 +128,12 @@ export class Source {
     } else if (this.isTyped && keyOf(source) !== keyOf(editor.source)) this.sendLater();
   }
 
-  /** Whether the source, as it is here, stands in the machine. */
+  /** Whether the machine has the source as it is here. */
   get stands() {
     return this.told.stands && keyOf(this.told) === keyOf(this.editor.source);
   }
 
-  /** Marks the line of C where a machine stands, and those with breakpoints. */
+  /** Marks the machine's line of C, and those with breakpoints. */
   mark({ starts = {}, stops = {}, breaks = [], pc }) {
     const isThere = this.stands && Object.keys(starts).length > 0;
     this.editor.mark(isThere ? starts[startOf(starts, pc)] : 0, isThere ? stoppedLines(stops, breaks) : []);

@@ -1,4 +1,4 @@
-// Lines of a source: of which one an instruction is. `starts` has the numbers of lines by the addresses where their
+// Lines of a source: the one of an instruction. `starts` has the numbers of lines by the addresses where their
 // instructions begin, and 0 where those of none do.
 
 import { inOrder } from "./rows.js";

@@ -1,4 +1,4 @@
-"""What a page shows of one user: a plain object, made from the machine's answers to lines that only look."""
+"""The state of one user on a page: a plain object, made from the machine's answers to read-only lines."""
 
 import re
 from collections import Counter
@@ -30,12 +30,12 @@ class State(TypedDict, total=False):
 
     run: `absent`, `stopped` or `running`; without a machine there is nothing else
     x: 32 values by number; v: 32 times 32 bytes by number; policy: `keep` or `ones`
-    code, operands: words of the program with their texts, and their vector operands, by address
+    code, operands: the program's words with their texts, and their vector operands, by address
     memory: rows of 16 bytes by address
-    instruction: the address of the instruction that was carried out last, or faulted, in what was just done
+    instruction: the address of the instruction that the last lines executed last, or that faulted
     stop: why the program stopped in what was just done, in words
     calls: calls that the machine doesn't support, in words by the address of the ECALL: those that the code shows, and those that the
-        program stood at; without one there is no such key
+        program reached; without one there is no such key
     output: the bytes that answers to `out` have shown
     outputs: in a class in place of it, the last 64 KB of them, in blocks by number
     labels, lines: in a class, names and lines by address of the source that was assembled last
@@ -80,14 +80,14 @@ _STORE = re.compile(r"(s[bhwd]|vs\S+) .*\(x\d+\)")
 
 
 class Sight:
-    """The places of one user's memory that are looked at: words of the program, and pages of data; and breakpoints."""
+    """The watched places of one user's memory: the program's words, and pages of data; and breakpoints."""
 
     def __init__(self) -> None:
         self.code: set[int] = set()  # addresses of words
         self.pages: set[int] = set()  # addresses of pages
         self.named: set[int] = set()  # addresses of rows that lines named
-        self.breaks: set[int] = set()  # where the program stops, of which a look at one that runs doesn't tell
-        self.is_compiled = False  # whether a compiler made what stands in memory
+        self.breaks: set[int] = set()  # where the program stops, which a look at a running program doesn't show
+        self.is_compiled = False  # whether a compiler made the program in memory
         self.trace: Sequence[int] = []  # as it was when it was looked at last
 
     def follow(self, line: str) -> None:
@@ -111,7 +111,7 @@ class Sight:
                 self.breaks.discard(int(address, 16))
 
     def take_compiled(self, text: range, rows: Iterable[int]) -> None:
-        """Takes up where instructions of a compiled program stand, and the rows of its variables in place of all pokes."""
+        """Set the instructions of a compiled program, and the rows of its variables in place of all pokes."""
         self.code.update(text[: max(0, MOST_WORDS - len(self.code))])
         self.named, self.is_compiled = set(rows), True
 
@@ -135,7 +135,7 @@ def look_at(
 ) -> State:
     """The user's state after lines that were answered to the user so; before them the state was `before`.
 
-    carried_out: the text of the instruction that a line may have carried out, if nothing else was done
+    carried_out: the text of the instruction that a line may have executed, if it did nothing else
     is_done: whether a line did more than look
     While the program runs the machine shows nothing else, so that all but `run` and `pc` stays as it was.
     """
@@ -191,7 +191,7 @@ def registers_of(state: State) -> Registers:
 class RowChoice:
     """The rows of a user's memory that are shown: those that lines name, that change, and that aren't zero.
 
-    What stands in the listing isn't shown again, unless a line names it.
+    Words in the listing aren't shown again, unless a line names it.
     """
 
     def __init__(self) -> None:
@@ -208,7 +208,7 @@ class RowChoice:
         self._last = state["memory"]
 
     def rows(self, sight: Sight, least: int = 1) -> set[str]:
-        """The addresses of the rows that tell most; 2 is the least for those that have changed alone."""
+        """The addresses of the most relevant rows; 2 is the least for rows that have changed."""
         listing = {f"{address // ROW_BYTES * ROW_BYTES:x}" for address in sight.code}
         weights = Counter({row: it for row, it in self._weights.items() if it >= least and row not in listing})
         weights.update({f"{row:x}": 3 for row in sight.named if f"{row:x}" in self._weights})
@@ -253,7 +253,7 @@ def _take_calls(state: State) -> None:
 
 
 def _code(guest: Guest, sight: Sight, pc: int, trace: Sequence[int], known: dict[str, str]) -> dict[str, str]:
-    """The listing: words that lines wrote, words that were carried out, and some from the program counter on.
+    """The listing: words that lines wrote, executed words, and some from the program counter on.
 
     What is known of it is as it was.
     """

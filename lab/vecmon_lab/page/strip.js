@@ -4,7 +4,7 @@ import { make } from "./elements.js";
 
 const KINDS = { active: "active", masked: "masked off", tail: "tail", prestart: "before vstart" };
 
-/** The strip of a lesson as an element: what it shows, and its cells. */
+/** The strip of a lesson as an element: its description, and its cells. */
 export function stripOf({ name, text, cells }) {
   const strip = make("span", "strip", ...cells.map(([digits, kind]) => make("span", kind, digits)));
   const elements = cells.map(([digits, kind]) => [digits, KINDS[kind]].filter(Boolean).join(" ")).join(", ");

@@ -29,7 +29,7 @@ function withElement(bytes, width, place, value) {
 const isBlank = ({ run, x, v, memory, code }) =>
   run !== "running" && [x, v, memory, code].flatMap((part) => Object.values(part ?? {})).every((digits) => /^0*( |$)/.test(digits));
 
-/** What was refused of a request, in words. */
+/** The refusals of a request, in words. */
 function refusals({ do: lines }, answer) {
   const told = (answer?.words ?? []).map((why, place) => why && `\`${lines[place]}\`: ${why}.`);
   return [...told, answer?.error].filter(Boolean).join(" ");
@@ -93,7 +93,7 @@ export class Student {
     this.refuse(isThere ? "" : "There is nothing to take home yet, or it can't be made now.");
   }
 
-  /** Tells of the name that the caret stands in. */
+  /** Explains the name at the caret. */
   tellNames() {
     const told = { source: "entry", line: "hint" }[document.activeElement.id];
     if (told) tellName(byId(told), document.activeElement);
@@ -143,7 +143,7 @@ export class Student {
     byId("notices").replaceChildren(...notices.map(item));
   }
 
-  /** Sends requests one behind the other; what was refused is told in words. The answer to the first one. */
+  /** Sends requests one after the other; reports refusals in words. Returns the answer to the first one. */
   async request(...requests) {
     this.desk.past.show(Infinity);
     const answers = await Promise.all(requests.map((request) => this.connection.ask(request)));
@@ -194,7 +194,7 @@ export class Student {
     return byId("value").select();
   }
 
-  /** Sets all breakpoints of a line of the source in C that stands in the machine, or removes those that are there. */
+  /** Sets all breakpoints of a line of the source in C in the machine, or removes those that are there. */
   breakAt(line) {
     const { stops, breaks } = this.desk.state;
     const addresses = (this.source.stands && stops?.[line]) || [];
@@ -277,7 +277,7 @@ export class Student {
     return mistakes && this.showSide(mistakes.length ? "source" : "listing");
   }
 
-  /** Lists what is told of the source below it, and shows it at its lines, until it becomes another one. */
+  /** Lists the messages about the source below it, and shows them at its lines, until it changes. */
   showMistakes(mistakes, warnings = []) {
     const told = [...mistakes, ...warnings.map((each) => ({ ...each, message: `warning: ${each.message}` }))];
     byId("mistakes").replaceChildren(...told.map((mistake) => this.mistake(mistake)));

@@ -1,10 +1,10 @@
-// What a source's words are: pieces of a line with their kinds, and the names that may go on from a place.
+// The words of a source: pieces of a line with their kinds, and the names that may go on from a place.
 
 import { SECTIONS } from "./reference.js";
 import { ABI_NAMES } from "./words.js";
 
 const MOST_CHOICES = 10;
-const LONGEST = 1000; // characters of a line that are told apart
+const LONGEST = 1000; // characters of a line that are distinguished
 const TOKEN = /(#.*|\/\/.*)|("(?:[^"\\]|\\.)*"?)|([A-Za-z_.$][\w.$]*)|(\d\w*)|[^\w.$"#/]+|./g;
 const WORDS_OF_C =
   "auto|break|case|char|const|continue|default|do|else|enum|extern|for|goto|if|inline|int|long|register|restrict|return|short|signed|" +
@@ -17,7 +17,7 @@ const LABEL = /^\s*([A-Za-z_.$][\w.$]*):|^\s*\.(?:equ|set)\s+([A-Za-z_.$][\w.$]*
 const REGISTERS = new Set([...ABI_NAMES, "fp", ...Array.from({ length: 32 }, (_, at) => [`x${at}`, `v${at}`]).flat()]);
 const FORMS = new Map(["Instructions", "Pseudo-instructions", "Directives"].flatMap((section) => SECTIONS[section])); // by name
 
-/** What a word is that stands first in a statement. */
+/** The kind of the first word in a statement. */
 const firstKind = (name) => (!FORMS.has(name) ? "unknown" : name[0] === "." ? "directive" : "instruction");
 
 /** A line in pieces, each with its kind, which is "" for marks and names. */
@@ -34,7 +34,7 @@ export function piecesOf(line) {
   return [...pieces, ["", line.slice(LONGEST)]];
 }
 
-/** What gives the pieces of one line of C after the other, behind a text; in that a comment may have begun. */
+/** Returns a function for the pieces of one line of C after the other, behind a text; in that a comment may have begun. */
 export function piecesOfC(before) {
   let isComment = before.lastIndexOf("/*") > before.lastIndexOf("*/");
   return (line) => {

@@ -206,7 +206,7 @@ export class Teacher {
     return undefined;
   }
 
-  /** A seat with the name of whoever sits there. */
+  /** A seat with its student's name. */
   withName(seat) {
     const { name } = this.view.machines[seat[0]].seats[seat[1]];
     return name ? `${seat}, ${name}` : seat;

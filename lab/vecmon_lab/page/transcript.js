@@ -1,4 +1,4 @@
-// The transcript: lines and answers, and which of them tell of a stop or a refusal.
+// The transcript: lines and answers, and those with a stop or a refusal.
 
 import { make, prose } from "./elements.js";
 
@@ -14,7 +14,7 @@ export function entryParts(entry) {
 /**
  * A line or an answer in the transcript: lines begin with `>`, answers with `<`, those to the server's own lines with `=`,
  * and other sentences with `!`.
- * Of an only user's entries the digit is left out; `place` stands before all.
+ * Of an only user's entries the digit is left out; `place` comes before all.
  */
 export function logEntry(entry, isOnly = false, place = "") {
   const [text, words] = entryParts(entry);
@@ -25,7 +25,7 @@ export function logEntry(entry, isOnly = false, place = "") {
   return item;
 }
 
-/** An entry as `logEntry` makes it; below a refusal stands what it means. */
+/** An entry as `logEntry` makes it; below a refusal is its meaning. */
 export function toldEntry(entry, isOnly, place = "") {
   const item = logEntry(entry, isOnly, place);
   const [, words] = entryParts(entry);

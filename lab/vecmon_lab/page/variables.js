@@ -1,4 +1,4 @@
-// Variables of a source in C, where its compiler tells of them: their values, and where they lie while the program stands here.
+// Variables of a source in C, if its compiler lists them: their values, and their places while the program is here.
 
 import { byId, header, make, table } from "./elements.js";
 
@@ -22,7 +22,7 @@ export function numberText(element, value) {
 }
 
 /**
- * The variables that are known where the program stands, those of functions first: what declares them, where they lie, in
+ * The variables that are known at the program's place, those of functions first: their declarations, where they lie, in
  * words and as an address, and their value as a text.
  */
 export function knownVariables({ variables = [], pc, x, memory }) {

@@ -122,7 +122,7 @@ function elementCell(bytes, bytesBefore, shape, place, kind) {
   return Object.assign(cell, { colSpan: shape.width / 8, title: forms.join(" = ") });
 }
 
-/** An element of so many bits, from its bytes in hexadecimal, the least first, as text. */
+/** An element of a number of bits, from its bytes in hexadecimal, the least first, as text. */
 function elementText(bytes, form) {
   const digits = bytes.match(/../g).reverse().join("");
   if (form === "hexadecimal") return digits;

@@ -1,8 +1,8 @@
-// What was told of an answer: which cases pass, and of the first that fails what was given, expected and found.
+// The result of an answer: the cases that pass, and of the first that fails the input, the expected and the actual values.
 
 import { link, make, prose, unseen } from "./elements.js";
 
-/** Numbers that stand one behind another, each in a box; the wrong ones are marked. Behind them stands how many more there are. */
+/** Numbers in a row, each in a box; the wrong ones are marked. After them is the number of those not shown. */
 function strip({ where, first, numbers, wrong, more }) {
   const boxes = numbers.map((text, place) => {
     const isWrong = wrong.includes(place);
@@ -13,11 +13,11 @@ function strip({ where, first, numbers, wrong, more }) {
   return make("div", "strip", make("small", "", first ? `${where}, from number ${first} on` : where), make("p", "", ...boxes, rest));
 }
 
-/** Rows of numbers below a name, and what else is to be said there. */
+/** Rows of numbers below a name, and further remarks. */
 const picture = (name, strips = [], notes = []) =>
   strips.length + notes.length ? [make("h3", "", name), ...strips.map(strip), ...notes.map((note) => make("p", "", note))] : [];
 
-/** What an answer that passes takes, beside a good one. */
+/** The cost of an answer that passes, compared with a good one. */
 function takenWords({ taken, good }) {
   const [own, other] = [taken, good].map((it) => it.instructions.toLocaleString("en"));
   const places = "Of a hundred places that its vector instructions had for elements";
@@ -28,7 +28,7 @@ function takenWords({ taken, good }) {
   );
 }
 
-/** What was told of an exercise, as elements: `lesson` is where one of the case that fails is, and tryCase brings it in here. */
+/** The result of an exercise, as elements: `lesson` is where one of the case that fails is, and tryCase brings it in here. */
 export function verdict({ told, cases, lesson }, tryCase) {
   const again = make("p", "", "Check it again. If that fails too, the teacher's page shows why.");
   if (told.unchecked) return [make("h3", "", told.unchecked), again];

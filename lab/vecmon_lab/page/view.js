@@ -1,5 +1,5 @@
-// Paints what the machine told of one user: an object goes in, and what it was before, for what changed.
-// What a line can change has the line's beginning as `data-edit`.
+// Paints the state of one user: from an object, and the one before, for the changes.
+// A value that a line can change has the line's beginning as `data-edit`.
 
 import { byId, make, prose, put } from "./elements.js";
 import { paintListing } from "./listing.js";
@@ -12,7 +12,7 @@ import { saysMore, withNames } from "./words.js";
 /** The numbers of a state's vector registers that aren't zero. */
 export const usedIn = ({ v = {} } = {}) => Object.keys(v).filter((number) => /[^0]/.test(v[number])).map(Number);
 
-/** What was done, which its page knows, and the instruction that was carried out last, or that faulted. */
+/** The command, which its page knows, and the instruction that executed last, or that faulted. */
 export function showStep(state, ...done) {
   if (state.run === "running") done.push(make("small", "", "it runs: registers and memory are those from before"));
   if (state.instruction) {
@@ -31,7 +31,7 @@ export function showStop(words) {
   byId("stop").classList.toggle("said", words !== "");
 }
 
-/** Paints a state beside the one before it. `used` has the numbers of the vector registers that always have rows. */
+/** Paints a state, compared with the one before it. `used` has the numbers of the vector registers that always have rows. */
 export function paintState(state, previous, used) {
   const isThere = state.run !== "absent";
   byId("machine").classList.toggle("absent", !isThere);

@@ -1,4 +1,4 @@
-// Names and words that the page shows beside the machine's numbers.
+// Names and words that the page shows next to the machine's numbers.
 
 export const ABI_NAMES =
   "zero ra sp gp tp t0 t1 t2 s0 s1 a0 a1 a2 a3 a4 a5 a6 a7 s2 s3 s4 s5 s6 s7 s8 s9 s10 s11 t3 t4 t5 t6".split(" ");
@@ -37,7 +37,7 @@ export const signedText = (hexadecimal) => BigInt.asIntN(64, BigInt("0x" + hexad
 /** An instruction's text with the chosen names of scalar registers. */
 export const withNames = (text, abi) => (abi ? text.replace(/\bx(\d+)\b/g, (_, number) => ABI_NAMES[number]) : text);
 
-/** What a source's line says beside its instruction, whose text is the machine's: all of it, or its comment alone. */
+/** The text of a source's line next to its instruction, whose text is the machine's: all of it, or its comment alone. */
 export function saysMore(line, text) {
   const [own] = line.split(/\s*(?:#|\/\/)/);
   const numbered = own.replace(/\b[a-z]+\d*\b/g, (name) => (ABI_NAMES.includes(name) ? `x${ABI_NAMES.indexOf(name)}` : name));

@@ -18,7 +18,7 @@ def read_table(name: str) -> list[list[str]]:
 
 
 def table_lines(rows: Sequence[Sequence[object]], texts: int) -> Iterator[str]:
-    """Rows as lines with columns, of which so many are texts, and the others numbers, which end below each other."""
+    """Rows as lines with columns, this number of them texts, and the others numbers, which end below each other."""
     widths = [max(len(str(cell)) for cell in column) for column in zip(*rows)]
     for row in rows:
         cells = [f"{cell!s:{'<' if at < texts else '>'}{width}}" for at, (cell, width) in enumerate(zip(row, widths))]
@@ -26,7 +26,7 @@ def table_lines(rows: Sequence[Sequence[object]], texts: int) -> Iterator[str]:
 
 
 def html_table(rows: Sequence[Sequence[object]], texts: int) -> str:
-    """Rows as a table of HTML, as notebooks show it: a head, and rows with columns, of which so many are texts."""
+    """Rows as a table of HTML, as notebooks show it: a head, and rows with columns, this number of them texts."""
     lines = []
     for row, tag in zip(rows, ("th", *["td"] * len(rows))):
         sides = ["left" if at < texts else "right" for at in range(len(row))]
@@ -36,5 +36,5 @@ def html_table(rows: Sequence[Sequence[object]], texts: int) -> str:
 
 
 def spreadsheet_row(cells: Iterable[object]) -> list[object]:
-    """Cells of a row of CSV, of which none is a formula: whoever opens it in a spreadsheet sees a text with ' before."""
+    """Cells of a row of CSV, none of them a formula: a spreadsheet shows a text with ' before it."""
     return [f"'{cell}" if not isinstance(cell, int) and str(cell).startswith(_FORMULAS) else cell for cell in cells]
