@@ -152,7 +152,7 @@ async def test_the_servers_own_lines_are_its_own(tmp_path: pathlib.Path, line: s
         assert (await room.check_replay())[0] == b""
 
 
-def test_server_line_has_trailing_space() -> None:
+async def test_server_line_has_trailing_space() -> None:
     for command in ("out", "stop", "go"):
         assert server_line("3", command) == f"3 {command} "
         assert is_servers(f"3 {command} ")
