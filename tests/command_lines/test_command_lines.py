@@ -30,14 +30,14 @@ def test_command_line(line: str) -> None:
 
 
 @pytest.mark.parametrize("line, other", SAME_TICKS)
-def test_slices_of_the_same_ticks(line: str, other: str) -> None:
+def test_equal_ticks_in_other_slices_print_the_same(line: str, other: str) -> None:
     """However its ticks are divided, a user's lines are the same."""
     told, wanted = ([it for it in lines_of(record(built(), each)) if it.startswith("1 ")] for each in (line, other))
     assert told == wanted
 
 
 @pytest.mark.parametrize("line", [it for it in LINES if has_names(it)])
-def test_words_of_names(line: str) -> None:
+def test_poked_words_equal_instructions_by_name(line: str) -> None:
     """An instruction that is poked by its word does what it does by name."""
     poked, named = by_names_and_words(built(), line)
     assert poked == named

@@ -38,17 +38,17 @@ def write_zeros(folder: pathlib.Path, length: int) -> str:
     return str(folder / "zeros")
 
 
-def test_an_image_of_the_greatest_length(tmp_path: pathlib.Path) -> None:
+def test_longest_image_is_accepted(tmp_path: pathlib.Path) -> None:
     image = write_zeros(tmp_path, MOST_IMAGE)
     assert run_program("/dev/stdin", f"a={image}", script=LOADS) == (0, LOADED, b"")
 
 
-def test_an_image_of_a_byte_more(tmp_path: pathlib.Path) -> None:
+def test_image_above_limit_is_refused(tmp_path: pathlib.Path) -> None:
     image = write_zeros(tmp_path, MOST_IMAGE + 1)
     assert run_program("/dev/stdin", f"a={image}", script=LOADS) == (4, b"", b"vecmon: bad image list\n")
 
 
-def test_an_image_without_an_end() -> None:
+def test_endless_image_is_refused() -> None:
     assert run_program("/dev/stdin", "a=/dev/zero", script=LOADS) == (4, b"", b"vecmon: bad image list\n")
 
 
@@ -62,18 +62,18 @@ def test_an_image_without_an_end() -> None:
         (MOST_SCRIPT + 1, b"1 enter\n ", b"1 entered\n"),
     ],
 )
-def test_scripts_of_newlines_and_a_text(tmp_path: pathlib.Path, length: int, text: bytes, output: bytes) -> None:
+def test_script_length_limit_is_enforced(tmp_path: pathlib.Path, length: int, text: bytes, output: bytes) -> None:
     script = tmp_path / "script"
     script.write_bytes(b"\n" * (length - len(text)) + text)
     told = (0, output, b"") if length == MOST_SCRIPT else (3, output, b"vecmon: script too long\n")
     assert run_program(str(script)) == told
 
 
-def test_a_script_without_an_end() -> None:
+def test_endless_script_is_refused() -> None:
     assert run_program("/dev/zero") == (3, b"", b"vecmon: script too long\n")
 
 
-def test_an_argument_that_is_no_text() -> None:
+def test_argument_outside_utf8_is_refused() -> None:
     message = b"error: invalid UTF-8 was detected in one or more arguments\n"
     assert run_program("missing", b"\xff") == (2, b"", message)
 
@@ -86,7 +86,7 @@ def start(stdin: int) -> tuple[subprocess.Popen[bytes], threading.Timer]:
     return running, timer
 
 
-def test_nothing_is_read_after_the_end() -> None:
+def test_reading_stops_after_end() -> None:
     """A terminal gives one end of file and then waits for more, so a second read never ends."""
     terminal, end = pty.openpty()
     running, timer = start(end)
@@ -98,7 +98,7 @@ def test_nothing_is_read_after_the_end() -> None:
     assert (running.returncode, output) == (0, b"1 entered\n")
 
 
-def test_each_line_is_answered_before_more_is_read() -> None:
+def test_line_is_answered_before_more_is_read() -> None:
     running, timer = start(subprocess.PIPE)
     assert running.stdin and running.stdout
     lines = [(b"1 enter\n", b"1 entered\n"), (b"2 enter\n1 le", b"2 entered\n"), (b"ave\n", b"1 left\n")]

@@ -65,7 +65,7 @@ def test_vector_registers_and_control_registers(tmp_path: pathlib.Path) -> None:
     assert counts.words[0x1000, 0x0205D427] == (1, 3, 3, 0, 13)
 
 
-def test_vstart_is_where_a_body_begins(tmp_path: pathlib.Path) -> None:
+def test_body_starts_at_vstart(tmp_path: pathlib.Path) -> None:
     (tmp_path / "code").write_bytes(code(0x0205D427))
     (tmp_path / "page").write_bytes(bytes(32))
     (tmp_path / "registers").write_text("pc 1000\nx11 2000\nvl 5\nvtype 0\nvstart 2\n", "ascii")
@@ -74,7 +74,7 @@ def test_vstart_is_where_a_body_begins(tmp_path: pathlib.Path) -> None:
     assert counts.words[0x1000, 0x0205D427] == (1, 3, 3, 0, 27)
 
 
-def test_memory_keeps_pages_that_are_there(tmp_path: pathlib.Path) -> None:
+def test_memory_file_preserves_mapped_pages(tmp_path: pathlib.Path) -> None:
     """Bytes that cross a page's end: the page that is there keeps its permissions, and gets the bytes all the same."""
     (tmp_path / "code").write_bytes(code(*WRITE_AND_EXIT))
     (tmp_path / "read").write_bytes(b"." * 4096)
@@ -91,7 +91,7 @@ def test_memory_keeps_pages_that_are_there(tmp_path: pathlib.Path) -> None:
     assert read_counts(record(tmp_path, *words).counts).instructions == 1
 
 
-def test_without_an_image_the_machine_is_empty(tmp_path: pathlib.Path) -> None:
+def test_machine_is_empty_without_image(tmp_path: pathlib.Path) -> None:
     ran = record(tmp_path)
     assert (ran.status, ran.counts) == (0, "fault cause=1 pc=0000000000000000 value=0000000000000000 0 0\n")
 

@@ -30,7 +30,7 @@ def lay(folder: pathlib.Path, words: tuple[int, ...], registers: str) -> list[st
     return ["--memory", "1000:rx:code", "--memory", "2000:rw:pages", "--registers", "registers"]
 
 
-def test_places_that_overlap_across_a_page(tmp_path: pathlib.Path) -> None:
+def test_overlapping_places_across_page_are_all_reported(tmp_path: pathlib.Path) -> None:
     """sw x10, 0(x11) twice, the second time without a change; sb x0, 1(x11); and an ebreak."""
     program = lay(tmp_path, (0x00A5A023, 0x00A5A023, 0x000580A3, 0x00100073), "x10 44332211\nx11 2ffe\n")
     ran, lines = watched(tmp_path, ["2ffc:8", "2fff:2", "2000:4", "3000:1"], *program)
@@ -47,7 +47,7 @@ def test_places_that_overlap_across_a_page(tmp_path: pathlib.Path) -> None:
     assert ran.counts.splitlines()[-1] == lines[-1]
 
 
-def test_a_masked_vector_store(tmp_path: pathlib.Path) -> None:
+def test_store_of_masked_sum_changes_watched_places(tmp_path: pathlib.Path) -> None:
     """Elements 0 and 2 of v2 are the sums of v4 and v6, and its others are what they were; all five are stored. x10 is 5 at the exit."""
     words = [number.to_bytes(4, "little").hex() for number in range(1, 9)]
     registers = f"x11 2000\nv2 {'ee' * 32}\nv4 {''.join(words)}\nv6 {''.join(words)}\n"
@@ -68,7 +68,9 @@ def test_a_masked_vector_store(tmp_path: pathlib.Path) -> None:
         (0x2205E227, "3ff4", "0000000001010101" + "1111111100000000", "2 3"),  # vsseg2e32.v v4, (x11): segment 1 faults
     ],
 )
-def test_a_store_that_faults(tmp_path: pathlib.Path, store: int, address: str, stored: str, numbers: str) -> None:
+def test_faulting_store_reports_elements_before_fault(
+    tmp_path: pathlib.Path, store: int, address: str, stored: str, numbers: str
+) -> None:
     """Its changes have a line, by the number after the last instruction that ran and with a tick for each index up to the fault.
 
     No record has the store itself: the last line, the same in all three, is that of the vsetivli before it. Of the segment that
@@ -85,7 +87,7 @@ def test_a_store_that_faults(tmp_path: pathlib.Path, store: int, address: str, s
     assert (len(log), log[-1], len(counts), counts[-1]) == (2, end, 2, end)
 
 
-def test_changes_without_counts(tmp_path: pathlib.Path) -> None:
+def test_changes_need_no_counts(tmp_path: pathlib.Path) -> None:
     """The last line has the same numbers, also where the last instruction isn't counted."""
     program = lay(tmp_path, (0x00A5A023, 0x00100073), "x10 1\nx11 2000\n")
     with_counts = watched(tmp_path, ["2000:1"], *program)[1]
@@ -102,7 +104,7 @@ def test_calls_change_nothing(tmp_path: pathlib.Path) -> None:
 
 
 @pytest.mark.parametrize("image", IMAGES, ids=[path.name for path in IMAGES])
-def test_changes_are_those_of_the_monitors_steps(tmp_path: pathlib.Path, image: pathlib.Path) -> None:
+def test_changes_equal_monitor_steps(tmp_path: pathlib.Path, image: pathlib.Path) -> None:
     ticks, expected = stepped_changes(image, STACK, MOST)
     ran, lines = watched(tmp_path, [f"{place.address:x}:{place.length}" for place in STACK], "--ticks", ticks, image)
     assert ran.status == 0
@@ -132,7 +134,7 @@ def test_refusals(tmp_path: pathlib.Path, words: list[str], status: int, message
     assert ran.stdout == b"" and not (tmp_path / "changes").exists() and not (tmp_path / "counts").exists()
 
 
-def test_changes_that_can_not_be_written(tmp_path: pathlib.Path) -> None:
+def test_unwritable_changes_file_is_refused(tmp_path: pathlib.Path) -> None:
     program = lay(tmp_path, (0x00A5A023, 0x00100073), "x10 1\nx11 2000\n")
     ran = record(tmp_path, "--watch", "2000:1", "--changes", "/dev/full", *program)
     assert (ran.status, ran.stderr) == (5, "vecmon-record: cannot write changes\n")
@@ -141,7 +143,7 @@ def test_changes_that_can_not_be_written(tmp_path: pathlib.Path) -> None:
 
 
 @pytest.mark.parametrize("asked, written, told", [(0x100, 256, 0), (0x101, 256, 1), (0x2000, 256, 1), (0, 0, 0)])
-def test_calls_that_wrote_less(tmp_path: pathlib.Path, asked: int, written: int, told: int) -> None:
+def test_partial_write_call_is_reported(tmp_path: pathlib.Path, asked: int, written: int, told: int) -> None:
     """A call writes at most 256 bytes. A call that fails writes nothing, and isn't listed."""
     program = lay(tmp_path, WRITE_AND_EXIT, f"x10 1\nx11 2000\nx12 {asked:x}\n")
     ran = record(tmp_path, *program)

@@ -37,7 +37,7 @@ def lay(folder: pathlib.Path, words: tuple[int, ...]) -> list[str]:
 
 
 @pytest.mark.parametrize("name, words", [("scalar_loop", SCALAR_LOOP), ("masked_vectors", MASKED_VECTORS)])
-def test_counts_that_were_worked_out_by_hand(tmp_path: pathlib.Path, name: str, words: tuple[int, ...]) -> None:
+def test_counts_equal_hand_worked_counts(tmp_path: pathlib.Path, name: str, words: tuple[int, ...]) -> None:
     ran = record(tmp_path, *lay(tmp_path, words))
     assert (ran.status, ran.stdout, ran.stderr) == (0, b"", "")
     assert read_counts(ran.counts) == read_counts((HERE / "data" / name).read_text("ascii"))
@@ -45,7 +45,7 @@ def test_counts_that_were_worked_out_by_hand(tmp_path: pathlib.Path, name: str, 
 
 @pytest.mark.parametrize("policy", ["keep", "ones"])
 @pytest.mark.parametrize("image", IMAGES, ids=[path.name for path in IMAGES])
-def test_counts_are_those_of_the_monitors_steps(tmp_path: pathlib.Path, image: pathlib.Path, policy: str) -> None:
+def test_counts_equal_monitor_steps(tmp_path: pathlib.Path, image: pathlib.Path, policy: str) -> None:
     counts, output = stepped(image, policy, MOST)
     limit = ["--ticks", counts.ticks] if counts.end.startswith("running") else []
     ran = record(tmp_path, "--policy", policy, *limit, image)
@@ -55,7 +55,7 @@ def test_counts_are_those_of_the_monitors_steps(tmp_path: pathlib.Path, image: p
 
 @pytest.mark.skipif(shutil.which(QEMU[0]) is None, reason="there is no QEMU")
 @pytest.mark.parametrize("image", ON_QEMU, ids=[path.name for path in ON_QEMU])
-def test_addresses_are_those_that_qemu_carries_out(tmp_path: pathlib.Path, image: pathlib.Path) -> None:
+def test_addresses_equal_those_qemu_executes(tmp_path: pathlib.Path, image: pathlib.Path) -> None:
     """How often each address comes, as QEMU logs it one instruction after another, the one that faults among them."""
     shutil.copyfile(image, tmp_path / "image")
     (tmp_path / "image").chmod(0o755)
@@ -84,7 +84,7 @@ def test_the_first_ticks_of_a_run(tmp_path: pathlib.Path) -> None:
         assert counts.words.items() <= stored.words.items()
 
 
-def test_a_word_that_was_written_anew_is_another_row(tmp_path: pathlib.Path) -> None:
+def test_rewritten_word_has_its_own_row(tmp_path: pathlib.Path) -> None:
     """A program that runs once as it was, and once after it wrote over its first word."""
     store = (0x00A62023, 0xFE0596E3)  # sw x10, 0(x12); bnez x11, to the first word
     words = (0x00150513, 0x00050013, *(0x00000013,) * 2, *store)

@@ -59,7 +59,7 @@ CASES = [
 
 
 @pytest.mark.parametrize("text, word, vl, vstart, active, masked, tail", CASES)
-def test_elements_of_an_instruction(
+def test_recorder_counts_elements_of_instruction(
     tmp_path: pathlib.Path, text: str, word: int, vl: int, vstart: int, active: int, masked: int, tail: int
 ) -> None:
     (tmp_path / "code").write_bytes(word.to_bytes(4, "little") + EBREAK.to_bytes(4, "little"))

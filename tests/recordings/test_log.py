@@ -53,9 +53,7 @@ def missing(line: LogLine, carried: Carried) -> list[int]:
 
 @pytest.mark.parametrize("policy", ["keep", "ones"])
 @pytest.mark.parametrize("image", IMAGES, ids=[path.name for path in IMAGES])
-def test_lines_lead_to_the_registers_of_the_monitors_steps(
-    tmp_path: pathlib.Path, image: pathlib.Path, policy: str
-) -> None:
+def test_log_lines_give_registers_of_monitor_steps(tmp_path: pathlib.Path, image: pathlib.Path, policy: str) -> None:
     ran = record_log(tmp_path, "--policy", policy, "--to", MOST, image)
     lines, end = read_log(ran.log)
     assert (ran.status, ran.stderr) == (0, "") and end
@@ -64,13 +62,13 @@ def test_lines_lead_to_the_registers_of_the_monitors_steps(
 
 
 @pytest.mark.parametrize("name, words", [("scalar_loop", SCALAR_LOOP), ("masked_vectors", MASKED_VECTORS)])
-def test_lines_that_were_worked_out_by_hand(tmp_path: pathlib.Path, name: str, words: tuple[int, ...]) -> None:
+def test_log_lines_equal_hand_worked_lines(tmp_path: pathlib.Path, name: str, words: tuple[int, ...]) -> None:
     ran = record_log(tmp_path, "--ticks", 1000, *lay(tmp_path, words))
     assert (ran.status, ran.stdout, ran.stderr) == (0, b"", "")
     assert ran.log == (HERE / "data" / f"{name}.log").read_text("ascii")
 
 
-def test_a_window_has_the_lines_of_its_numbers(tmp_path: pathlib.Path) -> None:
+def test_window_has_lines_of_its_instruction_numbers(tmp_path: pathlib.Path) -> None:
     words = lay(tmp_path, SCALAR_LOOP)
     *lines, end = (HERE / "data/scalar_loop.log").read_text("ascii").splitlines()
     for first, last in [(1, 1), (2, 5), (13, 13), (13, 2**63), (14, 20)]:
@@ -78,7 +76,7 @@ def test_a_window_has_the_lines_of_its_numbers(tmp_path: pathlib.Path) -> None:
         assert ran.log.splitlines() == [*lines[first - 1 : last], end]
 
 
-def test_lines_beside_counts_and_changes(tmp_path: pathlib.Path) -> None:
+def test_log_counts_and_changes_together(tmp_path: pathlib.Path) -> None:
     """All three records of a run, each as it is alone."""
     words, log = lay(tmp_path, MASKED_VECTORS), (HERE / "data/masked_vectors.log").read_text("ascii")
     watch = ["--watch", "2000:4", "--changes", "changes"]
@@ -88,7 +86,7 @@ def test_lines_beside_counts_and_changes(tmp_path: pathlib.Path) -> None:
     assert (tmp_path / "changes").read_text("ascii").splitlines() == log.splitlines()[-1:]
 
 
-def test_an_instruction_that_faults_has_no_line(tmp_path: pathlib.Path) -> None:
+def test_faulting_instruction_has_no_log_line(tmp_path: pathlib.Path) -> None:
     """li x5, 3, and then a load from an address without memory."""
     ran = record_log(tmp_path, "--to", 9, *lay(tmp_path, (0x00300293, 0x0002B303)))
     first, end = ran.log.splitlines()
@@ -109,13 +107,13 @@ def test_an_instruction_that_faults_has_no_line(tmp_path: pathlib.Path) -> None:
         (["--to", "2", "--ticks", "5"], "--from and --to need --log"),
     ],
 )
-def test_words_that_are_refused(tmp_path: pathlib.Path, words: list[str], message: str) -> None:
+def test_bad_log_options_are_refused(tmp_path: pathlib.Path, words: list[str], message: str) -> None:
     ran = record(tmp_path, *words, counts=False)
     assert (ran.status, ran.stdout, ran.stderr) == (2, b"", f"vecmon-record: {message}\n")
     assert not (tmp_path / "log").exists()
 
 
-def test_a_log_to_a_device_needs_no_end(tmp_path: pathlib.Path) -> None:
+def test_log_to_device_needs_no_end(tmp_path: pathlib.Path) -> None:
     words = lay(tmp_path, SCALAR_LOOP)
     ran = record(tmp_path, "--log", "/dev/stdout", *words, counts=False)
     assert ran.stdout.decode() == (HERE / "data/scalar_loop.log").read_text("ascii")

@@ -36,7 +36,7 @@ def test_there_are_examples() -> None:
     assert len(SESSIONS) == 4
 
 
-def test_words_of_the_page_are_those_of_help() -> None:
+def test_page_has_options_of_help() -> None:
     ran = subprocess.run([built_recorder(), "--help"], capture_output=True, check=True)
     words = re.compile(r"--[a-z]+")
     synopsis = PAGE.split("```text\n", 1)[1].split("```", 1)[0]

@@ -35,14 +35,14 @@ def inputs(folder: pathlib.Path) -> dict[str, bytes]:
     return {name: (folder / name).read_bytes() for name in INPUTS}
 
 
-def test_outputs_and_inputs_that_differ_are_taken(tmp_path: pathlib.Path) -> None:
+def test_distinct_outputs_and_inputs_are_accepted(tmp_path: pathlib.Path) -> None:
     assert run(tmp_path) == (0, "") and inputs(tmp_path) == INPUTS
     assert all((tmp_path / path).stat().st_size for path in OUTPUTS.values())
 
 
 @pytest.mark.parametrize("first, second", PAIRS)
 @pytest.mark.parametrize("path", ["file", "/dev/null", "/dev/stdout"])
-def test_two_outputs_at_one_path(tmp_path: pathlib.Path, first: str, second: str, path: str) -> None:
+def test_two_outputs_at_one_path_are_refused(tmp_path: pathlib.Path, first: str, second: str, path: str) -> None:
     """The file isn't made."""
     assert run(tmp_path, **{first[2:]: path, second[2:]: path}) == (2, SAME.format(first, second))
     assert {file.name for file in tmp_path.iterdir()} == {*INPUTS}
@@ -50,7 +50,7 @@ def test_two_outputs_at_one_path(tmp_path: pathlib.Path, first: str, second: str
 
 @pytest.mark.parametrize("link", [os.link, os.symlink], ids=["hard link", "symbolic link"])
 @pytest.mark.parametrize("first, second", PAIRS)
-def test_two_outputs_that_are_one_file(
+def test_two_outputs_in_one_file_are_refused(
     tmp_path: pathlib.Path, first: str, second: str, link: Callable[[pathlib.Path, pathlib.Path], None]
 ) -> None:
     """The file keeps its bytes."""
@@ -87,6 +87,6 @@ def test_inputs_may_be_one_file(tmp_path: pathlib.Path) -> None:
     assert ran.counts == "fault cause=2 pc=0000000000000000 value=0000000000000000 0 0\n"
 
 
-def test_a_mistake_in_a_word_is_reported_first(tmp_path: pathlib.Path) -> None:
+def test_usage_error_is_reported_before_path_conflict(tmp_path: pathlib.Path) -> None:
     ran = record(tmp_path, "--counts", "x", "--log", "x", "--ticks", "0", counts=False)
     assert (ran.status, ran.stderr.partition(" needs")[0]) == (2, "vecmon-record: --ticks")

@@ -39,7 +39,7 @@ def test_words(tmp_path: pathlib.Path, words: list[str], message: str) -> None:
 
 
 @pytest.mark.parametrize("words", [["--trace", "file"], ["--ticks"], ["one", "two"], ["--ticks", "1", "--ticks", "2"]])
-def test_words_that_clap_refuses(tmp_path: pathlib.Path, words: list[str]) -> None:
+def test_usage_errors_of_clap_are_refused(tmp_path: pathlib.Path, words: list[str]) -> None:
     status, message = refused(tmp_path, *words)
     assert status == 2 and message.startswith("error: ") and message.endswith("For more information, try '--help'.")
 
@@ -65,7 +65,7 @@ def test_images(tmp_path: pathlib.Path, data: bytes, message: str) -> None:
     assert refused(tmp_path, "image") == (4, message)
 
 
-def test_files_that_are_not_there(tmp_path: pathlib.Path) -> None:
+def test_missing_files_are_refused(tmp_path: pathlib.Path) -> None:
     assert refused(tmp_path, "image") == (4, "cannot read image")
     assert refused(tmp_path, "--memory", "0:r:file", GOOD) == (4, "cannot read file")
     assert refused(tmp_path, "--registers", ".", GOOD) == (4, "cannot read .")
@@ -119,7 +119,7 @@ def test_registers(tmp_path: pathlib.Path, text: str, message: str) -> None:
     assert refused(tmp_path, "--registers", "file") == (4, f"file: {message}")
 
 
-def test_counts_that_can_not_be_written(tmp_path: pathlib.Path) -> None:
+def test_unwritable_counts_file_is_refused(tmp_path: pathlib.Path) -> None:
     """A folder isn't written, and a device takes nothing; nothing runs without the file."""
     for path, output in (("/", b""), ("/dev/full", record(tmp_path, GOOD).stdout)):
         command = [str(built_recorder()), "--counts", path, str(GOOD)]
@@ -128,7 +128,7 @@ def test_counts_that_can_not_be_written(tmp_path: pathlib.Path) -> None:
         assert ran.stdout == output
 
 
-def test_output_that_can_not_be_written(tmp_path: pathlib.Path) -> None:
+def test_unwritable_output_is_refused(tmp_path: pathlib.Path) -> None:
     with open("/dev/full", "wb") as full:
         command = [str(built_recorder()), "--counts", "counts", str(GOOD)]
         ran = subprocess.run(command, cwd=tmp_path, stdout=full, stderr=subprocess.PIPE, check=False)

@@ -98,7 +98,7 @@ async def test_more_output_than_a_buffer_or_a_page_has(tmp_path: pathlib.Path) -
         assert b"".join(bytes.fromhex("".join(digits)) for digits in told) == 9_000 * b"1234567\n"
 
 
-async def test_a_program_is_seen_to_run(tmp_path: pathlib.Path, monkeypatch: pytest.MonkeyPatch) -> None:
+async def test_running_program_is_shown(tmp_path: pathlib.Path, monkeypatch: pytest.MonkeyPatch) -> None:
     monkeypatch.setattr(class_room, "WATCH_SECONDS", 0.05)
     async with served(tmp_path / "class") as room:
         tab, teacher = await room.sit("A1"), await room.sit("teacher")
@@ -145,7 +145,7 @@ async def test_a_breakpoint_is_never_missed(tmp_path: pathlib.Path, monkeypatch:
 
 
 @pytest.mark.parametrize("line", ["out ", "stop ", "go "])
-async def test_the_servers_own_lines_are_its_own(tmp_path: pathlib.Path, line: str) -> None:
+async def test_requests_with_server_lines_are_refused(tmp_path: pathlib.Path, line: str) -> None:
     async with served(tmp_path / "class") as room:
         tab = await room.sit("A1")
         assert "is the server's own line" in (await tab.ask("lines", do=["enter", line]))["error"]

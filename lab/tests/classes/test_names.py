@@ -65,7 +65,7 @@ def test_what_is_no_name(typed: str) -> None:
 
 
 @pytest.mark.asyncio
-async def test_who_is_told_names(tmp_path: pathlib.Path) -> None:
+async def test_names_reach_seat_and_teacher_only(tmp_path: pathlib.Path) -> None:
     """The seat and the teacher, the table and what is taken home; no machine, no other seat, no wall, no file's name."""
     folder = tmp_path / "class"
     async with served(folder, machines=2) as room:

@@ -241,11 +241,11 @@ def test_the_first_wrong_place_is_told(echo: Echo, change: tuple[str, str], reas
         (b"\0\0\0", "answer.s", "answer.s:1:1: \0 isn't an instruction, a directive or a label"),
     ],
 )
-def test_whatever_an_answer_has_is_a_row(echo: Echo, content: str | bytes, name: str, reason: str) -> None:
+def test_every_answer_has_a_row(echo: Echo, content: str | bytes, name: str, reason: str) -> None:
     assert echo(content, name) == reason
 
 
-def test_what_cannot_be_read_is_a_row(tmp_path: pathlib.Path) -> None:
+def test_unreadable_answer_has_a_row(tmp_path: pathlib.Path) -> None:
     done = run_grade("strlen", "--csv", tmp_path / "none", tmp_path, SUM, answer("typo.s"))
     header, *rows = csv.reader(done.stdout.splitlines())
     assert header[:4] == ["answer", "passed", "of", "short"] and header[-2:] == ["empty", "reason"]
@@ -396,7 +396,7 @@ def test_other_registers_hold_anything_where_an_exercise_says_so(program: pathli
     assert not {*registers_before(program, tmp_path)[0][12:]} & {*x}
 
 
-def test_what_is_no_file_is_not_read(tmp_path: pathlib.Path) -> None:
+def test_non_files_are_not_read(tmp_path: pathlib.Path) -> None:
     """A pipe would never end, and a link would show the first line of another file."""
     os.mkfifo(tmp_path / "pipe.s")
     (tmp_path / "link.s").symlink_to("/etc/passwd")

@@ -89,7 +89,7 @@ def test_listings_side_by_side(lab: Lab, clang: Compiler, tmp_path: pathlib.Path
         (["saxpy.c", "--against", "clang-1:O2"], "clang-1 is no compiler that is here"),
     ],
 )
-def test_against_what_isnt_there(lab: Lab, clang: Compiler, words: list[str], told: str) -> None:
+def test_unavailable_comparison_is_refused(lab: Lab, clang: Compiler, words: list[str], told: str) -> None:
     status, _, errors = lab("lesson", str(KERNELS / words[0]), *words[1:])
     assert status == 2 and told in errors
 
@@ -98,7 +98,7 @@ def test_against_is_for_c(lab: Lab) -> None:
     assert "is for a source in C" in lab("lesson", str(EXAMPLES / "strip_mined.s"), "--against", "O2")[2]
 
 
-def test_what_has_no_intrinsics_says_so() -> None:
+def test_compiler_titles_report_missing_intrinsics() -> None:
     assert Compiler("clang-19").title(0) == "clang-19 O2"
     assert Compiler("riscv64-linux-gnu-gcc-14").title(1) == "riscv64-linux-gnu-gcc-14 O0"
     assert Compiler("riscv64-linux-gnu-gcc").title(0).endswith("(scalar C alone: it has no intrinsics)")

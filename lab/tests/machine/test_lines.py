@@ -154,7 +154,7 @@ PLACE = "pc=0000000000010000"
         ("* run 1", ["* E01"]),
     ],
 )
-def test_what_can_be_no_answer(line: str, answer: list[str]) -> None:
+def test_impossible_answers_are_refused(line: str, answer: list[str]) -> None:
     for end in range(1, len(answer)):
         assert not is_whole(line, answer[:end])
     with pytest.raises(OutOfStep):
@@ -193,7 +193,7 @@ def test_what_can_be_no_answer(line: str, answer: list[str]) -> None:
         ["1 enter"],
     ],
 )
-def test_what_is_never_sent(session: Session, line: str) -> None:
+def test_forbidden_lines_are_never_sent(session: Session, line: str) -> None:
     for ask in (session.do, session.look):
         with pytest.raises(BadLine) as told:
             ask(line)
@@ -211,7 +211,7 @@ def test_the_longest_line(session: Session) -> None:
     "line",
     "1 regs;2 vcsr;3 vreg v0 8;4  dis 10000 1;5 peek 10000 1;6 state;7 breaks;8 trace 1;* list;* stats".split(";"),
 )
-def test_what_only_looks(session: Session, line: str) -> None:
+def test_read_only_lines_are_recognized(session: Session, line: str) -> None:
     assert session.look(line) == session.do(line)
     assert session.script == b""
 
@@ -219,7 +219,7 @@ def test_what_only_looks(session: Session, line: str) -> None:
 @pytest.mark.parametrize(
     "line", ["1 enter", "1 out", "1 step 1", "* slices 1", "* run 1", "1 list", "* regs", "1 ", "1 dance"]
 )
-def test_what_does_not_only_look(session: Session, line: str) -> None:
+def test_changing_lines_are_not_read_only(session: Session, line: str) -> None:
     assert not is_look(line)
     with pytest.raises(BadLine):
         session.look(line)

@@ -54,7 +54,7 @@ def test_the_order_of_places(monkeypatch: pytest.MonkeyPatch, tmp_path: pathlib.
         find_program()
 
 
-def test_what_is_built_here_is_looked_for() -> None:
+def test_build_folders_are_searched_for_program() -> None:
     assert places.BUILT == TOP / "crates" / "vecmon" / "out" / "vecmon"
     assert places.UNPROVED == TOP / "build" / "unproved"
     assert (TOP / "crates" / "vecmon" / "stdin").is_file() and (TOP / "tools" / "run").is_file()
@@ -180,7 +180,7 @@ def test_a_library_that_is_missing(program: pathlib.Path, module: str, words: li
     )
 
 
-def test_what_is_imported_before_a_command_is_named() -> None:
+def test_main_imports_no_command_modules() -> None:
     names = {"aiohttp", "prompt_toolkit", "elftools", "vecmon_lab.machine"}
     code = f"import sys, vecmon_lab.__main__; sys.exit(bool({names} & set(sys.modules)))"
     subprocess.run([sys.executable, "-c", code], cwd=TOP, check=True)

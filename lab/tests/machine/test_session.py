@@ -39,7 +39,7 @@ def stand_in(folder: pathlib.Path, commands: str) -> pathlib.Path:
     return file
 
 
-def test_what_was_done_makes_the_machine_anew(counting: Session, program: pathlib.Path) -> None:
+def test_replay_restores_the_machine(counting: Session, program: pathlib.Path) -> None:
     answers = [counting.do("1 step 9"), counting.do("1 nonsense"), counting.look("1 trace"), counting.do("1 state")]
     assert [answer[0].split()[1] for answer in answers] == ["stepped", "E03", "trace", "state"]
     assert counting.script.decode("ascii").splitlines() == [*COUNTING, "1 step 9", "1 nonsense"]
@@ -242,7 +242,7 @@ def test_a_recorded_script_in_bulk(program: pathlib.Path) -> None:
 
 
 @pytest.mark.parametrize("script", [b"1 enter", b"9 enter\n", b"1 \xff\n", b"\n", b"1 " + b"x" * 1023 + b"\n"])
-def test_what_no_session_has_recorded(session: Session, script: bytes) -> None:
+def test_unrecorded_scripts_are_refused(session: Session, script: bytes) -> None:
     with pytest.raises(BadLine):
         list(session.do_script(script))
 

@@ -139,7 +139,7 @@ def test_a_log_of_qemus(lab: Lab, tmp_path: pathlib.Path) -> None:
 
 
 @pytest.mark.usefixtures("qemu")
-def test_what_a_call_answers_is_the_logs(lab: Lab, program: pathlib.Path, tmp_path: pathlib.Path) -> None:
+def test_call_result_comes_from_log(lab: Lab, program: pathlib.Path, tmp_path: pathlib.Path) -> None:
     """The number of the process, which the machine doesn't print."""
     make_image(program, tmp_path / "image", "li a7, 172\necall\nmv a1, a0\nli a0, 0\nli a7, 93\necall\n")
     log = qemu_log(tmp_path / "image")
@@ -165,7 +165,7 @@ TAIL = "allowed: these elements are tail, and agnostic: each stays or becomes on
          9, "x12: 1 here, ffffffffffffffff in the log", 5, f"perhaps {TAIL.replace(':', ': some of', 1)}"),
     ],
 )  # fmt: skip
-def test_what_was_left_otherwise_before(
+def test_earlier_open_difference_is_the_cause(
     lab: Lab,
     program: pathlib.Path,
     tmp_path: pathlib.Path,

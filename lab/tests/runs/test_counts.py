@@ -120,7 +120,7 @@ def test_a_run_that_begins_where_a_guest_stands(session: Session) -> None:
     assert counts.lengths == {("e32,m1,ta,ma", 3): 1} and counts.stop and counts.stop.kind == "ebreak"
 
 
-def test_what_faults_at_once_has_no_place(program: pathlib.Path, tmp_path: pathlib.Path) -> None:
+def test_fault_at_first_instruction_has_no_place(program: pathlib.Path, tmp_path: pathlib.Path) -> None:
     make_image(program, tmp_path / "faults", "nop\n.word 0")
     counts = record(Beginning(tmp_path / "faults"))
     assert [(place.address, place.times) for place in counts.places] == [(0x10000, 1)]

@@ -20,7 +20,7 @@ def image_of(path: pathlib.Path, words: tuple[int, ...], data: int) -> pathlib.P
     return path
 
 
-def test_lines_that_were_worked_out_by_hand(lab: Lab, tmp_path: pathlib.Path) -> None:
+def test_log_lines_equal_hand_worked_lines(lab: Lab, tmp_path: pathlib.Path) -> None:
     log, image = tmp_path / "log", image_of(tmp_path / "image", SCALAR_LOOP, 0x2000)
     assert lab("run", "--log", log, "--ticks", 100, image)[0] == 133
     assert log.read_text() == (BY_HAND / "scalar_loop.log").read_text()

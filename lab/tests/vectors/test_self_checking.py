@@ -98,7 +98,7 @@ def test_a_planted_fault_is_found_at_its_case(lab: Lab, program: pathlib.Path, t
         assert status == number == int(output.split()[-1], 16)
 
 
-def test_what_an_environment_has_not_is_left_out(lab: Lab, tmp_path: pathlib.Path) -> None:
+def test_cases_unavailable_in_environment_are_left_out(lab: Lab, tmp_path: pathlib.Path) -> None:
     told = {}
     for environment in ("linux", "vecmon", "bare"):
         status, output, _ = lab("vectors", "vle8.v", "ecall", "ebreak", "--elf", tmp_path, "--environment", environment)

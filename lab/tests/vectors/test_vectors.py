@@ -224,7 +224,7 @@ def test_the_command_prints_a_line_for_each_case(program: pathlib.Path) -> None:
     assert [json.loads(line)["name"] for line in one.splitlines()] == ["vid.v"] * 3 + ["add"] * 3
 
 
-def test_whoever_reads_may_go(program: pathlib.Path) -> None:
+def test_reader_may_close_output_early(program: pathlib.Path) -> None:
     command = [sys.executable, "-m", "vecmon_lab", "vectors", "vadd.vv", "--cases", "200"]
     with subprocess.Popen(command, stdout=subprocess.PIPE, stderr=subprocess.PIPE) as process:
         assert process.stdout and process.stderr
