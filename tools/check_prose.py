@@ -1,17 +1,21 @@
 #!/usr/bin/python3
-"""Counts indirect forms and long sentences, and compares them with limits: `tools/check_prose.py [--list PATH]`, at the top of the
-repository.
+"""Counts indirect forms and long sentences, and compares them with limits: `tools/check_prose.py [--comments | --list PATH]`, at the top
+of the repository.
 
-A row for each group of pages in docs/book.toml, for messages and for comments has the words, the forms in a thousand words, the share of
-sentences above 30 words, and the page of 500 words or more with most forms. Messages are the strings of the lab, the tools and the crates,
-and the texts of exercises and lessons. The status is 1 if a figure is above its limit. With --list, each place below PATH is printed
-instead: a form with its line, or a long sentence. tools/prose_allowed.txt lists places where a form is right.
+A row for each group of pages in docs/book.toml, for messages, and for the comments of some folders has the words, the forms in a thousand
+words, the share of sentences above 30 words, and the page of 500 words or more with most forms. Messages are the strings of the lab, the
+tools and the crates, and the texts of exercises and lessons. Comments are those of Python with its docstrings, of scripts and styles of
+pages, of Rattle, of definitions and proofs, and of the texts of must-fail edits. The status is 1 if a figure is above its limit.
+
+With --comments, the rows of comments and the files with forms in their comments are printed instead, most forms first. With --list, each
+place below PATH is printed instead: a form with its line, or a long sentence. tools/prose_allowed.txt lists places where a form is right.
 """
 
 import re
 import sys
-from collections.abc import Iterator
+from collections.abc import Iterable
 from dataclasses import dataclass, field
+from functools import cache
 from pathlib import Path
 
 from book_html.navigation import read_groups
@@ -54,6 +58,19 @@ MESSAGES = (
     "tests/command_lines/data/*.page",
 )
 
+COMMENTS = {
+    "comments of lab": ("lab/vecmon_lab/**/*.*",),
+    "comments of lab tests": ("lab/tests/**/*.py", "lab/support/*.py", "lab/tools/*.py"),
+    "comments of tests": ("tests/**/*.py",),
+    "comments of tools": ("tools/*", "tools/book_html/*.py"),
+    "comments of crates": (
+        "crates/*/src/**/*.rt",
+        "crates/*/specs/**/*.antt",
+        "crates/*/proofs/**/*.antt",
+        "crates/*/must-fail/*.edit",
+    ),
+}
+
 
 @dataclass(frozen=True)
 class Limits:
@@ -70,7 +87,11 @@ LIMITS = {
     "teachers": Limits(1, 3, 2),
     "engineers": Limits(1, 3, 2),
     "messages": Limits(1, 3, 0.5),
-    "comments": Limits(17, 30, 1),
+    "comments of lab": Limits(1, 3, 2.5),
+    "comments of lab tests": Limits(1, 3, 1),
+    "comments of tests": Limits(1, 3, 5.5),
+    "comments of tools": Limits(1, 3, 4.5),
+    "comments of crates": Limits(15.5, 16, 0.5),
 }
 
 
@@ -128,7 +149,7 @@ def sentences_of(block: Block) -> list[str]:
 
 
 def words_in(text: str) -> int:
-    """Return the number of words of a text; code counts as one word."""
+    """Return the number of words in a text; code counts as one word."""
     return sum(any(character.isalnum() or character == "`" for character in word) for word in text.split())
 
 
@@ -150,24 +171,31 @@ def count_block(path: str, block: Block, allowed: Allowed) -> Count:
 def counts_of(top: Path, path: str, allowed: Allowed) -> tuple[Count, Count]:
     """Return the figures of a file's texts and of its comments."""
     texts, comments = Count(), Count()
-    for block in READERS[Path(path).suffix]((top / path).read_text("utf-8", errors="replace")):
+    for block in READERS[suffix_of(top / path)]((top / path).read_text("utf-8", errors="replace")):
         (comments if block.comment else texts).add(count_block(path, block, allowed))
     return texts, comments
 
 
-def message_paths(top: Path) -> Iterator[str]:
-    """Return the files with messages and comments, each once, in order."""
-    found = {str(it.relative_to(top)) for pattern in MESSAGES for it in top.glob(pattern) if it.suffix in READERS}
-    yield from sorted(found)
+def suffix_of(path: Path) -> str:
+    """Return the suffix by which a file is read: `.py` for a program in Python without one."""
+    if path.suffix or not path.is_file():
+        return path.suffix
+    with path.open("rb") as file:
+        return ".py" if re.match(rb"#!.*python", file.readline()) else ""
+
+
+def paths_of(top: Path, patterns: Iterable[str]) -> list[str]:
+    """Return the files of these patterns that can be read, each once, in order."""
+    found = {it for pattern in patterns for it in top.glob(pattern) if it.is_file() and suffix_of(it) in READERS}
+    return sorted(str(it.relative_to(top)) for it in found)
 
 
 def count_all(top: Path, allowed: Allowed) -> dict[str, dict[str, Count]]:
-    """Return the figures of each file, by the names of the groups of pages, `messages` and `comments`."""
-    rows = {group.name: {page: counts_of(top, page, allowed)[0] for page in group.pages} for group in read_groups(top)}
-    rows["messages"], rows["comments"] = {}, {}
-    for path in message_paths(top):
-        rows["messages"][path], rows["comments"][path] = counts_of(top, path, allowed)
-    return rows
+    """Return the figures of each file, by the names of the groups of pages, `messages`, and the groups of comments."""
+    read = cache(lambda path: counts_of(top, path, allowed))
+    rows = {group.name: {page: read(page)[0] for page in group.pages} for group in read_groups(top)}
+    rows["messages"] = {path: read(path)[0] for path in paths_of(top, MESSAGES)}
+    return rows | {name: {path: read(path)[1] for path in paths_of(top, it)} for name, it in COMMENTS.items()}
 
 
 def report(name: str, files: dict[str, Count]) -> tuple[str, list[str]]:
@@ -178,7 +206,7 @@ def report(name: str, files: dict[str, Count]) -> tuple[str, list[str]]:
     pages = {path: count.in_a_thousand for path, count in files.items() if count.words >= SMALL}
     worst = max(pages, key=lambda path: pages[path], default="")
     most = pages.get(worst, 0.0)
-    row = f"{name:9}  {whole.words:7} words  {whole.in_a_thousand:5.1f} in 1000  {whole.long_percent:5.1f} % long  most: {most:.1f} {worst}"
+    row = f"{name:21}  {whole.words:7} words  {whole.in_a_thousand:5.1f} in 1000  {whole.long_percent:5.1f} % long  most: {most:.1f} {worst}"
     limits, faults = LIMITS[name], list[str]()
     if whole.in_a_thousand > limits.forms:
         faults.append(f"{name}: {whole.in_a_thousand:.2f} forms in 1000 words, at most {limits.forms}")
@@ -191,6 +219,14 @@ def report(name: str, files: dict[str, Count]) -> tuple[str, list[str]]:
     return row, faults
 
 
+def comments_report(rows: dict[str, dict[str, Count]]) -> str:
+    """Return the row of each group of comments, and below them each file with forms in its comments, most forms first."""
+    files = [(count, path) for name in COMMENTS for path, count in rows[name].items() if count.forms]
+    files.sort(key=lambda it: len(it[0].forms), reverse=True)
+    lines = [f"{len(count.forms):5} forms  {count.in_a_thousand:5.1f} in 1000  {path}" for count, path in files]
+    return "\n".join([report(name, rows[name])[0] for name in COMMENTS] + lines)
+
+
 def main(arguments: list[str]) -> int:
     """Prints the figures, or the places below a path; returns the exit status."""
     top = Path()
@@ -200,8 +236,11 @@ def main(arguments: list[str]) -> int:
         counts = [count for files in rows.values() for path, count in files.items() if path.startswith(arguments[1])]
         print("\n".join(place for count in counts for place in count.forms + count.long))
         return 0
+    if arguments == ["--comments"]:
+        print(comments_report(rows))
+        return 0
     if arguments:
-        print("tools/check_prose.py: usage: tools/check_prose.py [--list PATH]", file=sys.stderr)
+        print("tools/check_prose.py: usage: tools/check_prose.py [--comments | --list PATH]", file=sys.stderr)
         return 2
     reports = [report(name, files) for name, files in rows.items()]
     faults = [fault for _, found in reports for fault in found] + allowed.unused()

@@ -160,6 +160,7 @@ READERS: dict[str, Callable[[str], Iterator[Block]]] = {
     ".css": lambda text: c_blocks(text, True),
     ".rt": lambda text: c_blocks(text, False),
     ".antt": definition_blocks,
+    ".edit": lambda text: c_blocks(text, False),
     ".html": html_blocks,
     ".toml": toml_blocks,
     ".txt": table_blocks,

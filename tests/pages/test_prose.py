@@ -69,6 +69,7 @@ def test_a_page_is_read_without_its_code() -> None:
             ["a note", "more notes"],
         ),
         (".rt", '/// A note.\nfn f<\'a>() { write(b"no such", \'x\', "it") }', ["no such"], ["A note."]),
+        (".edit", "file: src/a.rt\nold: f(x)\nnew: g(x) // a note\n", [], ["a note"]),
         (".antt", "-- a note\nname : Type -- no note\n", [], ["a note"]),
         (".html", '<p title="a text">some text<script>let it = 1</script>', ["a text", "some text"], []),
         (".toml", '# a note\ntitle = "A title"\ntext = """\nsome text\n"""\n', ["A title", "some text"], ["a note"]),
@@ -94,5 +95,22 @@ def test_a_figure_above_its_limit_is_a_fault(monkeypatch: pytest.MonkeyPatch) ->
 
 def test_each_page_is_in_a_group() -> None:
     top = Path(__file__).resolve().parents[2]
-    assert {group.name for group in read_groups(top)} | {"messages", "comments"} == check_prose.LIMITS.keys()
-    assert "lab/vecmon_lab/__main__.py" in list(check_prose.message_paths(top))
+    groups = {group.name for group in read_groups(top)}
+    assert groups | {"messages", *check_prose.COMMENTS} == check_prose.LIMITS.keys()
+    assert "lab/vecmon_lab/__main__.py" in check_prose.paths_of(top, check_prose.MESSAGES)
+
+
+def test_comments_of_all_folders_are_read() -> None:
+    top = Path(__file__).resolve().parents[2]
+    found = {name: check_prose.paths_of(top, patterns) for name, patterns in check_prose.COMMENTS.items()}
+    assert {"tools/pages", "tools/check_prose.py"} <= set(found["comments of tools"])
+    assert "tools/test" not in found["comments of tools"] and "tests/program.py" in found["comments of tests"]
+    assert {Path(it).suffix for it in found["comments of crates"]} == {".rt", ".antt", ".edit"}
+
+
+def test_comments_report_lists_files_with_most_forms_first() -> None:
+    rows = {name: dict[str, check_prose.Count]() for name in check_prose.COMMENTS}
+    rows["comments of tests"] = {"a": check_prose.Count(1000, 1, ["it"]), "b": check_prose.Count(100, 1, ["it"] * 2)}
+    lines = check_prose.comments_report(rows).split("\n")
+    assert len(lines) == len(rows) + 2
+    assert [line.split() for line in lines[-2:]] == ["2 forms 20.0 in 1000 b".split(), "1 forms 1.0 in 1000 a".split()]
