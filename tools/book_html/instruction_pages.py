@@ -113,7 +113,7 @@ def picture(row: Row) -> str:
         bit -= bits
     title = re.sub(r"[<>&]", "", f"{row.name}: {' '.join(f'{name}' for name, _ in encoding_fields(row))}")
     return (
-        f'<svg class="encoding" viewBox="0 0 {32 * BOX} 58" width="{32 * BOX}" role="img" aria-label="{title}">'
+        f'<div><svg class="encoding" viewBox="0 0 {32 * BOX} 58" width="{32 * BOX}" role="img" aria-label="{title}">'
         + "".join(boxes)
-        + "</svg>"
+        + "</svg></div>"
     )
