@@ -14,7 +14,7 @@ program = crates/vecmon/out/vecmon
 recorder = crates/vecmon_record/out/vecmon_record
 
 lab_files = lab/vecmon_lab/py.typed $(filter-out %.pyc, $(wildcard lab/vecmon_lab/*.py lab/vecmon_lab/*.txt lab/vecmon_lab/*/*.* \
-    lab/vecmon_lab/compilers/runtime/* lab/vecmon_lab/exercises/given/*/*.* lab/vecmon_lab/exercises/given/*/wrong/* \
+    lab/vecmon_lab/compilers/runtime/* lab/vecmon_lab/tables/meanings/* lab/vecmon_lab/exercises/given/*/*.* lab/vecmon_lab/exercises/given/*/wrong/* \
     lab/vecmon_lab/lessons/tours/* lab/examples/*.* lab/examples/*/*.*)) \
     $(filter-out %/good %/short, $(wildcard tests/command_lines/data/images/*))
 documents = README.md CHANGELOG.md CONTRIBUTING.md SECURITY.md CITATION.cff LICENSE-MIT LICENSE-APACHE crates.txt crates/monitor_script/src/script.rt $(wildcard docs/*.md docs/*.csv docs/pictures/*)
