@@ -43,6 +43,7 @@ class Clone:
         self.write("rattle/rt", "#!/bin/sh\necho kit logic 0123\n")
         self.write("lab/setup", SET_UP)
         self.write("tools/unproved_build.py", BUILD.replace("PROGRAM", str(program)))
+        self.write("tools/linked_kit.py", "")
         for name in ("run", "source_digest"):
             shutil.copy(TOP / "tools" / name, top / "tools" / name)
         self.write("HANDLES", "Handles allowed: none.\n")
@@ -160,6 +161,7 @@ def test_the_sources_choose_the_program(clone: Clone) -> None:
         ("crates.txt", "low: hex\nvecmon: low\nvecmon_record: low\n"),
         ("crates/vecmon/proofs/new.antt", "new\n"),
         ("tools/unproved_build.py", "pass\n"),
+        ("tools/linked_kit.py", "pass\n"),
     ],
 )
 def test_the_digest_changes(clone: Clone, name: str, text: str) -> None:
