@@ -11,9 +11,9 @@ from support.places import DOCS
 from vecmon_lab.assembler.commands import COMMANDS, MEANINGS, help_on, refusal_in_words
 from vecmon_lab.machine.answers import Refused, read
 from vecmon_lab.machine.session import Session
+from vecmon_lab.page.reference import OF_THE_CONSOLE
 from vecmon_lab.tables.table import read_table
 
-OWN = {"run", "until", "back", "changes", "list", "source", "help", "quit"}  # commands of the console
 PAGES = {
     "COMMANDS.md": [*dict.fromkeys(row[0] for row in read_table("commands"))][:-1] + ["Refusals"],
     "DEBUGGING.md": ["Commands of the console"],
@@ -42,11 +42,11 @@ def test_the_machine_takes_what_is_named(session: Session, program: pathlib.Path
     told = subprocess.run([program, "--help"], stdout=subprocess.PIPE, check=True).stdout.decode("ascii")
     named = set(re.findall("[a-z]+", told))
     session.do("1 enter")
-    for name in set(COMMANDS) - OWN:
+    for name in set(COMMANDS) - OF_THE_CONSOLE:
         line = name if name[0] == "*" else f"1 {name}"
         assert session.do(line)[0][2:5] != "E03", name
         assert name.removeprefix("* ") in named
-    for name in OWN:
+    for name in OF_THE_CONSOLE:
         assert session.do(f"1 {name}") == ["1 E03"]
 
 

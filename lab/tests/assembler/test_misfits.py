@@ -7,8 +7,8 @@ import pytest
 from vecmon_lab.assembler.commands import COMMANDS
 from vecmon_lab.assembler.misfits import misfit
 from vecmon_lab.machine.session import Session
+from vecmon_lab.page.reference import OF_THE_CONSOLE
 
-OWN = ("run", "until", "back", "changes", "list", "source", "help", "quit")  # commands of the console
 NUMBERS = "0 1 2 8 9 10 16 17 32 33 64 255 256 257 999 1000 1001 01 -1 1.5 0x8 99999999999".split()
 ADDRESSES = "0 4 10000 10001 1000c 1000C 1000d 20000 fffffffff000 1000000000000 0x10000 0X4 -4 nosuch main+4".split()
 ADDRESSES += ["0" * 16, "0" * 17, "f" * 16, "f" * 17, "0" * 13 + "100"]
@@ -23,7 +23,7 @@ def test_what_is_told_is_what_the_machine_refuses(session: Session) -> None:
     words = [*NUMBERS, *ADDRESSES, *REGISTERS, *OTHERS]
     lines = dict[str, str]()
     for name in [*COMMANDS] * 150:
-        if name not in OWN:
+        if name not in OF_THE_CONSOLE:
             command = name if name[0] == "*" else f"1 {name}"
             count = len(COMMANDS[name].form.removeprefix("* ").split()) - 1 + draws.choice((0, 0, 0, 0, -1, 1))
             lines[" ".join([command, *draws.choices(words, k=max(0, count))])] = name
