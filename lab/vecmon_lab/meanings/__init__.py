@@ -1,1 +1,1 @@
-"""What each instruction does: records in words, formulas that are evaluated, and why an element has its value."""
+"""The meaning of each instruction: records in words, formulas that are evaluated, and reasons for an element's value."""

@@ -17,7 +17,7 @@ _LISTED = 12  # of what a search finds
 
 @functools.cache
 def expansions() -> dict[str, list[str]]:
-    """What pseudo-instructions stand for: `mv rd, rs: addi rd, rs, 0`, by name."""
+    """The expansion of each pseudo-instruction by its name: `mv rd, rs: addi rd, rs, 0`."""
     found: dict[str, list[str]] = {}
     for form, *texts in read_table("pseudo"):
         if not texts[0].startswith("error"):
@@ -73,7 +73,7 @@ def _multiplier(operand: Operand) -> str:
 
 
 def illegal_causes(row: Row) -> Iterator[str]:
-    """What makes a vector instruction illegal, by its shape."""
+    """The causes that make a vector instruction illegal, by its shape."""
     instruction = sample(row)
     if instruction is None:
         return
@@ -109,7 +109,7 @@ def _overlaps(instruction: VectorInstruction, target: Operand, sources: list[Ope
 
 
 def describe(name: str) -> list[str]:
-    """What there is to say of an instruction, a pseudo-instruction or another name with a record; nothing of others."""
+    """The description of an instruction, a pseudo-instruction or another name with a record; empty for others."""
     if name in instruction_table():
         return list(_instruction_lines(name))
     record = records().get(name)
@@ -145,7 +145,7 @@ def _instruction_lines(name: str) -> Iterator[str]:
 
 
 def _scalar_note(row: Row, formula: str) -> str:
-    """What vs1 is in the forms with a scalar or an immediate."""
+    """The source in place of vs1 in the forms with a scalar or an immediate."""
     if "vs1" in row.fields() or "vs1" not in formula:
         return ""
     other = "x[rs1]" if "rs1" in row.fields() else "the immediate"

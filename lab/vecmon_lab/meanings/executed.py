@@ -49,7 +49,7 @@ class Before:
 
 @dataclass
 class After:
-    """What an instruction leaves.
+    """The state after an instruction.
 
     x: written scalar registers by number; memory: stored bytes by address
     fault: the address that an access or a jump can't have; then pc is that of the instruction
@@ -165,7 +165,7 @@ class Execution:
         return len(operand.registers) // operand.group if operand and not operand.is_whole else 1
 
     def value(self, assignment: Assignment) -> int:
-        """What the names at present make of the value of an assignment."""
+        """The value of an assignment with the present values of its names."""
         return evaluate(assignment.value, self.names)
 
     def at(self, element: int, number: int = 0) -> None:
@@ -181,7 +181,7 @@ class Execution:
         return self.record.kept is not None and bool(evaluate(self.record.kept, self.names))
 
     def fate(self, element: int) -> Fate:
-        """What becomes of an element of the destination; a fault, or a length that is made shorter, comes on top of it."""
+        """The fate of an element of the destination, apart from a fault or a shortened length."""
         control, body = self.before.control, self.body
         if self.is_single:
             body = range(control.vl > control.vstart)
@@ -251,7 +251,7 @@ class Execution:
 
 
 def execute(before: Before, formula: Formula | None = None) -> After:
-    """What an instruction leaves by its formula, or by another one. Raises LabError where it has none."""
+    """The results of an instruction by its formula, or by another one. Raises LabError if it has none."""
     execution = Execution(before, formula)
     after = After(before.pc + 4 & WORD, before.control, bytearray(before.v))
     try:
@@ -418,7 +418,7 @@ def _with_control_value(control: ControlRegisters, number: int, value: int) -> C
 
 
 def _requested(before: Before) -> dict[str, object]:
-    """What a vset instruction asks for."""
+    """The request of a vset instruction."""
     word, x, control = before.word, before.x, before.control
     rd, rs1, has_immediate = word >> 7 & 31, word >> 15 & 31, word >> 30 == 3
     wanted = word >> 20 & 0x3FF if has_immediate else word >> 20 & 0x7FF if not word >> 31 else x[word >> 20 & 31]

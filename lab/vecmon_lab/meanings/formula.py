@@ -107,7 +107,7 @@ def quotient(value: int, divisor: int) -> int:
 
 
 def remainder(value: int, divisor: int) -> int:
-    """What `quotient` leaves, which has the sign of the value."""
+    """The remainder of `quotient`, with the sign of the value."""
     return value - quotient(value, divisor) * divisor
 
 

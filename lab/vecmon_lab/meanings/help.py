@@ -1,11 +1,11 @@
-"""What `help NAME` of the console prints: commands, refusals, records, and what a search for words finds."""
+"""The text of the console's `help NAME`: commands, refusals, records, and the results of a search."""
 
 from ..assembler.commands import COMMANDS, MEANINGS, help_on
 from .describe import describe, search_lines
 
 
 def help_lines(name: str) -> list[str]:
-    """What there is to say of a name, of a command and an instruction both; or what has the words; never nothing."""
+    """The description of a name, of a command and an instruction both; or the names whose texts have the words."""
     if not name:
         return [
             *help_on(""),

@@ -21,7 +21,7 @@ BY_ELEMENT = "by element"
 
 @dataclass(frozen=True)
 class Record:
-    """What a name, or a family of instructions, means.
+    """The meaning of a name, or of a family of instructions.
 
     kind: `instruction`, `pseudo-instruction`, `directive`, `control register`, `call` or `absent`
     does: a sentence of 25 words at most

@@ -41,7 +41,7 @@ class Step:
 
 
 def explanation_of(guest: Guest, before: Registers, after: ControlRegisters, carried: Carried) -> Explanation:
-    """What there is to explain of an instruction, by the registers before it, and `vl` after it.
+    """The execution of an instruction for `why`, by the registers before it, and `vl` after it.
 
     Memory is read now: no load has changed it, and what a store has written isn't read. Raises LabError.
     """

@@ -41,7 +41,7 @@ def read_name(text: str) -> tuple[str, int | None]:
 
 
 class Explanation:
-    """What there is to explain of one instruction, which is executed by its formula once."""
+    """The reasons for the results of one instruction, which is executed by its formula once."""
 
     def __init__(self, before: Before) -> None:
         """Raises LabError for an instruction that is illegal or has no formula."""
@@ -203,7 +203,7 @@ class _Shown(ast.NodeTransformer):
         self._execution, self._has_values, self._names = execution, has_values, dict(execution.names)
 
     def visit_Subscript(self, node: ast.Subscript) -> ast.expr:
-        """What an operand is at a place."""
+        """The value of an operand at a place."""
         if self._has_values:
             return self._constant(node)
         index = evaluate(node.slice, self._names)
@@ -233,7 +233,7 @@ class _Shown(ast.NodeTransformer):
         return ast.Name(f"{name}({', '.join(terms)})")
 
     def _terms(self, node: ast.expr) -> list[str]:
-        """What a call is given, of a list each of its elements."""
+        """The arguments of a call; of a list each of its elements."""
         if not isinstance(node, ast.GeneratorExp):
             return [ast.unparse(self.visit(node))]
         (loop,) = node.generators
@@ -250,7 +250,7 @@ class _Shown(ast.NodeTransformer):
         return ast.Name(f"({value})" if value < 0 else f"{value}")
 
     def _scalar(self) -> str | None:
-        """What vs1 is in the forms without a vector register there."""
+        """The source in the forms without a vector register as vs1."""
         word = self._execution.before.word
         form = word >> 12 & 7
         if word & 0x7F != OP_V or form in (0, 2):
