@@ -49,7 +49,8 @@ install:
 	$(call page,vecmon-record,1,'records what a program does on the machine of vecmon',RECORDER.md)
 	$(call page,vecmon-lab,1,'front end of vecmon with lessons and classes',LAB.md)
 	$(call page,vecmon-commands,5,'scripts and commands of vecmon',COMMANDS.md)
-	$(call page,vecmon-instructions,7,'what each instruction of vecmon does',INSTRUCTIONS.md)
+	umask 022; sed -f packaging/instructions.sed docs/INSTRUCTIONS.md | \
+	    packaging/manual_page vecmon-instructions 7 'what each instruction of vecmon does' - > "$(DESTDIR)$(mandir)/man7/vecmon-instructions.7"
 	umask 022; packaging/lab_pages "$(DESTDIR)$(mandir)/man1"
 	$(copy) packaging/completion "$(DESTDIR)$(completions)/vecmon"
 	for name in vecmon-record vecmon-lab; do $(link) "$(DESTDIR)$(completions)/vecmon" "$(DESTDIR)$(completions)/$$name"; done
