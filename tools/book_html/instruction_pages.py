@@ -23,11 +23,10 @@ def write_instruction_pages(stage: Path) -> None:
     for record in families:
         (stage / FOLDER / f"{record.name}.md").write_text(page_of(record), "utf-8")
     rows = "".join(f"| [{it.name}]({it.name}.md) | {it.does} |\n" for it in families)
-    entries = "\n".join(it.name for it in families)
     text = (
         f"# Instructions by name\n\nA page for each family of instructions.\n\n| family | effect |\n|---|---|\n{rows}"
     )
-    (stage / FOLDER / "index.md").write_text(f"{text}\n```{{toctree}}\n:hidden:\n\n{entries}\n```\n", "utf-8")
+    (stage / FOLDER / "index.md").write_text(text, "utf-8")
     with (stage / "index.md").open("a", encoding="utf-8") as index:
         index.write(
             f"\n## Instructions\n\n- **[Instructions by name]({FOLDER}/index.md)**: A page for each family of instructions.\n"
@@ -36,8 +35,8 @@ def write_instruction_pages(stage: Path) -> None:
 
 
 def page_of(record: Record) -> str:
-    """The page of a family in Markdown."""
-    return "\n\n".join([f"# {record.name}", record.does, *_parts(record)]) + "\n"
+    """The page of a family in Markdown. The navigation of the book lists the index alone: 200 entries on each page cost 40 s."""
+    return "\n\n".join(["---\norphan: true\n---", f"# {record.name}", record.does, *_parts(record)]) + "\n"
 
 
 def _parts(record: Record) -> Iterator[str]:
