@@ -41,10 +41,10 @@ def mounted(image: pathlib.Path) -> Iterator[pathlib.Path]:
         subprocess.run(["umount", folder], check=True)
 
 
-async def work(tab: Tab, done: list[float]) -> None:
+async def work(tab: Tab, done: list[float], is_over: asyncio.Event) -> None:
     """Steps again and again, and types; notes when each step was acknowledged."""
     await tab.do(*LOOP)
-    while True:
+    while not is_over.is_set():
         await tab.do("step 1")
         done.append(time.monotonic())
         await tab.ask("draft", text=f"# {len(done)}", number=tab.view["source"]["number"])
@@ -73,7 +73,8 @@ async def test_each_copy_opens(tmp_path: pathlib.Path, program: pathlib.Path) ->
     with mounted(image) as folder:
         async with process(folder / "class") as room:
             done: list[list[float]] = [[] for _ in SEATS]
-            workers = [asyncio.create_task(work(await room.sit(seat), own)) for seat, own in zip(SEATS, done)]
+            is_over = asyncio.Event()
+            workers = [asyncio.create_task(work(await room.sit(seat), own, is_over)) for seat, own in zip(SEATS, done)]
             assert room.server
             for number in range(CUTS):
                 await asyncio.sleep(0.3 + 0.037 * (number % 10))
@@ -85,9 +86,8 @@ async def test_each_copy_opens(tmp_path: pathlib.Path, program: pathlib.Path) ->
                 cuts.append(
                     (copy, [sum(when <= now - SECONDS for when in own) for own in done], [len(own) for own in done])
                 )
-            for worker in workers:
-                worker.cancel()
-            await asyncio.gather(*workers, return_exceptions=True)
+            is_over.set()  # wait_for, which a tab uses, can lose a cancellation
+            await asyncio.gather(*workers)
             assert await room.end() == 0
     for copy, known, acknowledged in cuts:
         print(acknowledged, known, check(copy, program, known))
