@@ -7,9 +7,11 @@ with its own width), `pc`, `vl`, `vtype` or `csr`. Numbers have no limit; the ta
 
 import ast
 import functools
+import operator
 from collections.abc import Callable, Iterable, Mapping
 from dataclasses import dataclass
 from types import CodeType
+from typing import Any
 
 from .. import LabError
 
@@ -48,22 +50,10 @@ NUMBERS: Mapping[str, str] = {
 """Names of numbers, and of `active`, which is a list of them."""
 
 _NODES = (
-    (
-        ast.Expression,
-        ast.BinOp,
-        ast.UnaryOp,
-        ast.BoolOp,
-        ast.Compare,
-        ast.IfExp,
-        ast.Call,
-        ast.Name,
-        ast.Load,
-        ast.Store,
-    )
-    + (ast.Subscript, ast.Attribute, ast.Constant, ast.GeneratorExp, ast.comprehension)
-    + (ast.Add, ast.Sub, ast.Mult, ast.FloorDiv, ast.Mod, ast.Pow, ast.LShift, ast.RShift)
-    + (ast.BitAnd, ast.BitOr, ast.BitXor, ast.Not, ast.Invert, ast.USub, ast.And, ast.Or)
-    + (ast.Eq, ast.NotEq, ast.Lt, ast.LtE, ast.Gt, ast.GtE)
+    *(ast.Expression, ast.BinOp, ast.UnaryOp, ast.BoolOp, ast.Compare, ast.IfExp, ast.Call, ast.Name, ast.Load),
+    *(ast.Store, ast.Subscript, ast.Attribute, ast.Constant, ast.GeneratorExp, ast.comprehension),
+    *(ast.Add, ast.Sub, ast.Mult, ast.FloorDiv, ast.Mod, ast.Pow, ast.LShift, ast.RShift, ast.BitAnd, ast.BitOr),
+    *(ast.BitXor, ast.Not, ast.Invert, ast.USub, ast.And, ast.Or, ast.Eq, ast.NotEq, ast.Lt, ast.LtE, ast.Gt, ast.GtE),
 )
 
 
@@ -78,16 +68,15 @@ class Bits(int):
         return made
 
 
-def sext(value: int, bits: int = 0) -> int:
-    """The lowest bits as a number with a sign: all bits of what is read from a register."""
-    bits = bits or (value.width if isinstance(value, Bits) else 64)
-    value &= (1 << bits) - 1
-    return value - (value >> bits - 1 << bits)
-
-
 def zext(value: int, bits: int = 0) -> int:
-    """The lowest bits as a number without a sign."""
-    return value & (1 << (bits or (value.width if isinstance(value, Bits) else 64))) - 1
+    """The lowest bits as a number without a sign: all bits of what is read from a register."""
+    return value & (1 << (bits or getattr(value, "width", 64))) - 1
+
+
+def sext(value: int, bits: int = 0) -> int:
+    """The lowest bits as a number with a sign."""
+    sign = 1 << (bits or getattr(value, "width", 64)) - 1
+    return (value & 2 * sign - 1 ^ sign) - sign
 
 
 def rounded(value: int, bits: int, mode: int) -> int:
@@ -116,34 +105,29 @@ def nth(number: int, values: Iterable[int]) -> int:
     return list(values)[number]
 
 
-def _flat(values: Iterable[int | Iterable[int]]) -> list[int]:
-    """Numbers, and those of lists among them."""
-    return [each for value in values for each in ([value] if isinstance(value, int) else value)]
-
-
-def _combined(operation: Callable[[int, int], int]) -> Callable[..., int]:
-    return lambda *values: int(functools.reduce(operation, _flat(values)))
+def _of_all(operation: Callable[..., Any]) -> Callable[..., int]:
+    """A function of numbers, and of those of lists among them."""
+    return lambda *values: int(
+        operation([each for value in values for each in ([value] if isinstance(value, int) else value)])
+    )
 
 
 FUNCTIONS: Mapping[str, Callable[..., int]] = {
-    "signed": sext,
-    "sext": sext,
-    "zext": zext,
-    "round": rounded,
-    "quotient": quotient,
-    "remainder": remainder,
-    "sum": lambda *values: sum(_flat(values)),
-    "min": lambda *values: min(_flat(values)),
-    "max": lambda *values: max(_flat(values)),
-    "any": lambda *values: int(any(_flat(values))),
-    "bitand": _combined(lambda one, other: one & other),
-    "bitor": _combined(lambda one, other: one | other),
-    "bitxor": _combined(lambda one, other: one ^ other),
-    "first": lambda values: next(iter(values), -1),
-    "nth": nth,
+    **{"signed": sext, "sext": sext, "zext": zext, "round": rounded, "quotient": quotient, "remainder": remainder},
+    **{"nth": nth, "first": lambda values: next(iter(values), -1)},
+    **{"sum": _of_all(sum), "min": _of_all(min), "max": _of_all(max), "any": _of_all(any)},
+    **{
+        f"bit{name}": _of_all(functools.partial(functools.reduce, operation))
+        for name, operation in (("and", operator.and_), ("or", operator.or_), ("xor", operator.xor))
+    },
 }
 CLIPS = ("clip", "clipu")
 """The nearest number that the target holds, with or without a sign; where that is another one, vxsat becomes 1."""
+
+_CALLABLE, _INDEXED = (*FUNCTIONS, *CLIPS, "range"), (*OPERANDS, *MEMORIES, "x")
+_NUMBER_TARGETS = ("pc", "vl", "vtype", "csr")
+_TARGETS = {"vd": ("element", 0), "vd.mask": ("mask", 1), "x": ("x", 64)}  # kind and width, by what has an index
+_TARGETS |= {name: ("memory", width) for name, width in MEMORIES.items()}
 
 
 @dataclass(frozen=True)
@@ -184,9 +168,13 @@ def read_formula(text: str) -> Formula:
     return Formula(text)
 
 
+def _result(node: ast.expr, names: Names) -> Any:
+    return eval(_code(node), {"__builtins__": {}, "range": range, **FUNCTIONS, **names})
+
+
 def evaluate(node: ast.expr, names: Names) -> int:
     """The number that a part of a formula is, by the values of names."""
-    return int(eval(_code(node), {"__builtins__": {}, "range": range, **FUNCTIONS, **names}))
+    return int(_result(node, names))
 
 
 def condition(text: str) -> ast.expr:
@@ -201,21 +189,15 @@ def _code(node: ast.expr) -> CodeType:
 
 
 def _assignment(text: str, whole: str) -> Assignment:
-    target_text, is_assignment, value = text.partition(" = ")
+    target, is_assignment, value = text.partition(" = ")
     if not is_assignment:
         raise LabError(f"formula {whole!r}: {text!r} assigns nothing; write TARGET = VALUE")
-    if target_text in ("pc", "vl", "vtype", "csr"):
-        return Assignment(target_text, 64, None, _checked(value, whole))
-    match _checked(target_text, whole):
-        case ast.Subscript(ast.Name("vd"), place):
-            return Assignment("element", 0, place, _checked(value, whole))
-        case ast.Subscript(ast.Attribute(ast.Name("vd"), "mask"), place):
-            return Assignment("mask", 1, place, _checked(value, whole))
-        case ast.Subscript(ast.Name("x"), place):
-            return Assignment("x", 64, place, _checked(value, whole))
-        case ast.Subscript(ast.Name(name), place) if name in MEMORIES:
-            return Assignment("memory", MEMORIES[name], place, _checked(value, whole))
-    raise LabError(f"formula {whole!r}: {target_text!r} is no target")
+    if target in _NUMBER_TARGETS:
+        return Assignment(target, 64, None, _checked(value, whole))
+    match _checked(target, whole):
+        case ast.Subscript(base, place) if (name := ast.unparse(base)) in _TARGETS:
+            return Assignment(*_TARGETS[name], place, _checked(value, whole))
+    raise LabError(f"formula {whole!r}: {target!r} is no target")
 
 
 def _checked(text: str, whole: str) -> ast.expr:
@@ -234,28 +216,21 @@ def _is_known(node: ast.AST) -> bool:
     """Whether the names and the numbers of a node are those of the language."""
     match node:
         case ast.Name(name):
-            return name in (*OPERANDS, *MEMORIES, *NUMBERS, *FUNCTIONS, *CLIPS, "x", "range")
-        case ast.Call(function, arguments, []):
-            return isinstance(function, ast.Name) and function.id in (*FUNCTIONS, *CLIPS, "range") and bool(arguments)
-        case ast.Call():
-            return False
-        case ast.Attribute(ast.Name(name), attribute):
-            return name in OPERANDS and attribute == "mask"
-        case ast.Attribute():
-            return False
+            return name in (*_INDEXED, *NUMBERS, *_CALLABLE)
+        case ast.Call(ast.Name(name), [_, *_], []):
+            return name in _CALLABLE
+        case ast.Attribute(ast.Name(name), "mask"):
+            return name in OPERANDS
         case ast.Subscript(ast.Name(name)):
-            return name in (*OPERANDS, *MEMORIES, "x")
-        case ast.Subscript(value):
-            return isinstance(value, ast.Attribute)
+            return name in _INDEXED
         case ast.Constant(value):
             return type(value) is int
-        case ast.GeneratorExp(_, [_]) | ast.comprehension(ast.Name("j")):
+        case ast.Subscript(ast.Attribute()) | ast.GeneratorExp(_, [_]) | ast.comprehension(ast.Name("j")):
             return True
-    return not isinstance(node, ast.GeneratorExp | ast.comprehension)
+    return not isinstance(node, ast.Call | ast.Attribute | ast.Subscript | ast.GeneratorExp | ast.comprehension)
 
 
 def elements_in(node: ast.comprehension, names: Names) -> list[int]:
     """The numbers that a list of elements goes through, by the values of names."""
-    scope = {"__builtins__": {}, "range": range, **FUNCTIONS, **names}
-    every = eval(_code(node.iter), scope)
+    every = _result(node.iter, names)
     return [number for number in every if all(evaluate(each, {**names, "j": number}) for each in node.ifs)]
