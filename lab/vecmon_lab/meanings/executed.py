@@ -7,16 +7,24 @@ from collections.abc import Callable, Sequence
 from dataclasses import dataclass, field, replace
 
 from .. import LabError
-from ..instructions.accesses import REGISTER_BYTES, active_of, body_of, vector_instruction
+from ..instructions.accesses import REGISTER_BITS, REGISTER_BYTES, active_of, body_of, vector_instruction
 from ..instructions.table import Row, row_of
-from ..instructions.words import LOAD_FP, OP_V, STORE, SUPPORTED, Operand, VectorInstruction
+from ..instructions.words import OP_V, STORE, SUPPORTED, SYSTEM, Operand, VectorInstruction
 from ..machine.answers import VILL, ControlRegisters
-from .formula import Assignment, Bits, Formula, evaluate, sext
+from .formula import Assignment, Bits, Formula, evaluate, sext, zext
 from .record import Record, record_of
 
 WORD = (1 << 64) - 1
 Fate = enum.Enum("Fate", "RESULT KEPT MASKED TAIL BEFORE_START NO_ELEMENTS AFTER_FAULT SHORTENED")
 """Why an element of a destination has its value: the formula; or it kept its value, unless policy ones sets what is agnostic."""
+
+_AGNOSTIC = {Fate.MASKED: 0x80, Fate.TAIL: 0x40}  # the bit of vtype that makes elements of this fate agnostic
+_CONTROL_FIELDS = {  # of control registers that can be written, by number: the lowest bit and the largest value
+    0x008: {"vstart": (0, 0xFF)},
+    0x009: {"vxsat": (0, 1)},
+    0x00A: {"vxrm": (0, 3)},
+    0x00F: {"vxrm": (1, 3), "vxsat": (0, 1)},
+}
 
 
 class NoAccess(Exception):
@@ -63,56 +71,50 @@ class After:
     fault: int | None = None
 
 
-class _Elements:
-    """The elements of a register group, or the bits of a mask, by number. All of them are the same number for a scalar."""
+class _Indexed:
+    """What has a number at each index: a register group, the scalar registers or memory. Its mask has a bit at each."""
 
-    def __init__(self, v: bytes, register: int, width: int, scalar: int | None = None) -> None:
-        self._v, self._first, self._width, self._scalar = v, register * REGISTER_BYTES, width, scalar
-
-    def __getitem__(self, number: int) -> Bits:
-        if self._scalar is not None:
-            return Bits(self._scalar & (1 << self._width) - 1, self._width)
-        size = self._width // 8
-        at = self._first + number * size
-        if number < 0 or at + size > len(self._v):
-            raise LabError(f"there is no element {number}")
-        return Bits(int.from_bytes(self._v[at : at + size], "little"), self._width)
-
-    @property
-    def mask(self) -> "_Mask":
-        return _Mask(self._v, self._first)
-
-
-class _Mask:
-    def __init__(self, v: bytes, first: int) -> None:
-        self._v, self._first = v, first
-
-    def __getitem__(self, number: int) -> int:
-        return self._v[self._first + number // 8] >> number % 8 & 1
-
-
-class _Scalars:
-    def __init__(self, x: Sequence[int]) -> None:
-        self._x = x
+    def __init__(self, at: Callable[[int], Bits], mask: "_Indexed | None" = None) -> None:
+        self._at, self.mask = at, mask
 
     def __getitem__(self, number: int) -> Bits:
-        return Bits(self._x[number], 64)
+        return self._at(number)
 
 
-class _Memory:
-    def __init__(self, before: Before, width: int) -> None:
-        self._before, self._bytes = before, width // 8
+def element_of(v: bytes | bytearray, register: int, width: int, number: int) -> Bits:
+    """An element of a register group, without a sign; a bit of a mask under the width 1. Raises LabError."""
+    at = register * REGISTER_BITS + number * width
+    if number < 0 or at + width > 8 * len(v):
+        raise LabError(f"there is no element {number}")
+    return Bits(int.from_bytes(v[at // 8 : (at + width + 7) // 8], "little") >> at % 8 & (1 << width) - 1, width)
 
-    def __getitem__(self, address: int) -> Bits:
-        address &= WORD
-        data = self._before.read(address, self._bytes)
+
+def _elements(v: bytes, register: int, width: int) -> _Indexed:
+    return _Indexed(
+        functools.partial(element_of, v, register, width), _Indexed(functools.partial(element_of, v, register, 1))
+    )
+
+
+def _memory(before: Before, width: int) -> _Indexed:
+    def value(address: int) -> Bits:
+        data = before.read(address & WORD, width // 8)
         if data is None:
-            raise NoAccess(address)
-        return Bits(int.from_bytes(data, "little"), 8 * self._bytes)
+            raise NoAccess(address & WORD)
+        return Bits(int.from_bytes(data, "little"), width)
+
+    return _Indexed(value)
 
 
 class Execution:
-    """An instruction in a state: its record and formula, its elements, and what names in the formula mean."""
+    """An instruction in a state: its record and formula, its elements, and what names in the formula mean.
+
+    target: the assignment that says what the instruction writes
+    is_single: whether it writes one element: the destination is the register of the element, and the others are the tail
+    body, active: the elements from vstart on, and those of them that the mask doesn't turn off
+    operand: the vector register group at vd: the destination, or what a store writes; None if there is none
+    fields: how many fields a segment has; 1 if there is no segment
+    width: of an element that is written, loaded or stored, in bits
+    """
 
     def __init__(self, before: Before, formula: Formula | None = None) -> None:
         """formula: another one than that of the record. Raises LabError where the word is no instruction with a formula."""
@@ -126,43 +128,23 @@ class Execution:
         if found is None:
             raise LabError(f"{row.name} has no formula")
         self.formula: Formula = found
-        self.instruction = vector_instruction(before.word, before.control.vtype)
+        self.target: Assignment = found.assignments[0]
+        self.is_single = isinstance(self.target.place, ast.Constant)
+        self.instruction = instruction = vector_instruction(before.word, before.control.vtype)
+        self.body = body_of(before.word, instruction, before.control) if instruction else range(0)
+        self.active = active_of(instruction, self.body, before.v) if instruction else []
+        operands = instruction.operands if instruction else []
+        self.operand: Operand | None = next((it for it in operands if it.place == "vd"), None)
+        self.fields = 1
+        if self.operand and not self.operand.is_whole:
+            self.fields = len(self.operand.registers) // self.operand.group
+        self.width = max(8, (self.operand or operands[0]).eew) if operands else 64
         self.is_saturated = False
         self.names = self._names()
 
-    @property
-    def target(self) -> Assignment:
-        """The assignment that says what the instruction writes."""
-        return self.formula.assignments[0]
-
-    @property
-    def is_single(self) -> bool:
-        """Whether the instruction writes one element: the destination is the register of the element, and the others are the tail."""
-        return isinstance(self.target.place, ast.Constant)
-
-    @property
-    def operand(self) -> Operand | None:
-        """The vector register group at vd: the destination, or what a store writes. None if there is none."""
-        operands = self.instruction.operands if self.instruction else []
-        return next((it for it in operands if it.place == "vd"), None)
-
-    @functools.cached_property
-    def body(self) -> range:
-        """The elements from vstart on."""
-        assert self.instruction
-        return body_of(self.before.word, self.instruction, self.before.control)
-
-    @functools.cached_property
-    def active(self) -> Sequence[int]:
-        """The elements of the body that the mask doesn't turn off."""
-        assert self.instruction
-        return active_of(self.instruction, self.body, self.before.v)
-
-    @property
-    def fields(self) -> int:
-        """How many fields a segment has; 1 if there is no segment."""
-        operand = self.operand
-        return len(operand.registers) // operand.group if operand and not operand.is_whole else 1
+    def place(self, assignment: Assignment) -> int:
+        """The index or the address that an assignment writes, with the present values of its names."""
+        return evaluate(assignment.place, self.names)
 
     def value(self, assignment: Assignment) -> int:
         """The value of an assignment with the present values of its names."""
@@ -171,10 +153,9 @@ class Execution:
     def at(self, element: int, number: int = 0) -> None:
         """Lets names mean those of an element, and of the field of this number."""
         self.names["i"], self.names["f"] = element, number
-        operand = self.operand
-        if operand and self.fields > 1:
-            own = _Elements(self.before.v, operand.registers.start + number * operand.group, operand.eew)
-            self.names["vd"] = self.names["vs3"] = own
+        if self.operand and self.fields > 1:
+            register = self.operand.registers.start + number * self.operand.group
+            self.names["vd"] = self.names["vs3"] = _elements(self.before.v, register, self.operand.eew)
 
     def is_kept(self) -> bool:
         """Whether the record says that the element at present isn't written."""
@@ -199,7 +180,7 @@ class Execution:
     def _names(self) -> dict[str, object]:
         before, control, word = self.before, self.before.control, self.before.word
         names: dict[str, object] = {
-            "x": _Scalars(before.x),
+            "x": _Indexed(lambda number: Bits(before.x[number], 64)),
             "rd": word >> 7 & 31,
             "rs1": word >> 15 & 31,
             "rs2": word >> 20 & 31,
@@ -208,13 +189,13 @@ class Execution:
             "vl": control.vl,
             "vlmax": control.vlmax,
             "sew": control.sew,
-            "v0": _Elements(before.v, 0, 8),
+            "v0": _elements(before.v, 0, 8),
             "clip": functools.partial(self._clipped, True),
             "clipu": functools.partial(self._clipped, False),
             **{name: immediate_of(word) for name in ("imm", "uimm", "shamt", "offset")},
-            **{f"memory{width}": _Memory(before, width) for width in (8, 16, 32, 64)},
+            **{f"memory{width}": _memory(before, width) for width in (8, 16, 32, 64)},
         }
-        if word & 0x7F == 0x73:
+        if word & 0x7F == SYSTEM:
             names["csr"] = _control_value(control, word >> 20)
         if word & 0x7F == OP_V and word >> 12 & 7 == 7:
             names |= _requested(before)
@@ -225,27 +206,22 @@ class Execution:
     def _operand_names(self, instruction: VectorInstruction) -> dict[str, object]:
         before, word = self.before, self.before.word
         names: dict[str, object] = {
-            it.place: _Elements(before.v, it.registers.start, max(8, it.eew)) for it in instruction.operands
+            it.place: _elements(before.v, it.registers.start, max(8, it.eew)) for it in instruction.operands
         }
-        if "vd" in names:
-            names["vs3"] = names["vd"]
+        names |= {"vs3": names.get("vd"), "memory": _memory(before, self.width), "bytes": self.width // 8}
         if word & 0x7F == OP_V:
             imm = sext(word >> 15, 5) if "imm" in self.row.fields() else word >> 15 & 31
-            names["imm"] = names["uimm"] = imm
-            form, x1 = word >> 12 & 7, before.x[word >> 15 & 31]
-            names["offset"] = x1 if form & 4 else imm
+            form, sew = word >> 12 & 7, before.control.sew
+            scalar = before.x[word >> 15 & 31] if form & 4 else imm
+            names |= {"imm": imm, "uimm": imm, "offset": scalar}
             if form not in (0, 2):  # the forms of vector registers
-                names["vs1"] = _Elements(b"", 0, before.control.sew, x1 if form & 4 else imm)
-        operand = next((it for it in instruction.operands if it.place == "vd"), instruction.operands[0])
-        width = max(8, operand.eew)
-        self._width = width
-        names |= {"bytes": width // 8, "memory": _Memory(before, width), "nf": self.fields, "f": 0}
-        names["active"] = self.active
-        return names
+                names["vs1"] = _Indexed(lambda _: Bits(zext(scalar, sew), sew))
+        return names | {"nf": self.fields, "f": 0, "active": self.active}
 
     def _clipped(self, has_sign: bool, value: int) -> int:
         """The nearest number of the destination's width."""
-        least, most = (-(1 << self._width - 1), (1 << self._width - 1) - 1) if has_sign else (0, (1 << self._width) - 1)
+        least = -(1 << self.width - 1) if has_sign else 0
+        most = least + (1 << self.width) - 1
         self.is_saturated = self.is_saturated or not least <= value <= most
         return min(max(value, least), most)
 
@@ -255,8 +231,8 @@ def execute(before: Before, formula: Formula | None = None) -> After:
     execution = Execution(before, formula)
     after = After(before.pc + 4 & WORD, before.control, bytearray(before.v))
     try:
-        if execution.target.kind in ("element", "mask") or execution.target.kind == "memory" and execution.operand:
-            _execute_elements(execution, after)
+        if execution.operand and execution.target.kind in ("element", "mask", "memory"):
+            _execute_elements(execution, after, execution.operand)
         else:
             _execute_once(execution, after)
     except NoAccess as problem:
@@ -287,92 +263,75 @@ def _execute_once(execution: Execution, after: After) -> None:
             case "csr":
                 after.control = _with_control_value(after.control, before.word >> 20, value)
             case "memory":
-                assert assignment.place
-                _store(execution, after, evaluate(assignment.place, execution.names), value, assignment.width // 8)
+                after.memory |= _stored(execution, execution.place(assignment), value, assignment.width)
 
 
-def _execute_elements(execution: Execution, after: After) -> None:
+def _execute_elements(execution: Execution, after: After, operand: Operand) -> None:
     """Executes an instruction by element, from vstart on. Raises NoAccess."""
-    before, control, operand = execution.before, execution.before.control, execution.operand
-    assert operand
-    is_load, done = before.word & 0x7F == LOAD_FP, False
     for element in execution.active if not execution.is_single else range(1):
         if execution.fate(element) != Fate.RESULT:
             continue
         try:
-            _execute_element(execution, after, element)
-        except NoAccess as problem:
-            if is_load and execution.row.name.endswith("ff.v") and element:
-                after.control = replace(control, vl=element)
-            else:
-                after.pc, after.fault, done = before.pc, problem.address, True
-                after.control = replace(control, vstart=element)
-            _set_ones(execution, after, element, has_tail=not done)
-            return
-    _set_ones(execution, after, execution.body.stop, has_tail=True)
+            _execute_element(execution, after, operand, element)
+        except NoAccess:
+            is_shortened = execution.row.name.endswith("ff.v") and element > 0
+            after.control = replace(after.control, **{"vl" if is_shortened else "vstart": element})
+            _set_ones(execution, after, operand, element, has_tail=is_shortened)
+            if is_shortened:
+                return
+            raise
+    _set_ones(execution, after, operand, execution.body.stop, has_tail=True)
 
 
-def _execute_element(execution: Execution, after: After, element: int) -> None:
+def _execute_element(execution: Execution, after: After, operand: Operand, element: int) -> None:
     """Writes an element, or those of all fields of a segment. Raises NoAccess before any of them is written."""
-    operand, assignment, values = execution.operand, execution.target, list[tuple[int, int]]()
-    assert operand and assignment.place
+    values = list[tuple[int, int]]()
     for number in range(execution.fields):
         execution.at(element, number)
-        values.append((evaluate(assignment.place, execution.names), execution.value(assignment)))
-    size = max(1, operand.eew // 8)
-    if assignment.kind == "memory":
-        for address, _ in values:
-            _check_store(execution, address & WORD, size)
+        values.append((execution.place(execution.target), execution.value(execution.target)))
+    if execution.target.kind == "memory":
+        for stored in [_stored(execution, address, value, execution.width) for address, value in values]:
+            after.memory |= stored
+        return
     for number, (place, value) in enumerate(values):
-        if assignment.kind == "memory":
-            _store(execution, after, place, value, size)
-        elif assignment.kind == "mask":
-            at, bit = operand.registers.start * REGISTER_BYTES + place // 8, 1 << place % 8
-            after.v[at] = after.v[at] & ~bit | (bit if value else 0)
-        else:
-            _write(after, operand, number, place, value)
+        _write(execution, after, operand, number, place, value)
 
 
-def _write(after: After, operand: Operand, number: int, place: int, value: int) -> None:
-    size = max(1, operand.eew // 8)
-    at = (operand.registers.start + number * operand.group) * REGISTER_BYTES + place * size
-    after.v[at : at + size] = (value & (1 << 8 * size) - 1).to_bytes(size, "little")
+def _write(execution: Execution, after: After, operand: Operand, number: int, place: int, value: int) -> None:
+    """Writes an element of the field of this number, or a bit of a mask, which any value but 0 sets."""
+    width = 1 if execution.target.kind == "mask" else execution.width
+    at = (operand.registers.start + number * operand.group) * REGISTER_BITS + place * width
+    part, ones = slice(at // 8, (at + width + 7) // 8), (1 << width) - 1
+    others = int.from_bytes(after.v[part], "little") & ~(ones << at % 8)
+    new = value & ones if width > 1 else bool(value)
+    after.v[part] = (others | new << at % 8).to_bytes(part.stop - part.start, "little")
 
 
 def agnostic(execution: Execution, fate: Fate) -> bool:
     """Whether an element of this fate becomes ones."""
     operand, vtype = execution.operand, execution.before.control.vtype
-    has_elements = operand is not None and operand.noun == "destination" and operand.eew > 1
-    is_whole = operand is not None and operand.is_whole and not execution.is_single
-    if not execution.before.has_ones or not has_elements or is_whole:
+    if not execution.before.has_ones or operand is None or operand.noun != "destination" or operand.eew == 1:
         return False
-    return fate == Fate.MASKED and bool(vtype & 0x80) or fate == Fate.TAIL and bool(vtype & 0x40)
+    return (execution.is_single or not operand.is_whole) and bool(vtype & _AGNOSTIC.get(fate, 0))
 
 
-def _set_ones(execution: Execution, after: After, stop: int, has_tail: bool) -> None:
+def _set_ones(execution: Execution, after: After, operand: Operand, stop: int, has_tail: bool) -> None:
     """Sets agnostic elements to ones: masked-off ones before an element, and the tail."""
-    operand = execution.operand
-    assert operand
-    if not (agnostic(execution, Fate.MASKED) or agnostic(execution, Fate.TAIL)):
+    if not any(agnostic(execution, fate) for fate in _AGNOSTIC):
         return
-    for number in range(execution.fields):
-        for element in range(operand.group * REGISTER_BYTES * 8 // operand.eew):
-            fate = execution.fate(element)
-            is_reached = has_tail if fate == Fate.TAIL else element < stop
-            if is_reached and agnostic(execution, fate):
-                _write(after, operand, number, element, -1)
+    for element in range(operand.group * REGISTER_BITS // operand.eew):
+        fate = execution.fate(element)
+        if agnostic(execution, fate) and (has_tail if fate == Fate.TAIL else element < stop):
+            for number in range(execution.fields):
+                _write(execution, after, operand, number, element, -1)
 
 
-def _check_store(execution: Execution, address: int, size: int) -> None:
-    if not execution.before.can_write(address, size):
-        raise NoAccess(address)
-
-
-def _store(execution: Execution, after: After, address: int, value: int, size: int) -> None:
+def _stored(execution: Execution, address: int, value: int, width: int) -> dict[int, int]:
+    """The bytes of a store by address. Raises NoAccess."""
     address &= WORD
-    _check_store(execution, address, size)
-    data = (value & (1 << 8 * size) - 1).to_bytes(size, "little")
-    after.memory.update((address + at & WORD, byte) for at, byte in enumerate(data))
+    if not execution.before.can_write(address, width // 8):
+        raise NoAccess(address)
+    return {address + at & WORD: value >> 8 * at & 255 for at in range(width // 8)}
 
 
 def immediate_of(word: int) -> int:
@@ -389,32 +348,20 @@ def immediate_of(word: int) -> int:
         return word >> 12
     if opcode in (0x13, 0x1B) and funct3 in (1, 5):
         return word >> 20 & (63 if opcode == 0x13 else 31)
-    return word >> 15 & 31 if opcode in (0x73, OP_V) else sext(word >> 20, 12)
+    return word >> 15 & 31 if opcode in (SYSTEM, OP_V) else sext(word >> 20, 12)
 
 
 def _control_value(control: ControlRegisters, number: int) -> int:
     """The value of a control register by its number."""
-    values = {
-        0x008: control.vstart,
-        0x009: control.vxsat,
-        0x00A: control.vxrm,
-        0x00F: control.vxrm << 1 | control.vxsat,
-    }
-    return (values | {0xC20: control.vl, 0xC21: control.vtype, 0xC22: REGISTER_BYTES}).get(number, 0)
+    read_only = {0xC20: control.vl, 0xC21: control.vtype, 0xC22: REGISTER_BYTES}
+    fields = _CONTROL_FIELDS.get(number, {})
+    return read_only.get(number, sum(getattr(control, name) << low for name, (low, _) in fields.items()))
 
 
 def _with_control_value(control: ControlRegisters, number: int, value: int) -> ControlRegisters:
     """The control registers after one is written; those that can only be read are as they were."""
-    match number:
-        case 0x008:
-            return replace(control, vstart=value & 0xFF)
-        case 0x009:
-            return replace(control, vxsat=value & 1)
-        case 0x00A:
-            return replace(control, vxrm=value & 3)
-        case 0x00F:
-            return replace(control, vxrm=value >> 1 & 3, vxsat=value & 1)
-    return control
+    fields = _CONTROL_FIELDS.get(number, {})
+    return replace(control, **{name: value >> low & most for name, (low, most) in fields.items()})
 
 
 def _requested(before: Before) -> dict[str, object]:

@@ -136,12 +136,12 @@ class Assignment:
 
     kind: `element`, `mask`, `x`, `memory`, `pc`, `vl`, `vtype` or `csr`
     width: of memory, in bits; 0 for that of an element
-    place: the index of the target; None where it has none, and is one number
+    place: the index of the target; its name where it has none, and is one number
     """
 
     kind: str
     width: int
-    place: ast.expr | None
+    place: ast.expr
     value: ast.expr
 
     @property
@@ -193,7 +193,7 @@ def _assignment(text: str, whole: str) -> Assignment:
     if not is_assignment:
         raise LabError(f"formula {whole!r}: {text!r} assigns nothing; write TARGET = VALUE")
     if target in _NUMBER_TARGETS:
-        return Assignment(target, 64, None, _checked(value, whole))
+        return Assignment(target, 64, ast.Name(target), _checked(value, whole))
     match _checked(target, whole):
         case ast.Subscript(base, place) if (name := ast.unparse(base)) in _TARGETS:
             return Assignment(*_TARGETS[name], place, _checked(value, whole))

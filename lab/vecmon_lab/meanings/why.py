@@ -7,11 +7,11 @@ from collections.abc import Iterable
 from dataclasses import dataclass
 
 from .. import LabError
-from ..instructions.accesses import REGISTER_BITS, REGISTER_BYTES
+from ..instructions.accesses import REGISTER_BITS
 from ..instructions.reasons import illegal_reasons
 from ..instructions.table import REGISTERS
 from ..instructions.words import OP_V
-from .executed import After, Before, Execution, Fate, agnostic, execute
+from .executed import WORD, After, Before, Execution, Fate, agnostic, element_of, execute
 from .formula import CLIPS, FUNCTIONS, MEMORIES, OPERANDS, Assignment, elements_in, evaluate
 
 MOST_TERMS = 8  # of a list of elements that is shown whole
@@ -87,7 +87,7 @@ def _why_element(execution: Execution, after: After, register: int, element: int
     if operand is None or register not in operand.registers:
         if element >= count:
             raise LabError(f"v{register} has the elements 0 to {count - 1} of {width} bits, and {element} isn't one")
-        old = _element(before.v, register, width, element)
+        old = element_of(before.v, register, width, element)
         return _kept(f"v{register}[{element}]", old, f"{execution.row.name} doesn't write v{register}")
     at, group = register - operand.registers.start, 1 if operand.eew == 1 else operand.group
     first, index = operand.registers.start + at // group * group, at % group * count + element
@@ -106,7 +106,7 @@ def _why_of(execution: Execution, after: After, target: str, place: tuple[int, i
     if unit != operand.eew:
         target = f"v{first}[{index // 8}]"
         index //= 8
-    old, new = (_element(data, first, unit, index) for data in (execution.before.v, after.v))
+    old, new = (element_of(data, first, unit, index) for data in (execution.before.v, after.v))
     fate = execution.fate(index)
     is_result = fate == Fate.RESULT
     if is_result and after.fault is not None and index >= after.control.vstart:
@@ -149,9 +149,7 @@ def _kept(target: str, value: int, cause: str) -> Reason:
 
 def _stored(execution: Execution, target: str, value: int, width: int) -> Reason:
     """An element that is stored, which stays in its register."""
-    place = execution.target.place
-    assert place
-    address = evaluate(place, execution.names) & (1 << 64) - 1
+    address = execution.place(execution.target) & WORD
     return Reason(f"{target} kept its value {value}: it is stored: memory[{address:#x}] = {target} = {value}", value)
 
 
@@ -187,15 +185,6 @@ def _numbers(execution: Execution, node: ast.expr) -> str:
     return ast.unparse(_Shown(execution, True).visit(copy.deepcopy(node)))
 
 
-def _element(v: bytes | bytearray, register: int, width: int, number: int) -> int:
-    """An element of a group, without a sign; a bit of a mask."""
-    first = register * REGISTER_BYTES
-    if width == 1:
-        return v[first + number // 8] >> number % 8 & 1
-    size = width // 8
-    return int.from_bytes(v[first + number * size : first + (number + 1) * size], "little")
-
-
 class _Shown(ast.NodeTransformer):
     """Puts the numbers of elements and registers into an expression, or the values that they have."""
 
@@ -213,7 +202,7 @@ class _Shown(ast.NodeTransformer):
             case ast.Name("vs1") if (scalar := self._scalar()) is not None:
                 return ast.Name(scalar)
             case ast.Name(name) if name in MEMORIES:
-                return ast.Name(f"{name}[{index & (1 << 64) - 1:#x}]")
+                return ast.Name(f"{name}[{index & WORD:#x}]")
         return ast.Name(f"{ast.unparse(node.value)}[{index}]")
 
     def visit_Name(self, node: ast.Name) -> ast.expr:
