@@ -23,14 +23,14 @@ def write_instruction_pages(stage: Path) -> None:
     for record in families:
         (stage / FOLDER / f"{record.name}.md").write_text(page_of(record), "utf-8")
     rows = "".join(f"| [{it.name}]({it.name}.md) | {it.does} |\n" for it in families)
+    title = "Instructions by name"
+    about = "A page for each family of instructions."
     text = (
-        f"# Instructions by name\n\nA page for each family of instructions.\n\n| family | effect |\n|---|---|\n{rows}"
+        f"# {title}\n\n{about}\n\n| family | effect |\n|---|---|\n{rows}"
     )
     (stage / FOLDER / "index.md").write_text(text, "utf-8")
     with (stage / "index.md").open("a", encoding="utf-8") as index:
-        index.write(
-            f"\n## Instructions\n\n- **[Instructions by name]({FOLDER}/index.md)**: A page for each family of instructions.\n"
-        )
+        index.write(f"\n## Instructions\n\n- **[{title}]({FOLDER}/index.md)**: {about}\n")
         index.write(f"\n```{{toctree}}\n:hidden:\n:caption: Instructions\n\n{FOLDER}/index\n```\n")
 
 
@@ -70,10 +70,9 @@ def _example(record: Record) -> Iterator[str]:
     if record.name not in examples():
         return
     text, before, after = examples()[record.name]
-    rows = [(each.partition(": ")[0], *each.partition(": ")[2].split()) for each in before.split("; ")]
-    rows += [
-        (f"{each.partition(': ')[0]} after", *each.partition(": ")[2].split()) for each in after.split("; ") if each
-    ]
+    states = (("", before), (" after", after))
+    cells = [(suffix, *each.partition(": ")) for suffix, text in states for each in text.split("; ") if each]
+    rows = [(f"{name}{suffix}", *values.split()) for suffix, name, _, values in cells]
     width = max(map(len, rows))
     padded = [(*row, *[""] * (width - len(row))) for row in rows]
     yield f"## Example\n\n`{text}` under e32, m1 and vl 8:\n\n" + _table(("", *map(str, range(width - 1))), padded)

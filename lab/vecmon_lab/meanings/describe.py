@@ -1,6 +1,8 @@
 """Records as lines of text: what the console's `help` prints, and what the pages, the book and the manual page have."""
 
+import bisect
 import functools
+import itertools
 import re
 from collections.abc import Iterator, Mapping
 from fractions import Fraction
@@ -12,6 +14,7 @@ from .record import FOLDER, Record, record_of, records
 
 _SHORT = ("a", "an", "the", "of", "to", "with", "in")  # words that a search leaves out
 EXAMPLES = FOLDER.with_name("instruction_examples.txt")
+_CAUSES = {Trait.FROM_ZERO: "vstart isn't 0", Trait.BELOW_64: "SEW is 64"}  # why a word with a trait is illegal
 _LISTED = 12  # of what a search finds
 
 
@@ -54,9 +57,7 @@ def operand_cells(row: Row) -> Iterator[tuple[str, str, str]]:
 
 
 def _width(operand: Operand) -> str:
-    if operand.part is None:
-        return f"{operand.eew}"
-    return _scaled("SEW", operand.part)
+    return _scaled("SEW", operand.part) if operand.part else f"{operand.eew}"
 
 
 def _scaled(name: str, part: Fraction) -> str:
@@ -80,10 +81,7 @@ def illegal_causes(row: Row) -> Iterator[str]:
     target, sources = instruction.operands[0], instruction.operands[1:]
     if Trait.UNTYPED not in instruction.traits:
         yield "the type is vill"
-    if Trait.FROM_ZERO in instruction.traits:
-        yield "vstart isn't 0"
-    if Trait.BELOW_64 in instruction.traits:
-        yield "SEW is 64"
+    yield from (cause for trait, cause in _CAUSES.items() if trait in instruction.traits)
     widths = {it.part for it in instruction.operands if it.part}
     if max(widths, default=1) > 1:
         yield f"{max(widths)}*SEW is above 64, or {max(widths)}*LMUL above 8"
@@ -153,14 +151,14 @@ def _scalar_note(row: Row, formula: str) -> str:
 
 
 def _more(record: Record) -> Iterator[str]:
-    if record.use:
-        yield f"  Use: {record.use}"
-    if record.mistake:
-        yield f"  Mistake: {record.mistake}"
-    if record.section:
-        yield f"  Manual: section {record.section}" + (f"; in C: {record.intrinsic}" if record.intrinsic else "")
-    if record.see:
-        yield f"  See {', '.join(record.see)}"
+    manual = f"{record.section}; in C: {record.intrinsic}" if record.intrinsic else record.section
+    texts = {
+        "Use: ": record.use,
+        "Mistake: ": record.mistake,
+        "Manual: section ": manual,
+        "See ": ", ".join(record.see),
+    }
+    return (f"  {title}{text}" for title, text in texts.items() if text)
 
 
 def encoding_fields(row: Row) -> list[tuple[str, int]]:
@@ -170,17 +168,14 @@ def encoding_fields(row: Row) -> list[tuple[str, int]]:
     own = {places[name]: name for name in names if name in places}
     if row.opcode == STORE_FP:
         own[7] = "vs3"
-    marks = [_mark(row, own, 31 - at) if bit == "-" else "" for at, bit in enumerate(row.bits)]
-    borders = (25, 20, 15, 12, 7) if row.opcode not in (OP_V, *VECTOR_ACCESSES) else (26, 25, 20, 15, 12, 7)
-    found: list[tuple[str, int]] = []
-    for at, mark in enumerate(marks):
-        text = mark or row.bits[at]
-        is_same = at and marks[at - 1] == mark and (mark != "" or 32 - at not in borders)
-        if is_same:
-            found[-1] = (found[-1][0] if mark else found[-1][0] + text, found[-1][1] + 1)
-        else:
-            found.append((text, 1))
-    return found
+    borders = (7, 12, 15, 20, 25, 26) if row.opcode in (OP_V, *VECTOR_ACCESSES) else (7, 12, 15, 20, 25)
+
+    def field_of(bit: int) -> tuple[str, int]:
+        """The name of an operand's field, or the number of a field of fixed bits."""
+        return (_mark(row, own, bit), 0) if row.bits[31 - bit] == "-" else ("", bisect.bisect(borders, bit))
+
+    fields = [(name, list(bits)) for (name, _), bits in itertools.groupby(range(31, -1, -1), field_of)]
+    return [(name or row.bits[31 - bits[0] : 32 - bits[-1]], len(bits)) for name, bits in fields]
 
 
 def _mark(row: Row, own: Mapping[int, str], bit: int) -> str:
@@ -198,10 +193,8 @@ def encoding_text(row: Row) -> str:
 
 def text_of(record: Record) -> str:
     """All texts of a record, for a search."""
-    members = " ".join(record.members)
-    return (
-        f"{record.name} {members} {record.kind} {record.does} {record.elements} {record.use} {record.mistake}".lower()
-    )
+    texts = [record.name, *record.members, record.kind, record.does, record.elements, record.use, record.mistake]
+    return " ".join(texts).lower()
 
 
 def found(words: str) -> list[Record]:

@@ -3,7 +3,6 @@
 import ast
 import copy
 import re
-from collections.abc import Iterable
 from dataclasses import dataclass
 
 from .. import LabError
@@ -82,56 +81,50 @@ def _why_scalar(execution: Execution, after: After, number: int) -> Reason:
 def _why_element(execution: Execution, after: After, register: int, element: int) -> Reason:
     """Why an element of the group that a vector register belongs to has its value."""
     operand, before = execution.operand, execution.before
-    width = before.control.sew if operand is None or register not in operand.registers else max(1, operand.eew)
+    at, group, width = 0, 1, before.control.sew
+    if operand and register not in operand.registers:
+        operand = None
+    if operand:
+        at, group, width = register - operand.registers.start, operand.group if operand.eew > 1 else 1, operand.eew
     count = REGISTER_BITS // width
-    if operand is None or register not in operand.registers:
-        if element >= count:
-            raise LabError(f"v{register} has the elements 0 to {count - 1} of {width} bits, and {element} isn't one")
-        old = element_of(before.v, register, width, element)
-        return _kept(f"v{register}[{element}]", old, f"{execution.row.name} doesn't write v{register}")
-    at, group = register - operand.registers.start, 1 if operand.eew == 1 else operand.group
-    first, index = operand.registers.start + at // group * group, at % group * count + element
+    first, index = register - at % group, at % group * count + element
     if index >= group * count:
         raise LabError(f"v{first} has the elements 0 to {group * count - 1} of {width} bits, and {index} isn't one")
-    target = f"v{first}{'.mask' if operand.eew == 1 and execution.target.kind == 'mask' else ''}[{index}]"
-    return _why_of(execution, after, target, (first, at // group, index))
+    if operand:
+        index //= 8 if width == 1 and execution.target.kind != "mask" else 1  # masks are loaded and stored by bytes
+        return _why_written(execution, after, first, at // group, index)
+    old = element_of(before.v, register, width, element)
+    return _kept(f"v{register}[{element}]", old, f"{execution.row.name} doesn't write v{register}")
 
 
-def _why_of(execution: Execution, after: After, target: str, place: tuple[int, int, int]) -> Reason:
-    """Why an element has its value. place: the first register of its group, the number of the field, and its own."""
-    operand = execution.operand
-    assert operand
-    first, field, index = place
-    unit = 8 if operand.eew == 1 and execution.target.kind != "mask" else operand.eew  # masks are loaded by bytes
-    if unit != operand.eew:
-        target = f"v{first}[{index // 8}]"
-        index //= 8
-    old, new = (element_of(data, first, unit, index) for data in (execution.before.v, after.v))
+def _why_written(execution: Execution, after: After, register: int, field: int, index: int) -> Reason:
+    """Why an element of the operand at vd has its value. register: the first of the group; field: its number in a segment."""
+    is_mask, control = execution.target.kind == "mask", after.control
+    unit, target = 1 if is_mask else execution.width, f"v{register}{'.mask' * is_mask}[{index}]"
+    old, new = (element_of(data, register, unit, index) for data in (execution.before.v, after.v))
     fate = execution.fate(index)
-    is_result = fate == Fate.RESULT
-    if is_result and after.fault is not None and index >= after.control.vstart:
-        return _kept(target, old, f"the access of element {after.control.vstart} faults, so it isn't reached")
-    if is_result and execution.row.name.endswith("ff.v") and index >= after.control.vl:
-        return _kept(
-            target, old, f"the access of element {after.control.vl} isn't permitted, so vl is {after.control.vl}"
-        )
-    if is_result:
-        execution.at(index, field)
-        if execution.target.kind == "memory":
-            return _stored(execution, target, old, unit)
-        return _explained(execution, target, execution.target, unit)
-    cause = _cause(execution, fate, index)
-    if new != old or agnostic(execution, fate) and after.fault is None and new == (1 << unit) - 1:
-        return Reason(f"{target} = {new:#x}, all ones, since it is agnostic under policy ones: {cause}", new)
-    return _kept(target, old, cause)
+    if fate != Fate.RESULT:
+        cause = _cause(execution, fate, index)
+        if new != old or agnostic(execution, fate) and after.fault is None and new == (1 << unit) - 1:
+            return Reason(f"{target} = {new:#x}, all ones, since it is agnostic under policy ones: {cause}", new)
+        return _kept(target, old, cause)
+    if after.fault is not None and index >= control.vstart:
+        return _kept(target, old, f"the access of element {control.vstart} faults, so it isn't reached")
+    if execution.row.name.endswith("ff.v") and index >= control.vl:
+        return _kept(target, old, f"the access of element {control.vl} isn't permitted, so vl is {control.vl}")
+    execution.at(index, field)
+    if execution.target.kind == "memory":
+        address = execution.place(execution.target) & WORD
+        return _kept(target, old, f"it is stored: memory[{address:#x}] = {target} = {old}")
+    return _explained(execution, target, execution.target, unit)
 
 
 def _cause(execution: Execution, fate: Fate, index: int) -> str:
     """Why the formula doesn't count for an element."""
     control = execution.before.control
-    stop = "1, the one element that is written" if execution.is_single else f"{execution.body.stop}"
-    if fate == Fate.TAIL and execution.body.stop == control.vl and not execution.is_single:
-        stop = f"vl = {control.vl}"
+    stop = f"vl = {control.vl}" if execution.body.stop == control.vl else f"{execution.body.stop}"
+    if execution.is_single:
+        stop = "1, the one element that is written"
     execution.at(index)
     kept = execution.record.kept
     return {
@@ -139,7 +132,7 @@ def _cause(execution: Execution, fate: Fate, index: int) -> str:
         Fate.TAIL: f"tail, since {index} >= {stop}",
         Fate.BEFORE_START: f"before vstart = {control.vstart}",
         Fate.NO_ELEMENTS: f"no element is written, since vstart = {control.vstart} >= {execution.body.stop}, the end of the body",
-        Fate.KEPT: f"not written, since {_numbers(execution, kept)}" if kept else "",
+        Fate.KEPT: f"not written, since {_text(execution, kept, True)}" if kept else "",
     }[fate]
 
 
@@ -147,25 +140,17 @@ def _kept(target: str, value: int, cause: str) -> Reason:
     return Reason(f"{target} kept its value {value}: {cause}", value)
 
 
-def _stored(execution: Execution, target: str, value: int, width: int) -> Reason:
-    """An element that is stored, which stays in its register."""
-    address = execution.place(execution.target) & WORD
-    return Reason(f"{target} kept its value {value}: it is stored: memory[{address:#x}] = {target} = {value}", value)
-
-
 def _explained(execution: Execution, target: str, assignment: Assignment, width: int) -> Reason:
     """A value by the formula: with names, with numbers, and the result."""
     result = execution.value(assignment)
     stored = result & (1 << width) - 1
     node, causes = _chosen(execution, assignment.value, [])
-    with_names = ast.unparse(_Shown(execution, False).visit(copy.deepcopy(node)))
     last = f"{result}"
     if result == stored - (1 << width):
         last = f"{result} ({stored:#x})"
     elif result != stored:
         last = f"{result}, whose lowest {width} bits are {stored}"
-    parts = [target, with_names, _numbers(execution, node), last]
-    shown = [part for at, part in enumerate(parts) if part not in parts[:at]]
+    shown = dict.fromkeys([target, _text(execution, node, False), _text(execution, node, True), last])
     return Reason(" = ".join(shown) + (f", since {' and '.join(causes)}" if causes else ""), stored)
 
 
@@ -173,16 +158,15 @@ def _chosen(execution: Execution, node: ast.expr, causes: list[str]) -> tuple[as
     """The branch of a choice that counts, and the conditions that select it."""
     while isinstance(node, ast.IfExp):
         holds = bool(evaluate(node.test, execution.names))
-        names, numbers = ast.unparse(_Shown(execution, False).visit(copy.deepcopy(node.test))), _numbers(
-            execution, node.test
-        )
+        names, numbers = (_text(execution, node.test, has_values) for has_values in (False, True))
         causes.append(f"{names}{f' ({numbers})' if numbers != names else ''} is {'true' if holds else 'false'}")
         node = node.body if holds else node.orelse
     return node, causes
 
 
-def _numbers(execution: Execution, node: ast.expr) -> str:
-    return ast.unparse(_Shown(execution, True).visit(copy.deepcopy(node)))
+def _text(execution: Execution, node: ast.expr, has_values: bool) -> str:
+    """An expression with the names of elements and registers, or with the values that they have."""
+    return ast.unparse(_Shown(execution, has_values).visit(copy.deepcopy(node)))
 
 
 class _Shown(ast.NodeTransformer):
@@ -226,13 +210,10 @@ class _Shown(ast.NodeTransformer):
         if not isinstance(node, ast.GeneratorExp):
             return [ast.unparse(self.visit(node))]
         (loop,) = node.generators
-        terms = list(self._each(node.elt, elements_in(loop, self._names)))
+        terms = []
+        for self._names["j"] in elements_in(loop, self._names):
+            terms.append(ast.unparse(self.visit(copy.deepcopy(node.elt))))
         return terms if len(terms) <= MOST_TERMS else [*terms[: MOST_TERMS - 1], "...", terms[-1]]
-
-    def _each(self, node: ast.expr, numbers: Iterable[int]) -> Iterable[str]:
-        for number in numbers:
-            self._names["j"] = number
-            yield ast.unparse(self.visit(copy.deepcopy(node)))
 
     def _constant(self, node: ast.expr) -> ast.expr:
         value = evaluate(node, self._names)
