@@ -98,16 +98,15 @@ def picture(row: Row) -> str:
     """The 32 bits of an instruction as boxes, bit 31 first, with the fields below them, as a picture in SVG."""
     boxes, bit = list[str](), 31
     for name, bits in encoding_fields(row):
-        left, width, is_fixed = (31 - bit) * BOX, bits * BOX, set(name) <= {"0", "1"}
+        left, is_fixed = (31 - bit) * BOX, set(name) <= {"0", "1"}
+        fill, label = ("", "") if is_fixed else (' class="operand"', name)
         for at, text in enumerate(name if is_fixed else " " * bits):
             x = left + at * BOX
-            fill = "" if is_fixed else ' class="operand"'
             boxes.append(
                 f'<rect x="{x}" y="14" width="{BOX}" height="{BOX}"{fill}/><text x="{x + BOX // 2}" y="30">{text}</text>'
             )
         boxes.append(f'<text x="{left + BOX // 2}" y="10" class="bit">{bit}</text>')
-        label = "" if is_fixed else name
-        boxes.append(f'<text x="{left + width // 2}" y="52">{label}</text>')
+        boxes.append(f'<text x="{left + bits * BOX // 2}" y="52">{label}</text>')
         bit -= bits
     title = re.sub(r"[<>&]", "", f"{row.name}: {' '.join(f'{name}' for name, _ in encoding_fields(row))}")
     return (

@@ -27,12 +27,11 @@ _CONTROL_FIELDS = {  # of control registers that can be written, by number: the 
 }
 
 
+@dataclass(eq=False)
 class NoAccess(Exception):
-    """An access that memory doesn't permit. The number is its address."""
+    """An access that memory doesn't permit."""
 
-    def __init__(self, address: int) -> None:
-        super().__init__(address)
-        self.address = address
+    address: int
 
 
 @dataclass(frozen=True)

@@ -63,8 +63,7 @@ def explanation_of(guest: Guest, before: Registers, after: ControlRegisters, car
         if address == fault or address >= end:
             return None
         parts = [line(number) for number in range(address // LINE_BYTES, (address + length - 1) // LINE_BYTES + 1)]
-        data = b"".join(part for part in parts if part is not None)
-        return None if None in parts else data[address % LINE_BYTES :][:length]
+        return None if None in parts else b"".join(filter(None, parts))[address % LINE_BYTES :][:length]
 
     has_ones = guest.session.policy[guest.user] == "ones"
     state = Before(

@@ -80,17 +80,15 @@ def _why_scalar(execution: Execution, after: After, number: int) -> Reason:
 
 def _why_element(execution: Execution, after: After, register: int, element: int) -> Reason:
     """Why an element of the group that a vector register belongs to has its value."""
-    operand, before = execution.operand, execution.before
-    at, group, width = 0, 1, before.control.sew
-    if operand and register not in operand.registers:
-        operand = None
-    if operand:
+    operand, before, at, group = execution.operand, execution.before, 0, 1
+    width, is_written = before.control.sew, operand is not None and register in operand.registers
+    if operand and is_written:
         at, group, width = register - operand.registers.start, operand.group if operand.eew > 1 else 1, operand.eew
     count = REGISTER_BITS // width
     first, index = register - at % group, at % group * count + element
     if index >= group * count:
         raise LabError(f"v{first} has the elements 0 to {group * count - 1} of {width} bits, and {index} isn't one")
-    if operand:
+    if is_written:
         index //= 8 if width == 1 and execution.target.kind != "mask" else 1  # masks are loaded and stored by bytes
         return _why_written(execution, after, first, at // group, index)
     old = element_of(before.v, register, width, element)
@@ -210,8 +208,9 @@ class _Shown(ast.NodeTransformer):
         if not isinstance(node, ast.GeneratorExp):
             return [ast.unparse(self.visit(node))]
         (loop,) = node.generators
-        terms = []
-        for self._names["j"] in elements_in(loop, self._names):
+        terms = list[str]()
+        for number in elements_in(loop, self._names):
+            self._names["j"] = number
             terms.append(ast.unparse(self.visit(copy.deepcopy(node.elt))))
         return terms if len(terms) <= MOST_TERMS else [*terms[: MOST_TERMS - 1], "...", terms[-1]]
 
