@@ -108,7 +108,7 @@ class Execution:
     """An instruction in a state: its record and formula, its elements, and what names in the formula mean.
 
     target: the assignment that says what the instruction writes
-    is_single: whether it writes one element: the destination is the register of the element, and the others are the tail
+    is_single: whether it writes one element, whose register is the destination; the other elements are the tail
     body, active: the elements from vstart on, and those of them that the mask doesn't turn off
     operand: the vector register group at vd: the destination, or what a store writes; None if there is none
     fields: how many fields a segment has; 1 if there is no segment

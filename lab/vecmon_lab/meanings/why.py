@@ -89,14 +89,18 @@ def _why_element(execution: Execution, after: After, register: int, element: int
     if index >= group * count:
         raise LabError(f"v{first} has the elements 0 to {group * count - 1} of {width} bits, and {index} isn't one")
     if is_written:
-        index //= 8 if width == 1 and execution.target.kind != "mask" else 1  # masks are loaded and stored by bytes
+        if width == 1 and execution.target.kind != "mask":
+            index //= 8  # masks are loaded and stored by bytes
         return _why_written(execution, after, first, at // group, index)
     old = element_of(before.v, register, width, element)
     return _kept(f"v{register}[{element}]", old, f"{execution.row.name} doesn't write v{register}")
 
 
 def _why_written(execution: Execution, after: After, register: int, field: int, index: int) -> Reason:
-    """Why an element of the operand at vd has its value. register: the first of the group; field: its number in a segment."""
+    """Why an element of the operand at vd has its value.
+
+    register: the first of the group; field: the number of the segment's field
+    """
     is_mask, control = execution.target.kind == "mask", after.control
     unit, target = 1 if is_mask else execution.width, f"v{register}{'.mask' * is_mask}[{index}]"
     old, new = (element_of(data, register, unit, index) for data in (execution.before.v, after.v))
@@ -119,8 +123,8 @@ def _why_written(execution: Execution, after: After, register: int, field: int, 
 
 def _cause(execution: Execution, fate: Fate, index: int) -> str:
     """Why the formula doesn't count for an element."""
-    control = execution.before.control
-    stop = f"vl = {control.vl}" if execution.body.stop == control.vl else f"{execution.body.stop}"
+    control, body = execution.before.control, execution.body
+    stop = f"vl = {control.vl}" if body.stop == control.vl else f"{body.stop}"
     if execution.is_single:
         stop = "1, the one element that is written"
     execution.at(index)
@@ -129,7 +133,7 @@ def _cause(execution: Execution, fate: Fate, index: int) -> str:
         Fate.MASKED: f"masked off by v0[{index}] = 0",
         Fate.TAIL: f"tail, since {index} >= {stop}",
         Fate.BEFORE_START: f"before vstart = {control.vstart}",
-        Fate.NO_ELEMENTS: f"no element is written, since vstart = {control.vstart} >= {execution.body.stop}, the end of the body",
+        Fate.NO_ELEMENTS: f"no element is written, since vstart = {control.vstart} >= {body.stop}, the end of the body",
         Fate.KEPT: f"not written, since {_text(execution, kept, True)}" if kept else "",
     }[fate]
 
