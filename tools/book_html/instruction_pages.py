@@ -25,9 +25,7 @@ def write_instruction_pages(stage: Path) -> None:
     rows = "".join(f"| [{it.name}]({it.name}.md) | {it.does} |\n" for it in families)
     title = "Instructions by name"
     about = "A page for each family of instructions."
-    text = (
-        f"# {title}\n\n{about}\n\n| family | effect |\n|---|---|\n{rows}"
-    )
+    text = f"# {title}\n\n{about}\n\n| family | effect |\n|---|---|\n{rows}"
     (stage / FOLDER / "index.md").write_text(text, "utf-8")
     with (stage / "index.md").open("a", encoding="utf-8") as index:
         index.write(f"\n## Instructions\n\n- **[{title}]({FOLDER}/index.md)**: {about}\n")
