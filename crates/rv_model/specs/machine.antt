@@ -1,10 +1,8 @@
--- Machines and scripts. `Users` first: how many there are; then `Setup`: what stays the same in a run; then `UserMachine`: what
--- a user's machine is; then `Runs`: runs of instructions; then, with the commands, `PrivateMachine`: all that happens to one
--- user's machine; then `Cuts`: slices one after another, and that they add up; then `VectorUnit`: the one vector unit, as it is
--- counted; then `World` and `Grants`: all users' machines side by side, and the slices that the operator grants; then `Script`:
--- the whole output; then `Laws`: the headline and its kin; then `Turns`: that slices in turn are fair; then `Refusals`: that a
--- refusal changes nothing; then `AbsentUsers`: that these have nothing of the vector unit; then `ConfiguredUsers`: that slices
--- add up after any script. `Examples` are small scripts.
+-- Machines and scripts, in reading order. `Setup`: constants of a run. `UserMachine`: one user's machine, and runs of its instructions.
+-- `Cuts`: consecutive slices, and that they add up. `VectorUnit`: the shared vector unit and its counts. `World`: events of one machine,
+-- and the machines of all users. `Grants`: the slices that the operator grants. `Script`: the whole output. `Laws`: isolation of the
+-- users. `Turns`: fairness of slices in turn. `Refusals`: a refusal changes nothing. `AbsentUsers`: absent users have no state in the
+-- vector unit. `ConfiguredUsers`: slices add up after any script. `Examples`: small scripts.
 pub mod AbsentUsers
 pub mod ConfiguredUsers
 pub mod Cuts

@@ -1,5 +1,5 @@
--- Slices of one user's machine, one after another. An instruction that a slice cuts goes on in the next one, so what slices come
--- to depends on the sum of their ticks alone.
+-- Consecutive slices of one user's machine. The next slice continues an instruction that a slice cuts, so the effect of several slices
+-- depends only on the sum of their ticks.
 use Rattle.std.specs.Prelude.{ℕ, zero, suc, ◌+◌, ◌*◌, ◌≡◌, [], ◌++◌, All, IfSome}
 use Rattle.rv_model.specs.declared.step.step_end.StepEnd.TheVariants.{Cut}
 use Rattle.rv_model.specs.machine.World.{sliced}
@@ -8,21 +8,20 @@ use Rattle.rv_model.specs.step.Resumes.{KeepsOwnWord}
 use Rattle.rv_model.specs.step.Step.{fetched, step}
 use Rattle.rv_model.specs.vector.Groups.{IsConfiguration}
 
--- what happens to a machine, and then what happens to the one that is left: where that stands then, the lines of both, and the
--- uses of both
+-- two consecutive outcomes as one: the machine after the second, the lines of both, and the uses of both
 abbrev pub joined : Outcome → Outcome → Outcome
 joined first second = record { next = second.next; lines = first.lines ++ second.lines; uses = first.uses ++ second.uses }
 
--- k slices of so many ticks
+-- k slices of `quantum` ticks each
 unfoldable pub slices : ℕ → ℕ → Private → Outcome
 slices zero quantum p = record { next = p; lines = []; uses = [] }
 slices (suc k) quantum p = joined (sliced quantum p) (slices k quantum (sliced quantum p).next)
 
--- two come to the same: they leave the same machine, and print the same lines
+-- two outcomes agree: they leave the same machine, and print the same lines
 abbrev pub ComeToTheSame : Outcome → Outcome → Type 0
 ComeToTheSame one other = (one.next ≡ other.next) × (one.lines ≡ other.lines)
 
--- an instruction that is tried and cut has stored nothing over its own word before
+-- if this use tries an instruction and the end of the ticks cuts it, the instruction hasn't overwritten its own word before the cut
 abbrev pub KeepsWordIfCut : Use → Type 0
 KeepsWordIfCut (Tries left hart) =
     (step left hart).end ≡ Cut → KeepsOwnWord (hart.vector.vstart + left) (fetched hart.memory hart.scalar.pc) hart
@@ -30,21 +29,21 @@ KeepsWordIfCut _ = Unit {0}
 
 -- ---- the laws
 
--- the vector length of a machine is one of its vector type
+-- the vector length of a machine is valid for its vector type
 abbrev pub IsConfigured : Private → Type 0
 IsConfigured p = IfSome p (λ p. IsConfiguration p.hart.vector.conf)
 
--- it stays one of it
+-- A slice preserves this.
 abbrev pub SliceKeepsConfiguration : Type 0
 SliceKeepsConfiguration = (quantum : ℕ) (p : Private) → IsConfigured p → IsConfigured (sliced quantum p).next
 
--- A slice of m ticks and then one of n give the lines and leave the machine of one slice of m + n ticks, unless the first cuts an
--- instruction that has stored over its own word before.
+-- A slice of m ticks and then one of n ticks print the same lines and leave the same machine as one slice of m + n ticks. The exception:
+-- the first slice cuts an instruction that has already overwritten its own word.
 abbrev pub CutsAreInvisible : Type 0
 CutsAreInvisible = (m n : ℕ) (p : Private) → IsConfigured p → All KeepsWordIfCut (sliced m p).uses
     → ComeToTheSame (joined (sliced m p) (sliced n (sliced m p).next)) (sliced (m + n) p)
 
--- So k slices are one of all their ticks.
+-- So k slices equal one slice of all their ticks, with the same exception.
 abbrev pub SlicesAddUp : Type 0
 SlicesAddUp = (k quantum : ℕ) (p : Private) → IsConfigured p → All KeepsWordIfCut (slices k quantum p).uses
     → ComeToTheSame (slices k quantum p) (sliced (k * quantum) p)

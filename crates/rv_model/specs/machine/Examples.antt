@@ -1,10 +1,10 @@
--- A small script with its output, for whatever quantum and images.
+-- A small script with its output, for any quantum and any images.
 use Rattle.std.specs.Prelude.{ℕ, ◌≡◌, List, [], ◌∷◌, ◌++◌, codes, replicate, map}
 use Rattle.std.specs.List.{concat}
 use Rattle.rv_model.specs.machine.Script.{whole}
 use Rattle.rv_model.specs.machine.Setup.{Setup}
 
--- lines of a script that follow one another, each time with what they print; the longest line has 1,024 bytes
+-- consecutive parts of the script, each with its output; the longest valid line has 1,024 bytes
 abbrev pub small_script : List (List ℕ × List ℕ)
 small_script =
     (codes "\n\n9 enter\n0 enter\n1\n \n", codes "* E01\n* E01\n* E01\n* E01\n")
@@ -33,7 +33,7 @@ small_script =
     ∷ (codes "1 stop\n1 leave\n1 leave\n1 enter", codes "1 E14\n1 left\n1 E05\n1 entered\n")
     ∷ []
 
--- it prints just that, and an empty one nothing
+-- the script prints exactly this output, and an empty script prints nothing
 abbrev pub SmallScriptsPrint : Type 0
 SmallScriptsPrint = (setup : Setup)
     → (whole setup (concat (map (λ e. e.0) small_script)) ≡ concat (map (λ e. e.1) small_script)) × (whole setup [] ≡ [])

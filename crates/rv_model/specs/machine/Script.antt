@@ -1,5 +1,5 @@
--- What a script makes of all users' private machines: whose each line is, the events in order, the whole output, and one user's
--- part of each.
+-- The effect of a script on all users' machines: the user of each line, the events in order, the whole output, and one user's part of
+-- each.
 use Rattle.std.specs.Prelude.{ℕ, ◌+◌, ◌-◌, ◌==◌, ◌&&◌, nat_lt, nat_le, false, List, [], ◌∷◌, ◌++◌, length, drop, map, filter, if◌then◌else◌, slice_index, codes}
 use Rattle.rv_model.specs.commands.Operator.{operator_parse}
 use Rattle.rv_model.specs.machine.Grants.{grants_of, operator_line}
@@ -9,7 +9,7 @@ unfoldable pub use Rattle.rv_model.specs.machine.World.{new_world}
 pub use Rattle.rv_model.specs.machine.World.{World, with_unit, Happening, outcome_of, unit_after, after_one, after_events, told_by, user_machine, with_user_machine}
 use Rattle.rv_model.specs.text.Lines.{text, pieces}
 
--- what a line is: nothing, too long, without a proper prefix, the operator's, or a user's
+-- the kind of a line: empty, too long, without a valid prefix, the operator's, or a user's
 pub data Kind : Type 0 where
   Empty : Kind
   Long : Kind
@@ -17,7 +17,7 @@ pub data Kind : Type 0 where
   Operator : List ℕ → Kind
   Of : ℕ → List ℕ → Kind
 
--- a line of at most 1,024 bytes by its first two bytes: a user's digit or a star, and a space
+-- the kind of a line of at most 1,024 bytes, by its first two bytes: a user's digit or a star, and a space
 abbrev pub prefixed : List ℕ → Kind
 prefixed [] = Empty
 prefixed (d ∷ []) = Bad
@@ -32,20 +32,20 @@ kind_of line = if nat_lt 1024 (length line) then Long else prefixed line
 abbrev pub commands : ℕ → List ℕ → Happening
 commands u line = record { user = u; event = Command line; turn = false }
 
--- what happens by a line
+-- the events of a line
 abbrev pub events_of : Setup → World → Kind → List Happening
 events_of setup w (Operator line) = grants_of setup w (operator_parse line)
 events_of setup w (Of u line) = commands u line ∷ []
 events_of setup w _ = []
 
--- what a line prints under the star
+-- the output of a line after the star
 unfoldable pub common : Setup → World → Kind → List (List ℕ)
 common setup w Long = codes "E02" ∷ []
 common setup w Bad = codes "E01" ∷ []
 common setup w (Operator line) = operator_line setup w (operator_parse line) ∷ []
 common setup w _ = []
 
--- the world after a line, and what the line prints
+-- the world after a line, and the output of the line
 unfoldable pub world_after : Setup → World → List ℕ → World
 world_after setup w line = after_events setup w (events_of setup w (kind_of line))
 
@@ -60,7 +60,7 @@ abbrev pub told_all : Setup → World → List (List ℕ) → List ℕ
 told_all setup w [] = []
 told_all setup w (line ∷ lines) = told setup w line ++ told_all setup (world_after setup w line) lines
 
--- what happens by all lines, in order
+-- the events of all lines, in order
 abbrev pub schedule : Setup → World → List (List ℕ) → List Happening
 schedule setup w [] = []
 schedule setup w (line ∷ lines) = events_of setup w (kind_of line) ++ schedule setup (world_after setup w line) lines
@@ -88,6 +88,6 @@ own_from setup u w script = mine u (schedule setup w (pieces script))
 abbrev pub own : Setup → ℕ → List ℕ → List Event
 own setup u script = own_from setup u new_world script
 
--- a user's lines of an output: those whose first byte is the user's digit, without digit and space
+-- a user's lines of an output: those whose first byte is the user's digit, with the digit and the space removed
 unfoldable pub lines : ℕ → List ℕ → List (List ℕ)
 lines u output = map (λ line. drop 2 line) (filter (λ line. slice_index line 0 == 48 + u) (pieces output))

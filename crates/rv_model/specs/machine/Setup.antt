@@ -1,12 +1,12 @@
--- What stays the same for the whole of a run: the users, who are numbered from 1 on, the images, and the ticks of a slice.
+-- Constants of a run: the users, numbered from 1, the images, and the ticks of a slice.
 use Rattle.std.specs.Prelude.{ℕ, List}
 use Rattle.std.specs.List.{range_with_len}
 
--- how many users there are
+-- number of users
 abbrev pub user_count : ℕ
 user_count = 8
 
--- the users in their order
+-- all users, in order
 abbrev pub users : List ℕ
 users = range_with_len 1 user_count
 

@@ -1,5 +1,5 @@
--- One user's machine, which no one else uses: what happens to it, and the lines that it prints; and all users' private machines side by
--- side, and what becomes of them by what happens to one after another.
+-- One user's machine alone: its events, and the lines that it prints. Then the machines of all users, and their states after one event
+-- after another.
 use Rattle.std.specs.Prelude.{ℕ, false, List, [], ◌∷◌, ◌++◌, Option, Some, None, if◌then◌else◌, ◌+◌, ◌-◌, Bool, replicate, slice_index_or, slice_set}
 use Rattle.rv_model.specs.declared.step.step_end.Stop.{Stop}
 use Rattle.rv_model.specs.commands.Commands.{commanded, parse}
@@ -10,20 +10,20 @@ pub use Rattle.rv_model.specs.machine.UserMachine.{Private, Present, Outcome, re
 use Rattle.rv_model.specs.machine.VectorUnit.{VectorUnit, unit_after_uses, unused_unit}
 use Rattle.rv_model.specs.text.Lines.{text}
 
--- a run ended: it goes on in the next slice, or its program stopped
+-- the end of a slice: the run continues in the next slice, or the program stopped
 abbrev pub slice_ends : Halted → Option Stop → Outcome
 slice_ends run None = record { next = Some run.state; lines = []; uses = run.uses }
 slice_ends run (Some stop) =
     record (replies (record run.state { running = false }) (stop_line run.state.hart.scalar.pc stop)) { uses = run.uses }
 
--- the ticks of a slice, for a program that runs
+-- the outcome of a slice of `quantum` ticks; it changes nothing unless a program is running
 unfoldable pub sliced : ℕ → Private → Outcome
 sliced quantum None = record { next = None; lines = []; uses = [] }
 sliced quantum (Some p) =
     let run = ticked quantum p in
     if p.running then slice_ends run run.stop else record { next = Some p; lines = []; uses = [] }
 
--- what happens to a machine: a command, as the bytes after its user's digit and a space, or a slice
+-- an event of a machine: a command, as the bytes after its user's digit and a space, or a slice
 pub data Event : Type 0 where
   Command : List ℕ → Event
   Slice : Event
@@ -32,27 +32,27 @@ unfoldable pub event : Setup → Private → Event → Outcome
 event setup p (Command line) = commanded setup.images p (parse line)
 event setup p Slice = sliced setup.quantum p
 
--- the lines of a machine's own run
+-- the lines that a machine prints when it runs alone
 abbrev pub solo_from : Setup → Private → List Event → List (List ℕ)
 solo_from setup p [] = []
 solo_from setup p (e ∷ es) = (event setup p e).lines ++ solo_from setup (event setup p e).next es
 
--- where that run ends
+-- the machine at the end of that run
 abbrev pub end_of : Setup → Private → List Event → Private
 end_of setup p [] = p
 end_of setup p (e ∷ es) = end_of setup (event setup p e).next es
 
--- the lines of a machine that begins absent
+-- the lines of a machine that is absent at the start
 abbrev pub solo : Setup → List Event → List (List ℕ)
 solo setup es = solo_from setup None es
 
--- the machines of all users in order, who was last granted a slice in turn, and the vector unit
+-- the machines of all users in order, the user who had the last turn, and the vector unit
 pub record World : Type 0 where
   pub parts : List Private
   pub cursor : ℕ
   pub unit : VectorUnit
 
--- everyone is absent, user 1 is the first to be granted a slice, and nobody has used the vector unit
+-- every user is absent, user 1 has the next turn, and no user has used the vector unit
 unfoldable pub new_world : World
 new_world = record { parts = replicate user_count None; cursor = user_count; unit = unused_unit }
 
@@ -63,38 +63,38 @@ user_machine u w = slice_index_or w.parts (u - 1) None
 abbrev pub with_user_machine : ℕ → Private → World → World
 with_user_machine u p w = record w { parts = slice_set w.parts (u - 1) p }
 
--- the world with another record of the vector unit
+-- the world with another state of the vector unit
 abbrev pub with_unit : VectorUnit → World → World
 with_unit unit w = record w { unit = unit }
 
--- what happens to a user, and whether that is the user's turn, after which the next user's comes
+-- an event of a user. If `turn` is true, the user has the turn, and the next user's turn follows.
 pub record Happening : Type 0 where
   pub user : ℕ
   pub event : Event
   pub turn : Bool
 
--- what happens to the user's machine
+-- the outcome for the user's machine
 abbrev pub outcome_of : Setup → World → Happening → Outcome
 outcome_of setup w h = event setup (user_machine h.user w) h.event
 
--- what becomes of the vector unit
+-- the vector unit after the event
 abbrev pub unit_after : Setup → World → Happening → VectorUnit
 unit_after setup w h = unit_after_uses h.user (outcome_of setup w h).uses w.unit
 
--- the world with the cursor at a user whose turn it was
+-- the world with the cursor at the user, if the user had the turn
 abbrev pub with_turn : Happening → World → World
 with_turn h w = if h.turn then record w { cursor = h.user } else w
 
--- the world after something has happened
+-- the world after one event
 abbrev pub after_one : Setup → World → Happening → World
 after_one setup w h = with_turn h (with_unit (unit_after setup w h) (with_user_machine h.user (outcome_of setup w h).next w))
 
--- the world after all that happened
+-- the world after several events
 abbrev pub after_events : Setup → World → List Happening → World
 after_events setup w [] = w
 after_events setup w (h ∷ hs) = after_events setup (after_one setup w h) hs
 
--- what is printed by all that happens, each line under its user's digit
+-- the output of several events, each line after its user's digit
 abbrev pub told_by : Setup → World → List Happening → List ℕ
 told_by setup w [] = []
 told_by setup w (h ∷ hs) = text (48 + h.user) (outcome_of setup w h).lines ++ told_by setup (after_one setup w h) hs
