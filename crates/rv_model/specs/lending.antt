@@ -1,8 +1,8 @@
--- Words in which functions of the crates say to one another what they ask and what they leave: nothing that the other definitions rest on.
--- `GroupBounds`: groups of registers that end inside all of them; `Writes`: elements and bits that are written so far; `Contiguous`: vector
--- loads and stores that move one block of bytes; `Accesses`, `Families`, `ListedBits` and `Search`: a decoder's; `Irregular`: vector
--- operations without a line of their own; `NameTable` and `Slots`: an assembler's; `Text`: words and numbers of a line; `Cells` and `Files`: how bytes come back that were lent for writing; `Seats`: how a
--- lent vector state does; `StoredMemory`: a memory as a stored value.
+-- Definitions that functions of the crates share in their contracts; no other definition depends on them. `GroupBounds`: register groups
+-- that end inside the register file. `Writes`: elements and bits that a loop has written so far. `Contiguous`: vector loads and stores of
+-- one block of bytes. `Accesses`, `Families`, `ListedBits` and `Search`: for the decoder. `Irregular`: vector instructions outside the
+-- funct6 table. `NameTable` and `Slots`: for the assembler. `Text`: arguments and numbers of a line. `Cells` and `Files`: return of bytes
+-- that were borrowed for writing. `Seats`: return of a borrowed vector state. `StoredMemory`: a memory as a stored value.
 pub mod Accesses
 pub mod Cells
 pub mod Contiguous

@@ -2,8 +2,8 @@
 use Rattle.std.specs.Prelude.{◌≡◌, ℕ, ◌+◌, ◌*◌, ◌^◌, ◌<◌, true}
 use Rattle.rv_model.specs.accesses.VectorAccess.{VectorAccess}
 
--- the n indices from one on are contiguous in memory, from an address on: none is masked off, and each has one field, which follows
--- that of the index before; so they are in the registers
+-- the n indices from `start` on are contiguous in memory, from `address` on: none is masked off, and each has one field, which follows
+-- the field of the index before. The elements are contiguous in the registers too.
 pub record IsContiguous (a : VectorAccess) (start n address : ℕ) : Type 0 where
   pub unmasked : a.body.unmasked ≡ true
   pub alone : a.fields ≡ 1

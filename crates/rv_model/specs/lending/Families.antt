@@ -1,5 +1,5 @@
--- The rows of the instruction table by families, in which the functions of a decoder find them: each by an instruction with zeros for
--- operands, with lists of the operations. `proofs/instruction_lemmas/Rows` says that they are the table's
+-- The rows of the instruction table by family, as the functions of the decoder search them. For each row there is an instruction with
+-- zeros as operands; lists give the operations. `proofs/instruction_lemmas/Rows` proves that these are the rows of the table.
 use Rattle.std.specs.Prelude.{ℕ, List, [], ◌∷◌, ◌++◌, map, true}
 use Rattle.rv_model.specs.instructions.FixedBits.{field, flag, fixed}
 use Rattle.rv_model.specs.instructions.Immediates.{store_immediate, branch_offset, jump_offset}
@@ -101,11 +101,11 @@ mask_unary_ops =
     mask_unary.Scan mask_scan.Vmsbf ∷ mask_unary.Scan mask_scan.Vmsof ∷ mask_unary.Scan mask_scan.Vmsif ∷
     mask_unary.Viota ∷ []
 
--- those that take v0
+-- operations that read v0
 abbrev pub carry_ops : List CarryOp
 carry_ops = carry.Vadc ∷ carry.Vsbc ∷ carry.Vmerge ∷ []
 
--- each of these with each width
+-- each item with each width
 abbrev pub with_widths : {A : Type 0} → List A → List (A × Eew)
 with_widths [] = []
 with_widths (x ∷ xs) = map (λ w. (x, w)) widths ++ with_widths xs
@@ -132,7 +132,7 @@ indexed_accesses = with_widths ordered_directions
 abbrev pub whole_loads : List (RegisterCount × Eew)
 whole_loads = with_widths counts
 
--- the rows with one layout of operands, and for vector operations of one place of the opcode map
+-- families of rows: a family has one layout of operands, and for vector operations one place in the opcode map
 pub data Family : Type 0 where
   -- RV32I, "Integer Register-Immediate Instructions"
   Uppers : Family
@@ -166,7 +166,7 @@ pub data Family : Type 0 where
   SetVlis : Family
   SetIvlis : Family
   SetVls : Family
-  -- V, the lines of "Vector Instruction Listing" that may be masked
+  -- V, the rows of "Vector Instruction Listing" that may be masked
   Ariths : Major → Form → Family
   -- V, "Vector Integer Add-with-Carry / Subtract-with-Borrow Instructions", "Vector Integer Merge Instructions"
   Carries : Form → Family

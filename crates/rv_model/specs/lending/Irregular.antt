@@ -1,4 +1,4 @@
--- Vector operations without a line of their own in the manual's table ("V" Vector Extension 1.0, chapter 19).
+-- Vector instructions outside the manual's table of funct6 operations ("V" Vector Extension 1.0, chapter 19).
 use Rattle.std.specs.Prelude.{Bool, true, false}
 use Rattle.rv_model.specs.declared.instructions.vector.VectorInstr.{VectorInstr}
 use Rattle.rv_model.specs.declared.instructions.vector.VectorInstr.TheVariants.{Arith}

@@ -1,5 +1,5 @@
--- The bits and the lines of operations by themselves, as the functions of a decoder and of an encoder have them; and what the types
--- of an instruction's fields say, which an encoder needs.
+-- The fixed bits and the table rows of each type of operation, for the functions of the decoder and the encoder, and bounds on the fields
+-- of an instruction, which the encoder needs.
 use Rattle.std.specs.Prelude.{ℕ, ◌+◌, ◌*◌, ◌^◌, ◌≡◌, ◌<◌, List, [], ◌∷◌, true}
 use Rattle.rv_model.specs.instructions.FixedBits.{Part, vector_coded, width_bits, direction_bits, unit_bits, order_bits, one_less, count_bits, upper_entry, branch_entry, load_entry, store_entry, immediate_entry, shift_immediate_entry, shift_immediate_word_entry, register_entry, system_entry, csr_entry, csr_immediate_entry, mask_logic_entry, mask_to_scalar_entry, extend_entry, mask_unary_entry}
 use Rattle.rv_model.specs.instructions.Operations.{form_of, has_form, line, carry_line, major_bits}
@@ -54,7 +54,7 @@ extend_bits op = (extend_entry op).1
 abbrev pub mask_unary_bits : MaskUnaryOp → ℕ
 mask_unary_bits op = (mask_unary_entry op).1
 
--- a line of one half of the opcode map
+-- a row in one half of the opcode map
 abbrev pub line_at : Major → ℕ → Forms → Line
 line_at major funct6 forms = record { major = major; funct6 = funct6; forms = forms }
 
@@ -129,12 +129,12 @@ whole_store_bits count = 0x27 + count_bits count
 abbrev pub mask_memory_bits : Direction → ℕ
 mask_memory_bits direction = direction_bits direction + 11 * 2 ^ 20 + 2 ^ 25
 
--- each value has room
+-- each value fits the length of its field
 abbrev pub AllFit : List Part → Type 0
 AllFit [] = Unit {0}
 AllFit (p ∷ ps) = (p.value < 2 ^ p.len) × AllFit ps
 
--- a pair of an operation and a source is one of the table's; other instructions have no such pair
+-- the table has a row for the pair of the operation and its form of source; other instructions have no such pair
 abbrev pub Allowed : Instr → Type 0
 Allowed (instr.Vector (Arith arith vd vs2 vm)) = has_form (line arith.0).forms (form_of arith.1) ≡ true
 Allowed (instr.Vector (Carry carry vd vs2)) = has_form (carry_line carry.0).forms (form_of carry.1) ≡ true

@@ -1,4 +1,4 @@
--- What the functions of an assembler ask of the value in a slot.
+-- Bounds on the value in a slot, which the functions of the assembler require.
 use Rattle.std.specs.Prelude.{ℕ, ◌+◌, ◌-◌, ◌*◌, ◌^◌}
 use Rattle.rv_model.specs.assembler.Fields.{bit_count}
 use Rattle.rv_model.specs.assembler.Slots.{half}
@@ -10,7 +10,7 @@ use Rattle.rv_model.specs.declared.assembler.forms.Slot.TheVariants.{Scalar, Vec
 abbrev pub limit : UnsignedField → ℕ
 limit field = 2 ^ bit_count (Unsigned field) - 1
 
--- how many values a slot has
+-- number of values of a slot
 abbrev pub value_count : Slot → ℕ
 value_count (Scalar p) = 32
 value_count (Vector p) = 32

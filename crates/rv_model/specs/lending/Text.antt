@@ -1,7 +1,7 @@
--- Words and numbers of a line as a reader of commands has them.
+-- Arguments and numbers of a line, as the command parser represents them.
 use Rattle.std.specs.Prelude.{ℕ, min, List, [], ◌∷◌, Option, Some, None}
 
--- a piece, if it has a byte, before further words
+-- the arguments after a piece, with the piece in front unless it is empty
 abbrev pub with_piece : List ℕ → List (List ℕ) → List (List ℕ)
 with_piece [] ws = ws
 with_piece (b ∷ bs) ws = (b ∷ bs) ∷ ws
