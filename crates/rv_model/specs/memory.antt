@@ -1,3 +1,3 @@
--- A user's memory. `Sizes` first: of pages, and how many there are; then `Memory`: what stands at each address.
+-- A user's memory. `Sizes`: pages and their number. `Memory`: the byte and the permissions at each address.
 pub mod Memory
 pub mod Sizes
