@@ -1,5 +1,5 @@
--- ELF-64 images. `Fields` first; then `Faults`: what may be wrong; then `Image`: the memory that an image describes;
--- `ImageCells` is a law of it, address by address.
+-- ELF-64 images. `Fields`: the fields that a loader reads. `Faults`: the faults of an image. `Image`: the memory that an image describes.
+-- `ImageCells`: a law of that memory, address by address.
 pub mod Faults
 pub mod Fields
 pub mod Image

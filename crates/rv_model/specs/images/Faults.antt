@@ -1,4 +1,4 @@
--- What may be wrong with an ELF-64 image, in the order in which it is told, and each fault's name. Sums are whole numbers.
+-- The faults of an ELF-64 image, in the order in which they are reported, and their names. Sums are natural numbers, which don't wrap.
 -- The file format is that of ELF-64 Object File Format; 243 is the machine RISC-V (RISC-V ELF psABI, "File header").
 use Rattle.std.specs.Prelude.{ℕ, ◌+◌, ◌*◌, ◌%◌, ◌==◌, ◌&&◌, not, nat_eq, nat_lt, Bool, List, [], ◌∷◌, length, slice_index, find, Option, codes}
 use Rattle.std.specs.List.{list_any, starts_with}
@@ -8,15 +8,15 @@ use Rattle.rv_model.specs.declared.images.ProgramHeader.{ProgramHeader}
 use Rattle.rv_model.specs.images.Fields.{number_in_file, entry_of, table_offset, header_count, program_headers}
 use Rattle.rv_model.specs.memory.Sizes.{address_end}
 
--- PT_LOAD, a segment that is placed in memory
+-- PT_LOAD: a segment that is loaded into memory
 abbrev pub is_loadable : ProgramHeader → Bool
 is_loadable header = header.kind == 1
 
--- whether some segment that is placed in memory passes a test
+-- whether some loadable segment passes a test
 abbrev pub some_segment : List ℕ → (ProgramHeader → Bool) → Bool
 some_segment image test = list_any (λ header. is_loadable header && test header) (program_headers image)
 
--- whether an image has a fault, where it has none of those that come before
+-- whether an image has a fault, if it has none of the earlier faults
 unfoldable pub has_fault : List ℕ → ElfFault → Bool
 has_fault image BadShort = nat_lt (length image) 64
 has_fault image BadMagic = not (starts_with nat_eq image (127 ∷ 69 ∷ 76 ∷ 70 ∷ []))
@@ -33,13 +33,13 @@ has_fault image BadOutside =
 has_fault image BadAddress = some_segment image (λ header. nat_lt address_end (header.address + header.memory_size))
 has_fault image BadEntry = not (entry_of image % 4 == 0)
 
--- all faults in order: of the file header, of the program header table, of its entries, of the entry
+-- all faults in order: of the file header, of the program header table, of its entries, of the entry point
 abbrev pub all_faults : List ElfFault
 all_faults =
     BadShort ∷ BadMagic ∷ BadClass ∷ BadData ∷ BadType ∷ BadMachine ∷ BadHeaderSize ∷ BadHeaderTable ∷
     BadInterp ∷ BadFileSize ∷ BadOutside ∷ BadAddress ∷ BadEntry ∷ []
 
--- the first fault of an image, if it has one
+-- the first fault of an image, if any
 unfoldable pub first_fault : List ℕ → Option ElfFault
 first_fault image = find (has_fault image) all_faults
 

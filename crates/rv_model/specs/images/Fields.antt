@@ -5,7 +5,7 @@ use Rattle.std.specs.List.{range_with_len}
 use Rattle.byteorder.specs.Endian.{little_number}
 use Rattle.rv_model.specs.declared.images.ProgramHeader.{ProgramHeader}
 
--- the number in so many bytes at an offset
+-- the number in `size` bytes at an offset
 unfoldable pub number_in_file : ℕ → ℕ → List ℕ → ℕ
 number_in_file offset size image = little_number size (drop offset image)
 
@@ -32,10 +32,10 @@ header_at offset image = record {
   memory_size = number_in_file (offset + 40) 8 image;
 }
 
--- the program header of a number, from 0
+-- the program header with this index, from 0
 unfoldable pub program_header : List ℕ → ℕ → ProgramHeader
 program_header image number = header_at (table_offset image + 56 * number) image
 
--- the program headers in their order
+-- all program headers, in order
 unfoldable pub program_headers : List ℕ → List ProgramHeader
 program_headers image = map (program_header image) (range_with_len 0 (header_count image))
