@@ -1,5 +1,5 @@
--- Text as lines, as words and as numbers. `Lines` first: what a line is, and lines with the tag of a user; then `Words`: the runs
--- of bytes between spaces; `Digits`: the number that digits spell.
+-- Text as lines, arguments and numbers. `Lines`: lines, and lines with the tag of a user. `Words`: runs of bytes between spaces.
+-- `Digits`: numbers that digits spell.
 pub mod Digits
 pub mod Lines
 pub mod Words

@@ -9,7 +9,7 @@ digit c =
     else if nat_le 65 c && nat_le c 70 then c - 55
     else 16
 
--- the number that a run of digits spells, after digits that spell n
+-- the number that a run of digits spells after digits with the value n; none if a byte isn't a digit of this radix
 unfoldable pub digits_after : ℕ → ℕ → List ℕ → Option ℕ
 digits_after radix n [] = Some n
 digits_after radix n (c ∷ cs) = if nat_lt (digit c) radix then digits_after radix (n * radix + digit c) cs else None

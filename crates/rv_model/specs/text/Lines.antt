@@ -5,15 +5,15 @@ use Rattle.std.specs.List.{slice_split}
 abbrev pub is_newline : ℕ → Bool
 is_newline b = b == 10
 
--- the pieces between the newlines; where the text ends with one, the last piece is empty
+-- the pieces between the newlines; if the text ends with a newline, the last piece is empty
 abbrev pub pieces : List ℕ → List (List ℕ)
 pieces text = slice_split is_newline text
 
--- a line with its tag, a user's digit or a star
+-- a line after its tag, a user's digit or a star, and a space; it ends with a newline
 abbrev pub tagged : ℕ → List ℕ → List ℕ
 tagged tag line = tag ∷ 32 ∷ (line ++ 10 ∷ [])
 
--- lines of one tag, one after another
+-- lines with the same tag, one after another
 abbrev pub text : ℕ → List (List ℕ) → List ℕ
 text tag [] = []
 text tag (line ∷ lines) = tagged tag line ++ text tag lines
