@@ -1,7 +1,6 @@
--- The vector state of a machine ("V" Vector Extension 1.0, sections 3 and 6). `Configuration` first: element widths, groups,
--- length and type; then `Groups`: the groups of instructions that use other ones; then `State`: all of it; then `Registers`: the
--- bytes of registers and groups; `TypeRules`: what the vset instructions leave; `TypeNames`: the names of the parts of vtype;
--- `ControlRegisters` and `Control`: the control registers. `Types` has the types that these files take.
+-- The vector state of a machine ("V" Vector Extension 1.0, sections 3 and 6). `Groups`: element widths, register groups, length and type.
+-- `State`: the whole state. `RoundingModes`: numbers of the rounding modes. `TypeRules`: results of the vset instructions. `TypeNames`:
+-- names of the parts of vtype. `ControlRegisters` and `Control`: the control registers. `Types`: the types that these files use.
 pub mod Control
 pub mod ControlRegisters
 pub mod Groups

@@ -1,6 +1,7 @@
--- Element widths, groups, the vector length and the vector type for VLEN 256 and ELEN 64; the registers of a group as parts of the list of all
--- registers' bytes; and the groups that instructions use beside those of the vector type ("V" Vector Extension 1.0, sections 3.1, 3.4, 3.4.2,
--- 3.5, 5.2, 7.3, 7.9, 10.2, 11.3, 16.4 and 16.6). Which instructions are legal and what they leave are both said of these.
+-- Element widths, register groups, the vector length and the vector type for VLEN 256 and ELEN 64. Then the groups of instructions with
+-- other element widths or multipliers than those of the vector type, and the bytes of groups as parts of the register file. Both legality
+-- and execution use these definitions. See "V" Vector Extension 1.0, sections 3.1, 3.4, 3.4.2, 3.5, 5.2, 7.3, 7.9, 10.2, 11.3, 16.4 and
+-- 16.6.
 use Rattle.std.specs.Prelude.{ℕ, ◌*◌, ◌/◌, ◌≡◌, ◌≤◌, Option, None, MatchOption, List, max}
 use Rattle.std.specs.Int.{Width, w8, w16, w32, w64, w128}
 use mir.Val.{bits}
@@ -20,15 +21,15 @@ sew_width E16 = w16
 sew_width E32 = w32
 sew_width E64 = w64
 
--- in bits
+-- the width of an element in bits
 abbrev pub sew_bits : Sew → ℕ
 sew_bits sew = bits (sew_width sew)
 
--- the bytes of an element of a width
+-- number of bytes of an element of a width
 abbrev pub width_bytes : Width → ℕ
 width_bytes w = bits w / 8
 
--- the element width that a load or store names
+-- the element width that a load or store encodes
 abbrev pub element_width : Eew → Sew
 element_width width.E8 = E8
 element_width width.E16 = E16
@@ -47,16 +48,16 @@ lmul_eighths M2 = 16
 lmul_eighths M4 = 32
 lmul_eighths M8 = 64
 
--- what a group of registers holds: elements of a width, EEW; and its multiplier, EMUL, in eighths of a register
+-- the type of a register group: the element width, EEW, and the multiplier, EMUL, in eighths of a register
 pub record GroupType : Type 0 where
   pub width : Width
   pub emul : ℕ
 
--- groups of the vector type: SEW and LMUL
+-- the groups of the vector type, with SEW and LMUL
 abbrev pub group_type : VType → GroupType
 group_type t = record { width = sew_width t.sew; emul = lmul_eighths t.lmul }
 
--- how many elements a group has: EMUL x VLEN / EEW, bits divided by bits
+-- number of elements of a group: EMUL x VLEN / EEW, with VLEN and EEW in bits
 abbrev pub element_count : GroupType → ℕ
 element_count g = g.emul * VLEN / (8 * bits g.width)
 
@@ -64,24 +65,24 @@ element_count g = g.emul * VLEN / (8 * bits g.width)
 abbrev pub vlmax : VType → ℕ
 vlmax t = element_count (group_type t)
 
--- SEW is at most LMUL x ELEN; `supported_type` of `TypeRules` is the same as a test
+-- SEW is at most LMUL x ELEN; `supported_type` of `TypeRules` tests the same
 abbrev pub IsSupported : VType → Type 0
 IsSupported t = sew_bits t.sew ≤ lmul_eighths t.lmul * 8
 
--- vl and vtype; no vector type is vill alone
+-- vl and vtype; a vtype without a type has only vill set
 pub record Configuration : Type 0 where
   pub vl : ℕ
   pub vtype : Option VType
 
--- where vill is set the length is 0; else the type is supported, and the length at most VLMAX
+-- a valid configuration: if vill is set, the length is 0; otherwise the type is supported, and the length is at most VLMAX
 abbrev pub IsConfiguration : Configuration → Type 0
 IsConfiguration c = MatchOption c.vtype (c.vl ≡ 0) (λ t. IsSupported t × (c.vl ≤ vlmax t))
 
--- before any vector instruction: vill, and no elements
+-- the configuration before any vector instruction: vill is set, and vl is 0
 abbrev pub initial_configuration : Configuration
 initial_configuration = record { vl = 0; vtype = None }
 
--- how many registers a group of this multiplier takes, in eighths of a register; one below 1 takes a register
+-- number of registers of a group, by its multiplier in eighths of a register; a multiplier below 1 takes one register
 abbrev pub registers : ℕ → ℕ
 registers emul = max 1 (emul / 8)
 
@@ -89,7 +90,7 @@ registers emul = max 1 (emul / 8)
 abbrev pub group_of : List ℕ → ℕ → ℕ → List ℕ
 group_of file first emul = chunk (VLENB * first) (VLENB * registers emul) file
 
--- all registers, with the bytes from register `first` on replaced
+-- the register file with the bytes from register `first` on replaced
 abbrev pub with_group : List ℕ → ℕ → List ℕ → List ℕ
 with_group file first bytes = put_chunk (VLENB * first) file bytes
 
@@ -97,11 +98,11 @@ with_group file first bytes = put_chunk (VLENB * first) file bytes
 unfoldable pub register_of : List ℕ → ℕ → List ℕ
 register_of file r = group_of file r 8
 
--- all registers, with the bytes of one replaced
+-- the register file with the bytes of one register replaced
 unfoldable pub with_register_bytes : ℕ → List ℕ → List ℕ → List ℕ
 with_register_bytes r bytes file = with_group file r bytes
 
--- groups of as many elements of another width: EMUL = EEW / SEW x LMUL
+-- groups with the same number of elements of another width: EMUL = EEW / SEW x LMUL
 abbrev pub with_width : Width → GroupType → GroupType
 with_width width g = record { width = width; emul = bits width * g.emul / bits g.width }
 
@@ -112,7 +113,7 @@ abbrev pub doubled : Width → Width
 doubled w8 = w16
 doubled w16 = w32
 doubled w32 = w64
-doubled _ = w128  -- of 64; excluded of more
+doubled _ = w128  -- of w64; greater widths are excluded
 
 -- groups of elements of twice SEW
 abbrev pub wide_type : VType → GroupType
@@ -123,9 +124,9 @@ abbrev pub halved : Width → Width
 halved w128 = w64
 halved w64 = w32
 halved w32 = w16
-halved _ = w8  -- of 16; excluded of less
+halved _ = w8  -- of w16; smaller widths are excluded
 
--- which part of SEW the source of an extension has: SEW divided by this
+-- the divisor of SEW that gives the element width of an extension's source
 abbrev pub extension_divisor : ExtendOp → ℕ
 extension_divisor VzextVf8 = 8
 extension_divisor VsextVf8 = 8
@@ -133,7 +134,7 @@ extension_divisor VzextVf4 = 4
 extension_divisor VsextVf4 = 4
 extension_divisor _ = 2
 
--- the width of the source of an extension to a width
+-- the element width of the source of an extension to a width
 abbrev pub part_width : ExtendOp → Width → Width
 part_width VzextVf8 w = halved (halved (halved w))
 part_width VsextVf8 w = halved (halved (halved w))
@@ -141,33 +142,33 @@ part_width VzextVf4 w = halved (halved w)
 part_width VsextVf4 w = halved (halved w)
 part_width _ w = halved w
 
--- groups of elements of that part of SEW
+-- groups of elements of the width of an extension's source
 abbrev pub part_type : ExtendOp → VType → GroupType
 part_type op t = with_width (part_width op (sew_width t.sew)) (group_type t)
 
--- ---- widths of their own
+-- ---- widths that loads and stores encode
 
--- groups of elements of the width that a load or store names
+-- groups of elements of the width that a load or store encodes
 abbrev pub access_type : VType → Eew → GroupType
 access_type t width = with_width (sew_width (element_width width)) (group_type t)
 
--- ---- whole registers, whatever LMUL is
+-- ---- whole registers, independent of LMUL
 
 -- one register of elements of a width
 abbrev pub single_type : Width → GroupType
 single_type width = record { width = width; emul = 8 }
 
--- how many whole registers
+-- number of whole registers
 abbrev pub register_count : RegisterCount → ℕ
 register_count One = 1
 register_count Two = 2
 register_count Four = 4
 register_count Eight = 8
 
--- so many registers of elements of a width
+-- `count` registers of elements of a width
 abbrev pub registers_type : Width → RegisterCount → GroupType
 registers_type width count = record { width = width; emul = 8 * register_count count }
 
--- so many registers of elements of SEW
+-- `count` registers of elements of SEW
 abbrev pub whole_type : VType → RegisterCount → GroupType
 whole_type t count = registers_type (sew_width t.sew) count

@@ -2,14 +2,14 @@
 use Rattle.std.specs.Prelude.{ℕ, ◌%◌, ◌==◌, if◌then◌else◌}
 use Rattle.rv_model.specs.vector.Types.{RoundingMode, NearestUp, NearestEven, Down, Odd}
 
--- vxrm of a rounding mode
+-- the value of vxrm for a rounding mode
 abbrev pub rounding_number : RoundingMode → ℕ
 rounding_number NearestUp = 0
 rounding_number NearestEven = 1
 rounding_number Down = 2
 rounding_number Odd = 3
 
--- the rounding mode of the low two bits of a number
+-- the rounding mode that the low two bits of a number encode
 abbrev pub rounding_mode : ℕ → RoundingMode
 rounding_mode n =
     if n % 4 == 0 then NearestUp

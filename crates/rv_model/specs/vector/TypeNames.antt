@@ -28,7 +28,7 @@ tail_name agnostic = if agnostic then codes "ta" else codes "tu"
 abbrev pub mask_name : Bool → List ℕ
 mask_name agnostic = if agnostic then codes "ma" else codes "mu"
 
--- every width, multiplier and policy
+-- all element widths, multipliers and policies
 abbrev pub sews : List Sew
 sews = E8 ∷ E16 ∷ E32 ∷ E64 ∷ []
 
@@ -38,6 +38,6 @@ lmuls = Mf8 ∷ Mf4 ∷ Mf2 ∷ M1 ∷ M2 ∷ M4 ∷ M8 ∷ []
 abbrev pub policies : List Bool
 policies = true ∷ false ∷ []
 
--- which of these, each with its name, a text names
+-- the item whose name is this text, if there is one
 abbrev pub with_name : {A : Type 0} → (A → List ℕ) → List A → List ℕ → Option A
 with_name name_of all text = find (λ a. bytes_eq (name_of a) text) all

@@ -1,4 +1,4 @@
--- The types of vector state, which the files of this module and of those above it take from here.
+-- Types of the vector state, which this module and later ones import from here.
 pub use Rattle.rv_model.specs.declared.vector.types.Sew.{Sew}
 pub use Rattle.rv_model.specs.declared.vector.types.Sew.TheVariants.{E8, E16, E32, E64}
 pub use Rattle.rv_model.specs.declared.vector.types.Lmul.{Lmul}
