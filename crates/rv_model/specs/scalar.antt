@@ -1,5 +1,5 @@
--- Scalar instructions, as whole numbers (Unprivileged ISA 20191213). `Registers` first; then `Arithmetic`, `ControlTransfer` and
--- `LoadsAndStores`, in any order.
+-- Scalar instructions on natural numbers (Unprivileged ISA 20191213). `Registers` comes first; read `Arithmetic`, `ControlTransfer` and
+-- `LoadsAndStores` in any order.
 pub mod Arithmetic
 pub mod ControlTransfer
 pub mod LoadsAndStores

@@ -1,5 +1,5 @@
--- What the operations of scalar registers give, as whole numbers. A register is an unsigned number of 64 bits, and is read as
--- two's complement where an operation is signed (Unprivileged ISA 20191213, sections 2.4, 5.2, 7.1 and 7.2).
+-- The results of scalar operations, as natural numbers. A register is an unsigned number of 64 bits; a signed operation interprets it as
+-- two's complement (Unprivileged ISA 20191213, sections 2.4, 5.2, 7.1 and 7.2).
 use Rattle.std.specs.Prelude.{ℕ, ◌+◌, ◌-◌, ◌*◌, ◌/◌, ◌%◌, ◌^◌, ◌==◌, ◌&&◌, nat_lt, Bool, if◌then◌else◌, ℤ, pos, ◌*ℤ◌, int_lt, int_div, int_rem, bit_and, bit_or, bit_xor}
 use Rattle.std.specs.Int.{Width, w32, w64, cast_signed, cast_unsigned, int_shr, from_bool}
 use mir.Val.{bits, hbits}
@@ -37,23 +37,23 @@ signed_high_product w a b = int_shr (cast_signed w a *ℤ cast_signed w b) (bits
 abbrev pub mixed_high_product : Width → ℕ → ℕ → ℤ
 mixed_high_product w a b = int_shr (cast_signed w a *ℤ pos b) (bits w)
 
--- shifted left by the low bits of b: 5 of them at 32 bits, 6 at 64
+-- shifted left by the low bits of b: 5 bits for a width of 32, 6 bits for a width of 64
 abbrev pub shifted_left : Width → ℕ → ℕ → ℕ
 shifted_left w a b = a * 2 ^ (b % bits w) % 2 ^ bits w
 
--- shifted right, with zeros for the upper bits
+-- shifted right, with zeros in the upper bits
 abbrev pub shifted_right : Width → ℕ → ℕ → ℕ
 shifted_right w a b = a / 2 ^ (b % bits w)
 
--- shifted right, with copies of the sign for the upper bits
+-- shifted right, with copies of the sign in the upper bits
 abbrev pub shifted_right_signed : Width → ℕ → ℕ → ℕ
 shifted_right_signed w a b = cast_unsigned w (int_shr (cast_signed w a) (b % bits w))
 
--- the quotient, rounded toward zero; all ones where the divisor is zero
+-- the quotient, rounded toward zero; all ones if the divisor is zero
 abbrev pub quotient : Width → ℕ → ℕ → ℕ
 quotient w a b = if b == 0 then 2 ^ bits w - 1 else a / b
 
--- the remainder of that division; the dividend where the divisor is zero
+-- the remainder of that division; the dividend if the divisor is zero
 abbrev pub remainder : Width → ℕ → ℕ → ℕ
 remainder w a b = if b == 0 then a else a % b
 
@@ -61,14 +61,14 @@ remainder w a b = if b == 0 then a else a % b
 abbrev pub overflows : Width → ℕ → ℕ → Bool
 overflows w a b = a == 2 ^ hbits w && b == 2 ^ bits w - 1
 
--- the signed quotient, rounded toward zero; all ones where the divisor is zero, and the dividend at an overflow
+-- the signed quotient, rounded toward zero; all ones if the divisor is zero, and the dividend on overflow
 abbrev pub signed_quotient : Width → ℕ → ℕ → ℕ
 signed_quotient w a b =
     if b == 0 then 2 ^ bits w - 1
     else if overflows w a b then a
     else cast_unsigned w (int_div (cast_signed w a) (cast_signed w b))
 
--- the remainder of that division, which has the dividend's sign; the dividend where the divisor is zero, and 0 at an overflow
+-- the remainder of that division, with the dividend's sign; the dividend if the divisor is zero, and 0 on overflow
 abbrev pub signed_remainder : Width → ℕ → ℕ → ℕ
 signed_remainder w a b =
     if b == 0 then a
@@ -77,11 +77,11 @@ signed_remainder w a b =
 
 -- ---- instructions
 
--- an operation of the low 32 bits, sign-extended
+-- an operation on the low 32 bits, with the result sign-extended
 abbrev pub of_words : (Width → ℕ → ℕ → ℕ) → ℕ → ℕ → ℕ
 of_words operation a b = sign_extended 32 (operation w32 (a % 2 ^ 32) (b % 2 ^ 32))
 
--- an operation of two registers
+-- the result of an operation on two registers
 abbrev pub register_op_value : RegisterOp → ℕ → ℕ → ℕ
 register_op_value Add a b = sum w64 a b
 register_op_value Sub a b = difference w64 a b
@@ -112,7 +112,7 @@ register_op_value Divuw a b = of_words quotient a b
 register_op_value Remw a b = of_words signed_remainder a b
 register_op_value Remuw a b = of_words remainder a b
 
--- the operation of two registers that an operation of a register and an immediate of 12 bits, sign-extended, does
+-- the register operation that corresponds to an operation with a sign-extended 12-bit immediate
 abbrev pub immediate_op_form : ImmediateOp → RegisterOp
 immediate_op_form Addi = Add
 immediate_op_form Slti = Slt
@@ -122,19 +122,19 @@ immediate_op_form Ori = Or
 immediate_op_form Andi = And
 immediate_op_form Addiw = Addw
 
--- the shift by a register that a shift by an immediate of 6 bits does
+-- the shift by a register that corresponds to a shift by a 6-bit immediate
 abbrev pub shift_immediate_form : ShiftImmediateOp → RegisterOp
 shift_immediate_form Slli = Sll
 shift_immediate_form Srli = Srl
 shift_immediate_form Srai = Sra
 
--- the shift of 32 bits by a register that a shift by an immediate of 5 bits does
+-- the 32-bit shift by a register that corresponds to a 32-bit shift by a 5-bit immediate
 abbrev pub shift_immediate_word_form : ShiftImmediateWordOp → RegisterOp
 shift_immediate_word_form Slliw = Sllw
 shift_immediate_word_form Srliw = Srlw
 shift_immediate_word_form Sraiw = Sraw
 
--- the upper 20 bits of a 32-bit number, sign-extended; alone, or added to the program counter
+-- the immediate in the upper 20 bits of a 32-bit number, sign-extended; AUIPC adds it to the program counter
 abbrev pub upper_value : UpperOp → ℕ → ℕ → ℕ
 upper_value Lui pc imm = u_immediate imm
 upper_value Auipc pc imm = sum w64 pc (u_immediate imm)

@@ -1,4 +1,4 @@
--- Where jumps and branches go (Unprivileged ISA 20191213, section 2.5, "Control Transfer Instructions").
+-- Conditions and targets of branches and jumps (Unprivileged ISA 20191213, section 2.5, "Control Transfer Instructions").
 use Rattle.std.specs.Prelude.{ℕ, ◌-◌, ◌%◌, ◌==◌, not, nat_lt, Bool, int_lt}
 use Rattle.std.specs.Int.{w64, cast_signed}
 use Rattle.rv_model.specs.instructions.Types.{BranchOp}
@@ -15,7 +15,7 @@ is_taken Bge a b = not (int_lt (cast_signed w64 a) (cast_signed w64 b))
 is_taken Bltu a b = nat_lt a b
 is_taken Bgeu a b = not (nat_lt a b)
 
--- JALR: a register and a signed immediate of 12 bits, with bit 0 cleared
+-- the target of JALR: a register plus a signed immediate of 12 bits, with bit 0 cleared
 abbrev pub register_target : ℕ → ℕ → ℕ
 register_target base imm =
     let target = sum w64 base (i_immediate imm) in

@@ -14,6 +14,6 @@ read_register s register = slice_index s.x register
 abbrev pub with_register : ℕ → ℕ → Scalar → Scalar
 with_register register value s = if register == 0 then s else record s { x = slice_set s.x register value }
 
--- the program counter moves on to the next instruction, modulo 2 ^ 64
+-- the registers with the program counter at the next instruction, modulo 2 ^ 64
 abbrev pub advanced : Scalar → Scalar
 advanced s = record s { pc = (s.pc + 4) % 2 ^ 64 }
