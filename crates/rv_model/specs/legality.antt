@@ -1,6 +1,5 @@
--- Which vector instructions are legal. `RegisterOperands` first: operands as sets of register numbers, and which may stand
--- together; then `OperandShapes`: the operands of each shape of operation; then `Legality`: each instruction. `Types` has the
--- types that these files take.
+-- Legality of vector instructions. `RegisterOperands`: operands as sets of register numbers, and their legal combinations.
+-- `OperandShapes`: the operands of each shape of operation. `Legality`: each instruction. `Types`: the types that these files use.
 pub mod Legality
 pub mod OperandShapes
 pub mod RegisterOperands

@@ -1,5 +1,5 @@
--- Which vector instructions are legal under a vector type and with a vstart ("V" Vector Extension 1.0, sections 3.4.4, 3.7,
--- 5.2, 5.3, 7.4 to 7.9, 11, 12.3, 14, 15, 16 and 18.2; what the standard leaves open stands in docs/DECISIONS.md). vl has no part in it.
+-- Legality of vector instructions under a vector type and a vstart ("V" Vector Extension 1.0, sections 3.4.4, 3.7, 5.2, 5.3, 7.4 to 7.9,
+-- 11, 12.3, 14, 15, 16 and 18.2). vl has no effect on it. docs/DECISIONS.md describes the choices that the standard leaves open.
 use Rattle.std.specs.Prelude.{◌≡◌, ◌≢◌, ℕ, ◌+◌, ◌/◌, Bool, true, false, ◌&&◌, ◌||◌, not, ◌==◌, List, [], ◌∷◌, Option, Some, IsSomeAnd, if◌then◌else◌}
 use Rattle.std.specs.Int.{w8}
 use Rattle.std.specs.Option.{option_map, option_map_or}
@@ -21,7 +21,7 @@ use Rattle.rv_model.specs.vector.Groups.{element_width, group_type, sew_bits, se
 
 -- ---- the operands of an instruction
 
--- what a load or store does with its data registers
+-- the role of the data registers of a load or store
 abbrev pub data_role : Direction → Role
 data_role direction.Load = Write
 data_role direction.Store = Read
@@ -40,7 +40,7 @@ abbrev pub mask_result : MaskUnaryOp → ℕ → VType → Operand
 mask_result Viota vd t = group Apart vd (group_type t)
 mask_result (Scan o) vd t = mask Apart vd
 
--- vmv1r.v and the like
+-- vmv1r.v, vmv2r.v, vmv4r.v and vmv8r.v
 abbrev pub whole_move_operands : RegisterCount → ℕ → ℕ → VType → List Operand
 whole_move_operands count vd vs2 t = group Write vd (whole_type t count) ∷ group Read vs2 (whole_type t count) ∷ []
 
@@ -48,7 +48,7 @@ whole_move_operands count vd vs2 t = group Write vd (whole_type t count) ∷ gro
 abbrev pub compress_operands : ℕ → ℕ → ℕ → VType → List Operand
 compress_operands vd vs1 vs2 t = group Apart vd (group_type t) ∷ group Read vs2 (group_type t) ∷ mask Read vs1 ∷ []
 
--- vs2 of an extension; where SEW has no such part, the width is below 8 bits, which no element has
+-- vs2 of an extension; if SEW is too narrow for the divisor, the width is below 8 bits, which no element has
 abbrev pub extension_source : ExtendOp → ℕ → VType → Operand
 extension_source o vs2 t = record (group Read vs2 (part_type o t)) { content = Elements (sew_bits t.sew / extension_divisor o) }
 
@@ -56,16 +56,16 @@ extension_source o vs2 t = record (group Read vs2 (part_type o t)) { content = E
 abbrev pub extension_operands : ExtendOp → ℕ → ℕ → Bool → VType → List Operand
 extension_operands o vd vs2 unmasked t = group Write vd (group_type t) ∷ extension_source o vs2 t ∷ v0 unmasked
 
--- the fields of a unit-stride or strided access, with elements of a width of their own
+-- the fields of a unit-stride or strided access, whose elements have the width that the instruction encodes
 abbrev pub access_operands : Role → Eew → ℕ → ℕ → Bool → VType → List Operand
 access_operands role width nf vd unmasked t = field_groups role (nf + 1) vd (access_type t width) ∷ v0 unmasked
 
--- an indexed access; its indices have a width of their own
+-- an indexed access; the instruction encodes the width of its indices
 abbrev pub indexed_operands : Direction → Eew → ℕ → ℕ → ℕ → Bool → VType → List Operand
 indexed_operands d width nf vd vs2 unmasked t =
     field_groups (indexed_role d nf) (nf + 1) vd (group_type t) ∷ group Read vs2 (access_type t width) ∷ v0 unmasked
 
--- the vector register operands under a vector type; none at all if the instruction needs a vector type and there is none
+-- the vector register operands under a vector type; none if the instruction needs a vector type and vill is set
 unfoldable pub operands : Instr → Option VType → Option (List Operand)
 operands (instr.Vector (Arith arith vd vs2 vm)) t = option_map (shape_operands (shape_of arith.0) vd vs2 arith.1 vm) t
 operands (instr.Vector (Carry carry vd vs2)) t = option_map (shape_operands Single vd vs2 carry.1 false) t
@@ -85,10 +85,10 @@ operands (instr.Access (Indexed d o w nf vd rs1 vs2 vm)) t = option_map (indexed
 operands (instr.Access (WholeLoad count w vd rs1)) t = Some (group Write vd (registers_type (sew_width (element_width w)) count) ∷ [])
 operands (instr.Access (WholeStore count vd rs1)) t = Some (group Read vd (registers_type w8 count) ∷ [])
 operands (instr.Access (MaskAccess d vd rs1)) t = option_map (λ t. mask (data_role d) vd ∷ []) t
--- scalar instructions, those of control registers, and those that set the vector type
+-- scalar instructions, those of control registers, and those that set the vector type have no vector register operands
 operands _ t = Some []
 
--- ---- which instructions ask for more
+-- ---- further requirements
 
 -- reductions
 abbrev pub is_reduction : VectorOp → Bool
@@ -96,7 +96,7 @@ is_reduction (Reduce o) = true
 is_reduction (WidenReduce o) = true
 is_reduction _ = false
 
--- those that have to begin with element 0: reductions, counts, searches and scans of masks, and compressions
+-- instructions that require a vstart of 0: reductions, counts, searches and scans of masks, and compressions
 abbrev pub starts_at_zero : Instr → Bool
 starts_at_zero (instr.Vector (Arith arith vd vs2 vm)) = is_reduction arith.0
 starts_at_zero (instr.Vector (Compress vd vs1 vs2)) = true
@@ -104,8 +104,8 @@ starts_at_zero (instr.Vector (MaskToScalar o rd vs2 vm)) = true
 starts_at_zero (instr.Vector (MaskUnary o vd vs2 vm)) = true
 starts_at_zero _ = false
 
--- operations that there are for SEW below 64 alone: of 64-bit elements Zve64x has no upper halves of products, and no
--- fractional products (section 18.2)
+-- operations that exist only for SEW below 64: for 64-bit elements, Zve64x has no upper halves of products, and no fractional products
+-- (section 18.2)
 abbrev pub is_narrow_only : VectorOp → Bool
 is_narrow_only (Binary Vmulhu) = true
 is_narrow_only (Binary Vmulhsu) = true
@@ -113,21 +113,21 @@ is_narrow_only (Binary Vmulh) = true
 is_narrow_only (FixedPoint Vsmul) = true
 is_narrow_only _ = false
 
--- instructions that there are for SEW below 64 alone
+-- instructions that exist only for SEW below 64
 abbrev pub is_below_64 : Instr → Bool
 is_below_64 (instr.Vector (Arith arith vd vs2 vm)) = is_narrow_only arith.0
 is_below_64 _ = false
 
 -- ---- legality
 
--- an instruction is legal: if it needs a vector type there is one, its operands may stand together, it begins with element 0 where
--- it has to, and SEW isn't 64 where it may not be; `is_legal` is the same as a test
+-- a legal instruction has a vector type if it needs one, its operands may be combined, vstart is 0 if it must be, and SEW isn't 64 if it
+-- must not be; `is_legal` tests the same
 pub record IsLegal (i : Instr) (t : Option VType) (vstart : ℕ) : Type 0 where
   pub operands : IsSomeAnd (operands i t) AreLegal
   pub start : starts_at_zero i ≡ true → vstart ≡ 0
   pub width : is_below_64 i ≡ true → IsSomeAnd t (λ t. sew_bits t.sew ≢ 64)
 
--- the same as a test, which a law proves to be `IsLegal`
+-- the test of `IsLegal`; a law proves that they agree
 unfoldable pub is_legal : Instr → Option VType → ℕ → Bool
 is_legal i t vstart =
     option_map_or are_legal (operands i t) false

@@ -14,19 +14,19 @@ use Rattle.rv_model.specs.vector.Groups.{GroupType, group_type, sew_width, singl
 
 -- ---- operands
 
--- the fields of a segment, each a group of a type
+-- the fields of a segment, each a group of a type, from register r on
 abbrev pub field_groups : Role → ℕ → ℕ → GroupType → Operand
 field_groups role fields r g = record { role = role; first = r; content = Elements (bits g.width); emul = g.emul; fields = fields }
 
--- a group of a type
+-- a group of a type, from register r on
 abbrev pub group : Role → ℕ → GroupType → Operand
 group role r g = field_groups role 1 r g
 
--- a register with a mask
+-- a register that holds a mask
 abbrev pub mask : Role → ℕ → Operand
 mask role r = record { role = role; first = r; content = Mask; emul = 8; fields = 1 }
 
--- v0, the mask of an instruction that is masked
+-- v0, the mask of a masked instruction
 abbrev pub v0 : Bool → List Operand
 v0 true = []
 v0 false = mask Control 0 ∷ []
@@ -74,7 +74,7 @@ vector_source Reduction vs1 t = group Read vs1 (single_type (sew_width t.sew))
 vector_source WideReduction vs1 t = group Read vs1 (single_type (wide_type t).width)
 vector_source _ vs1 t = group Read vs1 (group_type t)
 
--- vs1; a scalar register and an immediate are no vector registers
+-- vs1; scalar registers and immediates aren't vector registers
 abbrev pub second_source : Shape → Source → VType → List Operand
 second_source shape (source.V vs1) t = vector_source shape vs1 t ∷ []
 second_source shape (source.X rs1) t = []

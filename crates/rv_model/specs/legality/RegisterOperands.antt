@@ -1,6 +1,6 @@
--- Register operands as sets of register numbers, and which of them may stand together in one instruction ("V" Vector
--- Extension 1.0, sections 3.4.2, 5.2, 5.3, 10.2 and 10.3). An overlap is in the lowest-numbered part of the source where both groups
--- begin together, and in the highest-numbered part of the destination where both end together.
+-- Register operands as sets of register numbers, and their legal combinations in one instruction ("V" Vector Extension 1.0, sections
+-- 3.4.2, 5.2, 5.3, 10.2 and 10.3). If both groups begin at the same register, they overlap in the lowest-numbered part of the source. If
+-- both end at the same register, they overlap in the highest-numbered part of the destination.
 use Rattle.std.specs.Prelude.{ℕ, ◌+◌, ◌*◌, ◌%◌, ◌<◌, ◌≤◌, Bool, true, false, ◌&&◌, ◌||◌, not, nat_lt, nat_le, ◌==◌, max, min, List, All, IsTrue}
 use Rattle.std.specs.List.{list_all}
 use Rattle.rv_model.specs.legality.Types.{Operand, Content, Mask, Elements, Role, Read, Control, Write, Apart}
@@ -12,20 +12,21 @@ abbrev pub eew : Content → ℕ
 eew Mask = 1
 eew (Elements w) = w
 
--- the register after its last
+-- the register after an operand's last one
 abbrev pub end : Operand → ℕ
 end o = o.first + o.fields * registers o.emul
 
--- the two have a register in common
+-- the two operands have a register in common
 abbrev pub Overlap : Operand → Operand → Type 0
 Overlap a b = (r : ℕ) × (((a.first ≤ r) × (r < end a)) × ((b.first ≤ r) × (r < end b)))
 
--- elements have 8 to 64 bits
+-- a mask, or elements of 8 to 64 bits
 abbrev pub is_width : Content → Bool
 is_width Mask = true
 is_width (Elements w) = nat_le 8 w && nat_le w 64
 
--- a multiplier of 1/8 to 8, for the fields together at most 8, aligned, and no register past the last
+-- a valid group: the multiplier is 1/8 to 8, and at most 8 for all fields together; the group is aligned, and ends inside the register
+-- file
 abbrev pub is_group : Operand → Bool
 is_group o =
     is_width o.content
@@ -35,8 +36,8 @@ is_group o =
     && ((o.first % registers o.emul == 0)
     && nat_le (end o) VECTOR_REGISTERS))))
 
--- a destination may overlap a source of its own element width; one that is wider and begins with it; or one that is
--- narrower, has a multiplier of at least 1, and ends with it
+-- a destination may overlap three kinds of sources: one of its own element width; a wider one that begins at the same register; a
+-- narrower one that has a multiplier of at least 1 and ends at the same register
 abbrev pub may_overlap : Operand → Operand → Bool
 may_overlap d s =
     (eew d.content == eew s.content)
@@ -47,7 +48,7 @@ abbrev pub is_mask : Content → Bool
 is_mask Mask = true
 is_mask (Elements w) = false
 
--- whether two operands may overlap, by what an instruction does with the registers of each
+-- whether two operands may overlap, by their roles in the instruction
 abbrev pub may_share : Role → Role → Operand → Operand → Bool
 may_share Write Read d s = may_overlap d s
 may_share Write Control d v0 = is_mask d.content
@@ -55,12 +56,12 @@ may_share Apart Read d s = false
 may_share Apart Control d v0 = false
 may_share _ _ d s = true
 
--- these may be the operands of one instruction; `are_legal` is the same as a test
+-- these may be the operands of one instruction; `are_legal` tests the same
 pub record AreLegal (operands : List Operand) : Type 0 where
   pub groups : All (λ o. IsTrue (is_group o)) operands
   pub pairs : All (λ d. All (λ s. Overlap d s → IsTrue (may_share d.role s.role d s)) operands) operands
 
--- ---- the same as tests, which laws prove to be `AreLegal` and its parts
+-- ---- the tests; laws prove that they agree with `AreLegal` and its parts
 
 abbrev pub overlaps : Operand → Operand → Bool
 overlaps a b = nat_lt (max a.first b.first) (min (end a) (end b))

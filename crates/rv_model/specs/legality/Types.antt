@@ -1,4 +1,4 @@
--- The types of register operands, which the files of this module take from here.
+-- Types of register operands, which the files of this module import from here.
 pub use Rattle.rv_model.specs.declared.legality.Operand.{Operand}
 pub use Rattle.rv_model.specs.declared.legality.Role.{Role}
 pub use Rattle.rv_model.specs.declared.legality.Role.TheVariants.{Read, Control, Write, Apart, Free}
