@@ -1,4 +1,4 @@
--- The first of the users, in the order of turns, who passes a test.
+-- Search for the first user, in the order of turns, who passes a test.
 use Rattle.std.proofs.Common.{◌≡◌, ℕ, ◌+◌, ◌<◌, ◌≤◌, List, length, get_or, drop, Bool, true, false, cond, Some, None, ap, ◌∙◌}
 use Rattle.std.specs.Prelude.{find}
 use Rattle.std.proofs.lemmas.List.{at_drop_more, at_drop_all}

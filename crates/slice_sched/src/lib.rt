@@ -1,4 +1,4 @@
-//! Whose slice comes next.
+//! Round-robin order of the users' slices.
 #![tactic(auto)]
 
 mod turns;
