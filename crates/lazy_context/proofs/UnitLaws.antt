@@ -14,11 +14,11 @@ use Rattle.lazy_context.specs.LazyUnit.{IsOwnerAUser, IsSettled, KeepsArea, Keep
 use Rattle.rv_model.proofs.Choices.{of_either, of_option}
 use Rattle.lazy_context.specs.SaveAreas.{area, new_areas, saved_state, with_register, with_saved}
 
--- an owner's state that isn't dirty is the one that the save areas show
+-- a clean owner's state equals the state that the save areas give
 abbrev pub IsSettledWith : Option ℕ → Seat → Areas → Type 0
 IsSettledWith owner seat areas = ForSome owner (λ user. seat.dirty ≡ false → seat.state ≡ saved_state areas user)
 
--- the state of a user, by the owner, the seat and the save areas
+-- a user's state, by the owner, the seat and the save areas
 abbrev pub state_among : Option ℕ → Seat → Areas → ℕ → VState
 state_among owner seat areas user = if is_owned_by owner user then seat.state else saved_state areas user
 
@@ -27,7 +27,7 @@ none_marked zero m = refl
 none_marked (suc n) zero = refl
 none_marked (suc n) (suc m) = none_marked n m
 
--- before its first use a unit has the initial state for everyone
+-- a new unit has the initial state for each user
 pub initial_states : (user : ℕ) → state_of new_unit user ≡ initial_vector
 initial_states user =
     ap (λ (b : Bool). if b then area new_areas user else initial_vector) (none_marked user_count (user - 1))
@@ -43,7 +43,7 @@ settled_taken user areas unit = grind arith
 settled_touched : (user : ℕ) (unit : Unit) → IsSettled unit → IsSettled (touched user unit)
 settled_touched user unit h = grind (arith, settled_taken)
 
--- the unit is settled again where the seat came back dirty or as it was lent
+-- the unit is settled again if the borrowed seat is returned dirty or unchanged
 pub settled_again : (user : ℕ) (unit : Unit) (back : Seat) → IsSettled unit → IsGivenBack (touched user unit).seat back
     → IsSettled (with_seat back (touched user unit))
 settled_again user unit back h g =
@@ -58,19 +58,19 @@ other_saved : (user other : ℕ) (state : VState) (areas : Areas) → other - 1 
     → saved_state (with_saved user state areas) other ≡ saved_state areas other
 other_saved user other state areas h = grind (arith, get_or-set_other)
 
--- once the owner's state is saved, the areas show what everyone has
+-- after a save of the owner's state, the save areas give the states of all users
 pub saved_keep : (owner : Option ℕ) (seat : Seat) (areas : Areas) (user : ℕ) → length areas.states ≡ user_count
     → length areas.marks ≡ user_count → IsOwnerAUser owner → IsSettledWith owner seat areas → 1 ≤ user
     → saved_state (areas_saved owner seat areas) user ≡ state_among owner seat areas user
 saved_keep None seat areas user p q r h low = refl
 saved_keep (Some n) seat areas user p q r h low = grind (arith, same_saved, other_saved)
 
--- who takes the unit changes nobody's state
+-- a change of the owner changes no user's state
 pub taken_keeps : (user other : ℕ) (areas : Areas) (unit : Unit)
     → state_of (taken user areas unit) other ≡ saved_state areas other
 taken_keeps user other areas unit = grind arith
 
--- a touch changes nobody's state
+-- a touch changes no user's state
 pub touched_keeps : (user other : ℕ) (unit : Unit) → length unit.areas.states ≡ user_count → length unit.areas.marks ≡ user_count
     → IsOwnerAUser unit.owner → IsSettled unit → 1 ≤ other → state_of (touched user unit) other ≡ state_of unit other
 touched_keeps user other unit states marks is_user settled low =
@@ -81,7 +81,7 @@ touched_keeps user other unit states marks is_user settled low =
 touched_owner : (user : ℕ) (unit : Unit) → is_owned_by (touched user unit).owner user ≡ true
 touched_owner user unit = grind arith
 
--- what is lent is the user's state
+-- the borrowed state is the user's state
 pub touched_state : (user : ℕ) (unit : Unit) → length unit.areas.states ≡ user_count → length unit.areas.marks ≡ user_count
     → IsOwnerAUser unit.owner → IsSettled unit → 1 ≤ user → (touched user unit).seat.state ≡ state_of unit user
 touched_state user unit states marks is_user settled low =
@@ -92,32 +92,32 @@ touched_state user unit states marks is_user settled low =
 pub owner_touches : (user : ℕ) (unit : Unit) → is_owned_by unit.owner user ≡ true → touched user unit ≡ unit
 owner_touches user unit h = grind arith
 
--- who has touched the unit is the owner
+-- a user who has touched the unit is its owner
 pub touched_again : (user : ℕ) (unit : Unit) (back : Seat)
     → touched user (with_seat back (touched user unit)) ≡ with_seat back (touched user unit)
 touched_again user unit back = grind arith
 
--- a touch is counted as it is written
+-- a touch changes the record of the unit as `unit_touched` defines
 pub touch_counts : (user : ℕ) (unit : Unit) → record_of (touched user unit) ≡ unit_touched user (record_of unit)
 touch_counts user unit =
     of_option unit.owner (λ o. record_of (touched user unit) ≡ unit_touched user (record_of unit)) (λ e. grind arith) (λ n e. grind arith)
 
--- where the owner's state isn't dirty, a touch writes no save area
+-- if the owner's state is clean, a touch writes no save area
 pub clean_touches : (user : ℕ) (unit : Unit) → unit.seat.dirty ≡ false → KeepsAreas unit (touched user unit)
 clean_touches user unit h = of_option unit.owner (λ o. KeepsAreas unit (touched user unit)) (λ e. grind arith) (λ n e. grind arith)
 
--- a save writes no area but the dirty owner's
+-- a save writes no save area except that of the dirty owner
 pub other_areas : (owner : Option ℕ) (seat : Seat) (areas : Areas) (other : ℕ) → IsOwnerAUser owner → 1 ≤ other
     → (is_owned_by owner other && seat.dirty) ≡ false → KeepsArea other areas (areas_saved owner seat areas)
 other_areas None seat areas other r low h = (refl, refl)
 other_areas (Some n) seat areas other r low h =
     let bounds : (1 ≤ n) × (n ≤ user_count) = r n refl in grind (arith, get_or-set_other)
 
--- who takes the unit writes no area
+-- a change of the owner writes no save area
 pub taken_areas : (user other : ℕ) (areas : Areas) (unit : Unit) → KeepsArea other areas (taken user areas unit).areas
 taken_areas user other areas unit = grind arith
 
--- ---- a register is written by a command
+-- ---- a command writes a register
 
 pub poke_own : (user register : ℕ) (bytes : List ℕ) (unit : Unit) → user - 1 < length unit.areas.states
     → user - 1 < length unit.areas.marks
@@ -142,7 +142,7 @@ pub poke_settled : (user register : ℕ) (bytes : List ℕ) (unit : Unit) → 1 
     → IsSettled (poked user register bytes unit)
 poke_settled user register bytes unit low r h = grind (arith, poke_settled_by)
 
--- ---- a user is dropped
+-- ---- a user's state is discarded
 
 pub discard_own : (user : ℕ) (unit : Unit) → user - 1 < length unit.areas.marks
     → state_of (discarded user unit) user ≡ initial_vector
@@ -164,7 +164,7 @@ pub discard_settled : (user : ℕ) (unit : Unit) → 1 ≤ user → IsOwnerAUser
     → IsSettled (discarded user unit)
 discard_settled user unit low r h = discard_settled_by user unit unit.owner refl low r h
 
--- ---- for the tactics
+-- ---- rule sets for the tactics
 
 pub ruleset poking_steps = (poke_own, poke_others, poke_counts, poke_settled)
 

@@ -1,5 +1,4 @@
--- The save areas of all users, where the states stand that the vector unit doesn't hold (Privileged Architecture 20211203,
--- section 3.1.6.6).
+-- The save areas of all users, with the vector states that the unit doesn't hold (Privileged Architecture 20211203, section 3.1.6.6).
 use Rattle.std.specs.Prelude.{ℕ, ◌-◌, true, false, List, if◌then◌else◌, replicate, slice_index_or, slice_set}
 use Rattle.rv_model.specs.declared.vector.state.VState.{VState}
 use Rattle.rv_model.specs.machine.Setup.{user_count}
@@ -8,24 +7,24 @@ use Rattle.rv_model.specs.vector.Groups.{with_register_bytes}
 use Rattle.rv_model.specs.vector.State.{initial_vector}
 use Rattle.lazy_context.specs.declared.areas.Areas.{Areas}
 
--- what stands in a user's area, whether it counts or not
+-- the content of a user's area, whether or not its mark is set
 abbrev pub area : Areas → ℕ → VState
 area areas user = slice_index_or areas.states (user - 1) initial_vector
 
--- the state that a user has whose state the unit doesn't hold: the saved one, or the initial one where none is saved
+-- the state of a user who isn't the owner: the saved one, or the initial one if none is saved
 abbrev pub saved_state : Areas → ℕ → VState
 saved_state areas user = if is_marked areas.marks user then area areas user else initial_vector
 
--- the areas with a state saved for a user
+-- the areas with a state saved for a user; the save isn't counted
 abbrev pub with_saved : ℕ → VState → Areas → Areas
 with_saved user state areas =
     record areas { states = slice_set areas.states (user - 1) state; marks = with_mark user true areas.marks }
 
--- one more state was restored
+-- the areas with one more restore counted
 abbrev pub count_restore : Areas → Areas
 count_restore areas = record areas { restores = counted areas.restores }
 
--- no state is saved, and none was saved or restored
+-- the areas without saved states, with counts of 0
 abbrev pub new_areas : Areas
 new_areas = record { states = replicate user_count initial_vector; marks = replicate user_count false; saves = 0; restores = 0 }
 

@@ -7,8 +7,8 @@ ghost use Rattle.rv_model.specs.vector.Groups.{IsConfiguration};
 
 use rv_model::{RegisterBytes, USER_COUNT, User, VConf, VReg, VState};
 
-/// A save area for each user, with a mark that says whether it holds the user's vector state, and
-/// how many states were saved and restored.
+/// A save area for each user, with a mark that is set if it holds the user's vector state, and the
+/// numbers of saves and restores.
 #[derive(Drop)]
 pub struct Areas {
     states: [VState; USER_COUNT],
@@ -18,7 +18,7 @@ pub struct Areas {
 }
 
 impl Areas {
-    /// No state is saved.
+    /// Create areas without saved states.
     pub fn new() -> Areas
         ensures { result ≡ new_areas }
     {
@@ -39,14 +39,14 @@ impl Areas {
         }
     }
 
-    /// Whether a user's state is saved.
+    /// Return whether a user's state is saved.
     pub fn marked(&self, user: User) -> bool
         ensures { result ≡ is_marked self.now.marks user }
     {
         self.marks[user.index()]
     }
 
-    /// Saves a user's state, and counts it.
+    /// Save a user's state, and count the save.
     pub fn save(&mut self, user: User, state: &VState)
         ensures areas { self.new ≡ record (with_saved user state.now self.old) { saves = counted self.old.saves } }
         ensures whole { (length self.old.states ≡ user_count) × (length self.old.marks ≡ user_count) }
@@ -57,7 +57,7 @@ impl Areas {
         self.saves = self.saves.saturating_add(1);
     }
 
-    /// Copies a saved state out, and counts it.
+    /// Copy a user's saved state to `state`, and count the restore.
     pub fn restore(&mut self, user: User, state: &mut VState)
         requires { is_marked self.old.marks user ≡ true }
         ensures areas { self.new ≡ count_restore self.old }
@@ -67,7 +67,7 @@ impl Areas {
         self.restores = self.restores.saturating_add(1);
     }
 
-    /// The saved state of a user, or the initial one where none is saved.
+    /// Return a user's saved state, or the initial state if none is saved.
     pub fn peek(&self, user: User) -> VState
         ensures { result ≡ saved_state self.now user }
     {
@@ -79,8 +79,8 @@ impl Areas {
         state
     }
 
-    /// Writes a vector register of a user's saved state, which is the initial one before where none
-    /// is saved; that isn't counted.
+    /// Write the 32 bytes of a vector register of a user's saved state, without a count. If no
+    /// state is saved, save the initial state with this register.
     pub fn poke(&mut self, user: User, vreg: VReg, bytes: &[u8; 32])
         ensures areas { self.new ≡ with_saved user (with_register vreg bytes.now (saved_state self.old user)) self.old }
         ensures whole { (length self.old.states ≡ user_count) × (length self.old.marks ≡ user_count) }
@@ -92,7 +92,7 @@ impl Areas {
         self.marks[place] = true;
     }
 
-    /// Drops a user's saved state.
+    /// Discard a user's saved state.
     pub fn clear(&mut self, user: User)
         ensures areas { self.new ≡ record self.old { marks = with_mark user false self.old.marks } }
         ensures whole { length self.old.marks ≡ user_count }
@@ -100,7 +100,7 @@ impl Areas {
         self.marks[user.index()] = false;
     }
 
-    /// There is an area and a mark for each user: a law, which does nothing.
+    /// State that there is an area and a mark for each user, and do nothing.
     pub(crate) fn whole_law(&self)
         ensures states { length self.now.states ≡ user_count }
         ensures marks { length self.now.marks ≡ user_count }
@@ -109,8 +109,8 @@ impl Areas {
         let _ = self.marks[0];
     }
 
-    /// The vector length of what the area shows is one that the vector type allows: a law, which does
-    /// nothing.
+    /// State that the vector length of a user's saved or initial state is valid for its vector
+    /// type, and do nothing.
     #[tactic(auto, unfolding(rv_model::specs::vector::State::initial_vector))]
     pub(crate) fn length_law(&self, user: User)
         ensures { IsConfiguration (saved_state self.now user).conf }
@@ -122,7 +122,7 @@ impl Areas {
         }
     }
 
-    /// How many states were saved, and how many restored.
+    /// Return the numbers of saves and restores.
     pub fn counts(&self) -> (u64, u64)
         ensures { result ≡ (self.now.saves, self.now.restores) }
     {

@@ -1,4 +1,4 @@
-//! One vector unit for all users, which is switched from one to another when it is used.
+//! One vector unit for all users, which changes its owner when another user uses it.
 #![tactic(auto)]
 
 mod areas;

@@ -36,9 +36,9 @@ ghost use Rattle.std.specs.Prelude.{ℕ, ◌≡◌, ◌≤◌, false, true};
 use crate::areas::Areas;
 use rv_model::{RegisterBytes, Seat, Stats, User, VReg, VState};
 
-/// The one vector unit: the state of its owner, marked as dirty if it was changed since it came
-/// there, the states of the other users in save areas, and how many users' states began as the
-/// initial one.
+/// The one vector unit that all users share: the state of its owner, marked as dirty if it has
+/// changed since it was loaded, and the save areas of all users. `first_uses` counts how often a
+/// user without a saved state became the owner.
 #[derive(Drop)]
 pub struct Unit {
     seat: Seat,
@@ -48,7 +48,7 @@ pub struct Unit {
 }
 
 impl Unit {
-    /// Nobody has used the unit.
+    /// Create a unit that no user has used.
     #[tactic(auto, using(crate::proofs::UnitLaws::initial_states))]
     pub fn new() -> Unit
         ensures value { result ≡ new_unit }
@@ -67,7 +67,7 @@ impl Unit {
         }
     }
 
-    /// Whether the unit holds this user's state.
+    /// Return whether the unit holds this user's state.
     fn is_owner(&self, user: User) -> bool
         ensures value { result ≡ is_owned_by self.now.owner user }
         ensures user { (1 ≤ user) × (user ≤ user_count) }
@@ -80,14 +80,14 @@ impl Unit {
         }
     }
 
-    /// Saves the owner's state if it is dirty.
+    /// Save the owner's state if it is dirty.
     #[tactic(auto, using(crate::proofs::UnitLaws::other_areas))]
     fn write_back(&mut self)
         ensures value { self.new ≡ owner_written_back self.old }
         ensures kept { KeepsOtherAreas self.old self.new }
     {
         if let Some(owner) = self.owner {
-            // For the proof alone: the number is from 1 to 8.
+            // For the proof alone: the number is 1 to 8.
             let _ = owner.number();
             if self.seat.dirty {
                 self.areas.save(owner, &self.seat.state);
@@ -95,7 +95,8 @@ impl Unit {
         }
     }
 
-    /// Makes a user the owner, whose state is copied in if it is saved.
+    /// Make a user the owner, and restore the user's state if it is saved. Otherwise the user
+    /// starts with the initial state.
     fn take(&mut self, user: User)
         ensures { self.new ≡ taken user self.old.areas self.old }
     {
@@ -109,7 +110,7 @@ impl Unit {
         }
     }
 
-    /// Makes a user the owner, who may be that already.
+    /// Make a user the owner, unless the user already is.
     #[tactic(auto, using(crate::proofs::UnitLaws::taken_areas))]
     fn switch(&mut self, user: User)
         ensures value { self.new ≡ touched user self.old }
@@ -121,8 +122,8 @@ impl Unit {
         }
     }
 
-    /// Makes a user the owner and lends the user's state. Whoever changes it marks it as dirty, and
-    /// never clears the mark.
+    /// Make a user the owner, and return a borrow of the user's state. A caller that changes the
+    /// state must set its dirty mark, and must never clear the mark.
     pub fn touch(&mut self, user: User) -> &mut Seat
         requires { IsSettled self.old }
         ensures* writes_back { sem 𝓛 (LendsSeat self.entry user result) }
@@ -138,7 +139,7 @@ impl Unit {
         &mut self.seat
     }
 
-    /// A copy of a user's state.
+    /// Return a copy of a user's state.
     pub fn peek(&self, user: User) -> VState
         ensures { result ≡ state_of self.now user }
     {
@@ -151,7 +152,7 @@ impl Unit {
         }
     }
 
-    /// Writes a vector register of a user; nothing is switched or counted.
+    /// Write the 32 bytes of a user's vector register, without a switch or a count.
     #[tactic(auto, using(crate::proofs::UnitLaws::poking_steps))]
     pub fn poke(&mut self, user: User, vreg: VReg, bytes: &[u8; 32])
         ensures value { self.new ≡ poked user vreg bytes.now self.old }
@@ -172,7 +173,7 @@ impl Unit {
         }
     }
 
-    /// Drops what a user has: the user's state is the initial one again.
+    /// Discard a user's state: the user has the initial state again.
     #[tactic(auto, using(crate::proofs::UnitLaws::discarding_steps))]
     pub fn discard(&mut self, user: User)
         ensures value { self.new ≡ discarded user self.old }
@@ -188,8 +189,9 @@ impl Unit {
         }
     }
 
-    /// What the unit is once a user has touched it: a law, which does nothing. The owner's touch changes nothing, one
-    /// with a clean seat writes no save area, and once the seat has come back the unit may be touched again.
+    /// State the laws of a touch, and do nothing. A touch by the owner changes nothing, a touch of a
+    /// unit with a clean owner writes no save area, and after the borrowed state is returned the
+    /// unit can be touched again.
     #[tactic(auto, using(crate::proofs::UnitLaws::lending_steps))]
     pub fn lending_law(&self, user: User)
         ensures own { IsSettled self.now → (touched user self.now).seat.state ≡ state_of self.now user }
@@ -204,7 +206,7 @@ impl Unit {
         let _ = self.is_owner(user);
     }
 
-    /// The vector length of a user is one that the vector type allows: a law, which does nothing.
+    /// State that a user's vector length is valid for the vector type, and do nothing.
     pub fn length_law(&self, user: User)
         ensures { IsConfiguration (state_of self.now user).conf }
     {
@@ -215,7 +217,7 @@ impl Unit {
         }
     }
 
-    /// How often the unit was switched, and whose state it holds.
+    /// Return the numbers of saves, restores and first uses, and the owner.
     pub fn stats(&self) -> Stats
         ensures { result ≡ stats_of (record_of self.now) }
     {
