@@ -1,4 +1,4 @@
--- Lists of addresses in rising order: what a binary search finds in one, and what an address added or taken out leaves.
+-- Lists of addresses in ascending order: the result of a binary search, and the list with an address added or removed.
 use Rattle.std.proofs.Common.{◌≡◌, ℕ, suc, ◌+◌, ◌<◌, ◌≤◌, Bool, true, false, List, [], ◌∷◌, ◌++◌, length, get_or, set, take, drop, not, cond, nat_le, nat_lt, eqb, All, AllPairs, filter, insert, remove, Ok, Err, refl, sym, ◌∙◌, ap, ap₂, subst, arith, append-nil, take-append-drop, get_or-take, get_or-drop, length-take, length-drop, nat_cmp}
 use Rattle.std.specs.List.{list_any}
 use Rattle.std.specs.Prelude.{◌&&◌}
@@ -12,13 +12,13 @@ use Rattle.std.proofs.lemmas.List.Kept.{AllPairs-cons, AllPairs-filter}
 use Rattle.rv_model.specs.commands.Breakpoints.{with_address, without_address}
 use Rattle.monitor_machine.specs.AddressSets.{IsRising}
 
--- no address of none holds a program
+-- no address of an empty list passes a test
 pub none_holds : (asked : Bool) (p : ℕ → Bool) (xs : List ℕ) → nat_le (length xs) 0 ≡ true → false ≡ (asked && list_any p xs)
 none_holds true p [] e = refl
 none_holds false p [] e = refl
 none_holds asked p (x ∷ xs) e = absurd (grind (arith, nat_tests, e))
 
--- what a filter keeps where all pass, none passes, or a part of the list passes
+-- the result of a filter if all items pass, if none passes, or if a part of the list passes
 module _ (p : ℕ → Bool) where
   filter_all : (xs : List ℕ) → All (λ x. p x ≡ true) xs → filter p xs ≡ xs
   filter_all [] passes = refl
@@ -68,15 +68,15 @@ module _ (addr : ℕ) (below above : List ℕ) (low : All (λ a. a < addr) below
       let itself : not (eqb addr addr) ≡ false = grind (arith, nat_tests) in
       filter_past _ below addr above itself ∙ others
 
--- the comparisons with an address rise along the list, as a binary search asks
+-- the comparisons with an address don't decrease along the list, as a binary search requires
 comparisons_rise : (addresses : List ℕ) (addr : ℕ) → IsRising addresses → IsNonDecreasingBy (λ a. ordering_index (nat_cmp a addr)) addresses
 comparisons_rise addresses addr rising i j d le in_range =
     let rise : get_or addresses i d ≤ get_or addresses j d = grind (arith, rising i j d, λ (same : i ≡ j). ap (λ (n : ℕ). get_or addresses n d) same) in
     grind (arith, nat_tests)
 
--- a binary search for addr ended at place i
+-- a binary search for addr ended at index i
 module _ (addresses : List ℕ) (rising : IsRising addresses) (addr i : ℕ) where
-  -- addr stands there
+  -- addr is at index i
   module _ (in_range : i < length addresses) (found : IsBinarySearchResult (λ a. nat_cmp a addr) addresses (Ok i)) where
     here : (d : ℕ) → get_or addresses i d ≡ addr
     here d = ranked _ addr _ (sym (found d))
@@ -102,7 +102,7 @@ module _ (addresses : List ℕ) (rising : IsRising addresses) (addr i : ℕ) whe
     pub without_present : without_address addr addresses ≡ remove addresses i
     without_present = subst (λ l. without_address addr l ≡ remove addresses i) parts (without_old addr (take i addresses) (drop (suc i) addresses) low_before high_after)
 
-  -- addr isn't in the list, and would go there
+  -- addr isn't in the list, and index i is the place to insert it
   module _ (in_range : i ≤ length addresses) (absent : IsBinarySearchResult (λ a. nat_cmp a addr) addresses (Err i)) where
     low_before_gap : All (λ a. a < addr) (take i addresses)
     low_before_gap k d lt =
@@ -124,9 +124,9 @@ module _ (addresses : List ℕ) (rising : IsRising addresses) (addr i : ℕ) whe
     pub without_absent : without_address addr addresses ≡ addresses
     without_absent = subst (λ l. without_address addr l ≡ l) (take-append-drop i addresses) (without_new addr (take i addresses) (drop i addresses) low_before_gap high_after_gap)
 
--- ---- the order that is kept
+-- ---- the order of the list after an insertion or removal
 
--- each pair of xs, each of ys, and each of one from xs and one from ys
+-- a relation that holds for the pairs of xs, for those of ys, and across both lists holds for the pairs of their concatenation
 all_pairs_append : (R : ℕ → ℕ → Type 0) (xs ys : List ℕ) → AllPairs R xs → AllPairs R ys → All (λ x. All (R x) ys) xs → AllPairs R (xs ++ ys)
 all_pairs_append R [] ys front back across = back
 all_pairs_append R (x ∷ xs) ys front back across =

@@ -1,4 +1,4 @@
--- A slice that is granted, and then one of so many ticks more.
+-- A slice that is granted, followed by a slice of more ticks.
 use Rattle.std.proofs.Common.{◌≡◌, ℕ, ◌+◌, List, [], ◌∷◌, ◌++◌, append_assoc, refl, ap, ◌∙◌, sym, true, false, Bool, if◌then◌else◌, Some, None}
 use Rattle.rv_model.specs.declared.vector.state.VState.{VState}
 use Rattle.rv_model.specs.machine.Cuts.{IsConfigured}
@@ -27,7 +27,7 @@ text-append tag (x ∷ xs) ys =
     ap (λ (bytes : List ℕ). tagged tag x ++ bytes) (text-append tag xs ys)
     ∙ sym (append_assoc (tagged tag x) (text tag xs) (text tag ys))
 
--- what a slice and the next come to, by what it left of the user's private machine and what it printed
+-- the sum of a slice and the next one, from the private machine and the output of the first one
 pub slice_goes_on : (before now : MachineState) (u : ℕ) (printed : List ℕ) → IsConfigured (user_machine u before.world)
     → user_machine u now.world ≡ (sliced before.setup.quantum (user_machine u before.world)).next
     → printed ≡ text (48 + u) (sliced before.setup.quantum (user_machine u before.world)).lines

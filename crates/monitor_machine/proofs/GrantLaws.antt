@@ -1,4 +1,4 @@
--- Slices that are granted one after another.
+-- Laws of consecutive slices that are granted.
 use Rattle.std.proofs.Common.{◌≡◌, ℕ, zero, suc, ◌+◌, ◌*◌, ◌≤◌, ◌<◌, Bool, true, false, cond, List, [], ◌∷◌, ◌++◌, length, append_assoc, append-nil, get_or, set, Option, Some, None, refl, ap, ◌∙◌, sym, arith}
 use Rattle.std.specs.Prelude.{◌&&◌, map, if◌then◌else◌}
 use Rattle.std.proofs.lemmas.List.{ext_get_or, get_or-map, length-map}
@@ -35,7 +35,7 @@ stops_room_by_count (p ∷ ps) = omega (arith, stop_room_is_small p, stops_room_
 pub stops_room_is_small : (ps : List Private) → length ps ≡ user_count → stops_room ps ≤ 640
 stops_room_is_small ps eight = omega (arith, eight, stops_room_by_count ps)
 
--- the room for another machine in place of a user's
+-- the room after another machine replaces a user's
 pub stops_room_set : (ps : List Private) (i : ℕ) (q : Private) → i < length ps
     → stops_room (set ps i q) + stop_room (get_or ps i None) ≡ stops_room ps + stop_room q
 stops_room_set [] i q lt = absurd (omega (arith, lt))
@@ -48,13 +48,13 @@ stop_room_within [] i lt = absurd (omega (arith, lt))
 stop_room_within (p ∷ ps) zero lt = omega arith
 stop_room_within (p ∷ ps) (suc i) lt = omega (arith, stop_room_within ps i (omega (arith, lt)))
 
--- what is left of the room for all, where a user's machine and lines were changed within the room for that user
+-- the room that remains for all users after a change of one user's machine and lines within that user's room
 pub room_left : (old new before after part next rest parts all : ℕ) → new + after ≤ old + before → after ≡ next → before ≡ part → rest ≡ parts → parts + part ≡ all + next → new + rest ≤ old + all
 room_left old new before after part next rest parts all h is_next is_part is_parts set = omega (arith, h, is_next, is_part, is_parts, set)
 
--- ---- what programs do, by contexts
+-- ---- the state of programs, from the contexts
 
--- a list whose elements are those of another by a function
+-- a list whose elements are the images of another list's elements under a function
 pub filled : {A B : Type 0} (f : A → B) (xs : List A) (ys : List B) (d : A) (e : B) → length ys ≡ length xs → ((k : ℕ) → k < length xs → get_or ys k e ≡ f (get_or xs k d)) → ys ≡ map f xs
 filled f xs ys d e same each =
     ext_get_or e ys (map f xs) (same ∙ sym (length-map xs f)) (λ k lt. each k (omega (arith, lt, same)) ∙ sym (get_or-map f xs k d e (omega (arith, lt, same))))
@@ -73,7 +73,7 @@ standing_as c t v m = entered c.entered
     entered true = refl
     entered false = refl
 
--- what holds of each context holds of the parts
+-- a property of each context is a property of the corresponding private machine
 of_parts : {B : Type 0} (f : Private → B) (g : Context → B) → ((c : Context) (t : Addresses) (v : VState) (m : Memory) → f (private_of c t v m) ≡ g c)
     → (cs : List Context) (ts : List Addresses) (vs : List VState) (ms : List Memory) → length cs ≡ length ts → length ts ≡ length vs → length vs ≡ length ms
     → map f (parts_of cs ts vs ms) ≡ map g cs
@@ -98,7 +98,7 @@ standings_of_parts cs ts unit ms whole = of_whole standing context_standing stan
 
 -- ---- slices
 
--- a program that doesn't run has no slice
+-- a program that isn't running has no slice
 pub not_sliced : (quantum : ℕ) (p : Private) → runs p ≡ false → sliced quantum p ≡ record { next = p; lines = []; uses = [] }
 unfolding sliced
 not_sliced quantum None stopped = refl
@@ -106,28 +106,28 @@ not_sliced quantum (Some p) stopped =
     let run : Halted = ticked quantum p in
     ap (λ (b : Bool). if b then slice_ends run run.stop else record { next = Some p; lines = []; uses = [] }) stopped
 
--- so the world stays
+-- so the world is unchanged
 pub nothing_sliced : (quantum u : ℕ) (w : World) → runs (user_machine u w) ≡ false → after_slice quantum u w ≡ w
 nothing_sliced quantum u w stopped =
     ap (λ (o : Outcome). after_outcome u o w) (not_sliced quantum (user_machine u w) stopped) ∙ ap (with_unit w.unit) (part_put_back u w)
 
--- one slice in turn, and then those that are left
+-- one slice in turn, and then the remaining slices
 pub granted_on : (s : Setup) (n u : ℕ) (w : World) → next_running w ≡ Some u → granted s (suc n) w ≡ slice_of u true ∷ granted s n (after_one s w (slice_of u true))
 unfolding granted
 granted_on s n u w turn = ap (λ (o : Option ℕ). option_map_or (λ u. slice_of u true ∷ granted s n (after_one s w (slice_of u true))) o []) turn
 
--- nobody's program runs
+-- no program is running
 pub granted_to_nobody : (s : Setup) (n : ℕ) (w : World) → next_running w ≡ None → granted s n w ≡ []
 unfolding granted
 granted_to_nobody s zero w turn = refl
 granted_to_nobody s (suc n) w turn = ap (λ (o : Option ℕ). option_map_or (λ u. slice_of u true ∷ granted s n (after_one s w (slice_of u true))) o []) turn
 
--- a world after one slice in turn
+-- the world after one slice in turn
 pub after_one_grant : (s : Setup) (u : ℕ) (w turned next : World) → turned ≡ record w { cursor = u } → next ≡ after_slice s.quantum u turned → after_one s w (slice_of u true) ≡ next
 unfolding event
 after_one_grant s u w turned next turn moved = sym (moved ∙ ap (λ (v : World). after_slice s.quantum u v) turn)
 
--- what one slice in turn tells, and then what the others tell
+-- the output of one slice in turn, and then of the others
 pub told_by_grant : (s : Setup) (u : ℕ) (w turned next : World) (hs : List Happening) → turned ≡ record w { cursor = u } → next ≡ after_slice s.quantum u turned
     → told_by s w (slice_of u true ∷ hs) ≡ text (48 + u) (sliced s.quantum (user_machine u turned)).lines ++ told_by s next hs
 unfolding event
@@ -135,7 +135,7 @@ told_by_grant s u w turned next hs turn moved =
     ap (λ (v : World). text (48 + u) (sliced s.quantum (user_machine u w)).lines ++ told_by s v hs) (after_one_grant s u w turned next turn moved)
     ∙ ap (λ (v : World). text (48 + u) (sliced s.quantum (user_machine u v)).lines ++ told_by s next hs) (sym turn)
 
--- the world after the slices that are left, where one more is granted
+-- the world after the remaining slices, if one more is granted
 pub world_granted_on : (s : Setup) (n u : ℕ) (w turned next : World) → next_running w ≡ Some u → turned ≡ record w { cursor = u } → next ≡ after_slice s.quantum u turned
     → after_events s w (granted s (suc n) w) ≡ after_events s next (granted s n next)
 world_granted_on s n u w turned next turns turn moved =
@@ -159,17 +159,17 @@ count_granted_on s n u w turned next turns turn moved =
     ap length (granted_on s n u w turns)
     ∙ ap (λ (v : World). suc (length (granted s n v))) (after_one_grant s u w turned next turn moved)
 
--- no slice is left
+-- no slice remains
 pub none_granted : (s : Setup) (w : World) → granted s 0 w ≡ []
 unfolding granted
 none_granted s w = refl
 
--- ---- one slice of a user who is named
+-- ---- one slice of a given user
 
 abbrev ran_lines : Bool → ℕ → List Happening
 ran_lines ran u = if ran then slice_of u false ∷ [] else []
 
--- what becomes of the world where a slice is granted if the user's program runs
+-- the world after a slice that is granted if the user's program is running
 pub one_run_world : (s : Setup) (u : ℕ) (w next : World) → next ≡ after_slice s.quantum u w → after_events s w (if runs (user_machine u w) then slice_of u false ∷ [] else []) ≡ next
 unfolding event
 one_run_world s u w next moved = by_case (runs (user_machine u w)) refl
@@ -190,6 +190,6 @@ pub one_run_count : (u : ℕ) (b : Bool) → length (if b then slice_of u false 
 one_run_count u true = refl
 one_run_count u false = refl
 
--- there is a machine for each user after some events, too
+-- after any events, there is still a machine for each user
 pub eight_stay : (s : Setup) (w next : World) (es : List Happening) → next ≡ after_events s w es → length w.parts ≡ 8 → length next.parts ≡ 8
 eight_stay s w next es moved eight = ap (λ (v : World). length v.parts) moved ∙ length-after_events s w es ∙ eight

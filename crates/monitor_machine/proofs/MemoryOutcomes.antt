@@ -1,4 +1,4 @@
--- What commands on memory come to, by what is tested.
+-- Outcomes of commands on memory, by the results of their tests.
 use Rattle.std.proofs.Common.{◌≡◌, ℕ, List, length, ap, Bool, true, false, Option, Some, None}
 use Rattle.std.specs.Prelude.{if◌then◌else◌, codes}
 use Rattle.rv_model.specs.declared.commands.refusal.Refusal.TheVariants as refusal

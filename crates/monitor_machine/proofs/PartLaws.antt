@@ -1,4 +1,4 @@
--- A change of one user's context, vector state and memory changes that user's part alone.
+-- A change of one user's context, vector state and memory changes only that user's private machine.
 use Rattle.std.proofs.Common.{◌≡◌, inl, inr, ℕ, zero, suc, ◌+◌, ◌-◌, ◌<◌, ◌≤◌, List, [], ◌∷◌, length, get_or, get_or-set_other, get_or-set_same, length-set, set, refl, ap, ◌∙◌, sym, subst, arith, Bool, true, false, Some, None, replicate}
 use Rattle.std.proofs.lemmas.Bool.{cases_eq}
 use Rattle.std.proofs.lemmas.List.{ext_get_or, set-get_or}
@@ -60,7 +60,7 @@ state_at unit u low high =
     states_at unit (u - 1) (omega (arith, low, high))
     ∙ ap (state_of unit) (let back : 1 + (u - 1) ≡ u = omega (arith, low) in back)
 
--- where only one user's state is another, only that place of the states is
+-- if only one user's state changes, only the item of that user changes in the list of states
 states_moved : (user : ℕ) (old new : Unit) (count : VectorUnit) → 1 ≤ user → user ≤ user_count → UnitMoves user old new count
     → states_of new ≡ set (states_of old) (user - 1) (state_of new user)
 states_moved user old new count low high moves =
@@ -80,13 +80,13 @@ states_moved user old new count low high moves =
           ∙ sym (get_or-set_other before (user - 1) k (state_of new user) initial_vector other)
     ])
 
--- nothing has moved
+-- nothing has changed
 pub unit_stays : (user : ℕ) (unit : Unit) → IsSettled unit → UnitMoves user unit unit (record_of unit)
 unit_stays user unit settled = record { settled = settled; strangers = λ other low apart. refl; counts = refl }
 
--- ---- the parts of a world
+-- ---- the private machines of a world
 
--- a user's part, by the user's place i
+-- a user's private machine, by the user's index i
 part_is : (cs : List Context) (ts : List Addresses) (unit : Unit) (ms : List Memory) (cursor u i : ℕ) (d : Context) (e : Addresses) → i ≡ u - 1 → i < user_count → 1 ≤ u
     → IsWhole cs ts unit ms
     → user_machine u (world_of cs ts unit ms cursor) ≡ private_of (get_or cs i d) (get_or ts i e) (state_of unit u) (memory_of_user ms u)
@@ -96,7 +96,7 @@ part_is cs ts unit ms cursor u i d e at low user whole =
     ∙ ap (λ (v : VState). private_of (get_or cs (u - 1) d) (get_or ts (u - 1) e) v (memory_of_user ms u)) (state_at unit u user (omega (arith, at, low)))
     ∙ ap (λ (j : ℕ). private_of (get_or cs j d) (get_or ts j e) (state_of unit u) (memory_of_user ms u)) (sym at)
 
--- the same in a world that has these parts, by what stands at the user's place
+-- the same in a world with these machines, by the items at the user's index
 pub machine_in : (cs : List Context) (ts : List Addresses) (unit : Unit) (ms : List Memory) (cursor u i : ℕ) (d : Context) (t : Addresses) (w : World) → i ≡ u - 1 → i < user_count → 1 ≤ u
     → IsWhole cs ts unit ms → t ≡ get_or ts i t → world_of cs ts unit ms cursor ≡ w
     → private_of (get_or cs i d) t (state_of unit u) (memory_of_user ms u) ≡ user_machine u w
@@ -105,14 +105,14 @@ machine_in cs ts unit ms cursor u i d t w at low user whole trace world =
     ∙ sym (part_is cs ts unit ms cursor u i d t at low user whole)
     ∙ ap (user_machine u) world
 
--- how many parts there are
+-- number of private machines
 pub eight_parts : (cs : List Context) (ts : List Addresses) (unit : Unit) (ms : List Memory) → IsWhole cs ts unit ms
     → length (parts_of cs ts (states_of unit) ms) ≡ user_count
 eight_parts cs ts unit ms whole =
     part_count cs ts (states_of unit) ms (whole.contexts ∙ sym whole.traces) (whole.traces ∙ sym (eight_states unit)) (eight_states unit ∙ sym whole.memories)
     ∙ whole.contexts
 
--- the world after a change of one user's parts and trace, by the user's place i
+-- the world after a change of one user's parts and trace, by the user's index i
 pub world_with : {A : Type 0} (old new : Parts A) (count : VectorUnit) → PartsMove old new count
     → (cs : List Context) (ts : List Addresses) (t t' : Addresses) (cursor i : ℕ) (d : Context) (f : Private → Private) (g : Private → VectorUnit → VectorUnit)
     → i ≡ old.user - 1 → i < user_count → 1 ≤ old.user → IsWhole cs ts old.unit.now old.pool.now → old.context.now ≡ get_or cs i d → t ≡ get_or ts i t
@@ -139,7 +139,7 @@ world_with old new count moves cs ts t t' cursor i d f g at low user whole conte
     ∙ ap (λ (p : Private). with_unit (record_of new.unit.now) (with_user_machine u p world)) done
     ∙ ap (λ (r : VectorUnit). with_unit r (with_user_machine u (f (user_machine u world)) world)) (moves.unit.counts ∙ counted ∙ ap (λ (p : Private). g p (record_of unit)) (sym same))
 
--- there is one of each for each user then
+-- after the change, there is still one of each for each user
 pub whole_with : {A : Type 0} (old new : Parts A) (count : VectorUnit) → PartsMove old new count → (cs : List Context) (ts : List Addresses) (t' : Addresses) (i : ℕ)
     → IsWhole cs ts old.unit.now old.pool.now → IsWhole (set cs i new.context.now) (set ts i t') new.unit.now new.pool.now
 whole_with old new count moves cs ts t' i whole = record {
@@ -149,17 +149,17 @@ whole_with old new count moves cs ts t' i whole = record {
   settled = moves.unit.settled;
 }
 
--- a part put back changes nothing
+-- the replacement of a private machine by itself changes nothing
 pub part_put_back : (u : ℕ) (w : World) → with_user_machine u (user_machine u w) w ≡ w
 part_put_back u w = ap (λ (ps : List Private). record w { parts = ps }) (set-get_or w.parts (u - 1) None)
 
--- new contexts over empty traces and memories are absent users, whatever the vector states are
+-- new contexts with empty traces and memories are absent users, for any vector states
 absent_parts : (n : ℕ) (vs : List VState) → length vs ≡ n → parts_of (replicate n new_context) (replicate n []) vs (replicate n empty) ≡ replicate n None
 absent_parts zero vs e = refl
 absent_parts (suc n) [] e = absurd (omega (arith, e))
 absent_parts (suc n) (v ∷ vs) e = ap (λ (ps : List Private). None ∷ ps) (absent_parts n vs (omega (arith, e)))
 
--- one for each user is the new world
+-- with one for each user, the world is the new world
 pub new_users : (cs : List Context) (ts : List Addresses) (unit : Unit) (ms : List Memory) → cs ≡ replicate user_count new_context → ts ≡ replicate user_count [] → record_of unit ≡ unused_unit
     → ms ≡ no_memories → world_of cs ts unit ms user_count ≡ new_world
 unfolding new_world
@@ -167,12 +167,12 @@ new_users cs ts unit ms p q counts r =
     ap (λ (v : VectorUnit). let w : World = record { parts = parts_of cs ts (states_of unit) ms; cursor = user_count; unit = v } in w) counts
     ∙ rw (p, q, r) (ap (λ (ps : List Private). let w : World = record { parts = ps; cursor = user_count; unit = unused_unit } in w) (absent_parts user_count (states_of unit) (eight_states unit)))
 
--- there is one for each user
+-- the new world has a private machine for each user
 pub new_are_eight : (w : World) → w ≡ new_world → length w.parts ≡ user_count
 unfolding new_world
 new_are_eight w h = ap (λ (v : World). length v.parts) h
 
--- the machine of a user that has entered, and of one that is absent
+-- the private machine of a user who has entered, and of an absent user
 pub entered_as : (c : Context) (t : Addresses) (v : VState) (m : Memory) → c.entered ≡ true → private_of c t v m ≡ Some (present c t v m)
 entered_as c t v m h = ap (λ (b : Bool). if b then Some (present c t v m) else None) h
 

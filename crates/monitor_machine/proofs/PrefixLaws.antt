@@ -1,4 +1,4 @@
--- A line's prefix, by its first two bytes.
+-- The prefix of a line, by its first two bytes.
 use Rattle.std.proofs.Common.{◌≡◌, ℕ, ◌≤◌, ◌-◌, List, ◌∷◌, length, get_or, drop, eqb, leb, refl, arith}
 use Rattle.std.specs.Prelude.{if◌then◌else◌, ◌&&◌}
 use Rattle.rv_model.specs.machine.Script.{Bad, Operator, Of, prefixed}

@@ -1,4 +1,4 @@
--- Runs of instructions, one instruction at a time: what they leave of a user's machine, and of the vector unit.
+-- Runs of instructions, one at a time: the user's machine and the vector unit after them.
 use Rattle.std.proofs.Common.{◌≡◌, ℕ, suc, ◌-◌, ◌≤◌, Bool, true, false, ◌∷◌, Option, Some, None, refl, ap, ◌∙◌, subst, sym}
 use Rattle.std.specs.Prelude.{if◌then◌else◌, is_none, not, ◌&&◌}
 use Rattle.rv_model.specs.declared.step.step_end.Stop.{Stop}
@@ -12,14 +12,14 @@ use Rattle.monitor_machine.specs.Lent.{Lent, RunsTo, StepsTo, TicksTo, TriesTo}
 
 -- ---- one instruction, and then a run of more
 
--- how it ends, and what it leaves
+-- the stop after an instruction, if any, and the machine after it
 abbrev stop_at : ℕ → Present → Option Stop
 stop_at left p = stop_of (step left p.hart).end
 
 abbrev next_at : ℕ → Present → Present
 next_at left p = after (step left p.hart).end (step left p.hart).state p
 
--- what the run comes to, where a breakpoint holds the first one, or it ends so
+-- the result of the run: a breakpoint stops it before the first instruction, or the first one ends with this reason
 abbrev run_by : Bool → Option Stop → ℕ → Present → Halted → Halted
 run_by held reason left p rest =
     let whole : Halted = if is_none reason then rest else halted (next_at left p) reason in
@@ -28,13 +28,13 @@ run_by held reason left p rest =
 abbrev GoesTo : ℕ → Bool → Halted → Lent → Lent → Option Stop → Type 0
 GoesTo left held rest old = RunsTo (run_by held (stop_at left old.machine) left old.machine rest) old
 
--- a breakpoint holds the first one
+-- a breakpoint stops the run before the first instruction
 run_held : (left : ℕ) (held : Bool) (rest : Halted) (a : Lent) → held ≡ true → GoesTo left held rest a a (Some stop.Breakpoint)
 run_held left held rest a h =
     subst (λ (b : Bool). RunsTo (run_by b (stop_at left a.machine) left a.machine rest) a a (Some stop.Breakpoint)) (sym h)
     (refl, refl, refl)
 
--- none does, and it ends so
+-- no breakpoint does, and the first instruction ends with this reason
 run_first : (left : ℕ) (held : Bool) (rest : Halted) (a end : Lent) (reason why : Option Stop) → held ≡ false → stop_at left a.machine ≡ reason
     → RunsTo (run_by false reason left a.machine rest) a end why → GoesTo left held rest a end why
 run_first left held rest a end reason why h is runs =
@@ -57,7 +57,7 @@ run_goes_on left ticks held rest a b end reason h tried same later =
           ∙ ap (λ (r : VectorUnit). unit_after_uses a.user rest.uses r) tried.3,
     )
 
--- ---- at most so many instructions
+-- ---- at most `count` instructions
 
 pub no_steps : (count : ℕ) (exempt : Bool) (a : Lent) → count ≡ 0 → StepsTo count exempt a a None
 no_steps count exempt a e = subst (λ (k : ℕ). StepsTo k exempt a a None) (sym e) (refl, refl, refl)
@@ -80,9 +80,9 @@ steps_go_on count n ticks exempt a b end reason e free tried same later =
     (run_goes_on 256 ticks (not exempt && at_breakpoint a.machine) (steps n false (next_at 256 a.machine)) a b end reason free tried same
     (subst (λ (p : Present). RunsTo (steps n false p) b end reason) (sym tried.0) later))
 
--- ---- the instructions of so many ticks
+-- ---- the instructions of `left` ticks
 
--- the ticks of an instruction are some of those that are left
+-- an instruction takes at least one tick, and at most those that are left
 pub took_some : (left ticks : ℕ) (a b : Lent) (reason : Option Stop) → 1 ≤ left → TriesTo left a b reason ticks → (1 ≤ ticks) × (ticks ≤ left)
 took_some left ticks a b reason some tried =
     subst (λ (taken : ℕ). (1 ≤ taken) × (taken ≤ left)) tried.2 (step_takes_ticks left a.machine.hart some)

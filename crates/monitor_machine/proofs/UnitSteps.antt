@@ -1,4 +1,4 @@
--- What one instruction of a user does to the one vector unit of all users, by how the unit was lent.
+-- Changes of the shared vector unit by one instruction of a user, from the borrow and return of the user's state.
 use Rattle.std.proofs.Common.{◌≡◌, ℕ, Bool, true, false, refl, ap, ◌∙◌, subst, sym, arith}
 use Rattle.std.specs.Prelude.{if◌then◌else◌, ◌||◌, ◌≢◌}
 use Rattle.rv_model.specs.declared.vector.state.Seat.{Seat}
@@ -9,11 +9,11 @@ use Rattle.lazy_context.specs.LazyUnit.{AllKeep, OthersKeep, record_of, state_of
 use Rattle.monitor_machine.specs.declared.lenders.UserVectors.{UserVectors}
 use Rattle.monitor_machine.specs.Lent.{VectorsMove}
 
--- how the unit came back: if an instruction touched it, with what is in the user's seat then, else as it was
+-- the unit after the return: touched, with the user's new seat, if an instruction touches it; otherwise unchanged
 abbrev pub came_back : Bool → ℕ → Unit → Unit → Unit
 came_back touches user old new = if touches then with_seat (touched user new).seat (touched user old) else old
 
--- a user's lender came back with the unit that came back to it
+-- the per-user adapter after the return has the unit after the return
 pub lender_back : (touches : Bool) (old new : UserVectors) → new ≡ (if touches then record old { unit = record old.unit { now = with_seat (touched new.user new.unit.now).seat (touched old.user old.unit.now) } } else old)
     → (new.unit.now ≡ came_back touches old.user old.unit.now new.unit.now) × (new.unit.ghost_name ≡ old.unit.ghost_name) × (new.user ≡ old.user)
 lender_back true old new back =
@@ -25,7 +25,7 @@ lender_back true old new back =
 lender_back false old new back =
     (ap (λ (v : UserVectors). v.unit.now) back, ap (λ (v : UserVectors). v.unit.ghost_name) back, ap (λ (v : UserVectors). v.user) back)
 
--- it was lent twice, so it was lent
+-- two consecutive borrows are one change of the unit
 pub lent_twice : (first second third : UserVectors) → VectorsMove first second → VectorsMove second third → VectorsMove first third
 lent_twice first second third h k = record {
   settled = k.settled;
@@ -34,11 +34,11 @@ lent_twice first second third h k = record {
   same_unit = k.same_unit ∙ h.same_unit;
 }
 
--- the unit with the user's seat changed holds what was put there
+-- the unit with the user's seat changed has the new state
 seat_is : (user : ℕ) (old : Unit) (s : Seat) → state_of (with_seat s (touched user old)) user ≡ s.state
 seat_is user old s = grind arith
 
--- what is lent is the user's state, after as before
+-- the borrowed state is the user's, before and after
 pub state_lent : (touches : Bool) (user : ℕ) (old new : Unit) → new ≡ came_back touches user old new
     → (touched user old).seat.state ≡ state_of old user → (touched user new).seat.state ≡ state_of new user
 state_lent true user old new back own =
@@ -49,7 +49,7 @@ state_lent false user old new back own =
 others_seated : (user other : ℕ) (old : Unit) (s : Seat) → other ≢ user → state_of (with_seat s (touched user old)) other ≡ state_of (touched user old) other
 others_seated user other old s apart = grind arith
 
--- nobody else's state changes
+-- no other user's state changes
 pub strangers_keep : (touches : Bool) (user : ℕ) (old new : Unit) → new ≡ came_back touches user old new → AllKeep old (touched user old)
     → OthersKeep user old new
 strangers_keep true user old new back keep = λ other low apart.
@@ -65,14 +65,14 @@ counted_dirty b unit = by_mark unit.dirty b refl
     by_mark true false e = ap (λ (x : Bool). record unit { dirty = x }) (sym e)
     by_mark false false e = ap (λ (x : Bool). record unit { dirty = x }) (sym e)
 
--- the mark of what is lent, said of the same user and of the user's own state
+-- the dirty mark of the borrowed state, stated for the same user and the user's own state
 pub mark_lent : (changes : VState → Bool) (own own' : VState) (old : Bool) (user user' : ℕ) (new : Unit) → user' ≡ user → own ≡ own'
     → (touched user' new).seat.dirty ≡ (old || changes own) → (touched user new).seat.dirty ≡ (old || changes own')
 mark_lent changes own own' old user user' new same state marked =
     subst (λ (u : ℕ). (touched u new).seat.dirty ≡ (old || changes own')) same
     (subst (λ (v : VState). (touched user' new).seat.dirty ≡ (old || changes v)) state marked)
 
--- it is counted as an instruction that touches the unit, or doesn't
+-- the record of the unit changes as for an instruction that touches the unit or doesn't
 pub counts_instruction : (touches changes : Bool) (user : ℕ) (old new : Unit) → new ≡ came_back touches user old new
     → record_of (touched user old) ≡ unit_touched user (record_of old) → (touched user new).seat.dirty ≡ ((touched user old).seat.dirty || changes)
     → record_of new ≡ unit_after_instruction touches changes user (record_of old)

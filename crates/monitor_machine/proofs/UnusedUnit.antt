@@ -1,4 +1,4 @@
--- Commands that don't use the vector unit leave it as it was.
+-- Commands that don't use the vector unit leave it unchanged.
 use Rattle.std.proofs.Common.{◌≡◌, ℕ, ◌*◌, List, [], length, Option, Some, None, Result, Ok, Err, refl, sym, subst}
 use Rattle.std.specs.Prelude.{nat_le}
 use Rattle.rv_model.specs.declared.commands.breakpoints.BreakpointCommand.{BreakpointCommand}
@@ -52,7 +52,7 @@ assembling_has_none : (addr : ℕ) (word : Result ℕ ℕ) (p : Present) → Has
 assembling_has_none addr (Err column) p = refl
 assembling_has_none addr (Ok word) p = refl
 
--- so the unit stays
+-- so the unit is unchanged
 
 stays_by : (user : ℕ) (unit : Unit) (uses : List Use) → uses ≡ [] → IsSettled unit
     → UnitMoves user unit unit (unit_after_uses user uses (record_of unit))

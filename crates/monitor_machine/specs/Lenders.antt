@@ -1,4 +1,4 @@
--- Laws that the lenders of one user's bytes and vector state keep: of the memories of all users, and of their one vector unit.
+-- Laws for the per-user adapters of bytes and vector state: laws of the memories of all users, and of the shared vector unit.
 use Rattle.std.specs.Prelude.{ℕ, suc, ◌+◌, ◌-◌, ◌≡◌, Bool, true, false, ◌&&◌, List, [], ◌∷◌, length, Option}
 use Rattle.std.specs.FinMap.{empty, get-empty}
 use Rattle.std.specs.List.{list_all, range_with_len}
@@ -29,7 +29,7 @@ outside memories user addr access (b ∷ bs) none allowed =
     let some : can_access access empty addr (suc (length bs)) ≡ true = sym (ap (λ (m : Memory). can_access access m addr (suc (length bs))) none) ∙ allowed in
     absurd (cc (never, some))
 
--- a user's memory after a write that was allowed
+-- a user's memory after an allowed write
 pub memory_written : (memories : List Memory) (user addr : ℕ) (access : Access) (bytes : List ℕ) → can_access access (memory_of_user memories user) addr (length bytes) ≡ true → memory_of_user (with_memory memories user (put_bytes (memory_of_user memories user) addr bytes)) user ≡ put_bytes (memory_of_user memories user) addr bytes
 memory_written memories user addr access bytes allowed = elim (cases_lt (user - 1) (length memories)) [
   | inl within ↦ memory_there memories user (put_bytes (memory_of_user memories user) addr bytes) within

@@ -1,4 +1,4 @@
--- What one user's instructions are lent: what it shows, and what becomes of it by one instruction and by a run of them.
+-- The state that one user's instructions borrow, and its change by one instruction and by a run of instructions.
 use Rattle.std.specs.Prelude.{ℕ, ◌≡◌, Bool, Option}
 use Rattle.rv_model.specs.declared.step.step_end.Stop.{Stop}
 use Rattle.rv_model.specs.declared.vector.state.VState.{VState}
@@ -11,18 +11,19 @@ use Rattle.monitor_machine.specs.declared.context.Context.{Context}
 use Rattle.monitor_machine.specs.declared.lenders.UserVectors.{UserVectors}
 use Rattle.monitor_machine.specs.Parts.{Addresses, present}
 
--- the vector state of the user that it is lent for
+-- the vector state of the adapter's user
 abbrev pub lent_state : UserVectors → VState
 lent_state v = state_of v.unit.now v.user
 
--- what is left of the vector unit: it is settled, and lent for the same user, and the others have their vector states
+-- a change of the vector unit: it is settled, the adapter has the same user and borrows the same unit, and the other users' vector states
+-- are unchanged
 pub record VectorsMove (old new : UserVectors) : Type 0 where
   pub settled : IsSettled new.unit.now
   pub strangers : OthersKeep old.user old.unit.now new.unit.now
   pub user : new.user ≡ old.user
   pub same_unit : new.unit.ghost_name ≡ old.unit.ghost_name
 
--- the user's machine and the record of the vector unit that all that is lent shows
+-- the user's machine and the record of the vector unit, from all that is borrowed
 pub record Lent : Type 0 where
   pub user : ℕ
   pub machine : Present
@@ -35,7 +36,8 @@ lent memory c trace vectors m = record {
   unit = record_of vectors.unit.now;
 }
 
--- an instruction that is tried in so many ticks leaves this, stops the program so, if it does, and takes these ticks
+-- an attempt to execute an instruction within `limit` ticks leads from `old` to `new`, stops the program with `stop`, if it does, and
+-- takes `ticks` ticks
 abbrev pub TriesTo : ℕ → Lent → Lent → Option Stop → ℕ → Type 0
 TriesTo limit old new stop ticks =
     (after (step limit old.machine.hart).end (step limit old.machine.hart).state old.machine ≡ new.machine)
@@ -43,12 +45,12 @@ TriesTo limit old new stop ticks =
     × ((step limit old.machine.hart).ticks ≡ ticks)
     × (new.unit ≡ unit_after_use old.user (Tries limit old.machine.hart) old.unit)
 
--- a run leaves this, and stops the program so, if it does
+-- a run leads from `old` to `new`, and stops the program with `stop`, if it does
 abbrev pub RunsTo : Halted → Lent → Lent → Option Stop → Type 0
 RunsTo run old new stop =
     (run.state ≡ new.machine) × (run.stop ≡ stop) × (new.unit ≡ unit_after_uses old.user run.uses old.unit)
 
--- so do at most so many instructions, and those of so many ticks
+-- the same for at most `count` instructions, and for the instructions of `left` ticks
 abbrev pub StepsTo : ℕ → Bool → Lent → Lent → Option Stop → Type 0
 StepsTo count exempt old = RunsTo (steps count exempt old.machine) old
 

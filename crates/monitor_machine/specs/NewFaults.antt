@@ -1,4 +1,4 @@
--- What a new machine is refused for: its quantum, the number of its images, a name, a size, in this order.
+-- Reasons to refuse a new machine, in the order of the tests: its quantum, the number of its images, a name, a size.
 use Rattle.std.specs.Prelude.{ℕ, ◌==◌, ◌&&◌, ◌||◌, not, nat_lt, nat_le, Bool, true, List, [], ◌∷◌, length, Option, Some, None, if◌then◌else◌}
 use Rattle.std.specs.List.{list_all, list_any}
 use Rattle.std.specs.Str.{bytes_eq}
@@ -16,12 +16,12 @@ is_name_byte b =
 unfoldable pub is_name : List ℕ → Bool
 is_name name = nat_le 1 (length name) && nat_le (length name) 32 && list_all is_name_byte name
 
--- no image has the name of one before it
+-- no two images have the same name
 unfoldable pub are_distinct : List Image → Bool
 are_distinct [] = true
 are_distinct (image ∷ images) = not (list_any (λ other. bytes_eq other.name image.name) images) && are_distinct images
 
--- the first fault that applies; an image has at most 4,194,304 bytes
+-- the first fault that applies, if any; an image may have at most 4,194,304 bytes
 unfoldable pub new_fault : Setup → Option NewFault
 new_fault setup =
     if nat_lt setup.quantum 1 || nat_lt 1000 setup.quantum then Some fault.Quantum

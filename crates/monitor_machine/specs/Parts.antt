@@ -1,4 +1,4 @@
--- What the fields of a machine stand for.
+-- The private machines and the world that the fields of a machine represent.
 use Rattle.std.specs.Prelude.{ℕ, ◌≡◌, ◌&&◌, Bool, length, map, List, [], ◌∷◌, true, false, if◌then◌else◌, Some, None}
 use Rattle.rv_model.specs.declared.vector.policy.Policy.TheVariants.{Keep}
 use Rattle.rv_model.specs.declared.vector.state.VState.{VState}
@@ -16,7 +16,7 @@ use Rattle.lazy_context.specs.declared.unit.Unit.{Unit}
 use Rattle.lazy_context.specs.LazyUnit.{IsSettled, OthersKeep, record_of, state_of}
 use Rattle.monitor_machine.specs.declared.context.Context.{Context}
 
--- the context of a user who is absent
+-- the context of an absent user
 abbrev pub new_context : Context
 new_context = record {
   entered = false;
@@ -28,16 +28,16 @@ new_context = record {
   fresh = false;
 }
 
--- the context of a user who has loaded an image, by the image's entry
+-- the context of a user who has loaded an image with this entry address
 abbrev pub loaded_context : ℕ → Context
 loaded_context entry = record new_context { entered = true; scalar = with_register 2 0x7fffefc0 (record initial_scalar { pc = entry }) }
 
--- what instructions work on, with a user's vector state and memory
+-- the state of the hart, with a user's vector state and memory
 abbrev pub context_state : Context → VState → Memory → HartState
 context_state c vector memory =
     record { scalar = c.scalar; vector = vector; memory = memory; output = c.output.items; policy = c.policy }
 
--- an instruction that is tried with so many ticks left
+-- an attempt to execute an instruction with `left` ticks left
 abbrev pub try_of : ℕ → Context → VState → Memory → Use
 try_of left c vector memory = Tries left (context_state c vector memory)
 
@@ -45,7 +45,7 @@ try_of left c vector memory = Tries left (context_state c vector memory)
 abbrev pub Addresses : Type 0
 Addresses = List ℕ
 
--- a user that has entered
+-- the machine of a user who has entered
 abbrev pub present : Context → Addresses → VState → Memory → Present
 present c trace vector memory = record {
   hart = context_state c vector memory;
@@ -59,15 +59,15 @@ present c trace vector memory = record {
 abbrev pub private_of : Context → Addresses → VState → Memory → Private
 private_of c trace vector memory = if c.entered then Some (present c trace vector memory) else None
 
--- whether the user of a context has entered and the program runs
+-- whether the user of a context has entered and the program is running
 abbrev pub is_running : Context → Bool
 is_running c = c.entered && c.running
 
--- what the user's program does
+-- the state of the user's program
 abbrev pub context_standing : Context → Standing
 context_standing c = if c.entered then (if c.running then Running else Stopped) else Absent
 
--- all private machines
+-- the private machines of all users
 abbrev pub parts_of : List Context → List Addresses → List VState → List Memory → List Private
 parts_of [] traces vectors memories = []
 parts_of (c ∷ cs) [] vectors memories = []
@@ -75,11 +75,11 @@ parts_of (c ∷ cs) (t ∷ ts) [] memories = []
 parts_of (c ∷ cs) (t ∷ ts) (v ∷ vs) [] = []
 parts_of (c ∷ cs) (t ∷ ts) (v ∷ vs) (m ∷ memories) = private_of c t v m ∷ parts_of cs ts vs memories
 
--- the vector states of all users, which one vector unit has
+-- the vector states of all users, from the one vector unit
 unfoldable pub states_of : Unit → List VState
 states_of unit = map (state_of unit) users
 
--- the world of these contexts and traces, of this vector unit and these memories, by the user whose turn was the last
+-- the world of these contexts and traces, this vector unit and these memories; `cursor` is the user who had the last turn
 abbrev pub world_of : List Context → List Addresses → Unit → List Memory → ℕ → World
 world_of contexts traces unit memories cursor =
     record { parts = parts_of contexts traces (states_of unit) memories; cursor = cursor; unit = record_of unit }
@@ -91,8 +91,8 @@ pub record IsWhole (cs : List Context) (ts : List Addresses) (unit : Unit) (ms :
   pub memories : length ms ≡ user_count
   pub settled : IsSettled unit
 
--- what becomes of the vector unit by what happens to a user: it is settled, the others have their vector states, and it is
--- counted so
+-- a change of the vector unit by an event of a user: it is settled, the other users' vector states are unchanged, and its record is
+-- `count`
 pub record UnitMoves (user : ℕ) (old new : Unit) (count : VectorUnit) : Type 0 where
   pub settled : IsSettled new
   pub strangers : OthersKeep user old new

@@ -2,10 +2,10 @@
 use arrayvec::ArrayVec;
 use std::marker::Model;
 
-/// The most addresses of a set.
+/// Maximum number of addresses of a set.
 const MAX_ADDRESSES: usize = 16;
 
-/// At most 16 addresses, in rising order.
+/// A set of at most 16 addresses, in ascending order.
 #[derive(Drop)]
 pub(crate) struct AddressSet {
     addresses: ArrayVec<u64, MAX_ADDRESSES>,
@@ -27,7 +27,7 @@ impl AddressSet {
     ghost use Rattle.std.specs.List.{list_any};
     ghost use Rattle.rv_model.specs.commands.Breakpoints.{breakpoint_limit, with_address, without_address};
 
-    /// No addresses.
+    /// Create an empty set.
     pub(crate) fn new() -> AddressSet
         ensures { result ≡ [] }
     {
@@ -36,14 +36,14 @@ impl AddressSet {
         }
     }
 
-    /// Whether an address is there.
+    /// Return whether the set contains an address.
     pub(crate) fn contains(&self, addr: u64) -> bool
         ensures { result ≡ list_any (λ a. a == addr) self.now }
     {
         self.addresses.as_slice().contains(&addr)
     }
 
-    /// Whether there is no address.
+    /// Return whether the set is empty.
     #[inline(always)]
     pub(crate) fn is_empty(&self) -> bool
         ensures { result ≡ nat_le (length self.now) 0 }
@@ -51,14 +51,14 @@ impl AddressSet {
         self.addresses.is_empty()
     }
 
-    /// Whether there is no room for another address.
+    /// Return whether the set has 16 addresses.
     pub(crate) fn is_full(&self) -> bool
         ensures { result ≡ nat_le breakpoint_limit (length self.now) }
     {
         self.addresses.is_full()
     }
 
-    /// Adds an address, if it isn't there.
+    /// Add an address, unless the set contains it.
     pub(crate) fn insert(&mut self, addr: u64)
         requires { length self.old < breakpoint_limit }
         ensures { self.new ≡ with_address addr self.old }
@@ -68,7 +68,7 @@ impl AddressSet {
         }
     }
 
-    /// Takes an address out, if it is there.
+    /// Remove an address, if the set contains it.
     pub(crate) fn remove(&mut self, addr: u64)
         ensures { self.new ≡ without_address addr self.old }
     {
@@ -77,7 +77,7 @@ impl AddressSet {
         }
     }
 
-    /// The addresses, in rising order.
+    /// Return the addresses, in ascending order.
     pub(crate) fn as_slice(&self) -> &[u64]
         ensures value { result.now ≡ self.now }
         ensures few { length result.now ≤ 16 }

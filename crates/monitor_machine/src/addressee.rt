@@ -1,27 +1,28 @@
-//! Whose a line of a script is.
+//! The addressee of a script's line.
 ghost use Rattle.std.specs.Prelude.{◌≡◌, length, drop};
 ghost use Rattle.rv_model.specs.machine.Script.{kind_of};
 ghost use Rattle.monitor_machine.specs.Addressees.{kind_as, HasPrefix};
 
 use rv_model::User;
 
-/// The most bytes that a line may have, without its newline.
+/// Maximum length of a line in bytes, without its newline.
 pub const MAX_LINE: usize = 1024;
 
-/// Whose a line is, by its length and its first two bytes: a user's digit or a star, and a space.
+/// The addressee of a line, by its length and its first two bytes: a user's digit or a star, and a
+/// space.
 #[derive(Clone, Copy)]
 pub(crate) enum Addressee {
-    /// An empty line is skipped.
+    /// An empty line, which is skipped.
     Nobody,
-    /// The line has more than 1,024 bytes.
+    /// A line of more than 1,024 bytes.
     TooLong,
-    /// The line has no proper prefix.
+    /// A line without a valid prefix.
     BadPrefix,
     Operator,
     User(User),
 }
 
-/// Whose a line is. What follows the prefix begins at the third byte.
+/// Return the addressee of a line. The text after the prefix begins at the third byte.
 #[tactic(auto, using(crate::proofs::PrefixLaws::prefixed_at), unfolding(rv_model::specs::machine::Script::kind_of))]
 pub(crate) fn addressee_of(line: &[u8]) -> Addressee
     ensures kind { kind_of line.now ≡ kind_as result (drop 2 line.now) }

@@ -1,4 +1,4 @@
-//! Answers to a user's commands that are the same for many of them.
+//! Replies that many commands of a user share.
 ghost use Rattle.std.specs.Prelude.{◌≡◌, ◌+◌, [], ◌∷◌, codes};
 ghost use Rattle.rv_model.specs.commands.Printing.{refused};
 ghost use Rattle.rv_model.specs.text.Lines.{text};
@@ -6,7 +6,7 @@ ghost use Rattle.rv_model.specs.text.Lines.{text};
 use monitor_cmds::{Reply, Tag};
 use rv_model::{Refusal, User};
 
-/// Answers a command of a user with a refusal, in place of what the reply held.
+/// Replace the reply to a user's command with a refusal.
 pub(crate) fn refuse(reply: &mut Reply, user: User, refusal: Refusal)
     ensures { reply.new ≡ text (48 + user) (refused refusal ∷ []) }
 {
@@ -14,7 +14,7 @@ pub(crate) fn refuse(reply: &mut Reply, user: User, refusal: Refusal)
     monitor_cmds::refused(reply, Tag::User(user), refusal);
 }
 
-/// Answers a command of a user with `ok`, in place of what the reply held.
+/// Replace the reply to a user's command with `ok`.
 pub(crate) fn accept(reply: &mut Reply, user: User)
     ensures { reply.new ≡ text (48 + user) (codes "ok" ∷ []) }
 {

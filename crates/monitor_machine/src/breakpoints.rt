@@ -1,4 +1,4 @@
-//! Commands on breakpoints, carried out.
+//! Execution of commands on breakpoints.
 ghost use Rattle.std.specs.Prelude.{◌≡◌, ◌+◌, ℕ, List, Some};
 ghost use Rattle.rv_model.specs.declared.vector.state.VState.{VState};
 ghost use Rattle.rv_model.specs.commands.Breakpoints.{breakpoint_command, removes_breakpoint, sets_breakpoint};
@@ -11,7 +11,7 @@ use crate::context::Context;
 use monitor_cmds::{Reply, Tag};
 use rv_model::{BreakpointCommand, Refusal, User};
 
-/// Carries out a command on the breakpoints of a user who has entered, and answers it.
+/// Execute a command on the breakpoints of a user who has entered, and replace the reply.
 #[tactic(auto, unfolding(rv_model::specs::commands::Breakpoints::breakpoint_command))]
 pub(crate) fn carry_out(
     context: &mut Context,
@@ -36,7 +36,7 @@ pub(crate) fn carry_out(
     }
 }
 
-/// `break`: a breakpoint is set, where there are fewer than 16 and none stands there.
+/// `break`: set a breakpoint, if there are fewer than 16 and none is at this address.
 fn set(context: &mut Context, user: User, addr: u64, reply: &mut Reply)
     ensures next { (trace : List ℕ) (vector : VState) (memory : Memory)
         → (sets_breakpoint addr (present context.old trace vector memory)).next
@@ -55,7 +55,7 @@ fn set(context: &mut Context, user: User, addr: u64, reply: &mut Reply)
     }
 }
 
-/// `unbreak`: a breakpoint is removed, where one stands there.
+/// `unbreak`: remove the breakpoint at this address, if there is one.
 fn remove(context: &mut Context, user: User, addr: u64, reply: &mut Reply)
     ensures next { (trace : List ℕ) (vector : VState) (memory : Memory)
         → (removes_breakpoint addr (present context.old trace vector memory)).next

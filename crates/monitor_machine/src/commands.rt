@@ -1,4 +1,4 @@
-//! A user's commands, carried out on what the machine holds of that user.
+//! Execution of a user's commands.
 ghost use Rattle.std.specs.Prelude.{◌≡◌, ◌+◌, true, false};
 ghost use Rattle.lazy_context.specs.LazyUnit.{record_of};
 ghost use Rattle.rv_model.specs.commands.Commands.{carried_out, needs_stopped, of_absent, of_present};
@@ -16,7 +16,7 @@ use monitor_cmds::Reply;
 use rv_model::{Cmd, EnteringCommand, Refusal, RunningCommand};
 use std::alloc::Allocator;
 
-/// Carries out a command of a user, and answers it in place of what the reply held.
+/// Execute a command of a user, and replace the reply.
 #[tactic(auto, unfolding(rv_model::specs::commands::Commands::carried_out), using(crate::proofs::Steps::either))]
 pub(crate) fn carry_out<A: Allocator>(
     images: &[Image<'_>],
@@ -42,7 +42,7 @@ pub(crate) fn carry_out<A: Allocator>(
     }
 }
 
-/// Whether a command needs a stopped program.
+/// Return whether a command needs a stopped program.
 fn needs_stopped(cmd: &Cmd<'_>) -> bool
     ensures { result ≡ needs_stopped cmd.now }
 {
@@ -53,7 +53,7 @@ fn needs_stopped(cmd: &Cmd<'_>) -> bool
     }
 }
 
-/// The same for a user who is absent: only `enter` is accepted.
+/// Execute a command of an absent user: only `enter` is accepted.
 #[tactic(auto, unfolding(rv_model::specs::commands::Commands::of_absent), using(crate::proofs::Steps::absent))]
 fn carry_out_absent<A: Allocator>(
     parts: &mut Parts<'_, '_, '_, A>,
@@ -74,7 +74,7 @@ fn carry_out_absent<A: Allocator>(
     }
 }
 
-/// The same for a user who has entered.
+/// Execute a command of a user who has entered.
 #[tactic(auto, unfolding(rv_model::specs::commands::Commands::of_present), using(crate::proofs::Steps::groups))]
 fn carry_out_present<A: Allocator>(
     images: &[Image<'_>],

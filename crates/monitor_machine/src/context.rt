@@ -1,17 +1,17 @@
-//! What a user has beside memory and vector state.
+//! A user's state without memory and vector state.
 use crate::address_set::AddressSet;
 use arrayvec::ArrayVec;
 use rv_model::{OUTPUT_SIZE, Policy, Reg, Scalar, Standing};
 
-/// The number of the register that holds the stack pointer.
+/// Number of the register that holds the stack pointer.
 const STACK_POINTER: u32 = 2;
 
-/// The stack pointer of a program that begins.
+/// Initial stack pointer of a loaded program.
 const STACK_TOP: u64 = 0x7fff_efc0;
 
-/// What a user has beside memory, vector state and trace: registers, what becomes of agnostic
-/// elements, output buffer and breakpoints, whether the program runs, and whether it has just been
-/// told to.
+/// A user's state without memory, vector state and trace: registers, the policy for agnostic
+/// elements, output buffer and breakpoints, whether the program is running, and whether it skips
+/// the breakpoint at the program counter once.
 #[derive(Drop)]
 pub(crate) struct Context {
     pub(crate) scalar: Scalar,
@@ -28,7 +28,7 @@ impl Context {
     ghost use Rattle.std.specs.List.{list_any};
     ghost use Rattle.monitor_machine.specs.Parts.{new_context, loaded_context, is_running, context_standing};
 
-    /// The context of an absent user.
+    /// Create the context of an absent user.
     pub(crate) fn new() -> Context
         ensures { result ≡ new_context }
     {
@@ -43,7 +43,7 @@ impl Context {
         }
     }
 
-    /// The context of a user who has just entered.
+    /// Create the context of a user who has just entered.
     pub(crate) fn entered() -> Context
         ensures { result ≡ record new_context { entered = true } }
     {
@@ -53,8 +53,8 @@ impl Context {
         }
     }
 
-    /// The context of a user who has loaded an image: the program counter is the image's entry, and
-    /// x2 is the stack pointer.
+    /// Create the context of a user who has loaded an image: the program counter is the image's
+    /// entry address, and x2 is the stack pointer.
     #[tactic(auto, unfolding(rv_model::specs::scalar::Registers::initial_scalar))]
     pub(crate) fn loaded(entry: u64) -> Context
         ensures { result ≡ loaded_context entry }
@@ -65,7 +65,7 @@ impl Context {
         context
     }
 
-    /// Whether there is a breakpoint.
+    /// Return whether there is a breakpoint.
     #[inline(always)]
     pub(crate) fn is_watched(&self) -> bool
         ensures { result ≡ false → nat_le (length self.now.breakpoints) 0 ≡ true }
@@ -73,8 +73,8 @@ impl Context {
         !self.breakpoints.is_empty()
     }
 
-    /// Whether a breakpoint at the program counter stops the program, unless it is exempt. Where there is none, it
-    /// needn't be `watched`.
+    /// Return whether a breakpoint at the program counter stops the program, unless it is exempt.
+    /// `watched` may be false if there are no breakpoints.
     #[tactic(auto, using(crate::proofs::AddressLaws::none_holds))]
     #[inline(always)]
     pub(crate) fn is_held(&self, watched: bool, exempt: bool) -> bool
@@ -86,14 +86,14 @@ impl Context {
         }
         !exempt && self.breakpoints.contains(self.scalar.pc)
     }
-    /// Whether the user has entered and the program runs.
+    /// Return whether the user has entered and the program is running.
     pub(crate) fn is_running(&self) -> bool
         ensures { result ≡ is_running self.now }
     {
         self.entered && self.running
     }
 
-    /// What the user's program does.
+    /// Return the state of the user's program.
     pub(crate) fn standing(&self) -> Standing
         ensures { result ≡ context_standing self.now }
     {

@@ -1,4 +1,4 @@
-//! Commands that begin and end a user's machine, carried out.
+//! Execution of the commands that start and end a user's machine.
 ghost use Rattle.std.specs.Prelude.{◌≡◌, ◌+◌, true, false};
 ghost use Rattle.lazy_context.specs.LazyUnit.{record_of};
 ghost use Rattle.rv_model.specs.commands.Entering.{entering_absent, entering};
@@ -15,7 +15,7 @@ use monitor_cmds::{Reply, Tag};
 use rv_model::{EnteringCommand, Refusal};
 use std::alloc::Allocator;
 
-/// Carries out a command of a user who is absent, and answers it.
+/// Execute a command of an absent user, and replace the reply.
 #[tactic(auto, unfolding(rv_model::specs::commands::Entering::entering_absent), using(crate::proofs::Steps::entering))]
 pub(crate) fn carry_out_absent<A: Allocator>(
     parts: &mut Parts<'_, '_, '_, A>,
@@ -45,7 +45,7 @@ pub(crate) fn carry_out_absent<A: Allocator>(
     }
 }
 
-/// Carries out a command of a user who has entered, and answers it.
+/// Execute a command of a user who has entered, and replace the reply.
 #[tactic(auto, unfolding(rv_model::specs::commands::Entering::entering), using(crate::proofs::Steps::leaving))]
 pub(crate) fn carry_out<A: Allocator>(
     parts: &mut Parts<'_, '_, '_, A>,

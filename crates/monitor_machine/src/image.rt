@@ -1,6 +1,6 @@
 //! Named files that users can load.
 
-/// A file by name, which a machine borrows as long as it lives.
+/// A named file, which a machine borrows for its lifetime.
 #[derive(Clone, Copy)]
 pub struct Image<'a> {
     pub name: &'a str,

@@ -1,4 +1,4 @@
-//! What one user's instructions are lent of the machine: the user's bytes, and the user's vector
+//! Per-user adapters through which one user's instructions borrow the user's bytes and vector
 //! state.
 ghost use Rattle.std.specs.Prelude.{◌≡◌, ◌≤◌, ◌<◌, ◌-◌, length};
 
@@ -91,7 +91,7 @@ impl Vectors for UserVectors<'_> {
     }
 }
 
-/// A user's memory is one of a pool's: a law, which does nothing.
+/// State that the pool has a memory of the user, and do nothing.
 pub(crate) fn memory_law<A: Allocator>(pool: &Pool<A>, user: User)
     ensures { user - 1 < length pool.now }
 {

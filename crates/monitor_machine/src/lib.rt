@@ -1,5 +1,5 @@
-//! A machine for eight users: each user's commands, slices of their programs, and the operator who
-//! grants them.
+//! A machine for eight users: each user's commands, slices of their programs, and the operator's
+//! commands, which grant slices.
 #![tactic(auto)]
 
 mod address_set;

@@ -41,8 +41,8 @@ impl<'a, A: Allocator> Model for Machine<'a, A> {
 }
 
 impl<'a, A: Allocator> Machine<'a, A> {
-    /// A machine whose users are all absent, with slices of `quantum` ticks. Refused for the first
-    /// fault that applies, and for want of memory last; no later call takes memory.
+    /// Create a machine with absent users and slices of `quantum` ticks. Return the first fault
+    /// that applies; `NoMemory` is the last. No later call allocates memory.
     #[tactic(auto, using(crate::proofs::PartLaws::new_are_eight))]
     pub fn new(alloc: A, quantum: usize, images: &'a [Image<'a>]) -> Result<Self, NewFault>
     where
@@ -67,8 +67,8 @@ impl<'a, A: Allocator> Machine<'a, A> {
         })
     }
 
-    /// Carries out one command of a user: the line without the user's digit and the space after it.
-    /// Answers it in place of what the reply held. Nobody else's machine changes.
+    /// Execute one command of a user, and replace the reply. `line` is the line without the user's
+    /// digit and the space after it. No other user's machine changes.
     #[tactic(auto, unfolding(rv_model::specs::machine::World::event))]
     pub fn command(&mut self, user: User, line: &[u8], reply: &mut Reply)
         ensures world { self.new.world
@@ -81,13 +81,14 @@ impl<'a, A: Allocator> Machine<'a, A> {
         self.users.command(self.images, user, line, reply);
     }
 
-    /// Answers one line of a script, without its newline, in place of what the reply held: a
-    /// command of a user or of the operator, after the digit or the star and a space. An empty line
-    /// has no answer; one of more than 1,024 bytes, or without such a prefix, is refused.
+    /// Execute one line of a script, without its newline, and replace the reply. The line is a
+    /// command of a user or of the operator, after the digit or the star and a space. The reply to
+    /// an empty line is empty. A line of more than 1,024 bytes, or without such a prefix, is
+    /// refused.
     #[tactic(auto, unfolding(rv_model::specs::machine::World::event,
-    // What a line does, and what it prints.
+    // The effect of a line, and its output.
     rv_model::specs::machine::Script::world_after, rv_model::specs::machine::Script::told,
-    // Its lines that are no user's.
+    // The output lines that begin with a star.
     rv_model::specs::machine::Script::common))]
     pub fn answer(&mut self, line: &[u8], reply: &mut Reply)
         ensures machine { self.new ≡ after_line self.old line.now }

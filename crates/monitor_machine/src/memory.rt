@@ -1,4 +1,4 @@
-//! Commands on a user's memory, carried out.
+//! Execution of commands on a user's memory.
 ghost use Rattle.std.specs.Prelude.{◌≡◌, ◌+◌, ◌≤◌, Some, length, List, ℕ};
 ghost use Rattle.rv_model.specs.declared.vector.state.VState.{VState};
 ghost use Rattle.rv_model.specs.commands.Memory.{why_not_mapped as reason_of, maps, pokes, peeks, memory_command};
@@ -16,10 +16,10 @@ use rv_model::{
 use std::alloc::Allocator;
 use user_mem::Pool;
 
-/// The most bytes that are shown at once.
+/// Maximum number of bytes that one command shows.
 const MAX_SHOWN: usize = 256;
 
-/// Carries out a command on the memory of a user who has entered, and answers it.
+/// Execute a command on the memory of a user who has entered, and replace the reply.
 #[tactic(auto, unfolding(rv_model::specs::commands::Memory::memory_command), using(crate::specs::Lenders::same_memory))]
 pub(crate) fn carry_out<A: Allocator>(
     pool: &mut Pool<A>,
@@ -41,7 +41,7 @@ pub(crate) fn carry_out<A: Allocator>(
     }
 }
 
-/// The refusal of a command whose pages can't be mapped.
+/// Return the refusal of a command whose pages can't be mapped.
 fn why_not_mapped(refusal: MapRefusal) -> Refusal
     ensures { result ≡ reason_of refusal }
 {
@@ -51,7 +51,7 @@ fn why_not_mapped(refusal: MapRefusal) -> Refusal
     }
 }
 
-/// `map`: pages of zeros.
+/// `map`: map pages of zeros.
 #[tactic(auto, using(crate::proofs::Steps::mapping))]
 fn map<A: Allocator>(
     pool: &mut Pool<A>,
@@ -75,7 +75,7 @@ fn map<A: Allocator>(
     }
 }
 
-/// `poke`: bytes written to mapped pages, whatever these allow a program.
+/// `poke`: write bytes to mapped pages, regardless of their permissions.
 #[tactic(auto, using(crate::proofs::Steps::poking))]
 fn poke<A: Allocator>(
     pool: &mut Pool<A>,
@@ -99,7 +99,7 @@ fn poke<A: Allocator>(
     }
 }
 
-/// Shows as many bytes of mapped pages as the buffer holds.
+/// Show the bytes of mapped pages that fill `buffer`.
 #[tactic(auto, using(crate::proofs::MemoryOutcomes::peeks_accepted, crate::proofs::MemoryOutcomes::peeks_refused))]
 fn show_bytes<A: Allocator>(
     pool: &Pool<A>,
@@ -125,7 +125,7 @@ fn show_bytes<A: Allocator>(
     }
 }
 
-/// `peek`: bytes of mapped pages, whatever these allow a program.
+/// `peek`: show bytes of mapped pages, regardless of their permissions.
 fn peek<A: Allocator>(
     pool: &Pool<A>,
     user: User,

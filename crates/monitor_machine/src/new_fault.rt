@@ -1,4 +1,4 @@
-//! What a new machine is refused for.
+//! Reasons to refuse a new machine.
 ghost use Rattle.std.specs.Prelude.{◌≡◌, length, map, nat_le};
 ghost use Rattle.std.specs.List.{list_all, list_any};
 ghost use Rattle.std.specs.Str.{bytes_eq};
@@ -13,19 +13,19 @@ ghost use Rattle.monitor_machine.specs.NewFaults.{
 use crate::image::Image;
 use thiserror::Error;
 
-/// The most ticks of a slice.
+/// Maximum number of ticks of a slice.
 pub const MAX_QUANTUM: usize = 1000;
 
-/// The most images of a machine.
+/// Maximum number of images of a machine.
 pub const MAX_IMAGES: usize = 16;
 
-/// The most bytes of an image's name.
+/// Maximum length of an image's name in bytes.
 pub const MAX_NAME: usize = 32;
 
-/// The most bytes of an image.
+/// Maximum size of an image in bytes.
 pub const MAX_IMAGE: usize = 4_194_304;
 
-/// Why there is no new machine, in the order in which the reasons are tested.
+/// Reasons to refuse a new machine, in the order of the tests.
 #[derive(Debug, Drop, Error)]
 pub enum NewFault {
     /// The quantum isn't 1 to 1,000 ticks.
@@ -34,7 +34,7 @@ pub enum NewFault {
     /// There are more than 16 images.
     #[error("too many images")]
     ImageCount,
-    /// A name isn't 1 to 32 letters, digits, `.`, `_` or `-`, or is there twice.
+    /// A name isn't 1 to 32 letters, digits, `.`, `_` or `-`, or occurs twice.
     #[error("bad image name")]
     ImageName,
     /// An image has more than 4,194,304 bytes.
@@ -44,7 +44,7 @@ pub enum NewFault {
     NoMemory,
 }
 
-/// Whether a name may have this byte: a letter, a digit, `.`, `_` or `-`.
+/// Return whether a name may contain this byte: a letter, a digit, `.`, `_` or `-`.
 fn is_name_byte(byte: u8) -> bool
     ensures { result ≡ is_name_byte_spec byte }
 {
@@ -59,7 +59,7 @@ fn is_name_byte(byte: u8) -> bool
     }
 }
 
-/// Whether an image may have this name: 1 to 32 bytes, each as `is_name_byte` says.
+/// Return whether an image may have this name: 1 to 32 bytes that pass `is_name_byte`.
 #[tactic(auto, unfolding(crate::specs::NewFaults::is_name))]
 fn is_name(name: &str) -> bool
     ensures { result ≡ is_name_spec name.now }
@@ -76,7 +76,7 @@ fn is_name(name: &str) -> bool
     true
 }
 
-/// Whether each image has a name that it may have.
+/// Return whether each image has a valid name.
 fn are_named(images: &[Image<'_>]) -> bool
     ensures { result ≡ list_all (λ image. is_name_spec image.name) (named_images images.now) }
 {
@@ -88,7 +88,7 @@ fn are_named(images: &[Image<'_>]) -> bool
     true
 }
 
-/// Whether no image has more than 4,194,304 bytes.
+/// Return whether no image has more than 4,194,304 bytes.
 fn are_small(images: &[Image<'_>]) -> bool
     ensures { result ≡ list_all (λ image. nat_le (length image.bytes) 4194304) (named_images images.now) }
 {
@@ -100,7 +100,7 @@ fn are_small(images: &[Image<'_>]) -> bool
     true
 }
 
-/// Whether an image has this name.
+/// Return whether an image has this name.
 fn is_named(name: &str, images: &[Image<'_>]) -> bool
     ensures { result ≡ list_any (λ image. bytes_eq image.name name.now) (named_images images.now) }
 {
@@ -112,7 +112,7 @@ fn is_named(name: &str, images: &[Image<'_>]) -> bool
     false
 }
 
-/// Whether no two images have one name.
+/// Return whether no two images have the same name.
 #[tactic(auto, unfolding(crate::specs::NewFaults::are_distinct))]
 fn are_distinct(images: &[Image<'_>]) -> bool
     ensures { result ≡ are_distinct_spec (named_images images.now) }
@@ -125,7 +125,7 @@ fn are_distinct(images: &[Image<'_>]) -> bool
     true
 }
 
-/// The first fault that applies to this quantum and these images.
+/// Return the first fault that applies to this quantum and these images, if any.
 #[tactic(auto, unfolding(crate::specs::NewFaults::new_fault))]
 pub(crate) fn fault_of(quantum: usize, images: &[Image<'_>]) -> Option<NewFault>
     ensures { result ≡ new_fault (setup_of quantum images.now) }

@@ -1,4 +1,4 @@
-//! Slices, and the commands of the operator, who grants them.
+//! Slices, and the operator's commands, which grant them.
 ghost use Rattle.std.specs.Prelude.{◌≡◌, ◌≤◌, ◌++◌, [], ◌∷◌, false, Ok, length};
 ghost use Rattle.rv_model.specs.commands.Operator.{granted_line, operator_parse};
 ghost use Rattle.rv_model.specs.machine.Grants.{granted, grants, grants_of, operator_line, runs, slice_of};
@@ -14,9 +14,9 @@ use rv_model::{OperatorCommand, User};
 use std::alloc::Allocator;
 
 impl<A: Allocator> Machine<'_, A> {
-    /// Grants a slice to a user, and answers whether the user's program ran. The reply is then the
-    /// line that says why the program stopped, or empty where it still runs; it is empty, too, and
-    /// nothing changes where the program didn't run. Nobody else's machine changes.
+    /// Grant a slice to a user, and return whether the user's program was running. The reply is the
+    /// stop line if the program stopped, and is empty if it is still running. If the program wasn't
+    /// running, the reply is empty and nothing changes. No other user's machine changes.
     #[tactic(auto, unfolding(rv_model::specs::machine::World::event), using(crate::proofs::GrantLaws::stops_room_is_small))]
     pub fn slice(&mut self, user: User, reply: &mut Reply) -> bool
         ensures world { self.new.world
@@ -29,16 +29,16 @@ impl<A: Allocator> Machine<'_, A> {
         ensures silent { result ≡ false → reply.new ≡ [] }
         ensures same { result ≡ false → self.new ≡ self.old }
 
-        // It and a slice of so many ticks more come to one of all these ticks.
+        // This slice and a later one add up to one slice of all their ticks.
         ensures adds_up { SliceGoesOn self.old user self.new reply.new }
     {
         reply.clear();
         self.users.slice(user, self.quantum, reply)
     }
 
-    /// Grants at most `count` slices in turn to users whose programs run, fewer only where none
-    /// runs any more. The reply is then why programs stopped: each stops at most once. Answers how
-    /// many slices were granted.
+    /// Grant at most `count` slices in turn to users whose programs are running; fewer only if none
+    /// is running any more. The reply has a stop line for each program that stopped, at most one for
+    /// each user. Return the number of slices.
     #[tactic(auto, using(crate::proofs::GrantLaws::stops_room_is_small))]
     fn grant_slices(&mut self, count: usize, reply: &mut Reply) -> usize
         ensures world { self.new.world
@@ -59,7 +59,7 @@ impl<A: Allocator> Machine<'_, A> {
         count
     }
 
-    /// `* slices N`: grants slices in turn, and answers how many.
+    /// `* slices N`: grant slices in turn, and reply with their number.
     fn carry_out_slices(&mut self, count: usize, reply: &mut Reply)
         ensures world { self.new.world
             ≡ after_events self.old.setup self.old.world (granted self.old.setup count self.old.world) }
@@ -71,7 +71,8 @@ impl<A: Allocator> Machine<'_, A> {
         monitor_cmds::granted_line(reply, granted);
     }
 
-    /// `* run U`: grants a slice to a user, if the user's program runs, and answers whether it did.
+    /// `* run U`: grant a slice to a user, if the user's program is running, and reply with the
+    /// number of slices, 0 or 1.
     #[tactic(auto, using(crate::proofs::Steps::running))]
     fn carry_out_run(&mut self, user: User, reply: &mut Reply)
         ensures world { self.new.world
@@ -87,8 +88,7 @@ impl<A: Allocator> Machine<'_, A> {
         monitor_cmds::granted_line(reply, usize::from(ran));
     }
 
-    /// Carries out a command of the operator that is accepted, and answers it in place of what the
-    /// reply held.
+    /// Execute a valid command of the operator, and replace the reply.
     fn carry_out_accepted(&mut self, command: OperatorCommand, reply: &mut Reply)
         ensures world { self.new.world
             ≡ after_events self.old.setup self.old.world (grants self.old.setup self.old.world command) }
@@ -110,10 +110,10 @@ impl<A: Allocator> Machine<'_, A> {
         }
     }
 
-    /// Carries out one command of the operator: the line without the star and the space after it.
-    /// Answers it in place of what the reply held: a line for each program that stopped, and then
-    /// what the operator is told. Refused are an unknown command (E03) and a wrong argument (E04)
-    /// alone. Each slice that is granted in turn is one of the user whose turn it is then.
+    /// Execute one command of the operator, and replace the reply. `line` is the line without the
+    /// star and the space after it. The reply has a line for each program that stopped, and then
+    /// the operator's line. The refusals are an unknown command (E03) and a wrong argument (E04).
+    /// Each slice in turn goes to the user whose turn it is.
     #[tactic(auto, using(rv_model::proofs::machine_lemmas::Turns::grants_are_in_turn))]
     pub fn operator(&mut self, line: &[u8], reply: &mut Reply)
         ensures world { self.new.world

@@ -1,4 +1,4 @@
-//! What a machine holds of one user, beside the trace.
+//! The parts of a machine that one user's commands borrow, without the trace.
 ghost use Rattle.lazy_context.specs.LazyUnit.{IsSettled};
 
 use crate::context::Context;

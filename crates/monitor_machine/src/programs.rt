@@ -1,4 +1,4 @@
-//! Commands on programs in a user's memory, carried out.
+//! Execution of commands on programs in a user's memory.
 ghost use Rattle.std.specs.Prelude.{◌≡◌, ◌+◌, ◌*◌, ◌≤◌, Some, None, true, length, List, ℕ, MatchOption};
 ghost use Rattle.std.specs.Int.{to_le_bytes, w32};
 ghost use Rattle.lazy_context.specs.LazyUnit.{record_of};
@@ -35,13 +35,13 @@ use rv_model::{Access, Count, LinePart, ProgramCommand, Refusal, User};
 use std::alloc::Allocator;
 use user_mem::Pool;
 
-/// The bytes of an instruction.
+/// Number of bytes of an instruction.
 const WORD_SIZE: usize = 4;
 
-/// The most instructions that are shown at once.
+/// Maximum number of instructions that one command shows.
 const MAX_SHOWN: usize = 16;
 
-/// Carries out a command on programs in the memory of a user who has entered, and answers it.
+/// Execute a command on programs in the memory of a user who has entered, and replace the reply.
 #[tactic(auto, unfolding(rv_model::specs::commands::Programs::program_command), using(crate::proofs::Steps::programs))]
 pub(crate) fn carry_out<A: Allocator>(
     images: &[Image<'_>],
@@ -71,7 +71,7 @@ pub(crate) fn carry_out<A: Allocator>(
     }
 }
 
-/// Writes a word to mapped pages, least byte first.
+/// Write a 32-bit word to mapped pages, least significant byte first.
 fn write_word<A: Allocator>(pool: &mut Pool<A>, user: User, addr: u64, word: u32)
     requires { can_access Monitor (memory_of_user pool.old user) addr 4 ≡ true }
     ensures { pool.new ≡ with_memory pool.old user
@@ -82,7 +82,7 @@ fn write_word<A: Allocator>(pool: &mut Pool<A>, user: User, addr: u64, word: u32
     };
 }
 
-/// `asm`: an instruction's word, written to mapped pages, whatever these allow a program.
+/// `asm`: write an instruction's word to mapped pages, regardless of their permissions.
 #[tactic(auto, using(crate::proofs::Steps::assembling))]
 fn assemble_at<A: Allocator>(
     pool: &mut Pool<A>,
@@ -115,7 +115,7 @@ fn assemble_at<A: Allocator>(
     }
 }
 
-/// Shows as many instructions of mapped pages as the buffer holds.
+/// Show `count` instructions of mapped pages; `buffer` has 4 bytes for each.
 #[tactic(auto, using(crate::proofs::ProgramOutcomes::shows_accepted, crate::proofs::ProgramOutcomes::shows_refused))]
 fn show_words<A: Allocator>(
     pool: &Pool<A>,
@@ -143,7 +143,8 @@ fn show_words<A: Allocator>(
     }
 }
 
-/// `dis`: words of mapped pages, whatever these allow a program, with their text.
+/// `dis`: show words of mapped pages with their assembler text, regardless of the pages'
+/// permissions.
 fn show_instructions<A: Allocator>(
     pool: &Pool<A>,
     user: User,
@@ -170,7 +171,7 @@ fn show_instructions<A: Allocator>(
     );
 }
 
-/// The bytes of the image of a name.
+/// Return the bytes of the image with a name.
 #[tactic(auto, unfolding(rv_model::specs::commands::Programs::image_named))]
 fn image_named<'a>(images: &[Image<'a>], name: &[u8]) -> Option<&'a [u8]>
     ensures { MatchOption result (image_named_of (named_images images.now) name.now ≡ None)
@@ -184,7 +185,7 @@ fn image_named<'a>(images: &[Image<'a>], name: &[u8]) -> Option<&'a [u8]>
     None
 }
 
-/// `load` of an image without a fault.
+/// `load`: restart the user's machine with an image that has no fault.
 fn load_plan<A: Allocator>(
     plan: &Plan<'_>,
     parts: &mut Parts<'_, '_, '_, A>,
@@ -214,7 +215,7 @@ fn load_plan<A: Allocator>(
     }
 }
 
-/// `load`: the user's machine begins anew with the memory of an image. A refused `load` changes
+/// `load`: restart the user's machine with the memory of an image. A refused `load` changes
 /// nothing.
 #[tactic(auto, using(crate::proofs::Steps::loading))]
 fn load<A: Allocator>(

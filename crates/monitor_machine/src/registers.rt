@@ -1,4 +1,4 @@
-//! Commands on a user's registers, and on what becomes of agnostic elements, carried out.
+//! Execution of commands on a user's registers, and on the policy for agnostic elements.
 ghost use Rattle.std.specs.Prelude.{◌≡◌, ◌+◌, Some, List, ℕ};
 ghost use Rattle.lazy_context.specs.LazyUnit.{IsSettled, record_of, state_of};
 ghost use Rattle.rv_model.specs.memory.Memory.{Memory};
@@ -12,9 +12,9 @@ use lazy_context::Unit;
 use monitor_cmds::{Reply, Tag};
 use rv_model::{RegisterCommand, User};
 
-/// Carries out a command on the registers of a user who has entered, or on what becomes of agnostic
-/// elements, and answers it. A vector register is read and written where the user's vector state
-/// stands; nothing is switched for it.
+/// Execute a command on the registers of a user who has entered, or on the policy for agnostic
+/// elements, and replace the reply. Vector registers are read and written where the user's vector
+/// state is, in the vector unit or in the save area; no switch takes place.
 #[tactic(auto, unfolding(rv_model::specs::commands::Registers::register_command), using(crate::proofs::Steps::stays))]
 pub(crate) fn carry_out(
     context: &mut Context,

@@ -1,5 +1,5 @@
-//! Commands that run instructions and tell how far the program is and what it has put out, carried
-//! out.
+//! Execution of commands that run instructions, and of commands that show a program's state and
+//! output.
 ghost use Rattle.std.specs.Prelude.{◌≡◌, ◌+◌, ℕ, List, Some, true};
 ghost use Rattle.lazy_context.specs.LazyUnit.{record_of};
 ghost use Rattle.rv_model.specs.declared.vector.state.VState.{VState};
@@ -19,8 +19,8 @@ use monitor_cmds::{Reply, Tag};
 use rv_model::{Refusal, RunningCommand, User};
 use std::alloc::Allocator;
 
-/// Carries out a command that runs instructions of a user who has entered, or tells how far the
-/// program is or what it has put out, and answers it.
+/// Execute a command that runs instructions of a user who has entered, or shows the program's state
+/// or output, and replace the reply.
 #[tactic(auto, unfolding(rv_model::specs::commands::Running::running_command), using(crate::proofs::Steps::telling))]
 pub(crate) fn carry_out<A: Allocator>(
     parts: &mut Parts<'_, '_, '_, A>,
@@ -62,7 +62,7 @@ pub(crate) fn carry_out<A: Allocator>(
     }
 }
 
-/// `stop`: the program stops where it stands, if it runs.
+/// `stop`: stop the program at its current program counter, if it is running.
 fn stop(context: &mut Context, user: User, reply: &mut Reply)
     ensures next { (trace : List ℕ) (vector : VState) (memory : Memory)
         → (halts (present context.old trace vector memory)).next

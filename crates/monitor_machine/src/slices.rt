@@ -15,8 +15,8 @@ use crate::trace::Trace;
 use monitor_cmds::{Reply, Tag};
 use std::alloc::Allocator;
 
-/// Carries out a slice of `quantum` ticks of a user whose program runs, and adds to the reply why
-/// it stopped, if it did.
+/// Run a slice of `quantum` ticks of a user whose program is running, and append the stop line to
+/// the reply if the program stopped.
 #[tactic(auto, unfolding(rv_model::specs::machine::World::sliced), using(crate::proofs::Steps::present))]
 fn run_slice<A: Allocator>(
     parts: &mut Parts<'_, '_, '_, A>,
@@ -40,8 +40,8 @@ fn run_slice<A: Allocator>(
     }
 }
 
-/// Grants a slice of `quantum` ticks to a user, if the user's program runs, and adds to the reply
-/// why it stopped, if it did. Answers whether the program ran.
+/// Grant a slice of `quantum` ticks to a user, if the user's program is running, and append the
+/// stop line to the reply if the program stopped. Return whether the program was running.
 #[tactic(auto, unfolding(rv_model::specs::machine::World::sliced), using(crate::proofs::Steps::granting))]
 pub(crate) fn grant<A: Allocator>(
     parts: &mut Parts<'_, '_, '_, A>,
@@ -60,7 +60,7 @@ pub(crate) fn grant<A: Allocator>(
         ≤ length reply.old + stop_room (machine_of parts.old trace.old) }
     ensures configured { IsConfigured (machine_of parts.old trace.old) }
 {
-    // For the proof alone: the vector length is one that the vector type allows.
+    // For the proof alone: the vector length is valid for the vector type.
     parts.unit.length_law(parts.user);
     if !parts.context.is_running() {
         return false;

@@ -1,4 +1,4 @@
-//! Instructions of one user.
+//! Execution of one user's instructions.
 ghost use Rattle.std.specs.Prelude.{◌≡◌, false, length, nat_le, true};
 ghost use Rattle.hart.specs.States.{EndsBy, Returns};
 ghost use Rattle.lazy_context.specs.LazyUnit.{IsSettled, record_of};
@@ -19,8 +19,9 @@ use rv_model::{StepEnd, Stop};
 use std::alloc::Allocator;
 use vector_memory::UserBytes;
 
-/// One instruction over the registers and the output buffer of a context, the bytes and the vector
-/// state that it works on. Answers its ticks, and none where it doesn't run on, and then notes how it ended.
+/// Execute one instruction on the registers and the output buffer of a context, and on the borrowed
+/// bytes and vector state. Return its ticks if it ran to its end; otherwise return 0, and store the
+/// end in `ending`.
 #[inline(always)]
 fn step_context<M: UserBytes, V: Vectors>(
     context: &mut Context,
@@ -51,7 +52,7 @@ fn step_context<M: UserBytes, V: Vectors>(
     cycle(&mut view, terms.limit, ending)
 }
 
-/// The same over the vector state of a user in the vector unit of all users.
+/// Execute one instruction on the vector state of a user in the vector unit of all users.
 #[inline(always)]
 fn step_lent<M: UserBytes>(
     context: &mut Context,
@@ -72,14 +73,14 @@ fn step_lent<M: UserBytes>(
         (try_of terms.limit context.old (lent_state vectors.old) (M.memory memory.old))
         (record_of vectors.old.unit.now) }
 {
-    // For the proof alone: what the unit lends, and what it is when that comes back.
+    // For the proof alone: the state that the unit lends, and the unit after its return.
     vectors.unit.lending_law(vectors.user);
     step_context(context, memory, vectors, terms, ending)
 }
 
-/// Tries one instruction of a user. Answers why the program stops, if it
-/// does, and the ticks that it took. An instruction that ran to its end goes into the trace; after
-/// one that was cut, the program goes on as if it had just been told to run.
+/// Try one instruction of a user. Return why the program stops, if it does, and the ticks that it
+/// took. An instruction that ran to its end enters the trace; after one that was cut, the program
+/// skips the breakpoint once.
 #[inline(always)]
 fn try_instruction<A: Allocator, M: UserBytes>(
     context: &mut Context,
@@ -113,7 +114,7 @@ fn try_instruction<A: Allocator, M: UserBytes>(
     (stop_of(end), ticks)
 }
 
-/// `steps` over what the instructions of the user are lent.
+/// Execute `steps` on the state that a user's instructions borrow.
 #[inline(always)]
 fn steps_lent<A: Allocator, M: UserBytes>(
     context: &mut Context,
@@ -147,8 +148,8 @@ fn steps_lent<A: Allocator, M: UserBytes>(
     None
 }
 
-/// At most `count` instructions, fewer where one stops the program, or where a breakpoint stands at
-/// one that isn't the first. Answers why it stopped.
+/// Execute at most `count` instructions; fewer if one stops the program, or if a breakpoint is at
+/// one other than the first. Return why the program stopped, if it did.
 pub(crate) fn steps<A: Allocator>(
     parts: &mut Parts<'_, '_, '_, A>,
     trace: &mut Trace<A>,
@@ -172,7 +173,8 @@ pub(crate) fn steps<A: Allocator>(
     steps_lent(&mut *parts.context, trace, &mut vectors, &mut memory, count)
 }
 
-/// `slice` over what the instructions of the user are lent, who has no breakpoint unless `watched`.
+/// Execute `slice` on the state that a user's instructions borrow. The user has no breakpoint
+/// unless `watched`.
 #[inline(always)]
 fn slice_lent<A: Allocator, M: UserBytes>(
     context: &mut Context,
@@ -208,8 +210,9 @@ fn slice_lent<A: Allocator, M: UserBytes>(
     None
 }
 
-/// The instructions of so many ticks, fewer where one stops the program, or where a breakpoint
-/// stands at one that isn't the first after the program was told to run. Answers why it stopped.
+/// Execute the instructions of `quantum` ticks; fewer if one stops the program, or if a breakpoint
+/// stops it. A program that skips the breakpoint once skips it at the first instruction. Return why
+/// the program stopped, if it did.
 pub(crate) fn slice<A: Allocator>(
     parts: &mut Parts<'_, '_, '_, A>,
     trace: &mut Trace<A>,
@@ -231,7 +234,7 @@ pub(crate) fn slice<A: Allocator>(
         user,
     };
     let context = &mut *parts.context;
-    // Two loops, one of which asks about no breakpoint.
+    // Two copies of the loop; the second one tests no breakpoints.
     if context.is_watched() {
         slice_lent(context, trace, &mut vectors, &mut memory, quantum, true)
     } else {

@@ -5,14 +5,14 @@ use monitor_cmds::{Reply, Tag};
 use std::alloc::{AllocError, Allocator};
 use std::marker::Model;
 
-/// How many instructions a trace tells.
+/// Number of addresses of a trace.
 const TRACE_LENGTH: usize = 16;
 
-/// How many addresses are put into the ring at once.
+/// Number of addresses that are collected before they move to the ring.
 const BATCH: usize = 128;
 
 /// The addresses of the last 16 instructions of a user that ran to their end, the oldest first.
-/// The recent ones are gathered, and put into the ring many at a time. Only `new` takes memory.
+/// Recent addresses are collected, and move to the ring in batches. Only `new` allocates memory.
 #[derive(Drop)]
 pub(crate) struct Trace<A: Allocator> {
     ring: HeapCircularBuffer<u64, A>,
@@ -37,7 +37,7 @@ impl<A: Allocator> Trace<A> {
     ghost use Rattle.rv_model.specs.text.Lines.{text};
     ghost use Rattle.monitor_cmds.specs.Tag.{tag_byte};
 
-    /// An empty trace.
+    /// Create an empty trace, or fail if memory runs out.
     pub(crate) fn new(alloc: A) -> Result<Self, AllocError>
         ensures { IfOk result (λ trace. trace ≡ []) }
     {
@@ -46,7 +46,7 @@ impl<A: Allocator> Trace<A> {
         Ok(Trace { ring, recent })
     }
 
-    /// Drops all addresses.
+    /// Remove all addresses.
     pub(crate) fn clear(&mut self)
         ensures { self.new ≡ [] }
     {
@@ -54,7 +54,7 @@ impl<A: Allocator> Trace<A> {
         self.recent.clear();
     }
 
-    /// Adds the address of an instruction, in place of the oldest one where there are 16.
+    /// Add the address of an instruction; it replaces the oldest one if there are 16.
     pub(crate) fn record(&mut self, addr: u64)
         ensures { self.new ≡ recorded self.old addr }
     {
@@ -62,7 +62,7 @@ impl<A: Allocator> Trace<A> {
         self.recent.push(addr);
     }
 
-    /// Adds the line of these addresses to a reply.
+    /// Append the line of these addresses to a reply.
     pub(crate) fn print(&mut self, reply: &mut Reply, tag: Tag)
         requires room { length reply.old + 280 ≤ 4096 }
         ensures same { self.new ≡ self.old }
@@ -77,7 +77,7 @@ impl<A: Allocator> Trace<A> {
 ghost use Rattle.std.specs.Prelude.{◌≡◌, ◌++◌, ◌<◌, [], length};
 ghost use Rattle.circular_buffer.specs.Buffer.{buffer, keep_last};
 
-/// Puts the recent addresses into the ring where no further one fits beside them.
+/// Move the recent addresses to the ring if there is no room for another one.
 #[inline(always)]
 fn make_room<A: Allocator>(ring: &mut HeapCircularBuffer<u64, A>, recent: &mut ArrayVec<u64, BATCH>)
     ensures room { length recent.new.items < 128 }
@@ -90,7 +90,7 @@ fn make_room<A: Allocator>(ring: &mut HeapCircularBuffer<u64, A>, recent: &mut A
     }
 }
 
-/// Puts the recent addresses into the ring.
+/// Move the recent addresses to the ring.
 #[inline(never)]
 fn settle<A: Allocator>(ring: &mut HeapCircularBuffer<u64, A>, recent: &mut ArrayVec<u64, BATCH>)
     ensures ring { ring.new

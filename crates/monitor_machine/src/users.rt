@@ -1,4 +1,4 @@
-//! What a machine holds of its eight users, and whose turn it is.
+//! The state of a machine's eight users, and whose turn it is.
 ghost use Rattle.std.specs.Prelude.{◌≡◌, ◌+◌, ◌≤◌, ◌++◌, [], length, map, replicate, IfOk, IfNone, IfSome};
 ghost use Rattle.rv_model.specs.commands.Commands.{commanded, parse as parse_spec};
 ghost use Rattle.rv_model.specs.machine.Cuts.{IsConfigured};
@@ -28,8 +28,8 @@ use std::alloc::{AllocError, Allocator};
 use std::marker::Model;
 use user_mem::{NoMemory, Pool};
 
-/// The contexts and traces of the eight users, the one vector unit with the vector state of each, the
-/// pool with the memory of each, and the user whose turn was the last.
+/// The contexts and traces of the eight users, the one vector unit with their vector states, the
+/// pool with their memories, and the user who had the last turn.
 #[derive(Drop)]
 pub(crate) struct Users<A: Allocator> {
     contexts: [Context; USER_COUNT],
@@ -54,7 +54,7 @@ impl<A: Allocator> Model for Users<A> {
     ghost invariant = { λ u. IsWhole u.contexts u.traces.items u.unit u.pool };
 }
 
-/// Eight contexts of absent users.
+/// Create eight contexts of absent users.
 fn absent_contexts() -> [Context; USER_COUNT]
     ensures { result ≡ replicate user_count new_context }
 {
@@ -70,7 +70,7 @@ fn absent_contexts() -> [Context; USER_COUNT]
     ]
 }
 
-/// Eight empty traces.
+/// Create eight empty traces, or fail if memory runs out.
 fn empty_traces<A: Allocator + Clone>(alloc: &A) -> Result<Vec<Trace<A>, A>, AllocError>
     ensures { IfOk result (λ traces. traces.items ≡ replicate user_count []) }
 {
@@ -81,7 +81,7 @@ fn empty_traces<A: Allocator + Clone>(alloc: &A) -> Result<Vec<Trace<A>, A>, All
     Ok(traces)
 }
 
-/// Whether the program of each context runs.
+/// Return whether the program of each context is running.
 fn running_of(contexts: &[Context; USER_COUNT]) -> [bool; USER_COUNT]
     ensures { result ≡ map is_running contexts.now }
 {
@@ -92,7 +92,7 @@ fn running_of(contexts: &[Context; USER_COUNT]) -> [bool; USER_COUNT]
     running
 }
 
-/// What the program of each context does.
+/// Return the state of each context's program.
 fn standings_of(contexts: &[Context; USER_COUNT]) -> [Standing; USER_COUNT]
     ensures { result ≡ map context_standing contexts.now }
 {
@@ -104,7 +104,7 @@ fn standings_of(contexts: &[Context; USER_COUNT]) -> [Standing; USER_COUNT]
 }
 
 impl<A: Allocator> Users<A> {
-    /// Eight users who are absent.
+    /// Create eight absent users, or fail if memory runs out.
     #[tactic(auto, using(crate::proofs::PartLaws::new_users))]
     pub(crate) fn new(alloc: A) -> Result<Self, NoMemory>
     where
@@ -124,7 +124,7 @@ impl<A: Allocator> Users<A> {
         })
     }
 
-    /// Carries out one command of a user, and answers it in place of what the reply held.
+    /// Execute one command of a user, and replace the reply.
     #[tactic(auto, using(crate::proofs::PartLaws::part_put_back))]
     pub(crate) fn command(
         &mut self,
@@ -153,8 +153,8 @@ impl<A: Allocator> Users<A> {
             Err(refusal) => refuse(reply, user, refusal),
         }
     }
-    /// Grants a slice of `quantum` ticks to a user, if the user's program runs, and adds to the
-    /// reply why it stopped, if it did. Answers whether the program ran.
+    /// Grant a slice of `quantum` ticks to a user, if the user's program is running, and append the
+    /// stop line to the reply if the program stopped. Return whether the program was running.
     #[tactic(auto, using(crate::proofs::PartLaws::part_put_back))]
     pub(crate) fn slice(&mut self, user: User, quantum: usize, reply: &mut Reply) -> bool
         requires { length reply.old + stops_room self.old.parts ≤ 4096 }
@@ -178,8 +178,8 @@ impl<A: Allocator> Users<A> {
         grant(&mut parts, &mut self.traces[index], quantum, reply)
     }
 
-    /// The first user whose program runs, in the order of the users from the one on whose turn
-    /// follows the last; this user's turn is the last then.
+    /// Give the turn to the first user with a running program, in the order of turns after the user
+    /// who had the last one. Return this user, or `None` if no program is running.
     pub(crate) fn take_turn(&mut self) -> Option<User>
         ensures user { result ≡ next_running self.old }
         ensures none { IfNone result (self.new ≡ self.old) }
@@ -190,7 +190,7 @@ impl<A: Allocator> Users<A> {
         Some(user)
     }
 
-    /// Whether each user's program runs, user 1 first.
+    /// Return whether each user's program is running, user 1 first.
     #[tactic(auto, using(crate::proofs::GrantLaws::runs_of_parts))]
     fn running(&self) -> [bool; USER_COUNT]
         ensures { result ≡ map runs self.now.parts }
@@ -198,7 +198,7 @@ impl<A: Allocator> Users<A> {
         running_of(&self.contexts)
     }
 
-    /// What each user's program does, user 1 first.
+    /// Return the state of each user's program, user 1 first.
     #[tactic(auto, using(crate::proofs::GrantLaws::standings_of_parts))]
     pub(crate) fn standings(&self) -> [Standing; USER_COUNT]
         ensures { result ≡ map standing self.now.parts }
@@ -206,7 +206,7 @@ impl<A: Allocator> Users<A> {
         standings_of(&self.contexts)
     }
 
-    /// How the vector unit was used.
+    /// Return the counts and the owner of the vector unit.
     pub(crate) fn stats(&self) -> Stats
         ensures { result ≡ stats_of self.now.unit }
     {

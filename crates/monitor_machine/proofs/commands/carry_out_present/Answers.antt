@@ -2,6 +2,6 @@ use Rattle.std.proofs.Common.{[]}
 use Rattle.std.specs.FinMap.{empty}
 use Rattle.monitor_machine.proofs.commands.carry_out_present.Goals as goal
 
--- src/commands.rt:99:36
+-- the match arm of `Cmd::Registers`
 pub invariant_of-parts-in-Registers : goal.invariant_of-parts-in-Registers
 invariant_of-parts-in-Registers g c = record { settled = (c.carry_out-in-Registers.ensures.unit [] empty).settled }

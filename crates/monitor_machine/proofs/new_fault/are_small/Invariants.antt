@@ -8,6 +8,6 @@ use Rattle.monitor_machine.proofs.new_fault.are_small.Given as goal
 abbrev is_small : Image → Bool
 is_small image = nat_le (length image.bytes) 4194304
 
--- what is left decides
+-- the rest of the list determines the result
 abbrev pub invariant-loop-image : goal.invariant-loop-image
 invariant-loop-image l = list_all is_small (named_images (drop l.image-index l.images)) ≡ list_all is_small (named_images l.images)

@@ -26,7 +26,7 @@ pub returns-in-Some-clause-vectors : goal.returns-in-Some-clause-vectors
 returns-in-Some-clause-vectors g c =
     lent_twice c.args.vectors.now c.loop-left.vectors c.try_instruction-stop.new.vectors c.loop-left.invariant.vectors c.try_instruction-stop.ensures.vectors
 
--- a breakpoint stops it
+-- a breakpoint stops the program
 pub returns-then-is_held-clause-run : goal.returns-then-is_held-clause-run
 returns-then-is_held-clause-run g c =
     let a : Lent = lent g.M.UserBytes.memory c.loop-left.context c.loop-left.trace c.loop-left.vectors c.loop-left.memory in

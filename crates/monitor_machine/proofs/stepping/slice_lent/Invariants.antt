@@ -3,7 +3,7 @@ use Rattle.rv_model.specs.declared.step.step_end.Stop.{Stop}
 use Rattle.monitor_machine.specs.Lent.{Lent, TicksTo, VectorsMove, lent}
 use Rattle.monitor_machine.proofs.stepping.slice_lent.Given as goal
 
--- what the ticks that are left come to, all come to
+-- the result for the remaining ticks is the result for all ticks
 abbrev pub invariant-loop-left : goal.invariant-loop-left
 invariant-loop-left g l = record {
   left :

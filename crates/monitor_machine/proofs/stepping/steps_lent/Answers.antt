@@ -28,7 +28,7 @@ pub returns-in-Some-clause-vectors : goal.returns-in-Some-clause-vectors
 returns-in-Some-clause-vectors g c =
     lent_twice c.args.vectors.now c.loop.vectors c.try_instruction-stop.new.vectors c.loop.invariant.vectors c.try_instruction-stop.ensures.vectors
 
--- a breakpoint stops it
+-- a breakpoint stops the program
 pub returns-then-is_held-clause-run : goal.returns-then-is_held-clause-run
 returns-then-is_held-clause-run g c =
     let n : ℕ = c.args.count - (c.loop.counter + 1) in

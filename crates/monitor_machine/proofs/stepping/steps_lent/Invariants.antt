@@ -3,7 +3,7 @@ use Rattle.rv_model.specs.declared.step.step_end.Stop.{Stop}
 use Rattle.monitor_machine.specs.Lent.{Lent, StepsTo, VectorsMove, lent}
 use Rattle.monitor_machine.proofs.stepping.steps_lent.Given as goal
 
--- what the steps that are left come to, all come to
+-- the result for the remaining steps is the result for all steps
 abbrev pub invariant-loop : goal.invariant-loop
 invariant-loop g l = record {
   left :

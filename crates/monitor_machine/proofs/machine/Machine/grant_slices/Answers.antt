@@ -9,7 +9,7 @@ use Rattle.monitor_machine.specs.StopRoom.{stops_room}
 use Rattle.monitor_machine.proofs.GrantLaws.{count_granted_on, granted_to_nobody, none_granted, told_granted_on, world_granted_on}
 use Rattle.monitor_machine.proofs.machine.Machine.grant_slices.Goals as goal
 
--- nobody's program runs any more
+-- no program is running any more
 pub returns-in_default-clause-world : goal.returns-in_default-clause-world
 returns-in_default-clause-world g c =
     let setup = c.args.self.now.setup in
@@ -31,7 +31,7 @@ returns-in_default-clause-count g c =
     let nobody = granted_to_nobody setup (c.args.count - c.loop-granted.granted) now (sym c.take_turn.ensures.user ∙ c.in_default.is) in
     omega (arith, ap length nobody, c.loop-granted.invariant.number)
 
--- one slice more
+-- one more slice
 pub loop-granted-preserved : goal.loop-granted-preserved
 loop-granted-preserved g c =
     let setup = c.args.self.now.setup in

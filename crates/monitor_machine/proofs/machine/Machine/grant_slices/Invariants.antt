@@ -5,7 +5,7 @@ use Rattle.monitor_machine.specs.Images.{setup_of}
 use Rattle.monitor_machine.specs.StopRoom.{stops_room}
 use Rattle.monitor_machine.proofs.machine.Machine.grant_slices.Given as goal
 
--- the slices that are left come to the same as all
+-- the granted slices and the remaining ones together have the effect of all slices
 abbrev pub invariant-loop-granted : goal.invariant-loop-granted
 invariant-loop-granted g l =
     let setup = l.fn.self.setup in
