@@ -1,8 +1,7 @@
--- A user's commands, by groups: entering and leaving, memory, registers, programs, breakpoints, running. A group's file holds each of its
--- commands as a whole: its arguments, what it refuses, what it does and what it prints. `Arguments`, `Reading` and `Printing`
--- first: what a word means as an argument, how arguments follow one another, and what more than one command prints; then the
--- groups, in any order; then `Commands`: the command that a line spells, and what it does of any user. `Operator` is what a line
--- of the operator spells.
+-- A user's commands, by groups: entering and leaving, memory, registers, programs, breakpoints, running. A group's file defines each of its
+-- commands completely: its arguments, refusals, effect and printed lines. `Arguments`, `Reading` and `Printing` come first: the meaning of
+-- a token as an argument, the order of arguments, and text that several commands print. The groups follow, in any order. `Commands` then
+-- defines the command in a line, and its outcome for any user. `Operator` defines the operator's commands.
 pub mod Arguments
 pub mod Breakpoints
 pub mod Commands

@@ -1,4 +1,4 @@
--- What a word means as an argument of a command.
+-- Arguments of commands, parsed from tokens. A function returns `None` if its token isn't a valid argument.
 use Rattle.std.specs.Prelude.{ℕ, ◌+◌, ◌-◌, ◌*◌, ◌/◌, ◌%◌, ◌^◌, ◌==◌, ◌&&◌, ◌||◌, nat_lt, nat_le, Bool, true, false, List, [], ◌∷◌, length, Option, Some, None, if◌then◌else◌, codes}
 use Rattle.std.specs.Option.{option_and_then}
 use Rattle.std.specs.Result.{result_ok}
@@ -10,7 +10,7 @@ use Rattle.rv_model.specs.declared.memory.Permissions.{Permissions}
 use Rattle.rv_model.specs.vector.Types.{Policy, Sew, E8, E16, E32, E64}
 use Rattle.rv_model.specs.declared.vector.policy.Policy.TheVariants.{Keep, Ones}
 
--- a number from low to high
+-- a number from low to high, both included
 abbrev pub within : ℕ → ℕ → Option ℕ → Option ℕ
 within low high None = None
 within low high (Some n) = if nat_le low n && nat_le n high then Some n else None
@@ -21,7 +21,7 @@ decimal_number [] = None
 decimal_number (c ∷ []) = digits_after 10 0 (c ∷ [])
 decimal_number (c ∷ d ∷ cs) = if c == 48 then None else digits_after 10 0 (c ∷ d ∷ cs)
 
--- a decimal number from low to high
+-- a decimal number from low to high, both included
 abbrev pub number_between : ℕ → ℕ → List ℕ → Option ℕ
 number_between low high word = within low high (decimal_number word)
 
@@ -29,16 +29,16 @@ number_between low high word = within low high (decimal_number word)
 abbrev pub address : List ℕ → Option ℕ
 address word = if nat_le 1 (length word) && nat_le (length word) 16 then within 0 (2 ^ 64 - 1) (digits_after 16 0 word) else None
 
--- the address of an instruction: one that is divisible by 4
+-- the address of an instruction: a multiple of 4
 abbrev pub instruction_address : List ℕ → Option ℕ
 instruction_address word = option_and_then (λ addr. if addr % 4 == 0 then Some addr else None) (address word)
 
--- x1 to x31
+-- the number of a scalar register, x1 to x31
 abbrev pub scalar_register : List ℕ → Option ℕ
 scalar_register [] = None
 scalar_register (c ∷ digits) = if c == 120 then number_between 1 31 digits else None
 
--- v0 to v31
+-- the number of a vector register, v0 to v31
 abbrev pub vector_register : List ℕ → Option ℕ
 vector_register [] = None
 vector_register (c ∷ digits) = if c == 118 then number_between 0 31 digits else None
@@ -47,7 +47,7 @@ vector_register (c ∷ digits) = if c == 118 then number_between 0 31 digits els
 abbrev pub sew_argument : List ℕ → Option Sew
 sew_argument word = meaning_in ((codes "8", E8) ∷ (codes "16", E16) ∷ (codes "32", E32) ∷ (codes "64", E64) ∷ []) word
 
--- what becomes of agnostic elements
+-- the policy for agnostic elements: `keep` leaves them unchanged, `ones` sets them to all ones
 abbrev pub policy_word : List ℕ → Option Policy
 policy_word word = meaning_in ((codes "keep", Keep) ∷ (codes "ones", Ones) ∷ []) word
 
@@ -69,15 +69,15 @@ permissions word = meaning_in (
     ∷ (codes "rw", allowing true true false) ∷ (codes "rx", allowing true false true) ∷ (codes "wx", allowing false true true)
     ∷ (codes "rwx", allowing true true true) ∷ []) word
 
--- pages of memory, by the number of the first: its address divided by the size of a page
+-- a range of pages of memory; `first` is the address of the first one divided by the page size
 pub record Pages : Type 0 where
   pub first : ℕ
   pub count : ℕ
 
--- whole pages that end at the end of addresses or below
+-- whether `addr` is page-aligned and `count` pages from it end at or below the end of the address space
 abbrev pub are_pages : ℕ → ℕ → Bool
 are_pages addr count = (addr % page_size == 0) && nat_le (addr + page_size * count) address_end
 
--- so many pages from an address on
+-- `count` pages from an address, if `are_pages` holds
 abbrev pub page_range : ℕ → ℕ → Option Pages
 page_range addr count = if are_pages addr count then Some (record { first = addr / page_size; count = count }) else None

@@ -1,6 +1,6 @@
--- All commands of a user: the command that a line spells, and what it does. Refusals are in the order of their numbers, so an
--- unknown name (E03) comes before a wrong argument (E04), then comes who may not use the command (E05 to E07), and then what
--- the command itself refuses.
+-- All commands of a user: the command in a line, and its outcome. Refusals take precedence in the order of their numbers. An unknown name
+-- (E03) precedes a wrong argument (E04). The refusals that depend on the user's state follow (E05 to E07), then those of the command
+-- itself.
 use Rattle.std.specs.Prelude.{ℕ, ◌&&◌, Bool, true, false, List, [], ◌∷◌, Some, None, Result, Ok, Err, if◌then◌else◌}
 use Rattle.rv_model.specs.declared.commands.command.Cmd.{Cmd}
 use Rattle.rv_model.specs.declared.commands.command.Cmd.TheVariants.{Entering, Memory, Registers, Programs, Breakpoints, Running}
@@ -19,12 +19,12 @@ use Rattle.rv_model.specs.machine.Setup.{Image}
 use Rattle.rv_model.specs.machine.UserMachine.{Present, Private, Outcome, refuses}
 use Rattle.rv_model.specs.text.Words.{words, after_two_words}
 
--- ---- the command that a line spells
+-- ---- the command in a line
 
 abbrev pub Parsed : Type 0
 Parsed = Result Cmd Refusal
 
--- a command by its name, its arguments as words, and what follows its first argument as it stands in the line
+-- the command with this name and these arguments; `text` is the verbatim text of the line after its first argument
 unfoldable pub named : List ℕ → List (List ℕ) → List ℕ → Parsed
 named name args text =
     in_group Entering (entering_named name args)
@@ -38,25 +38,25 @@ abbrev pub command : List (List ℕ) → List ℕ → Parsed
 command [] text = Err refusal.UnknownCommand
 command (name ∷ args) text = named name args text
 
--- the command that a line spells, without the user's digit and the space after it
+-- the command in a line; `line` excludes the user's digit and the space after it
 unfoldable pub parse : List ℕ → Parsed
 parse line = command (words line) (after_two_words line)
 
--- ---- what a command does
+-- ---- the outcome of a command
 
--- whether a command needs a stopped program: all but `enter`, `stop` and `state`
+-- whether a command requires a stopped program: all but `enter`, `stop` and `state` do
 abbrev pub needs_stopped : Cmd → Bool
 needs_stopped (Entering Enter) = false
 needs_stopped (Running Stop) = false
 needs_stopped (Running State) = false
 needs_stopped _ = true
 
--- of a user who is absent: only `enter` is accepted
+-- for a user who hasn't entered: only `enter` is accepted
 unfoldable pub of_absent : Cmd → Outcome
 of_absent (Entering c) = entering_absent c
 of_absent _ = refuses None refusal.NotEntered
 
--- of a user who has entered, whose program is stopped where it has to be
+-- for a user who has entered, and whose program is stopped if the command requires it
 unfoldable pub of_present : List Image → Cmd → Present → Outcome
 of_present images (Entering c) p = entering c p
 of_present images (Memory c) p = memory_command c p
@@ -65,13 +65,13 @@ of_present images (Programs c) p = program_command images c p
 of_present images (Breakpoints c) p = breakpoint_command c p
 of_present images (Running c) p = running_command c p
 
--- of any user
+-- for any user
 unfoldable pub carried_out : List Image → Cmd → Private → Outcome
 carried_out images c None = of_absent c
 carried_out images c (Some p) =
     if p.running && needs_stopped c then refuses (Some p) refusal.Running else of_present images c p
 
--- what a line does
+-- the outcome of a parsed line; a line without a valid command is refused
 abbrev pub commanded : List Image → Private → Parsed → Outcome
 commanded images p (Err reason) = refuses p reason
 commanded images p (Ok c) = carried_out images c p

@@ -1,5 +1,4 @@
--- The commands on a user's memory: `map`, `poke` and `peek`. `poke` and `peek` ask for mapped pages, whatever these allow a
--- program.
+-- Memory commands: `map`, `poke` and `peek`. `poke` and `peek` require mapped pages, and ignore the permissions of these pages.
 use Rattle.std.specs.Prelude.{ℕ, List, [], ◌∷◌, ◌++◌, length, Option, Some, None, if◌then◌else◌, codes}
 use Rattle.hex.specs.Hex.{encode_lower}
 use Rattle.rv_model.specs.declared.commands.memory.MemoryCommand.{MemoryCommand}
@@ -17,11 +16,11 @@ use Rattle.rv_model.specs.machine.UserMachine.{Present, Outcome, refuses, replie
 use Rattle.rv_model.specs.memory.Memory.{Memory, bytes_at, can_access, put_bytes, map_refusal, with_pages}
 use Rattle.rv_model.specs.memory.Sizes.{page_quota}
 
--- the machine with another memory
+-- the machine with its memory replaced
 abbrev pub with_memory : Memory → Present → Present
 with_memory memory p = record p { hart = record p.hart { memory = memory } }
 
--- what a command does with bytes of mapped pages
+-- the outcome if the n bytes from `addr` are on mapped pages; otherwise a refusal
 abbrev pub if_mapped : ℕ → ℕ → Present → Outcome → Outcome
 if_mapped addr n p outcome = if can_access Monitor p.hart.memory addr n then outcome else refuses (Some p) refusal.NotMapped
 
@@ -43,36 +42,36 @@ abbrev pub mapping : Option MapRefusal → Pages → Permissions → Present →
 mapping (Some reason) pages allowed p = refuses (Some p) (why_not_mapped reason)
 mapping None pages allowed p = replies (with_memory (with_pages p.hart.memory pages.first pages.count allowed) p) (codes "ok")
 
--- pages of zeros
+-- map pages filled with zeros
 abbrev pub maps : Pages → Permissions → Present → Outcome
 maps pages allowed p = mapping (map_refusal p.hart.memory pages.first pages.count) pages allowed p
 
 -- ---- poke ADDR HEX
 
--- bytes are written
+-- write bytes
 abbrev pub pokes : ℕ → List ℕ → Present → Outcome
 pokes addr bytes p = if_mapped addr (length bytes) p (replies (with_memory (put_bytes p.hart.memory addr bytes) p) (codes "ok"))
 
--- ---- peek ADDR N, with 1 to 256 bytes
+-- ---- peek ADDR N, where N is 1 to 256 bytes
 
--- an address, and the bytes from it on
+-- the line that `peek` prints: an address, and the bytes from this address on
 unfoldable pub peek_line : ℕ → List ℕ → List ℕ
 peek_line addr bytes = codes "peek " ++ hex16 addr ++ codes " " ++ encode_lower bytes
 
--- bytes are shown
+-- print bytes
 abbrev pub peeks : ℕ → ℕ → Present → Outcome
 peeks addr count p = if_mapped addr count p (replies p (peek_line addr (bytes_at p.hart.memory addr count)))
 
--- ---- all of them
+-- ---- all commands of the group
 
--- the command of a name, by its arguments; none of this group where there is no such name
+-- the command with this name and these arguments; `None` if no command of this group has the name
 abbrev pub memory_named : List ℕ → List (List ℕ) → Option (Option MemoryCommand)
 memory_named name args = meaning_in (
     (codes "map", map_args args)
     ∷ (codes "poke", two_arguments Poke address byte_string args)
     ∷ (codes "peek", two_arguments Peek address (number_between 1 256) args) ∷ []) name
 
--- what a command does of a user who has entered
+-- the outcome of a command for a user who has entered
 unfoldable pub memory_command : MemoryCommand → Present → Outcome
 memory_command (Map pages allowed) p = maps pages allowed p
 memory_command (Poke addr bytes) p = pokes addr bytes p

@@ -1,5 +1,5 @@
--- The commands of the operator: `slices`, `run`, `list` and `stats`, as a line spells them, and what they print. Of refusals they have an
--- unknown command (E03) and a wrong argument (E04) alone.
+-- The operator's commands `slices`, `run`, `list` and `stats`: how a line is parsed, and the lines that they print. Their only refusals are
+-- those for an unknown command (E03) and a wrong argument (E04).
 use Rattle.std.specs.Prelude.{ℕ, ◌-◌, ◌++◌, decimal, flat_map, slice_index_or, unwrap_or, List, [], ◌∷◌, Option, Result, Err, codes}
 use Rattle.rv_model.specs.declared.commands.operator.OperatorCommand.{OperatorCommand}
 use Rattle.rv_model.specs.declared.commands.operator.OperatorCommand.TheVariants.{Slices, Run, List as ListUsers, Stats as ShowStats}
@@ -13,21 +13,21 @@ use Rattle.rv_model.specs.commands.Reading.{done, in_group, meaning_in, one_argu
 use Rattle.rv_model.specs.machine.Setup.{user_count, users}
 use Rattle.rv_model.specs.text.Words.{words}
 
--- ---- slices N, with 1 to 1,000 slices; run U, with a user's number
+-- ---- slices N, where N is 1 to 1,000 slices; run U, where U is a user's number
 
--- how many slices were granted by `slices` or `run`
+-- the number of slices that `slices` or `run` granted
 unfoldable pub granted_line : ℕ → List ℕ
 granted_line n = codes "granted " ++ decimal n
 
 -- ---- list
 
--- what a user's program does
+-- the state of a user's program
 abbrev pub standing_word : Standing → List ℕ
 standing_word Absent = codes "-"
 standing_word Stopped = codes "stopped"
 standing_word Running = codes "running"
 
--- a user with what the user's program does, of what all users' programs do
+-- a user's number and the state of the user's program, from the states of all users
 unfoldable pub listed_user : List Standing → ℕ → List ℕ
 listed_user standings u = codes " " ++ decimal u ++ codes ":" ++ standing_word (slice_index_or standings (u - 1) Absent)
 
@@ -36,16 +36,15 @@ list_line standings = codes "list" ++ flat_map (listed_user standings) users
 
 -- ---- stats
 
--- how often a vector state was saved, restored and used for the first time, and whose state the unit holds; 0 where it holds
--- nobody's
+-- the numbers of saves, restores and first uses of vector states, and the user whose state is in the vector unit; 0 if there is none
 unfoldable pub stats_line : Stats → List ℕ
 stats_line stats =
     codes "saves " ++ decimal stats.saves ++ codes " restores " ++ decimal stats.restores ++ codes " inits "
     ++ decimal stats.inits ++ codes " owner " ++ decimal (unwrap_or stats.owner 0)
 
--- ---- all of them
+-- ---- all commands of the operator
 
--- the command of a name, by its arguments; none where there is no such name
+-- the command with this name and these arguments; `None` if no command of the operator has the name
 abbrev pub operator_named : List ℕ → List (List ℕ) → Option (Option OperatorCommand)
 operator_named name args = meaning_in (
     (codes "slices", one_argument Slices (number_between 1 1000) args)
@@ -60,6 +59,6 @@ abbrev pub operator_of_words : List (List ℕ) → OperatorParsed
 operator_of_words [] = Err refusal.UnknownCommand
 operator_of_words (name ∷ args) = in_group (λ command. command) (operator_named name args) (Err refusal.UnknownCommand)
 
--- the command that a line spells, without the star and the space after it
+-- the command in a line; `line` excludes the star and the space after it
 unfoldable pub operator_parse : List ℕ → OperatorParsed
 operator_parse line = operator_of_words (words line)

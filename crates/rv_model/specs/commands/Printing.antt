@@ -1,4 +1,4 @@
--- What more than one command prints: 64-bit values as 16 lower-case hexadecimal digits, refusals, and why a program stopped.
+-- Text that several commands print: 64-bit values as 16 lower-case hexadecimal digits, refusals, and the cause of a stop.
 use Rattle.std.specs.Prelude.{ℕ, List, ◌++◌, decimal, codes}
 use Rattle.std.specs.Int.{to_be_bytes, w32, w64}
 use Rattle.hex.specs.Hex.{encode_lower}
@@ -9,15 +9,15 @@ use Rattle.rv_model.specs.declared.step.step_end.Stop.TheVariants as stop
 use Rattle.rv_model.specs.images.Faults.{fault_name}
 use Rattle.rv_model.specs.step.Hart.{cause_number}
 
--- 16 hexadecimal digits, the highest first
+-- 16 hexadecimal digits, the most significant first
 unfoldable pub hex16 : ℕ → List ℕ
 hex16 n = encode_lower (to_be_bytes w64 n)
 
--- 8 hexadecimal digits, the highest first
+-- 8 hexadecimal digits, the most significant first
 unfoldable pub hex8 : ℕ → List ℕ
 hex8 n = encode_lower (to_be_bytes w32 n)
 
--- an address of a list
+-- an address in a list, after a space
 unfoldable pub listed : ℕ → List ℕ
 listed addr = codes " " ++ hex16 addr
 
@@ -37,7 +37,7 @@ refused NotRunning = codes "E14"
 refused (Assembler column) = codes "E15 " ++ decimal column
 refused AlreadyMapped = codes "E16"
 
--- why a program stopped, and where it stands
+-- the cause of a stop, and the program counter
 unfoldable pub stop_line : ℕ → Stop → List ℕ
 stop_line pc stop.Breakpoint = codes "break pc=" ++ hex16 pc
 stop_line pc stop.Ebreak = codes "ebreak pc=" ++ hex16 pc

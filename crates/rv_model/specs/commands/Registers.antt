@@ -1,5 +1,4 @@
--- The commands on a user's registers, `set`, `regs`, `setpc`, `vreg`, `vset` and `vcsr`, and the one on what becomes of agnostic
--- elements, `policy`.
+-- Register commands: `set`, `regs`, `setpc`, `vreg`, `vset` and `vcsr`; and `policy`, which sets the policy for agnostic elements.
 use Rattle.std.specs.Prelude.{ℕ, zero, suc, ◌+◌, ◌*◌, ◌/◌, List, [], ◌∷◌, ◌++◌, decimal, slice_index, slice_range, reverse, flat_map, Option, Some, codes}
 use Rattle.std.specs.List.{range_with_len}
 use Rattle.hex.specs.Hex.{encode_lower}
@@ -18,7 +17,7 @@ use Rattle.rv_model.specs.vector.Groups.{sew_bits, register_of, with_register_by
 use Rattle.rv_model.specs.vector.RoundingModes.{rounding_number}
 use Rattle.rv_model.specs.vector.TypeRules.{vtype_number}
 
--- the machine with other scalar registers, and with other vector registers
+-- the machine with its scalar registers, or its vector registers, replaced
 abbrev pub with_scalar : Scalar → Present → Present
 with_scalar scalar p = record p { hart = record p.hart { scalar = scalar } }
 
@@ -27,30 +26,30 @@ with_file file p = record p { hart = record p.hart { vector = record p.hart.vect
 
 -- ---- regs
 
--- a register with its name
+-- a register's name and value
 unfoldable pub register_text : Scalar → ℕ → List ℕ
 register_text s i = codes "x" ++ decimal i ++ codes " " ++ hex16 (slice_index s.x i)
 
--- four registers
+-- a line of four registers, from register i on
 unfoldable pub register_line : Scalar → ℕ → List ℕ
 register_line s i = register_text s i ++ codes " " ++ register_text s (i + 1) ++ codes " " ++ register_text s (i + 2) ++ codes " " ++ register_text s (i + 3)
 
--- so many lines of four registers
+-- the given number of lines of four registers, from register i on
 abbrev pub register_lines : ℕ → ℕ → Scalar → List (List ℕ)
 register_lines zero i s = []
 register_lines (suc n) i s = register_line s i ∷ register_lines n (i + 4) s
 
--- the program counter, and all registers
+-- the lines that `regs` prints: the program counter, and all scalar registers
 unfoldable pub regs_lines : Scalar → List (List ℕ)
 regs_lines s = (codes "pc " ++ hex16 s.pc) ∷ register_lines 8 0 s
 
 -- ---- vreg vN SEW
 
--- element i of a register, its k bytes with the highest first
+-- element i of a register, of k bytes, the most significant first
 unfoldable pub element_text : ℕ → List ℕ → ℕ → List ℕ
 element_text k bytes i = codes " " ++ encode_lower (reverse (slice_range bytes (k * i) (k * i + k)))
 
--- a register's name, and its elements, element 0 first
+-- the line that `vreg` prints: a register's name, and its elements, element 0 first
 unfoldable pub vreg_line : ℕ → Sew → List ℕ → List ℕ
 vreg_line r sew bytes =
     codes "v" ++ decimal r ++ flat_map (element_text (sew_bits sew / 8) bytes) (range_with_len 0 (VLEN / sew_bits sew))
@@ -63,9 +62,9 @@ vcsr_line v =
     ++ codes " vstart=" ++ decimal v.vstart ++ codes " vxrm=" ++ decimal (rounding_number v.vxrm)
     ++ codes " vxsat=" ++ decimal (flag_bit v.vxsat)
 
--- ---- all of them
+-- ---- all commands of the group
 
--- the command of a name, by its arguments; none of this group where there is no such name
+-- the command with this name and these arguments; `None` if no command of this group has the name
 abbrev pub registers_named : List ℕ → List (List ℕ) → Option (Option RegisterCommand)
 registers_named name args = meaning_in (
     (codes "set", two_arguments Set scalar_register address args)
@@ -76,18 +75,18 @@ registers_named name args = meaning_in (
     ∷ (codes "vcsr", done Vcsr args)
     ∷ (codes "policy", one_argument SetPolicy policy_word args) ∷ []) name
 
--- what a command does of a user who has entered
+-- the outcome of a command for a user who has entered
 unfoldable pub register_command : RegisterCommand → Present → Outcome
--- a register is written
+-- write a scalar register
 register_command (Set register value) p = replies (with_scalar (with_register register value p.hart.scalar) p) (codes "ok")
 register_command Regs p = record { next = Some p; lines = regs_lines p.hart.scalar; uses = [] }
--- the program counter is written
+-- write the program counter
 register_command (SetPc addr) p = replies (with_scalar (record p.hart.scalar { pc = addr }) p) (codes "ok")
--- a vector register's elements are shown
+-- print a vector register's elements
 register_command (Vreg register width) p = replies p (vreg_line register width (register_of p.hart.vector.file register))
--- a vector register is written
+-- write a vector register
 register_command (Vset register bytes) p =
     record (replies (with_file (with_register_bytes register bytes p.hart.vector.file) p) (codes "ok")) { uses = Writes ∷ [] }
 register_command Vcsr p = replies p (vcsr_line p.hart.vector)
--- what becomes of agnostic elements from now on
+-- set the policy for agnostic elements
 register_command (SetPolicy policy) p = replies (record p { hart = record p.hart { policy = policy } }) (codes "ok")
