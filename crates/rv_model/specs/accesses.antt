@@ -1,7 +1,6 @@
--- Vector loads and stores. `Transfers` first: lists of transfers between registers and memory, and what they leave; then
--- `VectorAccess`: the transfers that each instruction asks for; then `AccessRuns`: what an instruction leaves, and how it ends;
--- then `Restarts`: those that stop before their end and are run again. `TransferBytes` are laws of what transfers
--- leave, byte by byte.
+-- Vector loads and stores, in reading order. `Transfers` defines lists of transfers between registers and memory, and their effects.
+-- `VectorAccess` defines the transfers of each instruction. `AccessRuns` defines the state after an instruction, and how it ends.
+-- `Restarts` defines instructions that stop early and resume at vstart. `TransferBytes` states laws about the bytes that transfers write.
 pub mod AccessRuns
 pub mod Restarts
 pub mod TransferBytes

@@ -1,5 +1,5 @@
--- What lists of transfers leave, byte by byte ("V" Vector Extension 1.0, sections 7.5, 7.6 and 7.8): laws of the definitions in
--- `Transfers`. A byte is that of the last transfer that covers it, and one that none covers is as it was.
+-- Laws about the bytes that lists of transfers write, for the definitions in `Transfers` ("V" Vector Extension 1.0, sections 7.5, 7.6 and
+-- 7.8). Each byte is from the last transfer that covers it; a byte that no transfer covers is unchanged.
 use Rattle.std.specs.Prelude.{ℕ, ◌≡◌, ◌+◌, ◌-◌, ◌<◌, ◌≤◌, Some, true, false, List, All, length, reverse, slice_index}
 use Rattle.std.specs.List.{find}
 use Rattle.std.specs.Option.{option_map_or}
@@ -19,7 +19,7 @@ LoadsByTransfer = (m : Memory) (place : Transfer → ℕ) (file : List ℕ) (ts 
     ≡ option_map_or (λ t. slice_index (bytes_loaded m t.size t.kind) (k - place t))
     (find (λ t. is_within (place t) t.size k) (reverse ts)) (slice_index file k)
 
--- the byte at a mapped address after transfers of a store, each of which moves an element that lies in the register file
+-- the byte at a mapped address after transfers of a store, where each transfer moves an element within the register file
 abbrev pub StoresByTransfer : Type 0
 StoresByTransfer = (m : Memory) (place : Transfer → ℕ) (file : List ℕ) (ts : List Transfer) (x : ℕ)
     → All (λ t. (t.kind ≡ Moved (address_of t.kind)) × (place t + t.size ≤ length file)) ts → can_access_byte Monitor m x ≡ true
@@ -27,7 +27,7 @@ StoresByTransfer = (m : Memory) (place : Transfer → ℕ) (file : List ℕ) (ts
     ≡ option_map_or (λ t. slice_index file (place t + (x - address_of t.kind)))
     (find (λ t. is_within (address_of t.kind) t.size x) (reverse ts)) (memory_byte m x)
 
--- as each of those is which a legal load or store has for indices before its end, with nothing filled
+-- the transfers of a legal load or store satisfy this condition, for indices before its end and without filled elements
 abbrev pub TransfersLieInFile : Type 0
 TransfersLieInFile = (i : AccessInstr) (v : VState) (x : Scalar) (a : VectorAccess) (k n : ℕ)
     → IsLegal (instr.Access i) v.conf.vtype v.vstart → IsConfiguration v.conf → access_of i v x ≡ Some a → k + n ≤ a.body.end

@@ -1,4 +1,4 @@
--- What each vector load or store moves ("V" Vector Extension 1.0, chapter 7), by the registers as they stand when it begins.
+-- The access of each vector load and store ("V" Vector Extension 1.0, chapter 7), from the registers before the instruction.
 use Rattle.std.specs.Prelude.{ℕ, ◌+◌, ◌*◌, ◌/◌, ◌%◌, ◌^◌, Bool, true, false, List, [], map, Option, Some, None, pos, ◌+ℤ◌, ◌*ℤ◌, if◌then◌else◌}
 use Rattle.std.specs.Int.{cast_signed, w64}
 use Rattle.std.specs.List.{range_with_len}
@@ -25,44 +25,44 @@ use Rattle.rv_model.specs.elements.Formulas.{wrap}
 use Rattle.rv_model.specs.vector.Groups.{access_type, register_count, element_width, sew_width, width_bytes, registers}
 use Rattle.rv_model.specs.scalar.Registers.{read_register}
 
--- what a load or store moves: the active indices of its body, each a segment of so many fields of so many bytes
+-- the access of a load or store: for each active index of the body a segment of `fields` fields of `size` bytes
 pub record VectorAccess : Type 0 where
   pub direction : Direction
-  -- whether a fault at another index than 0 shortens the length instead (section 7.7)
+  -- whether a fault at an index other than 0 reduces vl instead of trapping (section 7.7)
   pub first_only : Bool
   pub body : Body
   pub fields : ℕ
   pub size : ℕ
-  -- the register where the first field begins, and how many registers each field takes
+  -- the first register of the first field, and the number of registers of each field
   pub register : ℕ
   pub field_registers : ℕ
   -- the address of the segment of each index
   pub address : ℕ → ℕ
 
--- ---- its transfers
+-- ---- the transfers of an access
 
--- so many fields of so many bytes of an index, one after another from an address on, modulo 2 ^ 64
+-- the transfers of one index: `fields` adjacent fields of `size` bytes each, from an address on, modulo 2 ^ 64
 abbrev pub moved_segment : ℕ → ℕ → ℕ → ℕ → List Transfer
 moved_segment i address size fields =
     map (λ f. record { index = i; field = f; size = size; kind = Moved ((address + f * size) % 2 ^ 64) }) (range_with_len 0 fields)
 
--- the same of an index that becomes all ones
+-- the same for an index whose elements become all ones
 abbrev pub filled_segment : ℕ → ℕ → ℕ → List Transfer
 filled_segment i size fields = map (λ f. record { index = i; field = f; size = size; kind = Ones }) (range_with_len 0 fields)
 
--- the transfers of each index; the flag says whether those that are masked off become all ones
+-- the transfers of each index; the flag selects whether masked-off elements become all ones
 unfoldable pub plan : VectorAccess → Bool → Plan
 plan a fill_masked_off i =
     if is_enabled a.body i then moved_segment i (a.address i) a.size a.fields
     else if fill_masked_off then filled_segment i a.size a.fields else []
 
--- the byte of the register file where an element begins
+-- the first byte of an element in the register file
 abbrev pub element_start : VectorAccess → Transfer → ℕ
 element_start a t = VLENB * (a.register + t.field * a.field_registers) + t.index * a.size
 
 -- ---- the access of each instruction
 
--- a unit-stride operation: what it does, and whether it is fault-only-first
+-- the direction of a unit-stride operation, and whether it is fault-only-first
 abbrev pub unit_direction : UnitOp → Direction
 unit_direction unit.Store = Store
 unit_direction _ = Load
@@ -71,8 +71,8 @@ abbrev pub is_first_only : UnitOp → Bool
 is_first_only unit.FaultOnlyFirst = true
 is_first_only _ = false
 
--- an access of the elements of a body, in segments of so many fields of so many bytes, each field from vd on in so many registers,
--- by the address of each segment
+-- an access of the elements of a body, in segments of `fields` fields of `size` bytes. The fields start at the register vd, and each takes
+-- `field_registers` registers; `address` maps an index to the address of its segment.
 abbrev pub access_by : Direction → Body → ℕ → ℕ → ℕ → ℕ → (ℕ → ℕ) → VectorAccess
 access_by direction body fields size vd field_registers address =
     record {
@@ -86,48 +86,48 @@ access_by direction body fields size vd field_registers address =
       address = address;
     }
 
--- of the elements that vl says, to groups of a type
+-- an access of the elements from vstart up to vl, in register groups of a type
 abbrev pub segments : Direction → GroupType → ℕ → ℕ → Bool → (ℕ → ℕ) → VState → VectorAccess
 segments direction g nf vd unmasked address v =
     access_by direction (body_of unmasked v) (nf + 1) (width_bytes g.width) vd (registers g.emul) address
 
--- unit stride: the segments follow one another (section 7.4)
+-- unit stride: adjacent segments (section 7.4)
 abbrev pub unit_access : UnitOp → GroupType → ℕ → ℕ → ℕ → Bool → VState → Scalar → VectorAccess
 unit_access op g nf vd rs1 unmasked v x =
     record (segments (unit_direction op) g nf vd unmasked (λ i. (read_register x rs1 + i * ((nf + 1) * width_bytes g.width)) % 2 ^ 64) v) {
       first_only = is_first_only op;
     }
 
--- a signed stride in bytes, in a register (section 7.5)
+-- a signed stride in bytes, from x[rs2] (section 7.5)
 abbrev pub strided_access : Direction → GroupType → ℕ → ℕ → ℕ → ℕ → Bool → VState → Scalar → VectorAccess
 strided_access direction g nf vd rs1 rs2 unmasked v x =
     segments direction g nf vd unmasked
     (λ i. wrap w64 (pos (read_register x rs1) +ℤ pos i *ℤ cast_signed w64 (read_register x rs2))) v
 
--- unsigned offsets in bytes, in a group of a type of its own (section 7.6)
+-- unsigned offsets in bytes, from a register group that has its own type (section 7.6)
 abbrev pub indexed_access : Direction → GroupType → GroupType → ℕ → ℕ → ℕ → ℕ → Bool → VState → Scalar → VectorAccess
 indexed_access direction g indices nf vd rs1 vs2 unmasked v x =
     segments direction g nf vd unmasked (λ i. (read_register x rs1 + group_element indices v.file vs2 i) % 2 ^ 64) v
 
--- so many elements of so many bytes in so many registers, whatever the vector type is
+-- an access of `length` elements of `size` bytes in `count` registers, independent of the vector type
 abbrev pub unmasked_access : Direction → ℕ → ℕ → ℕ → ℕ → ℕ → VState → Scalar → VectorAccess
 unmasked_access direction length size count vd rs1 v x =
     access_by direction (record (body_of true v) { end = length }) 1 size vd count (λ i. (read_register x rs1 + i * size) % 2 ^ 64)
 
--- how many bytes an element of a width has
+-- the size in bytes of an element of a width
 abbrev pub element_bytes : Eew → ℕ
 element_bytes width = width_bytes (sew_width (element_width width))
 
--- how many elements of a width so many whole registers have (section 7.9)
+-- the number of elements of a width in `count` whole registers (section 7.9)
 abbrev pub whole_length : RegisterCount → Eew → ℕ
 whole_length count width = register_count count * VLENB / element_bytes width
 
--- how many bytes hold a mask of so many bits (section 7.4)
+-- the number of bytes of a mask of vl bits (section 7.4)
 abbrev pub mask_length : ℕ → ℕ
 mask_length vl = (vl + 7) / 8
 
--- what a vector load or store moves; none, if it needs a vector type and there is none. The data of indexed ones have the vector
--- type's width.
+-- the access of a vector load or store; `None` if it needs a vector type and there is none. The data elements of an indexed access have the
+-- vector type's width.
 abbrev pub access_of : AccessInstr → VState → Scalar → Option VectorAccess
 access_of (UnitStride op width nf vd rs1 vm) v x =
     option_map (λ t. unit_access op (access_type t width) nf vd rs1 vm v x) v.conf.vtype
@@ -142,11 +142,11 @@ access_of (WholeStore count vd rs1) v x =
 access_of (MaskAccess direction vd rs1) v x =
     option_map (λ t. unmasked_access direction (mask_length v.conf.vl) 1 1 vd rs1 v x) v.conf.vtype
 
--- the same of any instruction: none, if it is no vector load or store
+-- the same for any instruction; `None` if it isn't a vector load or store
 abbrev pub vector_access : Instr → VState → Scalar → Option VectorAccess
 vector_access (instr.Access i) v x = access_of i v x
 vector_access _ v x = None
 
--- how many indices it has
+-- the number of indices of an access, from 0 up to the end of its body; 0 without an access
 abbrev pub index_count : Option VectorAccess → ℕ
 index_count a = option_map_or (λ a. a.body.end) a 0
