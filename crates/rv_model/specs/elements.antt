@@ -1,8 +1,8 @@
--- Elements of vector registers, and the instructions that work on them one by one. `Elements` first: elements, mask bits, which
--- elements an instruction changes; then `Writes`: registers of which some elements or bits are replaced; then `Formulas`: the
--- result of each operation as a whole number or a truth, with `FixedPoint`, `Masks` and `Reductions` for the chapters of these names;
--- then `Arithmetic`: what an instruction leaves in the registers, and `PermutationResults`: what permutations leave; then
--- `Bodies`: the elements on which each operation works.
+-- Elements of vector registers, and the instructions that process them one by one, in reading order. `Elements` defines elements, mask
+-- bits, the elements that an instruction changes, and registers with some elements or bits replaced. `Formulas` defines the result of each
+-- operation as an integer or a truth value, with `FixedPoint`, `Masks` and `Reductions` for the chapters of these names. `Arithmetic`
+-- defines the vector registers after an instruction, and `PermutationResults` those after a permutation. `Bodies` defines the elements that
+-- each operation processes.
 pub mod Arithmetic
 pub mod Bodies
 pub mod Elements

@@ -1,5 +1,5 @@
--- What an instruction of vector arithmetic leaves in the vector registers ("V" Vector Extension 1.0, sections 3.4.3, 5.4 and
--- chapters 11, 12, 14 and 15). The operands are those of the state that it finds.
+-- The vector registers after an arithmetic instruction ("V" Vector Extension 1.0, sections 3.4.3, 5.4 and chapters 11, 12, 14 and 15). The
+-- operands are from the state before the instruction.
 use Rattle.std.specs.Prelude.{ℕ, ◌%◌, ◌^◌, ◌==◌, ◌&&◌, ◌||◌, not, nat_lt, Bool, true, false, List, if◌then◌else◌}
 use Rattle.std.specs.Int.{Width}
 use mir.Val.{bits}
@@ -21,29 +21,29 @@ abbrev pub is_ones : Policy → Bool
 is_ones Keep = false
 is_ones Ones = true
 
--- the body of an instruction under a state; v0 is the mask
+-- the body of an instruction in a vector state; v0 is the mask
 abbrev pub body_of : Bool → VState → Body
 body_of unmasked v = record { unmasked = unmasked; mask = register_of v.file 0; start = v.vstart; end = v.conf.vl }
 
--- whether elements that are masked off become all ones
+-- whether masked-off elements become all ones
 abbrev pub fills_masked_off : Policy → VType → Body → Bool
 fills_masked_off policy t body = is_ones policy && (t.mask_agnostic && not body.unmasked)
 
--- whether the elements past vl become all ones: not where there is no element of the body
+-- whether the elements from vl on become all ones; they don't if the body is empty
 abbrev pub fills_tail : Policy → VType → Body → Bool
 fills_tail policy t body = is_ones policy && (t.tail_agnostic && nat_lt body.start body.end)
 
--- element i of a group
+-- element i of the register group that starts at the register `first`
 abbrev pub group_element : GroupType → List ℕ → ℕ → ℕ → ℕ
 group_element g file first i = element (width_bytes g.width) (group_of file first g.emul) i
 
--- element i of the second operand: of vs1; or the low bits of x[rs1], or of the immediate, for each i
+-- element i of the second operand: of vs1; or for each i the low bits of x[rs1], or of the immediate
 abbrev pub second_element : GroupType → Bool → Source → List ℕ → Scalar → ℕ → ℕ
 second_element g unsigned (source.V vs1) file x i = group_element g file vs1 i
 second_element g unsigned (source.X rs1) file x i = read_register x rs1 % 2 ^ bits g.width
 second_element g unsigned (source.I imm) file x i = immediate_value unsigned imm % 2 ^ bits g.width
 
--- ---- the result at element i, by the registers that an instruction finds
+-- ---- the result at element i, from the registers before the instruction
 
 abbrev pub binary_result : GroupType → BinaryOp → ℕ → Source → List ℕ → Scalar → ℕ → ℕ
 binary_result g op vs2 source file x i =
@@ -61,12 +61,12 @@ abbrev pub compare_result : GroupType → CompareOp → ℕ → Source → List 
 compare_result g op vs2 source file x i =
     compare_formula op g.width (group_element g file vs2 i) (second_element g false source file x i)
 
--- a carry comes in from v0 where the instruction says so
+-- the carry-in or borrow-in is the element's bit in v0, unless `alone` is set
 abbrev pub carry_out_result : GroupType → CarryOutOp → Bool → ℕ → Source → List ℕ → Scalar → ℕ → Bool
 carry_out_result g op alone vs2 source file x i =
     carry_out_formula op g.width (group_element g file vs2 i) (second_element g false source file x i) (not alone && mask_bit (register_of file 0) i)
 
--- ---- the result at element i, where the operands have two widths; n is the type of the narrow groups, w that of the wide
+-- ---- the result at element i, for operands of two widths; n is the type of the narrow groups, w that of the wide ones
 
 abbrev pub widen_result : GroupType → GroupType → WidenOp → ℕ → Source → List ℕ → Scalar → ℕ → ℕ
 widen_result n w op vs2 source file x i =
@@ -88,7 +88,7 @@ narrow_shift_result n w op vs2 source file x i =
 abbrev pub extend_result : GroupType → GroupType → ExtendOp → ℕ → List ℕ → ℕ → ℕ
 extend_result n w op vs2 file i = wrap w.width (extend_formula op n.width (group_element n file vs2 i))
 
--- ---- fixed point: the result at element i, and whether it isn't the exact number
+-- ---- fixed point: the result at element i, and whether it differs from the exact number
 
 abbrev pub fixed_point_result : GroupType → RoundingMode → FixedPointOp → ℕ → Source → List ℕ → Scalar → ℕ → ℕ
 fixed_point_result g mode op vs2 source file x i =
@@ -99,7 +99,7 @@ abbrev pub saturates_at : GroupType → RoundingMode → FixedPointOp → ℕ �
 saturates_at g mode op vs2 source file x i =
     saturates op mode g.width (group_element g file vs2 i) (second_element g (has_unsigned_shift op) source file x i)
 
--- n is the type of the narrow groups, w that of the wide
+-- n is the type of the narrow groups, w that of the wide ones
 abbrev pub clip_result : GroupType → GroupType → RoundingMode → ClipOp → ℕ → Source → List ℕ → Scalar → ℕ → ℕ
 clip_result n w mode op vs2 source file x i =
     wrap n.width (clip_formula op mode w.width n.width (group_element w file vs2 i) (second_element n true source file x i))
@@ -108,7 +108,7 @@ abbrev pub clip_saturates_at : GroupType → GroupType → RoundingMode → Clip
 clip_saturates_at n w mode op vs2 source file x i =
     clip_saturates op mode w.width n.width (group_element w file vs2 i) (second_element n true source file x i)
 
--- ---- reductions: the result, which begins with element 0 of vs1
+-- ---- reductions: the result, whose initial value is element 0 of vs1
 
 abbrev pub reduce_result : GroupType → ReduceOp → Body → ℕ → Source → List ℕ → Scalar → ℕ
 reduce_result g op body vs2 source file x =
@@ -132,22 +132,22 @@ iota_result g body vs2 file i = set_count body (register_of file vs2) i % 2 ^ bi
 abbrev pub index_result : GroupType → ℕ → ℕ
 index_result g i = i % 2 ^ bits g.width
 
--- ---- the vector registers with results
+-- ---- the vector registers after results are written
 
--- in the active elements of the group from vd; the flags say which others become all ones
+-- results in the active elements of the group that starts at vd; the flags select which other elements become all ones
 unfoldable pub with_results : GroupType → ℕ → Body → Bool → Bool → (ℕ → ℕ) → List ℕ → List ℕ
 with_results g vd body fill_masked_off fill_tail result file =
     with_group file vd
     (written (width_bytes g.width) (is_changed body fill_masked_off fill_tail) (result_or_ones body result (ones g.width)) (group_of file vd g.emul))
 
--- in element 0 of the register vd alone; the flag says whether the tail, which begins with element 1, becomes all ones. Where the
--- body is empty nothing changes.
+-- a result in element 0 of the register vd; the flag selects whether the tail, which starts at element 1, becomes all ones. If the body is
+-- empty, nothing changes.
 unfoldable pub with_first_result : Width → ℕ → Body → Bool → ℕ → List ℕ → List ℕ
 with_first_result width vd body fill_tail result file =
     with_group file vd
     (written (width_bytes width) (λ i. nat_lt body.start body.end && (i == 0 || fill_tail)) (λ i. if i == 0 then result else ones width)
     (group_of file vd 8))
 
--- in the active bits of the mask in vd, which is one register; no other bit changes
+-- results in the active bits of the mask in the register vd; no other bit changes
 unfoldable pub with_mask_results : ℕ → Body → (ℕ → Bool) → List ℕ → List ℕ
 with_mask_results vd body bit file = with_group file vd (written_bits (is_active body) bit (group_of file vd 8))

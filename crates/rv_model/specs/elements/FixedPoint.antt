@@ -1,5 +1,5 @@
--- Fixed-point arithmetic ("V" Vector Extension 1.0, chapter 12): exact whole numbers, how they are rounded, and what the
--- width of an element leaves of them. a is the element of vs2, b that of the second operand, mode the rounding mode in vxrm.
+-- Fixed-point arithmetic ("V" Vector Extension 1.0, chapter 12): exact integers, their rounding, and their saturation at the width of an
+-- element. a is the element of vs2, b that of the second operand, and mode the rounding mode in vxrm.
 use Rattle.std.specs.Prelude.{ℕ, ◌-◌, ◌%◌, ◌==◌, ◌&&◌, ◌||◌, not, Bool, true, false, ℤ, pos, ◌+ℤ◌, ◌-ℤ◌, ◌*ℤ◌, if◌then◌else◌}
 use Rattle.std.specs.Int.{Width, cast_signed, from_bool, int_shr, saturate_signed, saturate_unsigned}
 use Rattle.std.specs.Ordering.{int_eq}
@@ -12,24 +12,24 @@ use Rattle.rv_model.specs.elements.Formulas.{low_bits}
 
 -- ---- rounding (section 3.8)
 
--- whether bit i of a whole number is set
+-- whether bit i of an integer, in two's complement, is set
 abbrev pub has_bit : ℕ → ℤ → Bool
 has_bit i v = low_bits 1 (int_shr v i) == 1
 
--- whether one is added where the low d bits are dropped
+-- whether rounding adds one when the low d bits are dropped
 abbrev pub rounds_up : RoundingMode → ℕ → ℤ → Bool
 rounds_up NearestUp d v = has_bit (d - 1) v
 rounds_up NearestEven d v = has_bit (d - 1) v && (not (low_bits (d - 1) v == 0) || has_bit d v)
 rounds_up Down d v = false
 rounds_up Odd d v = not (has_bit d v) && not (low_bits d v == 0)
 
--- a whole number without its low d bits, rounded
+-- an integer without its low d bits, rounded
 abbrev pub rounded : RoundingMode → ℕ → ℤ → ℤ
 rounded mode d v = if d == 0 then v else int_shr v d +ℤ pos (from_bool (rounds_up mode d v))
 
 -- ---- operations of one width, w
 
--- the number that an operation has as its result, before it is brought into the width
+-- the exact result of an operation, before it is reduced to the width
 abbrev pub exact : FixedPointOp → RoundingMode → Width → ℕ → ℕ → ℤ
 exact Vsaddu mode w a b = pos a +ℤ pos b
 exact Vsadd mode w a b = cast_signed w a +ℤ cast_signed w b
@@ -43,7 +43,7 @@ exact Vaadd mode w a b = rounded mode 1 (cast_signed w a +ℤ cast_signed w b)
 exact Vasubu mode w a b = rounded mode 1 (pos a -ℤ pos b)
 exact Vasub mode w a b = rounded mode 1 (cast_signed w a -ℤ cast_signed w b)
 
--- the nearest number of the width, where an operation saturates
+-- the nearest number of the width, if the operation saturates
 abbrev pub clipped : FixedPointOp → Width → ℤ → ℤ
 clipped Vsaddu w v = pos (saturate_unsigned w v)
 clipped Vssubu w v = pos (saturate_unsigned w v)
@@ -56,17 +56,17 @@ clipped _ w v = v
 abbrev pub fixed_point_formula : FixedPointOp → RoundingMode → Width → ℕ → ℕ → ℤ
 fixed_point_formula op mode w a b = clipped op w (exact op mode w a b)
 
--- whether it isn't the exact number
+-- whether the result differs from the exact number
 abbrev pub saturates : FixedPointOp → RoundingMode → Width → ℕ → ℕ → Bool
 saturates op mode w a b = not (int_eq (fixed_point_formula op mode w a b) (exact op mode w a b))
 
--- whether the immediate of an operation is unsigned, as a shift's is
+-- whether the immediate of an operation is unsigned, as it is for shifts
 abbrev pub has_unsigned_shift : FixedPointOp → Bool
 has_unsigned_shift Vssrl = true
 has_unsigned_shift Vssra = true
 has_unsigned_shift _ = false
 
--- ---- clips of a wide first operand to the narrow width n; they shift by as many low bits of b as a shift at the wide width w takes
+-- ---- clips of a wide first operand to the narrow width n; the shift amount is b modulo the number of bits of the wide width w
 
 abbrev pub exact_shift : ClipOp → RoundingMode → Width → ℕ → ℕ → ℤ
 exact_shift Vnclipu mode w a b = rounded mode (b % bits w) (pos a)
