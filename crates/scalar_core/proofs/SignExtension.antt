@@ -1,4 +1,4 @@
--- Sign extension by two shifts: up until the sign is the top bit, and down again with that bit copied.
+-- Sign extension by two shifts: left until the sign is the top bit, then right with copies of that bit.
 use Rattle.std.proofs.Common.{◌≡◌, ℕ, suc, ◌+◌, ◌-◌, ◌*◌, ◌/◌, ◌%◌, ◌^◌, ◌<◌, ◌≤◌, pos, negsuc, sym, ap, ◌∙◌, arith, inl, inr, mod-eq_of_lt, le-ltb, lt-ltb, w64}
 use Rattle.std.proofs.lemmas.Bool.{cases_lt}
 use Rattle.std.proofs.lemmas.Int.{ints}
@@ -14,11 +14,11 @@ positive x h = grind (arith, ints)
 negative : (x : ℕ) → x < 2 ^ 63 → cast_signed w64 (2 ^ 63 + x) ≡ negsuc (2 ^ 63 - suc x)
 negative x h = grind (arith, ints)
 
--- a word as a number with a sign, shifted down by a power of two, as a word
+-- the arithmetic right shift of a 64-bit word that divides its signed value by q, a power of two
 abbrev pub down : ℕ → ℕ → ℕ
 down q x = cast_unsigned w64 (shr_z (cast_signed w64 x) q)
 
--- the sign bit and what is above it of a multiple, divided
+-- the quotient of t * q - (x * q + 1) by q: t - (x + 1)
 divided_down : (q t x : ℕ) → 0 < q → x < t → (t * q - suc (x * q)) / q ≡ t - suc x
 divided_down q t x some h =
     let k : ℕ = t - suc x in

@@ -6,9 +6,9 @@ use crate::extension::{low_word, sign_extend_word};
 use crate::{division, product, shift};
 use rv_model::instructions::operations::RegisterOp;
 
-/// What an operation of two registers gives, from their 64-bit words and as one. Operations of 32 bits
-/// take the low 32 bits and sign-extend theirs; no operation traps (Unprivileged ISA 20191213, sections
-/// 2.4, 5.2, 7.1 and 7.2).
+/// Return the 64-bit result of an operation on two registers' 64-bit words. Operations of 32 bits use the low
+/// 32 bits and sign-extend the result; no operation traps (Unprivileged ISA 20191213, sections 2.4, 5.2, 7.1
+/// and 7.2).
 #[inline(always)]
 pub fn alu(op: RegisterOp, a: u64, b: u64) -> u64
     ensures { result ≡ register_op_value op a b }

@@ -4,7 +4,8 @@ ghost use Rattle.rv_model.specs.scalar.ControlTransfer.{is_taken};
 
 use rv_model::instructions::operations::BranchOp;
 
-/// Whether a branch that compares these registers is taken.
+/// Return whether a branch that compares these registers' 64-bit words is taken (Unprivileged ISA 20191213,
+/// section 2.5).
 pub fn branch(op: BranchOp, a: u64, b: u64) -> bool
     ensures { result ≡ is_taken op a b }
 {

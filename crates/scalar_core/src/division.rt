@@ -3,35 +3,35 @@ ghost use Rattle.std.specs.Prelude.{◌≡◌};
 ghost use Rattle.std.specs.Int.{w32, w64};
 ghost use Rattle.rv_model.specs.scalar.Arithmetic.{overflows, quotient, remainder, signed_quotient, signed_remainder};
 
-/// Whether the least number is divided by -1.
+/// Return whether the signed quotient overflows: the least number divided by -1.
 fn overflows(a: u64, b: u64) -> bool
     ensures { result ≡ overflows w64 a b }
 {
     a == 1 << 63 && b == u64::MAX
 }
 
-/// Whether the least number is divided by -1.
+/// Return whether the signed quotient overflows: the least number divided by -1.
 fn overflows_word(a: u32, b: u32) -> bool
     ensures { result ≡ overflows w32 a b }
 {
     a == 1 << 31 && b == u32::MAX
 }
 
-/// The unsigned quotient; all ones for a divisor of zero.
+/// Return the unsigned quotient; all ones if the divisor is zero.
 pub(crate) fn divide(a: u64, b: u64) -> u64
     ensures { result ≡ quotient w64 a b }
 {
     if b == 0 { u64::MAX } else { a / b }
 }
 
-/// The unsigned remainder; the dividend for a divisor of zero.
+/// Return the unsigned remainder; the dividend if the divisor is zero.
 pub(crate) fn remainder(a: u64, b: u64) -> u64
     ensures { result ≡ remainder w64 a b }
 {
     if b == 0 { a } else { a % b }
 }
 
-/// The signed quotient; all ones for a divisor of zero, and the dividend at an overflow.
+/// Return the signed quotient; all ones if the divisor is zero, and the dividend on overflow.
 pub(crate) fn divide_signed(a: u64, b: u64) -> u64
     ensures { result ≡ signed_quotient w64 a b }
 {
@@ -44,7 +44,7 @@ pub(crate) fn divide_signed(a: u64, b: u64) -> u64
     }
 }
 
-/// The signed remainder; the dividend for a divisor of zero, and zero at an overflow.
+/// Return the signed remainder; the dividend if the divisor is zero, and zero on overflow.
 pub(crate) fn remainder_signed(a: u64, b: u64) -> u64
     ensures { result ≡ signed_remainder w64 a b }
 {
@@ -59,21 +59,21 @@ pub(crate) fn remainder_signed(a: u64, b: u64) -> u64
     }
 }
 
-/// The unsigned quotient; all ones for a divisor of zero.
+/// Return the unsigned quotient; all ones if the divisor is zero.
 pub(crate) fn divide_word(a: u32, b: u32) -> u32
     ensures { result ≡ quotient w32 a b }
 {
     if b == 0 { u32::MAX } else { a / b }
 }
 
-/// The unsigned remainder; the dividend for a divisor of zero.
+/// Return the unsigned remainder; the dividend if the divisor is zero.
 pub(crate) fn remainder_word(a: u32, b: u32) -> u32
     ensures { result ≡ remainder w32 a b }
 {
     if b == 0 { a } else { a % b }
 }
 
-/// The signed quotient; all ones for a divisor of zero, and the dividend at an overflow.
+/// Return the signed quotient; all ones if the divisor is zero, and the dividend on overflow.
 pub(crate) fn divide_signed_word(a: u32, b: u32) -> u32
     ensures { result ≡ signed_quotient w32 a b }
 {
@@ -86,7 +86,7 @@ pub(crate) fn divide_signed_word(a: u32, b: u32) -> u32
     }
 }
 
-/// The signed remainder; the dividend for a divisor of zero, and zero at an overflow.
+/// Return the signed remainder; the dividend if the divisor is zero, and zero on overflow.
 pub(crate) fn remainder_signed_word(a: u32, b: u32) -> u32
     ensures { result ≡ signed_remainder w32 a b }
 {

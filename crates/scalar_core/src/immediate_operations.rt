@@ -1,4 +1,4 @@
-//! Operations of a register and an immediate (Unprivileged ISA 20191213, sections 2.4 and 5.2).
+//! Operations on a register and an immediate (Unprivileged ISA 20191213, sections 2.4 and 5.2).
 ghost use Rattle.std.specs.Prelude.{◌≡◌};
 ghost use Rattle.rv_model.specs.instructions.Immediates.{i_immediate};
 ghost use Rattle.rv_model.specs.scalar.Arithmetic.{immediate_op_form, register_op_value, shift_immediate_form};
@@ -11,7 +11,7 @@ use rv_model::instructions::operations::{
     ImmediateOp, RegisterOp, ShiftImmediateOp, ShiftImmediateWordOp, UpperOp,
 };
 
-/// The operation of two registers that one with an immediate of 12 bits does.
+/// Return the operation on two registers that an operation with a 12-bit immediate performs.
 fn immediate_op_form(op: ImmediateOp) -> RegisterOp
     ensures { result ≡ immediate_op_form op }
 {
@@ -26,7 +26,7 @@ fn immediate_op_form(op: ImmediateOp) -> RegisterOp
     }
 }
 
-/// The shift by a register that one by an immediate of 6 bits does.
+/// Return the shift by a register that a shift by a 6-bit immediate performs.
 fn shift_immediate_form(op: ShiftImmediateOp) -> RegisterOp
     ensures { result ≡ shift_immediate_form op }
 {
@@ -37,7 +37,7 @@ fn shift_immediate_form(op: ShiftImmediateOp) -> RegisterOp
     }
 }
 
-/// The shift of 32 bits by a register that one by an immediate of 5 bits does.
+/// Return the 32-bit shift by a register that a 32-bit shift by a 5-bit immediate performs.
 fn shift_immediate_word_form(op: ShiftImmediateWordOp) -> RegisterOp
     ensures { result ≡ shift_immediate_word_form op }
 {
@@ -48,7 +48,7 @@ fn shift_immediate_word_form(op: ShiftImmediateWordOp) -> RegisterOp
     }
 }
 
-/// What an operation of a register's 64-bit word and an immediate of 12 bits, sign-extended, gives
+/// Return the result of an operation on a register's 64-bit word and a sign-extended 12-bit immediate
 /// (Unprivileged ISA 20191213, sections 2.4 and 5.2, "Integer Register-Immediate Instructions").
 pub fn register_immediate(op: ImmediateOp, a: u64, imm: Field<12>) -> u64
     ensures { result ≡ register_op_value (immediate_op_form op) a (i_immediate imm) }
@@ -56,24 +56,24 @@ pub fn register_immediate(op: ImmediateOp, a: u64, imm: Field<12>) -> u64
     alu(immediate_op_form(op), a, i_immediate(imm))
 }
 
-/// What a shift of a register's 64-bit word by 0 to 63 bits gives (Unprivileged ISA 20191213, section
-/// 5.2).
+/// Return the result of a shift of a register's 64-bit word by 0 to 63 bits (Unprivileged ISA 20191213,
+/// section 5.2).
 pub fn shift_immediate(op: ShiftImmediateOp, a: u64, shamt: Field<6>) -> u64
     ensures { result ≡ register_op_value (shift_immediate_form op) a shamt }
 {
     alu(shift_immediate_form(op), a, u64::from(shamt.value()))
 }
 
-/// What a shift of a register's low 32 bits by 0 to 31 bits gives, sign-extended to 64 bits (Unprivileged
-/// ISA 20191213, section 5.2).
+/// Return the result of a shift of a register's low 32 bits by 0 to 31 bits, sign-extended to 64 bits
+/// (Unprivileged ISA 20191213, section 5.2).
 pub fn shift_immediate_word(op: ShiftImmediateWordOp, a: u64, shamt: Field<5>) -> u64
     ensures { result ≡ register_op_value (shift_immediate_word_form op) a shamt }
 {
     alu(shift_immediate_word_form(op), a, u64::from(shamt.value()))
 }
 
-/// The upper 20 bits of a 32-bit number, sign-extended to 64 bits, alone or added to the program counter
-/// (Unprivileged ISA 20191213, sections 2.4 and 5.2, LUI and AUIPC).
+/// Return a 32-bit number with these upper 20 bits, sign-extended to 64 bits, for LUI; for AUIPC, its sum
+/// with the program counter (Unprivileged ISA 20191213, sections 2.4 and 5.2).
 pub fn upper_immediate(op: UpperOp, pc: u64, imm: Field<20>) -> u64
     ensures { result ≡ upper_value op pc imm }
 {

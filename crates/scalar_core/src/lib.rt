@@ -1,4 +1,4 @@
-//! The arithmetic of RV64IM: what each operation on scalar registers gives, and what immediates mean.
+//! Arithmetic of RV64IM: the result of each operation on scalar registers, and the values of immediates.
 #![tactic(auto)]
 
 mod arithmetic;
