@@ -1,4 +1,4 @@
--- The number of a supported vector type stands for that type.
+-- The number of a supported vector type decodes to that type.
 use Rattle.std.proofs.Common.{◌≡◌, ℕ, ◌+◌, ◌*◌, ◌<◌, ◌≤◌, Bool, true, false, cond, refl, arith, ap, ◌∙◌, Option, Some, None}
 use Rattle.std.specs.Prelude.{◌==◌, nat_lt, nat_le, IfSome}
 use Rattle.std.proofs.lemmas.Bool.Decides.{nat_tests}
@@ -35,13 +35,13 @@ flag_small : (b : Bool) → flag_bit b < 2
 flag_small true = omega arith
 flag_small false = omega arith
 
--- the parts of a number
+-- the fields of a number that is the sum of these shifted fields
 parts_again : (l s a b : ℕ) → l < 8 → s < 8 → a < 2 → b < 2
     → (l + s * 8 + a * 64 + b * 128 < 256) × (field 3 3 (l + s * 8 + a * 64 + b * 128) ≡ s) × (field 0 3 (l + s * 8 + a * 64 + b * 128) ≡ l)
     × (field 6 1 (l + s * 8 + a * 64 + b * 128) ≡ a) × (field 7 1 (l + s * 8 + a * 64 + b * 128) ≡ b)
 parts_again l s a b hl hs ha hb = (omega arith, omega arith, omega arith, omega arith, omega arith)
 
--- a type of these parts
+-- the vector type that is built from these fields
 built : (small : Bool) (s : Option Sew) (l : Option Lmul) (a b : Bool) (t : VType) → small ≡ true → s ≡ Some t.sew → l ≡ Some t.lmul
     → a ≡ t.tail_agnostic → b ≡ t.mask_agnostic → nat_le (sew_bits t.sew) (lmul_eighths t.lmul * 8) ≡ true
     → cond small (supported_type s l a b) None ≡ Some t
@@ -53,7 +53,7 @@ less m n h = grind (arith, nat_tests)
 at_most : (m n : ℕ) → m ≤ n → nat_le m n ≡ true
 at_most m n h = grind (arith, nat_tests)
 
--- a number that is the type's stands for it
+-- a number that is equal to a supported type's number decodes to that type
 pub number_again : (vtype : Option VType) (n : ℕ) → n ≡ vtype_number vtype → IfSome vtype (λ t. IsSupported t → vector_type n ≡ Some t)
 number_again None n e = tt
 number_again (Some t) n e = λ supported.

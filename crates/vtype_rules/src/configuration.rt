@@ -1,4 +1,4 @@
-//! The configuration that a request leaves ("V" Vector Extension 1.0, sections 6.1 to 6.3).
+//! The configuration after a request ("V" Vector Extension 1.0, sections 6.1 to 6.3).
 ghost use Rattle.std.specs.Prelude.{◌≡◌, ◌≤◌, min};
 ghost use Rattle.rv_model.specs.vector.Groups.{IsSupported};
 ghost use Rattle.rv_model.specs.declared.vector.request.RequestedLength.TheVariants.{Keep};
@@ -7,7 +7,7 @@ ghost use Rattle.rv_model.specs.vector.TypeRules.{requested, with_length};
 use crate::type_numbers::vector_type;
 use rv_model::{RequestedLength, VConf, VType, VectorRequest};
 
-/// The lesser of a length that is asked for and the greatest that there can be.
+/// Return the lesser of a requested length and the maximum length, in elements.
 fn limited(count: u64, most: u16) -> u16
     ensures { result ≡ min count most }
 {
@@ -18,7 +18,7 @@ fn limited(count: u64, most: u16) -> u16
     }
 }
 
-/// The old length, if there can be just as many elements of the new type as of the old one.
+/// Return the old length with a new type of the same VLMAX; `vill` if VLMAX differs or there is no old type.
 fn kept(old: &VConf, vtype: VType) -> VConf
     requires { IsSupported vtype }
     ensures { result ≡ with_length old.now vtype Keep }
@@ -29,8 +29,8 @@ fn kept(old: &VConf, vtype: VType) -> VConf
     }
 }
 
-/// The length and type that a request leaves; `vill` where it isn't supported, or where the old length
-/// can't be kept.
+/// Return the length and type after a request. They are `vill` if the type isn't supported, or if the request
+/// preserves the old length and VLMAX differs.
 #[tactic(auto, unfolding(rv_model::specs::vector::TypeRules::requested))]
 pub fn set(old: &VConf, request: VectorRequest) -> VConf
     ensures { result ≡ requested old.now request }

@@ -1,4 +1,4 @@
-//! The vector length and the vector type that a vset instruction leaves.
+//! The vector length and the vector type after a vset instruction.
 #![tactic(auto)]
 
 mod configuration;

@@ -1,4 +1,4 @@
-//! The numbers of vector types, as `vtype` holds them ("V" Vector Extension 1.0, section 3.4).
+//! Numbers of vector types, as `vtype` encodes them ("V" Vector Extension 1.0, section 3.4).
 ghost use Rattle.std.specs.Prelude.{◌≡◌, ◌<◌, ◌^◌, IfSome, Some};
 ghost use Rattle.rv_model.specs.instructions.FixedBits.{field};
 ghost use Rattle.rv_model.specs.vector.Groups.{IsSupported};
@@ -6,10 +6,10 @@ ghost use Rattle.rv_model.specs.vector.TypeRules.{vector_type, vtype_number};
 
 use rv_model::{Lmul, Sew, VType};
 
-/// The bit that says that there is no vector type.
+/// The bit `vill`, which is set if there is no vector type.
 const VILL: u64 = 1 << 63;
 
-/// The number of a vector type; without one it is `vill` alone.
+/// Return the number of a vector type; only the bit `vill` is set if there is no type.
 pub fn vtype_number(vtype: Option<VType>) -> u64
     ensures value { result ≡ vtype_number vtype }
     ensures read_back { IfSome vtype (λ t. IsSupported t → vector_type result ≡ Some t) }
@@ -23,7 +23,7 @@ pub fn vtype_number(vtype: Option<VType>) -> u64
         + u64::from(vtype.mask_agnostic) * (1 << 7)
 }
 
-/// The `len` bits from bit `low` up.
+/// Return the `len` bits from bit `low` up.
 fn field(low: u32, len: u32, number: u64) -> u64
     requires low { low < 64 }
     requires len { len < 64 }
@@ -32,8 +32,7 @@ fn field(low: u32, len: u32, number: u64) -> u64
     (number >> low) % (1 << len)
 }
 
-/// The vector type that a number stands for; `None` where it isn't supported, as where a bit from 8
-/// up is set.
+/// Return the vector type with this number; `None` if the type isn't supported, or if a bit from 8 up is set.
 pub fn vector_type(number: u64) -> Option<VType>
     ensures value { result ≡ vector_type number }
     ensures supported { IfSome result (λ t. IsSupported t) }

@@ -1,4 +1,4 @@
--- The number stands for the type again.
+-- The number of a supported type decodes to that type.
 use Rattle.std.proofs.Common.{rules, ◌+◌, ◌*◌}
 use Rattle.vtype_rules.proofs.NumberLaws.{number_again}
 use Rattle.vtype_rules.proofs.type_numbers.vtype_number.Goals as goal
