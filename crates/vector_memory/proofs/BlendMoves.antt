@@ -1,4 +1,4 @@
--- That elements which are written by their numbers are bytes that are moved.
+-- Elements that are written as numbers are bytes that are moved.
 use Rattle.std.proofs.Common.{◌≡◌, ℕ, zero, suc, ◌+◌, ◌-◌, ◌*◌, ◌<◌, ◌≤◌, ◌&&◌, Bool, Fits, false, List, [], ◌∷◌, drop, length, get_or, nat_lt, take, refl, sym, ap, ◌∙◌, inl, inr, arith, zero-add}
 use Rattle.std.specs.Int.{Width, byte_at, bytes_low_first, w8}
 use Rattle.std.specs.Prelude.{replicate}
@@ -28,7 +28,7 @@ use Rattle.vector_memory.proofs.BlockMoves.{put_same}
 use Rattle.vector_memory.proofs.FieldSteps.{Apart, field_more, fields_loaded, fields_stored, load_active, load_filled, load_kept, loads_apart, no_field, steps_to, store_active, store_kept, stores_apart}
 use Rattle.vector_memory.proofs.SpanMoves.{field_begins, fields_apart, field_inside, field_read, put_part}
 
--- the bytes of the number that bytes make
+-- the bytes of the number that these bytes encode
 pub number_back : (k : ℕ) (ys : List ℕ) → length ys ≡ k → Each1 (λ x. x < 256) ys → bytes_low_first 0 k (number_l 256 ys) ≡ ys
 number_back k ys long below =
     same_number_lists (bytes_low_first 0 k (number_l 256 ys)) ys (length-bytes 0 k (number_l 256 ys) ∙ sym long)
@@ -41,7 +41,7 @@ ones_bytes : (w : Width) → bytes_low_first 0 (width_bytes w) (ones w) ≡ repl
 ones_bytes w8 = refl
 ones_bytes _ = refl
 
--- a write inside a part that is written
+-- a write inside a written part
 put_front : (q : ℕ) (file group xs : List ℕ) → q + length xs ≤ length group → length group ≤ length file
     → put_chunk q (put_chunk 0 file group) xs ≡ put_chunk 0 file (put_chunk q group xs)
 put_front q [] [] xs h k = refl
@@ -67,7 +67,7 @@ part_chunk p q n count xs h =
     ap (λ k. chunk q n (chunk p k xs)) all ∙ ap (take n) (drop-take q (count - q) (drop p xs))
     ∙ take-take n (count - q) (drop q (drop p xs)) (omega (arith, h)) ∙ ap (take n) (drop-drop q p xs)
 
--- how long its span is
+-- the length of a blend's span, in bytes
 pub span_length : (b : Span) (w : Width) → b.segments.size ≡ width_bytes w → IsBlend b → b.length ≡ width_bytes w * b.stop
 span_length b w size is =
     let before : (b.stop - b.body.start - 1) * b.distance ≡ (b.stop - 1) * width_bytes w =
@@ -113,7 +113,7 @@ module _ (m : Memory) (b : Span) (w : Width) (size : b.segments.size ≡ width_b
       let all : n - b.body.start ≡ n = omega (arith, is.first) in
       ap (λ x. x * b.distance + 0 * b.segments.size) all ∙ ap (λ x. n * x + 0 * b.segments.size) (is.apart ∙ size) ∙ omega (arith, mul_comm n k)
 
-  -- ---- bytes in which the first elements are written
+  -- ---- bytes with the first elements written
 
   module _ (fill : Bool) (number : ℕ → ℕ) (base : List ℕ) where
     abbrev so_far : ℕ → ℕ → Bool
@@ -189,7 +189,7 @@ module _ (m : Memory) (b : Span) (w : Width) (size : b.segments.size ≡ width_b
         (sym (put_same p (k * b.stop) file) ∙ ap (put_chunk p file) (then_made fill read_number group_bytes 0 group_bytes (body_begins k (part_of b.body b.stop) fill read_number group_bytes)))
         loads_next b.stop (omega arith)
 
-    -- what a blend of the elements leaves is what a loop does
+    -- a blend of the elements has the result of the loop
     pub blend_loaded : (new : List ℕ) → Writes k (is_changed (part_of b.body b.stop) fill false) read_number group_bytes new
         → put_chunk p file new ≡ registers_loaded m (place_in b.segments) file (span_transfers b fill)
     blend_loaded new h =

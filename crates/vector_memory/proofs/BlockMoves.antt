@@ -1,4 +1,4 @@
--- What moving a block of bytes leaves, and where an instruction that moves one stops.
+-- The result of moving a block of bytes, and where an instruction that moves one stops.
 use Rattle.std.proofs.Common.{◌≡◌, ℕ, zero, suc, ◌+◌, ◌-◌, ◌*◌, Bool, true, cond, List, [], ◌∷◌, length, min, refl, sym, ap, ◌∙◌, arith}
 use Rattle.std.specs.Prelude.{nat_lt}
 use Rattle.std.specs.Simd.Lanes.{chunk, put_chunk}
@@ -15,7 +15,7 @@ use Rattle.vector_memory.specs.SegmentRoom.{segments_access, place_in}
 use Rattle.vector_memory.specs.declared.blocks.Block.{Block}
 use Rattle.vector_memory.specs.declared.segments.Segments.{Segments}
 
--- bytes written where they are change nothing
+-- writing bytes to the place that they come from changes nothing
 pub put_same : (at n : ℕ) (file : List ℕ) → put_chunk at file (chunk at n file) ≡ file
 put_same at n [] = refl
 put_same zero zero (x ∷ file) = refl
@@ -23,7 +23,7 @@ put_same zero (suc n) (x ∷ file) = ap (λ bytes. x ∷ bytes) (put_same zero n
 put_same (suc at) n (x ∷ file) = ap (λ bytes. x ∷ bytes) (put_same at n file)
 
 module _ (s : Segments) (body : Body) (address : ℕ → ℕ) (stop : ℕ) (b : Block) (is : IsBlock s body address stop b) (fill : Bool) where
-  -- an instruction that moves it stops after it
+  -- an instruction that moves the block stops after its last index
   pub block_ends : (access : Access) (m : Memory) (limit : ℕ) → stop ≡ min body.end (body.start + limit) → can_access access m b.address b.length ≡ true
       → Stopped access m (plan (segments_access s body address) fill) body.start (body.start + limit) body.end stop (cond (nat_lt stop body.end) (Cut stop) Done)
   block_ends access m limit e all =
@@ -32,7 +32,7 @@ module _ (s : Segments) (body : Body) (address : ℕ → ℕ) (stop : ℕ) (b : 
       (λ k low high. block_allowed (segments_access s body address) fill body.start (stop - body.start) b.address is.contiguous access m
       (ap (can_access access m b.address) (sym is.length) ∙ all) k low (omega (arith, high, count)))
 
-  -- where it begins in the register file
+  -- the first byte of the block in the register file
   abbrev first_byte : ℕ
   first_byte = place_in s (record { index = body.start; field = 0; size = s.size; kind = Moved b.address })
 

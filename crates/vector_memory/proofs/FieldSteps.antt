@@ -1,4 +1,4 @@
--- That fields may be moved one after another, each for all indices, where what they change lies apart.
+-- Fields may be moved one after another, each for all indices, if the places that they change are disjoint.
 use Rattle.std.proofs.Common.{◌≡◌, ℕ, zero, suc, ◌+◌, ◌-◌, ◌*◌, ◌<◌, ◌≤◌, Bool, true, false, cond, List, [], ◌∷◌, ◌++◌, length, get_or, drop, length-take, refl, sym, ap, ◌∙◌, inl, inr, ◌⊎◌, arith, zero-add}
 use Rattle.std.specs.Prelude.{replicate}
 use Rattle.std.specs.Simd.Lanes.{chunk, put_chunk}
@@ -30,7 +30,7 @@ module _ {X : Type 0} where
       let count : suc n + 1 ≡ suc (n + 1) = omega arith in
       ap (for_each step x i) count ∙ each_more step (step x i) (i + 1) n ∙ ap (step (for_each step (step x i) (i + 1) n)) (omega arith)
 
-  -- what they come to, where each goes on from what those before it came to
+  -- the result of the steps, if each step takes `made n` to `made (n + 1)`
   pub steps_to : (step : X → ℕ → X) (x : X) (made : ℕ → X) (end : ℕ) → x ≡ made 0 → ((n : ℕ) → n < end → step (made n) n ≡ made (n + 1)) → (n : ℕ) → n ≤ end → for_each step x 0 n ≡ made n
   steps_to step x made end start next zero h = each_none step x 0 ∙ start
   steps_to step x made end start next (suc n) h =
@@ -38,7 +38,7 @@ module _ {X : Type 0} where
       ap (for_each step x 0) count ∙ each_more step x 0 n ∙ ap (step (for_each step x 0 n)) (zero-add n)
       ∙ ap (λ y. step y n) (steps_to step x made end start next n (omega (arith, h))) ∙ next n (omega (arith, h)) ∙ ap made (sym count)
 
-  -- where a later field of an index, and an earlier one of a later index, may change places
+  -- the step of a later field of an index commutes with that of an earlier field of a later index
   abbrev pub Apart : (ℕ → X → ℕ → X) → ℕ → ℕ → ℕ → Type 0
   Apart one fields low top =
       (f h i j : ℕ) (x : X) → h < f → f < fields → low ≤ i → i < j → j < top → one f (one h x j) i ≡ one h (one f x i) j
@@ -60,7 +60,7 @@ module _ {X : Type 0} where
         past_indices f i some from n (j + 1) (each_field one f x j) (omega (arith, less)) (omega (arith, end))
         ∙ ap (λ y. for_each (each_field one f) y (j + 1) n) (past_fields f i j x some from less (omega (arith, end)) f (omega arith))
 
-    -- one field more, for all indices
+    -- one more field, for all indices
     one_more : (f : ℕ) → f < fields → (n i : ℕ) (x : X) → low ≤ i → i + n ≤ top
         → for_each (one f) (for_each (each_field one f) x i n) i n ≡ for_each (each_field one (suc f)) x i n
     unfolding for_each each_field
@@ -80,7 +80,7 @@ module _ {X : Type 0} where
   no_field one x i zero = refl
   no_field one x i (suc n) = no_field one x (i + 1) n
 
-  -- all fields of an index, where each of them goes on from those before it
+  -- the result of all fields of an index, if each step takes `run f` to `run (f + 1)`
   each_is : (one : ℕ → X → ℕ → X) (x : X) (i : ℕ) (run : ℕ → X) → x ≡ run 0 → ((f : ℕ) → one f (run f) i ≡ run (f + 1)) → (f : ℕ) → each_field one f x i ≡ run f
   unfolding each_field
   each_is one x i run start step zero = start
@@ -88,7 +88,7 @@ module _ {X : Type 0} where
       let count : f + 1 ≡ suc f = omega arith in
       ap (λ y. one f y i) (each_is one x i run start step f) ∙ step f ∙ ap run count
 
-  -- all fields of all indices, where those of an index are its transfers
+  -- all indices, if the step of an index is the run of its transfers
   all_moved : (step : X → ℕ → X) (run : X → List Transfer → X) (each : Plan) → ((x : X) → run x [] ≡ x) → ((x : X) (ts us : List Transfer) → run x (ts ++ us) ≡ run (run x ts) us)
       → ((x : X) (i : ℕ) → step x i ≡ run x (each i)) → (n i : ℕ) (x : X) → for_each step x i n ≡ run x (transfers each i n)
   unfolding for_each transfers
@@ -137,7 +137,7 @@ module _ (m : Memory) (a : VectorAccess) (fill : Bool) where
   fields_loaded =
       all_moved (each_field (load_field m a fill) a.fields) (registers_loaded m (element_start a)) (plan a fill) (loaded_none m (element_start a)) (loaded-append m (element_start a)) fields_planned
 
-  -- one field of an index, as a loop comes to it
+  -- one field of an active index, as the loop moves it
   pub load_active : (f i at : ℕ) (file bytes : List ℕ) → is_enabled a.body i ≡ true → at ≡ field_place a f i → bytes ≡ bytes_at m (field_address a f i) a.size
       → put_chunk at file bytes ≡ load_field m a fill f file i
   load_active f i at file bytes h place read = rw (place, read) (sym (enabled_field f file i h))
@@ -149,7 +149,7 @@ module _ (m : Memory) (a : VectorAccess) (fill : Bool) where
   pub load_kept : (f i : ℕ) (file : List ℕ) → is_enabled a.body i ≡ false → fill ≡ false → file ≡ load_field m a fill f file i
   load_kept f i file h e = sym (off_kept f file i h e)
 
--- two writes that lie apart, in either order
+-- two writes to disjoint places commute
 put_low : (p q : ℕ) (file xs ys : List ℕ) → p + length xs ≤ q → put_chunk p (put_chunk q file ys) xs ≡ put_chunk q (put_chunk p file xs) ys
 put_low p q [] xs ys h = refl
 put_low zero q (z ∷ file) [] ys h = none q (z ∷ file)
@@ -164,7 +164,7 @@ put_low zero (suc q) (z ∷ file) (x ∷ xs) ys h = ap (λ l. x ∷ l) (put_low 
 put_low (suc p) (suc q) (z ∷ file) xs ys h = ap (λ l. z ∷ l) (put_low p q file xs ys (omega (arith, h)))
 put_low _ _ _ xs ys h = absurd (omega (arith, h))
 
--- what is loaded of a field keeps the order of fields
+-- loads of fields commute, since their places in the registers are disjoint
 module _ (m : Memory) (a : VectorAccess) (fill : Bool) (top : ℕ) (room : a.size * top ≤ VLENB * a.field_registers) where
   abbrev moved : ℕ → ℕ → List ℕ
   moved f i = cond (is_enabled a.body i) (bytes_at m (field_address a f i) a.size) (replicate a.size 255)
@@ -175,7 +175,7 @@ module _ (m : Memory) (a : VectorAccess) (fill : Bool) (top : ℕ) (room : a.siz
     | false ↦ length-replicate {A = ℕ} a.size 255
   ]
 
-  -- it is written, or nothing is
+  -- a field is written, or the register file is unchanged
   written : (f i : ℕ)
       → ((file : List ℕ) → load_field m a fill f file i ≡ put_chunk (field_place a f i) file (moved f i)) ⊎ ((file : List ℕ) → load_field m a fill f file i ≡ file)
   written f i = elim (cases_Bool (is_enabled a.body i)) [
@@ -240,7 +240,7 @@ module _ (file : List ℕ) (a : VectorAccess) where
       all_moved (each_field (store_field file a) a.fields) (λ m ts. memory_stored m (element_start a) file ts) (plan a false)
       (λ m. stored_none m (element_start a) file) (λ m ts us. stored-append m (element_start a) file ts us) fields_of
 
-  -- one field of an index, as a loop comes to it
+  -- one field of an active index, as the loop moves it
   pub store_active : (f i at : ℕ) (m : Memory) (bytes : List ℕ) → is_enabled a.body i ≡ true → at ≡ field_address a f i
       → bytes ≡ chunk (field_place a f i) a.size file → put_bytes m at bytes ≡ store_field file a f m i
   store_active f i at m bytes h address part = rw (address, part) (sym (stores f m i h))
@@ -248,7 +248,7 @@ module _ (file : List ℕ) (a : VectorAccess) where
   pub store_kept : (f i : ℕ) (m : Memory) → is_enabled a.body i ≡ false → m ≡ store_field file a f m i
   store_kept f i m h = sym (stores_none f m i h)
 
--- two writes that lie apart, in either order
+-- two writes to disjoint places commute
 put_below : (m : Memory) (p q : ℕ) (xs ys : List ℕ) → p + length xs ≤ q → put_bytes (put_bytes m q ys) p xs ≡ put_bytes (put_bytes m p xs) q ys
 put_below m p q xs ys h = same_memory (put_bytes (put_bytes m q ys) p xs) (put_bytes (put_bytes m p xs) q ys) (λ x. elim (place x p (length xs)) [
   | inl out ↦ elim (place x q (length ys)) [
@@ -271,7 +271,7 @@ put_below m p q xs ys h = same_memory (put_bytes (put_bytes m q ys) p xs) (put_b
       | inr from ↦ elim (cases_lt x (a + n)) [ inl high ↦ inr (omega arith, omega arith) | inr past ↦ inl (inr past) ]
     ]
 
--- what is stored of a field keeps the order of fields, where the segments lie apart
+-- stores of fields commute, if the segments are disjoint
 module _ (file : List ℕ) (a : VectorAccess) (low top : ℕ)
     (apart : (f h i j : ℕ) → h < f → f < a.fields → low ≤ i → i < j → j < top → field_address a f i + a.size ≤ field_address a h j) where
   pub stores_apart : Apart (store_field file a) a.fields low top

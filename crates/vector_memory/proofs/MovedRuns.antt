@@ -1,4 +1,4 @@
--- What a load or store leaves, by what it has moved and by how it ended.
+-- The state after a load or store, from the result of its moves and from how it ended.
 use Rattle.std.proofs.Common.{◌≡◌, ℕ, ◌+◌, ◌-◌, ◌*◌, ◌%◌, ◌^◌, ◌<◌, ◌≤◌, Bool, true, false, cond, List, length, min, refl, sym, ap, ◌∙◌, arith}
 use Rattle.std.proofs.Math.Nat.{mod-eq_of_lt, mul_comm}
 use Rattle.std.proofs.lemmas.Bool.{le-ltb}
@@ -24,11 +24,11 @@ use Rattle.vector_memory.specs.declared.blocks.Block.{Block}
 use Rattle.vector_memory.specs.declared.segments.Segments.{Segments}
 use Rattle.vector_memory.proofs.BlockMoves.{block_ends, loads_block, stores_block}
 
--- how far it came is said by the run
+-- `RunLeaves` holds for a run that reached any index
 pub leaves : {run : AccessRun} {end : MemEnd} {v : VState} {m : Memory} (n : ℕ) → run ≡ runs_to end n v m → RunLeaves run end v m
 leaves {run} {end} {v} {m} n is = is ∙ ap (λ k. runs_to end k v m) (sym (ap (λ r. r.reached) is))
 
--- which operation it is has no part in what it moves
+-- the transfers are the same for each operation
 plan_same : (op : UnitOp) (s : Segments) (body : Body) (address : ℕ → ℕ) (fill : Bool)
     → plan (operation_access op s body address) fill ≡ plan (segments_access s body address) fill
 unfolding plan
@@ -67,12 +67,12 @@ module _ (op : UnitOp) (limit : ℕ) (s : Segments) (body : Body) (address : ℕ
 
 -- ---- a block of all elements
 
--- so many bytes of one field, inside the registers
+-- `count` elements of one field are inside the registers
 pub whole_inside : (s : Segments) (count : ℕ) → s.fields ≡ 1 → HasRoom s count → VLENB * s.register + count * s.size ≤ FILE_BYTES
 whole_inside s count alone room =
     omega (arith, mul_comm count s.size, room.room, room.inside, ap (λ n. n * s.field_registers) alone)
 
--- where it is
+-- a block with this address, this place and this length is the block of all elements
 pub whole_is_block : (s : Segments) (body : Body) (base stride : ℕ) (b : Block)
     → body.unmasked ≡ true → s.fields ≡ 1 → stride ≡ s.size → body.start ≡ 0 → HasRoom s body.end
     → b.address ≡ base → b.place ≡ VLENB * s.register → b.length ≡ body.end * s.size → base + body.end * s.size < 2 ^ 64
@@ -100,7 +100,7 @@ whole_is_block s body base stride b unmasked alone apart first room address plac
       inside = omega (arith, place, bytes, whole_inside s body.end alone room);
     }
 
--- one that is done with vstart at 0 already
+-- a run that is done, if vstart was 0 before
 done_leaves : {run : AccessRun} {n : ℕ} (v : VState) (m : Memory) → v.vstart ≡ 0 → run ≡ runs_to Done n (record v { vstart = 0 }) m → RunLeaves run Done v m
 done_leaves {run} {n} v m none is =
     let same : run ≡ runs_to Done n v m = is ∙ ap (λ k. runs_to Done n (record v { vstart = k }) m) (sym none) in
@@ -114,7 +114,7 @@ module _ (s : Segments) (body : Body) (address : ℕ → ℕ) (b : Block) (is : 
   not_cut : cond (nat_lt body.end body.end) (Cut body.end) Done ≡ Done
   not_cut = ap (λ x. cond x (Cut body.end) Done) (le-ltb body.end body.end (omega arith))
 
-  -- a load that moves it is done
+  -- a load that moves the block is done
   pub load_done : (op : UnitOp) (fill : Bool) (file : List ℕ)
       → can_access Load m b.address b.length ≡ true → file ≡ put_chunk b.place v.file (bytes_at m b.address b.length)
       → RunLeaves (load_run limit fill (operation_access op s body address) v m) Done (record v { file = file }) m
@@ -126,7 +126,7 @@ module _ (s : Segments) (body : Body) (address : ℕ → ℕ) (b : Block) (is : 
         value = moved ∙ loads_block s body address body.end b is fill m v.file ∙ ap (registers_loaded m (place_in s) v.file) (sym stopped.done);
       }))
 
-  -- a store that moves it is done
+  -- a store that moves the block is done
   pub store_done : (op : UnitOp) (more : Memory)
       → can_access Store m b.address b.length ≡ true → more ≡ put_bytes m b.address (chunk b.place b.length v.file)
       → length (chunk b.place b.length v.file) ≡ b.length

@@ -1,4 +1,4 @@
--- The transfer that a load or store at offsets is: its segments and its offsets have room, and it moves what the instruction moves.
+-- The transfer of an indexed load or store: its segments and its offsets have room, and its access is that of the instruction.
 use Rattle.std.proofs.Common.{◌≡◌, ◌∙◌, ℕ, ◌≤◌, Bool, true, false, [], Some, ap, cond, refl, sym}
 use Rattle.std.specs.Prelude.{IfSome}
 use Rattle.std.specs.Option.{option_map_or}

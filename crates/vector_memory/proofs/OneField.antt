@@ -1,4 +1,4 @@
--- That a segment of one field is its field.
+-- The transfers of a segment with one field are those of the field.
 use Rattle.std.proofs.Common.{◌≡◌, ℕ, ◌+◌, ◌*◌, ◌<◌, ◌%◌, ◌^◌, ◌↔◌, true, false, List, refl, sym, ap, ◌∙◌, arith}
 use Rattle.std.specs.Prelude.{Result, Ok, Err, IsOk, IfErr}
 use Rattle.std.specs.Simd.Lanes.{chunk, put_chunk}

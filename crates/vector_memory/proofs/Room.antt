@@ -1,4 +1,4 @@
--- That segments of legal loads and stores have room in the registers.
+-- Segments of legal loads and stores have room in the registers.
 use Rattle.std.proofs.Common.{◌≡◌, ℕ, ◌+◌, ◌*◌, ◌≤◌, arith}
 use Rattle.rv_model.specs.declared.instructions.operations.RegisterCount.{RegisterCount}
 use Rattle.rv_model.specs.declared.instructions.operations.RegisterCount.TheVariants.{One}
@@ -21,7 +21,7 @@ whole_fits One width.E8 = omega arith
 whole_fits _ width.E8 = omega arith
 whole_fits _ _ = omega arith
 
--- in whole registers
+-- segments in whole registers have room
 pub whole_room : (s : Segments) (count : RegisterCount) (w : Eew) (vd : ℕ) → vd + register_count count ≤ VECTOR_REGISTERS
     → s ≡ record { fields = 1; size = width_bytes (sew_width (element_width w)); register = vd; field_registers = register_count count }
     → HasRoom s (whole_length count w)

@@ -1,4 +1,4 @@
--- That a span with the same segments and the same body is the same.
+-- A span with the same segments and the same body is the same.
 use Rattle.std.proofs.Common.{◌≡◌, ap, subst}
 use denote.Struct.Props.{props}
 use Rattle.rv_model.specs.elements.Elements.{Body}

@@ -1,4 +1,4 @@
--- The elements that are shown, one index after another.
+-- The elements that are passed to a viewer, one index after another.
 use Rattle.std.proofs.Common.{◌≡◌, ◌∙◌, ◌+◌, ◌-◌, ◌*◌, ◌≤◌, ◌++◌, [], ℕ, false, List, map, ap, refl, sym, subst, arith, add_assoc}
 use Rattle.std.proofs.lemmas.List.{map-append}
 use Rattle.rv_model.specs.accesses.Transfers.{Transfer, transfers}
@@ -14,7 +14,7 @@ use Rattle.vector_memory.specs.SegmentRoom.{operation_access, place_in, segments
 use Rattle.vector_memory.specs.declared.segments.Segments.{Segments}
 use Rattle.vector_memory.specs.declared.transfers.Transfer.{Transfer as SegmentTransfer}
 
--- ---- what a viewer has seen
+-- ---- the elements that a viewer has received
 
 -- room for a number of elements is room for fewer
 abbrev Fewer : {V : Type 0} → (V → ℕ → Type 0) → Type 0
@@ -36,7 +36,7 @@ module _ {V : Type 0} (saw : V → List MovedElement → V → Type 0) (has_room
     left = λ count room. one.left count (room_for has_room fewer a (count + m) (count + most) (omega (arith, h)) room);
   }
 
-  -- some elements, and then others
+  -- some elements, then others
   pub seen_more : ((a b c : V) (xs ys : List MovedElement) → saw a xs b → saw b ys c → saw a (xs ++ ys) c)
       → (a b c : V) (m n most : ℕ) (xs ys zs : List MovedElement) → m + n ≤ most → zs ≡ xs ++ ys
       → HasSeen saw has_room m a xs b → HasSeen saw has_room n b ys c → HasSeen saw has_room most a zs c
@@ -52,14 +52,14 @@ module _ (d : Direction) (s : Segments) (b : Body) (address : ℕ → ℕ) (file
   abbrev elements : List Transfer → List MovedElement
   elements = map (element_of d (place_in s) file)
 
-  -- one index more
+  -- one more index
   pub index_more : (i : ℕ) → b.start ≤ i
       → elements_before d s b address file (i + 1) ≡ elements_before d s b address file i ++ elements (plan (segments_access s b address) false i)
   index_more i h =
       let each = plan (segments_access s b address) false in
       ap elements (transfers_more each b.start i h) ∙ map-append (element_of d (place_in s) file) (transfers each b.start (i - b.start)) (each i)
 
-  -- what was seen of no index
+  -- no element is received before the first index
   pub seen_at_first : {V : Type 0} (saw : V → List MovedElement → V → Type 0) (has_room : V → ℕ → Type 0) → Fewer has_room → (v : V) (i : ℕ) → i ≤ b.start → saw v [] v
       → HasSeen saw has_room (8 * (i - b.start)) v (elements_before d s b address file i) v
   unfolding transfers
@@ -68,13 +68,13 @@ module _ (d : Direction) (s : Segments) (b : Body) (address : ℕ → ℕ) (file
       subst (λ (n : ℕ). HasSeen saw has_room (8 * (i - b.start)) v (elements (transfers (plan (segments_access s b address) false) b.start n)) v) (sym same)
       (seen_none saw has_room fewer v (8 * (i - b.start)) none)
 
-  -- and of as many indices
+  -- the same elements, for an equal number of indices
   pub seen_as_many : {V : Type 0} (saw : V → List MovedElement → V → Type 0) (has_room : V → ℕ → Type 0) (v w : V) (i j : ℕ) → i - b.start ≡ j - b.start
       → HasSeen saw has_room (8 * (i - b.start)) v (elements_before d s b address file i) w → HasSeen saw has_room (8 * (j - b.start)) v (elements_before d s b address file j) w
   seen_as_many saw has_room v w i j =
       subst (λ (n : ℕ). HasSeen saw has_room (8 * n) v (elements (transfers (plan (segments_access s b address) false) b.start n)) w)
 
--- those of the access of an operation
+-- the elements of the access of an operation
 pub operation_elements : (op : UnitOp) (s : Segments) (body : Body) (address : ℕ → ℕ) (v : VState) (left : ℕ)
     → moved_elements v left (operation_access op s body address)
     ≡ map (element_of (unit_direction op) (place_in s) v.file)
@@ -82,7 +82,7 @@ pub operation_elements : (op : UnitOp) (s : Segments) (body : Body) (address : �
 unfolding plan
 operation_elements op s body address v left = refl
 
--- those of a transfer, by the index after its last one
+-- the elements of a transfer, with the index after its last one
 pub transfer_elements : (t : SegmentTransfer) (v : VState) (left end : ℕ) → end ≡ moved_end (moved_by t v) left
     → elements_before (unit_direction t.op) t.segments (record (moved_by t v).body { end = end }) (moved_by t v).address v.file end
     ≡ moved_elements v left (moved_by t v)

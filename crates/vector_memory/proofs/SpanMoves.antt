@@ -1,4 +1,4 @@
--- What the bytes of a span tell of a memory, and where an instruction that moves one stops.
+-- The bytes of a span as bytes of a memory, and where an instruction that moves a span stops.
 use Rattle.std.proofs.Common.{◌≡◌, ℕ, zero, suc, ◌+◌, ◌-◌, ◌*◌, ◌<◌, ◌≤◌, ◌%◌, ◌^◌, Bool, true, false, cond, List, [], ◌++◌, ap₂, length, drop, get_or, min, take, Option, Some, None, refl, sym, ap, ◌∙◌, add-zero, inl, inr, arith}
 use Rattle.std.specs.FinMap.{get}
 use Rattle.std.specs.Prelude.{nat_lt, if◌then◌else◌}
@@ -28,7 +28,7 @@ use Rattle.vector_memory.specs.declared.spans.Span.{Span}
 
 -- ---- parts of lists of bytes
 
--- a part that is cut out
+-- a part that is extracted
 pub part_at : (at to n : ℕ) (xs : List ℕ) → at ≡ to → take ((at + n) - at) (drop at xs) ≡ chunk to n xs
 part_at at to n xs same = let count : (at + n) - at ≡ n = omega arith in ap (λ k. take k (drop at xs)) count ∙ ap (λ k. chunk k n xs) same
 
@@ -38,7 +38,7 @@ part_put at k to xs ys e same h = ap (λ n. put_mid n k xs ys) same ∙ ap (λ n
 
 -- ---- bytes of a memory
 
--- some of the bytes that were read
+-- a part of the bytes that are read
 pub part_read : (m : Memory) (a n k count : ℕ) → k + count ≤ n → chunk k count (bytes_at m a n) ≡ bytes_at m (a + k) count
 part_read m a n k count h =
     let whole : length (bytes_at m a n) ≡ n = length-bytes_at m a n in
@@ -55,7 +55,7 @@ byte_there : (m : Memory) (x : ℕ) (c : Cell) → get m x ≡ Some c → memory
 unfolding memory_byte
 byte_there m x c h = rw h refl
 
--- bytes that were read, written again, change nothing
+-- writing back the bytes that were read changes nothing
 pub put_read : (m : Memory) (a n : ℕ) → put_bytes m a (bytes_at m a n) ≡ m
 put_read m a n =
     let bs : List ℕ = bytes_at m a n in
@@ -77,7 +77,7 @@ twice : (o : Option Cell) (b c : ℕ) → with_byte c (with_byte b o) ≡ with_b
 twice None b c = refl
 twice (Some x) b c = refl
 
--- bytes written, and then others in their midst
+-- a write, then a write inside it
 pub put_part : (m : Memory) (a k : ℕ) (bs xs : List ℕ) → k + length xs ≤ length bs
     → put_bytes m a (put_chunk k bs xs) ≡ put_bytes (put_bytes m a bs) (a + k) xs
 put_part m a k bs xs room = same_memory (put_bytes m a new) (put_bytes old (a + k) xs) (λ x. elim (cases_lt x a) [
@@ -123,7 +123,7 @@ put_part m a k bs xs room = same_memory (put_bytes m a new) (put_bytes old (a + 
     same : length new ≡ length bs
     same = length-put_chunk k bs xs
 
--- ---- what may be done
+-- ---- permissions
 
 part_allowed : (access : Access) (m : Memory) (a n k count x : ℕ) → can_access access m a n ≡ true → k + count ≤ n → x ≡ a + k → can_access access m x count ≡ true
 part_allowed access m a n k count x all h at =
@@ -146,13 +146,13 @@ fields_allowed access m a n i x size all low end (suc f) room =
     ∙ part_allowed access m a n ((x + f * size) - a) size (x + f * size) all (omega (arith, more, room, low)) (omega (arith, low)))
 
 module _ (b : Span) where
-  -- a field of an index
+  -- a field of an index is inside the span
   pub field_inside : (i f : ℕ) → b.body.start ≤ i → i < b.stop → f < b.segments.fields
       → (i - b.body.start) * b.distance + f * b.segments.size + b.segments.size ≤ b.length
   field_inside i f low high some =
       omega (arith, b.span.inside (i - b.body.start) (omega (arith, low, high)), mul-le (f + 1) b.segments.size b.segments.fields b.segments.size (omega (arith, some)) (omega arith))
 
-  -- from its first element on, the registers have room for it
+  -- the registers have room for a field from its first element on
   pub field_room : (n f start first : ℕ) → b.body.start + n < b.stop → f < b.segments.fields → start ≡ b.body.start
       → first ≡ VLENB * (b.segments.register + f * b.segments.field_registers) + start * b.segments.size
       → first + (n * b.segments.size + b.segments.size) ≤ FILE_BYTES
@@ -173,7 +173,7 @@ module _ (b : Span) where
       → field_address (span_access b) f i ≡ b.address + ((i - b.body.start) * b.distance + f * b.segments.size)
   field_begins i f low high some = mod-eq_of_lt (omega (arith, field_inside i f low high some, b.span.end)) ∙ omega arith
 
-  -- its bytes, if these are the span's
+  -- the bytes of a field, from the bytes of the span
   pub field_read : (m : Memory) (bytes : List ℕ) (i f : ℕ) → b.body.start ≤ i → i < b.stop → f < b.segments.fields → bytes ≡ bytes_at m b.address b.length
       → chunk ((i - b.body.start) * b.distance + f * b.segments.size) b.segments.size bytes ≡ bytes_at m (field_address (span_access b) f i) b.segments.size
   field_read m bytes i f low high some read =
@@ -181,7 +181,7 @@ module _ (b : Span) where
       ap (chunk at b.segments.size) read ∙ part_read m b.address b.length at b.segments.size (field_inside i f low high some)
       ∙ ap (λ x. bytes_at m x b.segments.size) (sym (field_begins i f low high some))
 
-  -- a field of an index lies before each field of a later one
+  -- a field of an index is before each earlier field of a later index
   pub fields_apart : (f h i j : ℕ) → h < f → f < b.segments.fields → b.body.start ≤ i → i < j → j < b.stop
       → field_address (span_access b) f i + b.segments.size ≤ field_address (span_access b) h j
   fields_apart f h i j less some from order end =
@@ -209,7 +209,7 @@ module _ (b : Span) where
     ]
   ]
 
--- ---- the access whose span it is
+-- ---- the access of a span
 
 same_transfers : (each other : Plan) (i n : ℕ) → ((k : ℕ) → k < n → each (i + k) ≡ other (i + k)) → transfers each i n ≡ transfers other i n
 unfolding transfers
@@ -221,7 +221,7 @@ same_transfers each other i (suc n) h =
     let at : (i + 1) + k ≡ i + (k + 1) = omega arith in
     ap each at ∙ h (k + 1) (omega (arith, less)) ∙ ap other (sym at)))
 
--- the transfers of an index, by its address
+-- the transfers of an index depend only on its address
 at_address : (s : Segments) (body : Body) (f g : ℕ → ℕ) (fill : Bool) (i : ℕ) → f i ≡ g i
     → plan (segments_access s body f) fill i ≡ plan (segments_access s body g) fill i
 unfolding plan
@@ -244,7 +244,7 @@ module _ (s : Segments) (body : Body) (address : ℕ → ℕ) (stop : ℕ) (b : 
       ∙ sym (same_transfers (plan (segments_access s body address) fill) (plan (span_access b) fill) body.start (stop - body.start)
       (λ k less. same_plan fill (body.start + k) (omega arith) (omega (arith, less))))
 
-  -- an instruction that moves it stops after it
+  -- an instruction that moves the span stops after its last index
   pub span_ends : (fill : Bool) (access : Access) (m : Memory) (limit : ℕ) → stop ≡ min body.end (body.start + limit) → can_access access m b.address b.length ≡ true
       → Stopped access m (plan (segments_access s body address) fill) body.start (body.start + limit) body.end stop (cond (nat_lt stop body.end) (Cut stop) Done)
   span_ends fill access m limit e all =
@@ -253,7 +253,7 @@ module _ (s : Segments) (body : Body) (address : ℕ → ℕ) (stop : ℕ) (b : 
       let from : b.body.start ≤ i = omega (arith, low, ap (λ (y : Body). y.start) is.same_body) in
       ap (are_allowed access m) (same_plan fill i low high) ∙ span_allowed b fill access m all i from (omega (arith, high, is.same_stop)))
 
-  -- and leaves what it leaves
+  -- a load of the span has the result of the transfers of the instruction
   pub span_loads : (fill : Bool) (m : Memory) (file : List ℕ) → registers_loaded m (place_in b.segments) file (span_transfers b fill)
       ≡ registers_loaded m (place_in s) file (transfers (plan (segments_access s body address) fill) body.start (stop - body.start))
   span_loads fill m file =

@@ -1,4 +1,4 @@
--- Segments at one distance from one another.
+-- Segments at a constant distance.
 use Rattle.std.proofs.Common.{◌≡◌, ℕ, ◌+◌, ◌*◌, ◌<◌, ◌%◌, ◌^◌, pos, ◌+ℤ◌, sym, ◌∙◌, ap, arith}
 use Rattle.std.specs.Int.{cast_signed, w64}
 use Rattle.std.specs.Prelude.{◌*ℤ◌}
@@ -8,13 +8,13 @@ use Rattle.rv_model.specs.elements.Formulas.{wrap}
 use Rattle.rv_model.proofs.access_lemmas.Addresses.{stride_sum}
 use Rattle.rv_model.proofs.element_lemmas.Numbers.{mod_sum}
 
--- some segments after one
+-- the address of the segment k indices after i
 pub steps : (base size i k : ℕ) → (base + (i + k) * size) % 2 ^ 64 ≡ ((base + i * size) % 2 ^ 64 + k * size) % 2 ^ 64
 steps base size i k =
     let parts : base + (i + k) * size ≡ (base + i * size) + k * size = omega (arith, add-mul i k size) in
     ap (λ x. x % 2 ^ 64) parts ∙ sym (mod_sum (base + i * size) (k * size) (2 ^ 64))
 
--- a signed stride, by the natural number with the same bits
+-- a signed stride gives the same address as the unsigned number with the same bits
 pub stride : (base n i : ℕ) → n < 2 ^ 64 → (base + i * n) % 2 ^ 64 ≡ wrap w64 (pos base +ℤ pos i *ℤ cast_signed w64 n)
 stride base n i h =
     let straight : base + i * n ≡ n * i + base = omega (arith, mul_comm n i) in

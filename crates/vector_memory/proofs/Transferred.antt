@@ -1,4 +1,4 @@
--- The transfer that a load or store at a distance is: its segments have room, and it leaves what the instruction leaves.
+-- The transfer of a load or store at a constant distance: its segments have room, and its run is that of the instruction.
 use Rattle.std.specs.Prelude.{IfSome, Option, Some, None}
 use Rattle.std.specs.Option.{option_map}
 use Rattle.std.proofs.Common.{◌≡◌, ℕ, ◌+◌, ◌*◌, ◌<◌, ◌≤◌, ◌%◌, ◌^◌, Bool, true, false, refl, sym, ap, ◌∙◌, subst, arith}
@@ -35,7 +35,7 @@ use Rattle.vector_memory.specs.declared.transfers.Transfer.{Transfer}
 use Rattle.vector_memory.proofs.Room.{element_most, whole_room}
 use Rattle.vector_memory.proofs.Strides.{strides}
 
--- an access of a direction is one of its operation
+-- an access in a direction is that of the unit-stride operation in this direction
 pub directed : (d : Direction) (a : VectorAccess)
     → ◌≡◌ {A = VectorAccess} (record a { direction = d; first_only = false })
     (record a { direction = unit_direction (operation d); first_only = is_first_only (operation d) })
@@ -48,7 +48,7 @@ not_first_only direction.Store h = absurd (cc)
 
 -- ---- segments in groups of the vector type
 
--- what an instruction accesses is what its transfer moves, if it has one
+-- the access of an instruction is that of its transfer, if it has a transfer
 abbrev IsMoved : AccessInstr → VState → Option Transfer → Option VectorAccess → Type 0
 IsMoved i v None a = is_offset_access i ≡ false → a ≡ None
 IsMoved i v (Some t) a = t.addresses.stride < 2 ^ 64 → a ≡ Some (moved_by t v)
@@ -65,7 +65,7 @@ module _ (op : UnitOp) (width : Eew) (nf vd : ℕ) (addresses : StridedAddresses
     length = λ h. refl;
   }
 
-  -- what the instruction moves under a vector type
+  -- the access of the instruction under a vector type
   abbrev grouped_access : VType → VectorAccess
   grouped_access k =
       record (segments (unit_direction op) (access_type k width) nf vd unmasked (λ i. (addresses.base + i * addresses.stride) % 2 ^ 64) v) {
@@ -77,7 +77,7 @@ module _ (op : UnitOp) (width : Eew) (nf vd : ℕ) (addresses : StridedAddresses
   grouped_is i None each h = λ no. refl
   grouped_is i (Some k) each h = λ small. ap Some (h k small)
 
--- under any vector type
+-- a length for an optional vector type is one for the type, if there is a type
 under_type : (u : Option VType) (vl : ℕ) (k : VType) → IsLength u vl → u ≡ Some k → IsLength (Some k) vl
 under_type u vl k h is = subst (λ x. IsLength x vl) is h
 
@@ -99,7 +99,7 @@ unfolding is_legal operands
 mask_inside d vd rs1 None vstart h = absurd (cc)
 mask_inside d vd rs1 (Some k) vstart h = mask_memory_inside d vd rs1 k vstart h
 
--- a legal one has a vector type
+-- a legal load or store of a mask has a vector type
 mask_some : (d : Direction) (vd rs1 : ℕ) (u : Option VType) (vstart : ℕ) (a : VectorAccess)
     → is_legal (instr.Access (MaskAccess d vd rs1)) u vstart ≡ true → option_map (λ (k : VType). a) u ≡ Some a
 unfolding is_legal operands

@@ -1,5 +1,4 @@
--- Loads and stores of segments at one distance from one another ("V" Vector Extension 1.0, sections 7.4, 7.5 and 7.7 to
--- 7.9).
+-- Loads and stores of segments at a constant distance ("V" Vector Extension 1.0, sections 7.4, 7.5 and 7.7 to 7.9).
 use Rattle.std.specs.Prelude.{◌≡◌, ℕ, ◌+◌, ◌*◌, ◌%◌, ◌^◌, ◌≤◌, Bool, true, Option, Some, None}
 use Rattle.rv_model.specs.accesses.AccessRuns.{AccessRun, directed_run}
 use Rattle.rv_model.specs.accesses.VectorAccess.{VectorAccess, mask_length, unit_direction, whole_length}
@@ -23,27 +22,27 @@ use Rattle.vector_memory.specs.SegmentRoom.{HasRoom, operation_access}
 use Rattle.vector_memory.specs.declared.addresses.Strided.{Strided as StridedAddresses}
 use Rattle.vector_memory.specs.declared.transfers.Transfer.{Transfer}
 
--- what a transfer moves, by the registers as they stand when it begins
+-- the access of a transfer, from the registers before the instruction
 abbrev pub moved_by : Transfer → VState → VectorAccess
 moved_by t v =
     operation_access t.op t.segments
     (record { unmasked = t.unmasked; mask = register_of v.file 0; start = v.vstart; end = t.count })
     (λ i. (t.addresses.base + i * t.addresses.stride) % 2 ^ 64)
 
--- what it leaves
+-- the run of a transfer
 abbrev pub transfer_run : ℕ → Bool → Transfer → VState → Memory → AccessRun
 transfer_run limit fill t v m = directed_run (unit_direction t.op) limit fill (moved_by t v) v m
 
--- one whose segments have room in the registers
+-- the segments of the transfer have room in the registers
 pub record Fits (v : VState) (t : Transfer) : Type 0 where
   pub room : HasRoom t.segments t.count
   pub count : t.count ≤ GROUP_BYTES
   pub length : t.op ≡ unit.FaultOnlyFirst → t.count ≡ v.conf.vl
 
--- ---- the transfer that each instruction is
+-- ---- the transfer of each instruction
 
--- segments of nf + 1 fields of a width from vd on, as many as the vector length says, in groups of the vector type if
--- there is one
+-- segments of nf + 1 fields of a width, which start at the register vd, in groups of the vector type; `None` without a vector type. The
+-- vector length is the number of segments.
 abbrev pub grouped : UnitOp → Eew → ℕ → ℕ → StridedAddresses → Bool → VState → Option VType → Option Transfer
 grouped op width nf vd addresses unmasked v None = None
 grouped op width nf vd addresses unmasked v (Some t) =
@@ -60,7 +59,7 @@ grouped op width nf vd addresses unmasked v (Some t) =
       count = v.conf.vl;
     })
 
--- elements of so many bytes that follow one another from an address on, in so many whole registers
+-- `length` adjacent elements of `size` bytes from the address `base` on, in `count` whole registers
 abbrev pub whole : UnitOp → ℕ → ℕ → ℕ → ℕ → ℕ → Transfer
 whole op size count vd base length =
     record {
@@ -71,7 +70,7 @@ whole op size count vd base length =
       count = length;
     }
 
--- the same direction, of an operation that may be a fault-only-first load
+-- the direction as a unit-stride operation, which could also be a fault-only-first load
 abbrev pub operation : Direction → UnitOp
 operation direction.Load = unit.Load
 operation direction.Store = unit.Store

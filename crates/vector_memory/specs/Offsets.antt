@@ -1,4 +1,4 @@
--- Loads and stores of segments at offsets ("V" Vector Extension 1.0, sections 7.6 and 7.8).
+-- Indexed loads and stores ("V" Vector Extension 1.0, sections 7.6 and 7.8).
 use Rattle.std.specs.Prelude.{ℕ, ◌≡◌, ◌+◌, ◌%◌, ◌^◌, Option, Some, None}
 use Rattle.rv_model.specs.declared.instructions.access.AccessInstr.{AccessInstr}
 use Rattle.rv_model.specs.declared.instructions.access.AccessInstr.TheVariants.{Indexed}
@@ -15,7 +15,7 @@ use Rattle.vector_memory.specs.Distances.{operation}
 use Rattle.vector_memory.specs.SegmentRoom.{HasRoom, operation_access}
 use Rattle.vector_memory.specs.declared.indexed.IndexedTransfer.{IndexedTransfer}
 
--- the transfer that a load or store at offsets is, under a vector type
+-- the transfer of an indexed load or store under a vector type
 abbrev pub indexed_of : AccessInstr → VType → Scalar → Option IndexedTransfer
 indexed_of (Indexed direction order width nf vd rs1 vs2 vm) t x =
     Some (record {
@@ -34,15 +34,15 @@ indexed_of (Indexed direction order width nf vd rs1 vs2 vm) t x =
     })
 indexed_of _ t x = None
 
--- where its segments begin, by the registers that it finds
+-- the addresses of its segments, from the registers before the instruction
 abbrev pub offset_addresses : IndexedTransfer → VState → ℕ → ℕ
 offset_addresses t v i = (t.base + group_element (record { width = sew_width (element_width t.width); emul = t.emul }) v.file t.first i) % 2 ^ 64
 
--- what it moves
+-- its access
 abbrev pub moved_at : IndexedTransfer → VState → VectorAccess
 moved_at t v = operation_access t.op t.segments (body_of t.unmasked v) (offset_addresses t v)
 
--- what the code asks of one: its segments and its offsets have room
+-- the precondition of the code: the operation isn't fault-only-first, and the segments and the offsets have room in the registers
 pub record OffsetsFit (v : VState) (t : IndexedTransfer) : Type 0 where
   pub op : t.op ≡ unit.FaultOnlyFirst → ⊥
   pub room : HasRoom t.segments v.conf.vl

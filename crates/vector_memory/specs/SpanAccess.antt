@@ -1,4 +1,4 @@
--- What the indices of a span move, and what that leaves ("V" Vector Extension 1.0, sections 7.4, 7.5, 7.8 and 7.9).
+-- The access of the indices of a span, and its result ("V" Vector Extension 1.0, sections 7.4, 7.5, 7.8 and 7.9).
 use Rattle.std.specs.Prelude.{◌≡◌, ℕ, ◌+◌, ◌*◌, ◌-◌, ◌<◌, Bool, false, List}
 use Rattle.rv_model.specs.accesses.Transfers.{Transfer, memory_stored, registers_loaded, transfers}
 use Rattle.rv_model.specs.accesses.VectorAccess.{VectorAccess, plan}
@@ -8,7 +8,7 @@ use Rattle.vector_memory.specs.SegmentRoom.{place_in, segments_access}
 use Rattle.vector_memory.specs.declared.segments.Segments.{Segments}
 use Rattle.vector_memory.specs.declared.spans.Span.{Span}
 
--- the access of these indices, by where each segment begins in the span
+-- the access of these indices, with the address of each segment in the span
 abbrev pub span_access : Span → VectorAccess
 span_access b = segments_access b.segments b.body (λ i. b.address + (i - b.body.start) * b.distance)
 
@@ -16,7 +16,7 @@ span_access b = segments_access b.segments b.body (λ i. b.address + (i - b.body
 abbrev pub span_transfers : Span → Bool → List Transfer
 span_transfers b fill = transfers (plan (span_access b) fill) b.body.start (b.stop - b.body.start)
 
--- the span of the indices of a body up to another, by the address of each segment
+-- b is the span of the indices of a body up to `stop`, with the given addresses of the segments
 pub record IsSpanOf (s : Segments) (body : Body) (address : ℕ → ℕ) (stop : ℕ) (b : Span) : Type 0 where
   pub same_segments : b.segments ≡ s
   pub same_body : b.body ≡ body
@@ -35,12 +35,12 @@ IsWritten b file old new =
     (m : Memory) → put_bytes m b.address new
     ≡ memory_stored (put_bytes m b.address old) (place_in b.segments) file (span_transfers b false)
 
--- elements of one field, contiguous, from the first on
+-- the span has contiguous elements of one field, from index 0 on
 pub record IsBlend (b : Span) : Type 0 where
   pub alone : b.segments.fields ≡ 1
   pub apart : b.distance ≡ b.segments.size
   pub first : b.body.start ≡ 0
 
--- the elements of a body from the first up to another
+-- the body from index 0 up to `stop`
 abbrev pub part_of : Body → ℕ → Body
 part_of body stop = record { unmasked = body.unmasked; mask = body.mask; start = 0; end = stop }

@@ -1,12 +1,12 @@
--- Loads and stores whose bytes lie close together ("V" Vector Extension 1.0, sections 7.4, 7.5, 7.8 and 7.9).
+-- Loads and stores whose bytes are close together ("V" Vector Extension 1.0, sections 7.4, 7.5, 7.8 and 7.9).
 use Rattle.std.specs.Prelude.{◌≡◌, ℕ, ◌+◌, ◌*◌, ◌-◌, ◌<◌, ◌≤◌, ◌^◌}
 use Rattle.rv_model.specs.declared.vector.sizes.TheConstants.{GROUP_BYTES}
 use Rattle.rv_model.specs.elements.Elements.{Body}
 use Rattle.vector_memory.specs.SegmentRoom.{HasRoom}
 use Rattle.vector_memory.specs.declared.segments.Segments.{Segments}
 
--- so many bytes from an address on have room for each segment of the indices of a body up to another, each of which
--- begins so many bytes after the one before; and the registers have room for these segments
+-- `count` bytes from an address on contain each segment of the indices of a body up to `stop`, and the registers have room for these
+-- segments. Each segment starts `distance` bytes after the one before it.
 pub record IsSpan (s : Segments) (body : Body) (stop address count distance : ℕ) : Type 0 where
   pub room : HasRoom s stop
   pub most : stop ≤ GROUP_BYTES

@@ -1,4 +1,4 @@
-//! Where the segments of a load or store begin ("V" Vector Extension 1.0, sections 7.4 to 7.6).
+//! The addresses of the segments of a load or store ("V" Vector Extension 1.0, sections 7.4 to 7.6).
 ghost use Rattle.std.specs.Prelude.{◌≡◌, ◌+◌, ◌*◌, ◌/◌, ◌%◌, ◌^◌, ◌<◌, ℕ, IfSome, length};
 ghost use Rattle.rv_model.specs.elements.Elements.{element};
 ghost use Rattle.rv_model.specs.vector.Groups.{element_width, sew_width, width_bytes};
@@ -6,26 +6,27 @@ ghost use Rattle.rv_model.specs.vector.Groups.{element_width, sew_width, width_b
 use lane_arith::Lane;
 use rv_model::instructions::operations::Eew;
 
-/// The addresses of the segments of a load or store, by index.
+/// Addresses of the segments of a load or store, by index.
 pub(crate) trait Addresses: Copy {
     // The address at an index.
     ghost address: { Self → ℕ → ℕ };
 
-    // For how many indices there is one.
+    // The number of indices that have an address.
     ghost count: { Self → ℕ };
 
-    /// The address of the segment at an index.
+    /// Return the address of the segment at an index.
     fn address(&self, index: usize) -> u64
         requires { index < count self.now }
         ensures { result ≡ address self.now index };
 
-    /// How many bytes after one segment the next begins, where it does so for each.
+    /// Return the distance in bytes from the start of each segment to the start of the next, if it is
+    /// constant.
     fn distance(&self) -> Option<usize>
         ensures { IfSome result (λ distance. (i k : ℕ)
             → address self.now (i + k) ≡ (address self.now i + k * distance) % 2 ^ 64) };
 }
 
-/// Segments at a distance of `stride` bytes, modulo 2 ^ 64, from one at `base` on.
+/// Addresses from `base` on, `stride` bytes apart, modulo 2 ^ 64.
 #[derive(Clone, Copy)]
 pub(crate) struct Strided {
     pub base: u64,
@@ -50,7 +51,7 @@ impl Addresses for Strided {
     }
 }
 
-/// Segments at offsets from `base`, in bytes: unsigned numbers of a width.
+/// Addresses at offsets from `base`, modulo 2 ^ 64; the offsets are unsigned numbers of a width, in bytes.
 #[derive(Clone, Copy)]
 pub(crate) struct Indexed<'a> {
     pub base: u64,

@@ -1,5 +1,6 @@
-//! A faster path for a span of contiguous elements of one field, some of them masked off: 32 bytes at a time, in which
-//! those that are active are blended with the others ("V" Vector Extension 1.0, sections 5.3 and 7.4).
+//! A faster path for a span of contiguous elements of one field, some of them masked off. It processes 32
+//! bytes at a time, and blends the active elements with the others ("V" Vector Extension 1.0, sections 5.3
+//! and 7.4).
 ghost use Rattle.std.specs.Prelude.{◌≡◌, ◌*◌, ◌<◌, ◌≤◌, ℕ, false, length, slice_index, true};
 ghost use Rattle.rv_model.specs.elements.Elements.{element, is_changed, result_or_ones};
 ghost use Rattle.rv_model.specs.lending.Writes.{HasElement, Writes};
@@ -11,7 +12,7 @@ use crate::spans::Span;
 use lane_arith::{Body, Lane, Results, operand_chunk, write_results};
 use rv_model::VFile;
 
-/// Elements as they stand in bytes.
+/// Elements in a slice of bytes, least significant byte first.
 #[derive(Clone, Copy)]
 struct Elements<'a> {
     bytes: &'a [u8],
@@ -31,7 +32,8 @@ impl<'a, L: Lane> Results<L> for Elements<'a> {
     }
 }
 
-/// Writes the active elements of a body to those of a destination.
+/// Write the active elements of a body to the same elements of a destination; with `fill_masked_off`,
+/// masked-off elements of the destination become all ones.
 #[inline(always)]
 fn blend<L: Lane>(elements: &[u8], body: &Body<'_>, fill_masked_off: bool, destination: &mut [u8])
     requires elements { width_bytes L.width * body.now.end ≤ length elements.now }
@@ -46,7 +48,7 @@ fn blend<L: Lane>(elements: &[u8], body: &Body<'_>, fill_masked_off: bool, desti
 }
 
 impl Span<'_> {
-    /// Whether its elements are those of one field, contiguous, from the first on.
+    /// Return whether its elements are contiguous elements of one field, from index 0 on.
     #[inline(always)]
     pub(crate) fn is_blend(&self) -> bool
         ensures { result ≡ true → IsBlend self.now }
@@ -54,7 +56,7 @@ impl Span<'_> {
         self.segments.fields == 1 && self.distance == self.segments.size && self.body.start() == 0
     }
 
-    /// The body from the first element up to `stop`.
+    /// Return the body from index 0 up to `stop`.
     #[inline(always)]
     fn part(&self) -> Body<'_>
         ensures { result ≡ part_of self.now.body self.now.stop }
@@ -62,7 +64,8 @@ impl Span<'_> {
         Body::new(self.body.is_unmasked(), self.body.mask(), 0, self.stop)
     }
 
-    /// Copies its active elements from its bytes to the registers.
+    /// Copy its active elements from its bytes to the registers; with `fill`, masked-off elements become all
+    /// ones.
     #[inline(always)]
     pub(crate) fn read_blend<L: Lane>(&self, bytes: &[u8], fill: bool, file: &mut VFile)
         requires length { length bytes.now ≡ self.now.length }
@@ -75,7 +78,7 @@ impl Span<'_> {
         blend::<L>(bytes, &self.part(), fill, group);
     }
 
-    /// Copies its active elements from the registers to its bytes.
+    /// Copy its active elements from the registers to its bytes.
     #[inline(always)]
     pub(crate) fn write_blend<L: Lane>(&self, file: &VFile, bytes: &mut [u8])
         requires length { length bytes.old ≡ self.now.length }

@@ -1,6 +1,6 @@
-//! A faster path for contiguous elements of which none is masked off: one copy moves them as a block of bytes ("V"
-//! Vector Extension 1.0, sections 7.4 and 7.9). Every function here that answers `None` or `false` changes nothing; the
-//! longer path then goes on.
+//! A faster path for contiguous elements without masked-off ones: one copy moves them as a block of bytes
+//! ("V" Vector Extension 1.0, sections 7.4 and 7.9). A function that returns `None` or `false` changes
+//! nothing; the caller then uses the longer path.
 ghost use Rattle.std.specs.Prelude.{◌≡◌, ◌+◌, ◌*◌, ◌%◌, ◌^◌, ◌≤◌, Bool, IfSome, List, false, length, true, ℕ};
 ghost use Rattle.std.specs.Simd.Lanes.{chunk, put_chunk};
 ghost use Rattle.rv_model.specs.declared.memory.Access.TheVariants.{Load, Store};
@@ -27,7 +27,7 @@ pub(crate) struct Block {
 }
 
 impl Block {
-    /// Loads the block, if each of its bytes may be loaded. Answers whether it did.
+    /// Load the block, if each of its bytes may be loaded. Return whether it was loaded.
     #[inline(always)]
     pub(crate) fn load<M: UserBytes>(&self, memory: &M, file: &mut VFile) -> bool
         requires { self.now.place + self.now.length ≤ FILE_BYTES }
@@ -41,7 +41,7 @@ impl Block {
         memory.read(self.address, Access::Load, bytes).is_ok()
     }
 
-    /// Stores the block, if each of its bytes may be stored. Answers whether it did.
+    /// Store the block, if each of its bytes may be stored. Return whether it was stored.
     #[inline(always)]
     pub(crate) fn store<M: UserBytes>(&self, file: &VFile, memory: &mut M) -> bool
         requires { self.now.place + self.now.length ≤ FILE_BYTES }
@@ -59,8 +59,9 @@ impl Block {
 }
 
 impl Transfer {
-    /// All of it as a block that stands in the registers as it does in memory, where it begins at index 0 and comes
-    /// within a number of indices, and its elements are contiguous and none is masked off.
+    /// Return the whole transfer as a block, whose bytes are in the same order in memory and in the
+    /// registers. `None` if it doesn't start at index 0, has more than `limit` indices, or has masked-off or
+    /// separate elements.
     #[inline(always)]
     fn block(&self, start: u8, limit: usize) -> Option<Block>
         requires room { HasRoom self.now.segments self.now.count }
@@ -88,8 +89,8 @@ impl Transfer {
         })
     }
 
-    /// Carries all of it out at once, if it is a block each byte of which may be loaded or stored. Answers whether it
-    /// is done.
+    /// Execute all of it at once, if it is a block and each byte of the block may be loaded or stored. Return
+    /// whether it is done.
     #[inline(always)]
     pub(crate) fn run_block<M: UserBytes>(
         &self,
@@ -117,7 +118,8 @@ impl Transfer {
 }
 
 impl Span<'_> {
-    /// Its bytes as a block, where its elements are contiguous and those of one field, and none is masked off.
+    /// Return its bytes as a block, if its elements are contiguous elements of one field and none is masked
+    /// off.
     #[inline(always)]
     pub(crate) fn block(&self) -> Option<Block>
         ensures value { IfSome result

@@ -1,5 +1,5 @@
-//! What a load or store leaves of `vstart` and of the vector length ("V" Vector Extension 1.0, sections 3.7,
-//! 7.7 and 17.1).
+//! `vstart` and the vector length after a load or store ("V" Vector Extension 1.0, sections 3.7, 7.7 and
+//! 17.1).
 ghost use Rattle.std.specs.Prelude.{◌≡◌, ℕ, true, false, cond, nat_lt};
 ghost use Rattle.rv_model.specs.accesses.AccessRuns.{access_ends};
 ghost use Rattle.rv_model.specs.declared.step.memory_end.MemEnd.TheVariants.{Done, Cut};
@@ -9,7 +9,7 @@ ghost use Rattle.vector_memory.specs.SegmentRoom.{StopsBefore};
 
 use rv_model::{GROUP_BYTES, MemEnd, VState};
 
-/// How an instruction ends where none of its indices up to `stop` faults, of which it has `end`.
+/// Return how an instruction with `end` indices ends if none of its indices below `stop` faults.
 #[inline(always)]
 pub(crate) fn end_without_fault(stop: usize, end: usize) -> MemEnd
     ensures value { result ≡ cond (nat_lt stop end) (Cut stop) Done }
@@ -22,8 +22,9 @@ pub(crate) fn end_without_fault(stop: usize, end: usize) -> MemEnd
     }
 }
 
-/// The index at which it stopped becomes `vstart`, or 0 if it is done. A fault of a fault-only-first load (`first_only`)
-/// at another index than 0 shortens the length to it, and the load is done.
+/// Set `vstart` to the index at which the instruction stopped, or to 0 if it is done. A fault of a
+/// fault-only-first load (`first_only`) at an index other than 0 reduces the length to that index, and the
+/// load is done.
 #[inline(always)]
 pub(crate) fn leave(end: MemEnd, first_only: bool, state: &mut VState) -> MemEnd
     requires length { first_only ≡ true → StopsBefore state.old.conf.vl end }

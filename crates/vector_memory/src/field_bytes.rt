@@ -1,4 +1,5 @@
-//! The bytes of one field. The sizes of an element stand as constants, so that each is moved at once.
+//! The bytes of one field. Each size of an element is a constant in its own call, so that the compiler moves
+//! the element at once.
 ghost use Rattle.std.specs.Prelude.{◌≡◌, ◌↔◌, ◌+◌, ◌≤◌, true, IsOk, IfErr, OnOk, OnErr};
 ghost use Rattle.std.specs.Simd.Lanes.{chunk, put_chunk};
 ghost use Rattle.rv_model.specs.declared.memory.Access.TheVariants.{Load, Store};
@@ -7,7 +8,7 @@ ghost use Rattle.rv_model.specs.memory.Memory.{bytes_at, can_access, put_bytes};
 use crate::user_bytes::UserBytes;
 use rv_model::{Access, FILE_BYTES, Fault, VFile};
 
-/// Loads so many bytes to a place in the register file, if each may be loaded.
+/// Load `size` bytes to a place in the register file, if each may be loaded.
 #[inline(always)]
 fn load_part<M: UserBytes>(
     memory: &M,
@@ -26,7 +27,7 @@ fn load_part<M: UserBytes>(
     memory.read(address, Access::Load, bytes)
 }
 
-/// The same, for fields of elements.
+/// Load a field as `load_part` does, with constant sizes of 1, 2, 4 and 8 bytes.
 #[inline(always)]
 pub(crate) fn load_bytes<M: UserBytes>(
     memory: &M,
@@ -50,7 +51,7 @@ pub(crate) fn load_bytes<M: UserBytes>(
     }
 }
 
-/// Stores so many bytes from a place in the register file, if each may be stored.
+/// Store `size` bytes from a place in the register file, if each may be stored.
 #[inline(always)]
 pub(crate) fn store_bytes<M: UserBytes>(
     file: &VFile,

@@ -1,4 +1,4 @@
-//! Loads and stores of segments at offsets ("V" Vector Extension 1.0, sections 7.6 and 7.8).
+//! Indexed loads and stores ("V" Vector Extension 1.0, sections 7.6 and 7.8).
 ghost use Rattle.std.specs.Prelude.{◌≡◌, ◌+◌, ◌*◌, ◌%◌, ◌^◌, ℕ};
 ghost use Rattle.rv_model.specs.accesses.VectorAccess.{unit_direction};
 ghost use Rattle.rv_model.specs.elements.Arithmetic.{body_of, group_element};
@@ -17,9 +17,9 @@ use reg_groups::{group_copy, mask_register};
 use rv_model::instructions::operations::{Eew, UnitOp};
 use rv_model::{GROUP_BYTES, MemEnd, VReg, VState};
 
-/// What such a load or store does: whether none of its segments is masked off, and the segments. They lie at offsets in
-/// bytes from `base`; the offsets are a group: its first register, the width of an offset, and the multiplier in
-/// eighths of a register.
+/// An indexed load or store: whether it is unmasked, its segments, and their addresses. The segments are at
+/// offsets in bytes from `base`. The offsets are a register group: its first register, the width of an
+/// offset, and the multiplier in eighths of a register.
 #[derive(Clone, Copy)]
 pub(crate) struct IndexedTransfer {
     pub op: UnitOp,
@@ -32,7 +32,7 @@ pub(crate) struct IndexedTransfer {
 }
 
 impl IndexedTransfer {
-    /// Carries it out segment by segment, for as many as the vector length says.
+    /// Execute it segment by segment; the vector length is the number of segments.
     #[inline(never)]
     pub(crate) fn run_segments<M: UserBytes>(
         &self,
@@ -61,7 +61,7 @@ impl IndexedTransfer {
         };
         moves.run(self.op, extent, memory, state)
     }
-    /// Shows each element that it moves.
+    /// Pass each element that it moves to the viewer.
     #[inline(always)]
     pub(crate) fn show<V: Viewer>(&self, state: &VState, viewer: &mut V)
         requires fits { OffsetsFit state.now self.now }

@@ -1,4 +1,4 @@
-//! Each vector load and store ("V" Vector Extension 1.0, chapter 7).
+//! Vector loads and stores ("V" Vector Extension 1.0, chapter 7).
 ghost use Rattle.std.specs.Prelude.{◌≡◌, ◌+◌, ◌*◌, ◌≤◌, [], ℕ, IfSome, IsTrue, Some, false, true};
 ghost use Rattle.std.specs.Option.{option_map_or};
 ghost use Rattle.rv_model.specs.accesses.AccessRuns.{access_run};
@@ -25,7 +25,7 @@ use reg_groups::{emul, register_count, registers};
 use rv_model::instructions::operations::{Direction, Eew, UnitOp};
 use rv_model::{AccessInstr, Field, GROUP_BYTES, Instr, MemEnd, Scalar, Sew, VReg, VState, VType};
 
-/// The same direction, of an operation that may be a fault-only-first load.
+/// Return the direction as a unit-stride operation, which could also be a fault-only-first load.
 #[inline(always)]
 fn operation(direction: Direction) -> UnitOp
     ensures { result ≡ operation direction }
@@ -36,7 +36,8 @@ fn operation(direction: Direction) -> UnitOp
     }
 }
 
-/// The multiplier, in eighths of a register, of groups of as many elements of a width as the vector type has.
+/// Return the multiplier, in eighths of a register, of groups with elements of a width and the VLMAX of the
+/// vector type.
 #[inline(always)]
 fn emul_of(width: Eew, vtype: VType) -> u32
     ensures { result ≡ emul (sew_bits (element_width width)) vtype }
@@ -44,7 +45,8 @@ fn emul_of(width: Eew, vtype: VType) -> u32
     emul(Sew::from_width(width).bits(), vtype)
 }
 
-/// Segments of `nf` + 1 fields of so many bytes, in groups of a multiplier in eighths of a register.
+/// Return segments of `nf` + 1 fields of `size` bytes, in groups whose multiplier is `emul` eighths of a
+/// register.
 #[inline(always)]
 fn grouped_segments(nf: Field<3>, size: usize, emul: u32, register: VReg) -> Segments
     ensures value { result
@@ -59,8 +61,8 @@ fn grouped_segments(nf: Field<3>, size: usize, emul: u32, register: VReg) -> Seg
     }
 }
 
-/// A transfer of segments of `nf` + 1 fields of a width from a register on, as many as the vector length says, if there
-/// is a vector type.
+/// Return a transfer of segments of `nf` + 1 fields of a width, which start at the register `vd`. The vector
+/// length is the number of segments. `None` without a vector type.
 #[inline(always)]
 fn grouped_transfer(
     op: UnitOp,
@@ -86,7 +88,8 @@ fn grouped_transfer(
     })
 }
 
-/// A transfer of `count` elements of so many bytes that follow one another from `base` on, in so many whole registers.
+/// Return a transfer of `count` adjacent elements of `size` bytes from `base` on, in `registers` whole
+/// registers.
 #[inline(always)]
 fn whole_transfer(
     op: UnitOp,
@@ -115,7 +118,7 @@ fn whole_transfer(
     }
 }
 
-/// The transfer that a load or store of whole registers or of a mask is.
+/// Return the transfer of a load or store of whole registers or of a mask.
 #[inline(always)]
 fn register_transfer(access: &AccessInstr, state: &VState, scalar: &Scalar) -> Option<Transfer>
     requires segments { is_segment_access access.now ≡ false }
@@ -148,7 +151,8 @@ fn register_transfer(access: &AccessInstr, state: &VState, scalar: &Scalar) -> O
     }
 }
 
-/// The transfer that a load or store at a distance is: none without the vector type that it needs.
+/// Return the transfer of a load or store with segments at a constant distance; `None` if it needs a vector
+/// type and there is none.
 #[inline(always)]
 fn transfer_of(access: &AccessInstr, state: &VState, scalar: &Scalar) -> Option<Transfer>
     ensures value { result ≡ transfer_of access.now state.now scalar.now }
@@ -190,7 +194,7 @@ fn transfer_of(access: &AccessInstr, state: &VState, scalar: &Scalar) -> Option<
     }
 }
 
-/// Whether it is a load or store at offsets.
+/// Return whether it is an indexed load or store.
 #[inline(always)]
 fn is_indexed(access: &AccessInstr) -> bool
     ensures { result ≡ is_offset_access access.now }
@@ -201,7 +205,7 @@ fn is_indexed(access: &AccessInstr) -> bool
     }
 }
 
-/// The transfer that a load or store at offsets is, under a vector type; its elements have the width that the type has.
+/// Return the transfer of an indexed load or store under a vector type, which sets the width of its elements.
 #[inline(always)]
 fn indexed_of(
     access: &AccessInstr,
@@ -242,7 +246,7 @@ fn indexed_of(
     }
 }
 
-/// A load or store at offsets, under a vector type.
+/// Execute an indexed load or store under a vector type.
 #[inline(always)]
 fn run_offsets<M: UserBytes>(
     access: &AccessInstr,
@@ -267,7 +271,7 @@ fn run_offsets<M: UserBytes>(
     transfer.run_segments(extent, memory, state)
 }
 
-/// Carries out a load or store segment by segment.
+/// Execute a load or store segment by segment.
 #[tactic(auto, unfolding(rv_model::specs::accesses::AccessRuns::access_run))]
 #[inline(never)]
 fn run_in_turn<M: UserBytes>(
@@ -296,8 +300,8 @@ fn run_in_turn<M: UserBytes>(
     transfer.run_segments(extent, memory, state)
 }
 
-/// Carries out a load or store at a distance at once, if it can be. Answers whether it is done. One that is strided by
-/// its name seldom can, so it isn't tried.
+/// Execute a load or store as one block, if possible. Return whether it is done. Strided instructions aren't
+/// tried, because their elements are seldom contiguous.
 #[inline(always)]
 fn run_at_once<M: UserBytes>(
     access: &AccessInstr,
@@ -324,8 +328,8 @@ fn run_at_once<M: UserBytes>(
     transfer.run_block(extent.limit, memory, state)
 }
 
-/// Carries out a vector load or store of a user, of at most `limit` indices from `vstart` on. A load leaves
-/// its tail as it is; its elements that are masked off become all ones where `fill_masked_off`.
+/// Execute a vector load or store of a user, for at most `limit` indices from `vstart` on. A load leaves its
+/// tail unchanged. With `fill_masked_off`, its masked-off elements become all ones.
 #[inline(always)]
 pub fn run<M: UserBytes>(
     access: &AccessInstr,
@@ -340,14 +344,14 @@ pub fn run<M: UserBytes>(
     ensures model { RunLeaves (access_run limit fill_masked_off access.now state.old scalar.now (M.memory memory.old))
         result state.new (M.memory memory.new) }
 
-    // If it is cut or faults, it goes on from there, in a memory that may have grown.
+    // If it is cut or faults, it can be resumed there, in a memory that may have more mapped pages.
     ensures restarts { AccessGoesOn fill_masked_off access.now scalar.now state.old (M.memory memory.old)
         (access_run limit fill_masked_off access.now state.old scalar.now (M.memory memory.old)) }
 
-    // All else that the user's bytes hold stays.
+    // All state of `memory` besides the user's memory is unchanged.
     ensures memory { memory.new ≡ M.with_memory memory.old (M.memory memory.new) }
 {
-    // For the proof alone: the vector length is one that the vector type allows.
+    // For the proof only: the vector length is one that the vector type allows.
     state.conf.length_law();
     let extent = Extent {
         limit,
@@ -356,12 +360,12 @@ pub fn run<M: UserBytes>(
     if run_at_once(access, extent, scalar, memory, state) {
         return MemEnd::Done;
     }
-    // A copy of its own for the other function, so that the operands need no place in memory before.
+    // A copy to pass to the other function, so that the compiler can keep the operands in registers.
     let copy = *access;
     run_in_turn(&copy, extent, scalar, memory, state)
 }
 
-/// Shows each element that a load or store at offsets moves, under a vector type.
+/// Pass each element that an indexed load or store moves to the viewer, under a vector type.
 #[inline(always)]
 fn show_offsets<V: Viewer>(
     access: &AccessInstr,
@@ -386,8 +390,9 @@ fn show_offsets<V: Viewer>(
     transfer.show(state, viewer);
 }
 
-/// Shows each element that a vector load or store moves, by index and field: of a legal one that finds this state, isn't
-/// cut and doesn't fault, and leaves a length of `left`, which a fault-only-first load may have shortened.
+/// Pass each element that a vector load or store moves to the viewer, in the order of indices and fields.
+/// `state` is the state before the instruction, which is legal, isn't cut and doesn't fault. `left` is the
+/// vector length after it, in elements, which a fault-only-first load may have reduced.
 pub fn show_moves<V: Viewer>(
     access: &AccessInstr,
     state: &VState,
@@ -404,7 +409,7 @@ pub fn show_moves<V: Viewer>(
         (option_map_or (moved_elements state.now left) (access_of access.now state.now scalar.now) []) viewer.new }
     ensures room { (count : ℕ) → V.has_room viewer.old (count + 8 * GROUP_BYTES) → V.has_room viewer.new count }
 {
-    // For the proof alone: the vector length is one that the vector type allows.
+    // For the proof only: the vector length is one that the vector type allows.
     state.conf.length_law();
     if is_indexed(access) {
         let Some(vtype) = state.conf.vtype() else {

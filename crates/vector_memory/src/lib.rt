@@ -1,8 +1,8 @@
 //! Vector loads and stores on one user's bytes.
 //!
-//! Read `instructions` first, then what is moved (`transfers`, `indexed`, `moves`, `segments`), and how it is moved
-//! index by index (`loads`, `stores`, `field_bytes`). `blocks`, `spans` and `blends` are faster paths for common cases,
-//! each of which leaves what the path index by index leaves.
+//! Read `instructions` first, then the definitions of the moved segments (`transfers`, `indexed`, `moves`,
+//! `segments`), and the index-by-index path (`loads`, `stores`, `field_bytes`). `blocks`, `spans` and
+//! `blends` are faster paths for common cases. Each has the same result as the index-by-index path.
 #![tactic(auto)]
 
 mod addresses;

@@ -13,8 +13,8 @@ use crate::user_bytes::UserBytes;
 use rv_model::{Fault, MemEnd, VFile};
 
 impl<A: Addresses> Moves<'_, A> {
-    /// Loads the segment of one index, if it is active and wholly allowed; where `fill`, one that is masked off becomes
-    /// all ones.
+    /// Load the segment of one index, if it is active and each of its bytes may be loaded. With `fill`, a
+    /// masked-off segment becomes all ones.
     #[inline(always)]
     fn load_index<M: UserBytes>(
         &self,
@@ -41,7 +41,7 @@ impl<A: Addresses> Moves<'_, A> {
         Ok(())
     }
 
-    /// Loads the indices one by one, up to the first that isn't wholly allowed.
+    /// Load the indices one by one, up to the first whose segment may not be loaded.
     #[inline(never)]
     fn load_each<M: UserBytes>(&self, memory: &M, extent: Extent, file: &mut VFile) -> MemEnd
         ensures loaded { IsLoaded extent.limit extent.fill_masked_off
@@ -62,8 +62,8 @@ impl<A: Addresses> Moves<'_, A> {
         end_without_fault(stop, self.body.end())
     }
 
-    /// Loads the indices, up to the first that isn't wholly allowed: at once, where they lie close together and all
-    /// bytes between them may be loaded.
+    /// Load the indices, up to the first whose segment may not be loaded. They are loaded at once if they are
+    /// close together and all bytes between them may be loaded.
     #[inline(always)]
     pub(crate) fn load<M: UserBytes>(&self, memory: &M, extent: Extent, file: &mut VFile) -> MemEnd
         ensures loaded { IsLoaded extent.limit extent.fill_masked_off

@@ -1,4 +1,4 @@
-//! What a load or store moves ("V" Vector Extension 1.0, sections 7.4 to 7.9).
+//! The segments of a load or store and their addresses ("V" Vector Extension 1.0, sections 7.4 to 7.9).
 ghost use Rattle.std.specs.Prelude.{◌≤◌};
 ghost use Rattle.rv_model.specs.declared.vector.sizes.TheConstants.{GROUP_BYTES};
 ghost use Rattle.vector_memory.specs.SegmentRoom.{HasRoom};
@@ -7,8 +7,7 @@ use crate::addresses::Addresses;
 use crate::segments::Segments;
 use lane_arith::Body;
 
-/// What a load or store moves: the segments of the indices of a body, which have room in the registers, and where each
-/// begins in memory.
+/// Segments of the indices of a body, which have room in the registers, and the address of each in memory.
 #[derive(Drop)]
 pub(crate) struct Moves<'a, A: Addresses> {
     pub segments: Segments,
@@ -22,7 +21,7 @@ pub(crate) struct Moves<'a, A: Addresses> {
 impl<'a, A: Addresses> Moves<'a, A> {
     ghost use Rattle.std.specs.Prelude.{◌≡◌, ◌+◌, min};
 
-    /// A copy of its own for another function, so that these need no place in memory before.
+    /// Return a copy to pass to another function, so that the compiler can keep the original in registers.
     #[inline(always)]
     pub(crate) fn copied(&self) -> Moves<'a, A>
         ensures { result ≡ self.now }
@@ -34,7 +33,7 @@ impl<'a, A: Addresses> Moves<'a, A> {
         }
     }
 
-    /// The index after the last of at most `limit` indices.
+    /// Return the index after the last of at most `limit` indices.
     #[inline(always)]
     pub(crate) fn stop(&self, limit: usize) -> usize
         ensures { result ≡ min self.now.body.end (self.now.body.start + limit) }

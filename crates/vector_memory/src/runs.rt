@@ -1,4 +1,4 @@
-//! Loads and stores of segments, with what they leave of the vector state ("V" Vector Extension 1.0, sections
+//! Loads and stores of segments, with their effects on the vector state ("V" Vector Extension 1.0, sections
 //! 7.4 to 7.9).
 ghost use Rattle.std.specs.Prelude.{◌≡◌};
 ghost use Rattle.vector_memory.specs.Runs.{RunLeaves, segments_run};
@@ -10,8 +10,7 @@ use crate::user_bytes::UserBytes;
 use rv_model::instructions::operations::UnitOp;
 use rv_model::{MemEnd, VState};
 
-/// How many indices a load or store may come to, and whether the elements that are masked off become all
-/// ones.
+/// Limit on the number of indices of a load or store, and whether masked-off elements become all ones.
 #[derive(Clone, Copy)]
 pub(crate) struct Extent {
     pub limit: usize,
@@ -19,7 +18,7 @@ pub(crate) struct Extent {
 }
 
 impl<A: Addresses> Moves<'_, A> {
-    /// Loads or stores the segments.
+    /// Load or store the segments; update `vstart`, and the vector length after a fault-only-first load.
     #[inline(always)]
     pub(crate) fn run<M: UserBytes>(
         &self,

@@ -9,8 +9,8 @@ ghost use Rattle.vector_memory.specs.SegmentRoom.{HasRoom, place_in, segment_tra
 use crate::user_bytes::UserBytes;
 use rv_model::{Access, FILE_BYTES, Fault, VFile, VLENB, VReg};
 
-/// How many fields a segment has, and of how many bytes each; the register where the first field begins,
-/// and how many registers each takes.
+/// Segments of a load or store: the number of fields and their size in bytes, the first register of the first
+/// field, and the number of registers of each field.
 #[derive(Clone, Copy)]
 pub(crate) struct Segments {
     pub fields: usize,
@@ -20,7 +20,7 @@ pub(crate) struct Segments {
 }
 
 impl Segments {
-    /// The byte of the register file where an element begins.
+    /// Return the first byte of an element in the register file.
     #[inline(always)]
     pub(crate) fn place(&self, index: usize, field: usize) -> usize
         requires room { HasRoom self.now (index + 1) }
@@ -33,7 +33,7 @@ impl Segments {
         VLENB * register + index * self.size
     }
 
-    /// The address of a field, by that of its segment.
+    /// Return the address of a field, from the address of its segment, modulo 2 ^ 64.
     pub(crate) fn field_address(&self, address: u64, field: usize) -> u64
         requires size { self.now.size ≤ 8 }
         requires field { field < 8 }
@@ -42,7 +42,8 @@ impl Segments {
         address.wrapping_add((field * self.size) as u64)
     }
 
-    /// Whether each field of a segment may be accessed; if not, the address of the first that may not.
+    /// Check whether each field of a segment may be accessed; if not, return the address of the first that
+    /// may not.
     pub(crate) fn check<M: UserBytes>(
         &self,
         memory: &M,
@@ -62,7 +63,8 @@ impl Segments {
         Ok(())
     }
 
-    /// Loads the fields of a segment, if each may be loaded; if not, the address of the first that may not.
+    /// Load the fields of a segment, if each may be loaded; if not, return the address of the first that may
+    /// not.
     #[inline(never)]
     pub(crate) fn load<M: UserBytes>(
         &self,
@@ -84,7 +86,7 @@ impl Segments {
         Ok(())
     }
 
-    /// Makes the fields of an index all ones.
+    /// Set the fields of an index to all ones.
     pub(crate) fn fill(&self, index: usize, file: &mut VFile)
         requires room { HasRoom self.now (index + 1) }
         ensures { (memory : Memory) → file.new ≡ registers_loaded memory (place_in self.now) file.old
@@ -97,7 +99,8 @@ impl Segments {
         }
     }
 
-    /// Stores the fields of a segment, if each may be stored; if not, the address of the first that may not.
+    /// Store the fields of a segment, if each may be stored; if not, return the address of the first that may
+    /// not.
     #[inline(never)]
     pub(crate) fn store<M: UserBytes>(
         &self,

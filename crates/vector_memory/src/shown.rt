@@ -1,4 +1,5 @@
-//! The elements that a load or store moves, shown one after another ("V" Vector Extension 1.0, chapter 7).
+//! The elements that a load or store moves, passed to a viewer one after another ("V" Vector Extension 1.0,
+//! chapter 7).
 ghost use Rattle.std.specs.Prelude.{◌≡◌, ◌+◌, ◌*◌, ◌-◌, ◌≤◌, ◌<◌, ◌++◌, ◌∷◌, [], ℕ, List, length, map};
 ghost use Rattle.rv_model.specs.accesses.VectorAccess.{unit_direction};
 ghost use Rattle.rv_model.specs.declared.vector.sizes.TheConstants.{GROUP_BYTES};
@@ -11,7 +12,7 @@ use crate::segments::Segments;
 use rv_model::VFile;
 use rv_model::instructions::operations::{Direction, UnitOp};
 
-/// Receives the elements that a load or store moves, in their order.
+/// Receiver of the elements that a load or store moves, in order.
 pub trait Viewer {
     // Whether the viewer received these elements between two of its states.
     ghost saw: { Self → List MovedElement → Self → Type 0 };
@@ -19,25 +20,25 @@ pub trait Viewer {
     // Whether the viewer has room for a number of elements.
     ghost has_room: { Self → ℕ → Type 0 };
 
-    /// Receives an element: whether it is loaded or stored, its address, and its bytes in the registers before the
-    /// instruction, at most 8.
+    /// Receive an element: whether it is loaded or stored, its address, and its bytes in the registers before
+    /// the instruction, at most 8.
     fn see(&mut self, direction: Direction, address: u64, bytes: &[u8])
         requires size { length bytes.now ≤ 8 }
         requires room { has_room self.old 1 }
         ensures seen { saw self.old (moved_element direction address bytes.now ∷ []) self.new }
         ensures left { (count : ℕ) → has_room self.old (count + 1) → has_room self.new count };
 
-    // Without an element nothing changes.
+    // Receiving no element changes nothing.
     ghost saw_none: { (v : Self) → saw v [] v };
 
-    // Some elements, and then others.
+    // Receiving some elements and then others is receiving both lists in sequence.
     ghost saw_more: { (a b c : Self) (xs ys : List MovedElement) → saw a xs b → saw b ys c → saw a (xs ++ ys) c };
 
     // Room for a number of elements is room for fewer.
     ghost fewer: { (v : Self) (more count : ℕ) → has_room v (count + more) → has_room v count };
 }
 
-/// The direction of a unit-stride operation.
+/// Return the direction of a unit-stride operation.
 #[inline(always)]
 pub fn unit_direction(op: UnitOp) -> Direction
     ensures { result ≡ unit_direction op }
@@ -49,7 +50,7 @@ pub fn unit_direction(op: UnitOp) -> Direction
 }
 
 impl Segments {
-    /// Shows the fields of the segment of an index.
+    /// Pass the fields of the segment of an index to the viewer.
     #[inline(always)]
     fn show<V: Viewer>(
         &self,
@@ -73,7 +74,7 @@ impl Segments {
 }
 
 impl<A: Addresses> Moves<'_, A> {
-    /// Shows each element of the indices that aren't masked off.
+    /// Pass each element of the active indices to the viewer, in the order of indices and fields.
     #[inline(always)]
     pub(crate) fn show<V: Viewer>(&self, op: UnitOp, file: &VFile, viewer: &mut V)
         requires { V.has_room viewer.old (8 * GROUP_BYTES) }

@@ -1,7 +1,7 @@
-//! A faster path for loads and stores whose bytes lie in a short span of memory: the span is read and written at once,
-//! and its elements are copied from and to a buffer, field by field or as a blend ("V" Vector Extension 1.0, sections
-//! 7.4, 7.5, 7.8 and 7.9). Every function here that answers `None` or `false` changes nothing; the index-by-index path
-//! of `loads` and `stores` then goes on.
+//! A faster path for loads and stores whose bytes are in a short span of memory ("V" Vector Extension 1.0,
+//! sections 7.4, 7.5, 7.8 and 7.9). The span is read and written at once, and its elements are copied from
+//! and to a buffer, field by field or as a blend. A function that returns `None` or `false` changes nothing;
+//! the caller then uses the index-by-index path of `loads` and `stores`.
 ghost use Rattle.std.specs.Prelude.{◌≡◌, length};
 ghost use Rattle.rv_model.specs.vector.Groups.{width_bytes};
 ghost use Rattle.vector_memory.specs.Spans.{IsSpan};
@@ -13,8 +13,8 @@ use crate::user_bytes::UserBytes;
 use lane_arith::{Body, Lane};
 use rv_model::{Access, FILE_BYTES, GROUP_BYTES, VFile};
 
-/// The segments of the indices of a body up to `stop`, and the bytes from the first of them on to the end of the last:
-/// their address, and how many they are. Each segment begins `distance` bytes after the one before.
+/// Segments of the indices of a body up to `stop`, and the `length` bytes of memory from the start of the
+/// first segment to the end of the last. Each segment starts `distance` bytes after the one before it.
 #[derive(Drop)]
 pub(crate) struct Span<'a> {
     pub segments: Segments,
@@ -30,8 +30,8 @@ impl<'a, A: Addresses> Moves<'a, A> {
     ghost use Rattle.std.specs.Prelude.{◌≤◌, IfSome};
     ghost use Rattle.vector_memory.specs.SpanAccess.{IsSpanOf};
 
-    /// The span of the indices up to `stop`, if no two segments overlap and it is at most as long as a group of
-    /// registers.
+    /// Return the span of the indices up to `stop`, if no two segments overlap and it is at most as long as a
+    /// register group.
     #[inline(always)]
     pub(crate) fn span(&self, stop: usize) -> Option<Span<'a>>
         requires { stop ≤ self.now.body.end }
@@ -73,8 +73,9 @@ impl<'a> Span<'a> {
     ghost use Rattle.vector_memory.specs.SegmentRoom.{place_in};
     ghost use Rattle.vector_memory.specs.SpanAccess.{IsRead, IsWritten, span_access, span_transfers};
 
-    /// The same span, whose fields have the size that the caller says: a constant there, so that each element is copied
-    /// at once. It is a copy, which no write to the registers or to the bytes changes, so it is read once.
+    /// Return a copy of the span with the field size that the caller passes as a constant, so that the
+    /// compiler copies each element at once. Writes to the registers or to the bytes don't change the copy,
+    /// so its fields are read once.
     #[inline(always)]
     fn sized(&self, size: usize) -> Span<'a>
         requires { size ≡ self.now.segments.size }
@@ -93,7 +94,7 @@ impl<'a> Span<'a> {
         }
     }
 
-    /// Copies its elements, which are lanes, from its bytes to the registers; where `fill`, those that are masked off
+    /// Copy its elements, which are lanes, from its bytes to the registers; with `fill`, masked-off elements
     /// become all ones.
     #[inline(always)]
     fn read_lanes<L: Lane>(&self, bytes: &[u8], fill: bool, file: &mut VFile)
@@ -110,7 +111,7 @@ impl<'a> Span<'a> {
         }
     }
 
-    /// Copies its elements from its bytes to the registers, if they are lanes. Answers whether it did.
+    /// Copy its elements from its bytes to the registers, if they are lanes. Return whether they are.
     #[inline(never)]
     fn read(&self, bytes: &[u8], fill: bool, file: &mut VFile) -> bool
         requires length { length bytes.now ≡ self.now.length }
@@ -127,7 +128,7 @@ impl<'a> Span<'a> {
         true
     }
 
-    /// Copies its elements, which are lanes, from the registers to its bytes.
+    /// Copy its elements, which are lanes, from the registers to its bytes.
     #[inline(always)]
     fn write_lanes<L: Lane>(&self, file: &VFile, bytes: &mut [u8])
         requires length { length bytes.old ≡ self.now.length }
@@ -143,7 +144,7 @@ impl<'a> Span<'a> {
         }
     }
 
-    /// Copies its elements from the registers to its bytes, if they are lanes. Answers whether it did.
+    /// Copy its elements from the registers to its bytes, if they are lanes. Return whether they are.
     #[inline(never)]
     fn write(&self, file: &VFile, bytes: &mut [u8]) -> bool
         requires length { length bytes.old ≡ self.now.length }
@@ -160,7 +161,7 @@ impl<'a> Span<'a> {
         true
     }
 
-    /// Loads its elements, if each byte of the span may be loaded. Answers whether it did.
+    /// Load its elements, if each byte of the span may be loaded. Return whether they were loaded.
     #[inline(always)]
     pub(crate) fn load<M: UserBytes>(&self, memory: &M, fill: bool, file: &mut VFile) -> bool
         ensures allowed { result ≡ true
@@ -178,7 +179,7 @@ impl<'a> Span<'a> {
         memory.read(self.address, Access::Load, bytes).is_ok() && self.read(bytes, fill, file)
     }
 
-    /// Stores its elements, if each byte of the span may be stored. Answers whether it did.
+    /// Store its elements, if each byte of the span may be stored. Return whether they were stored.
     #[inline(always)]
     pub(crate) fn store<M: UserBytes>(&self, file: &VFile, memory: &mut M) -> bool
         ensures allowed { result ≡ true
@@ -207,7 +208,7 @@ impl<'a> Span<'a> {
     }
 }
 
-/// Copies the bytes of an element.
+/// Copy the bytes of an element.
 #[inline(always)]
 fn copy_lane<L: Lane>(source: &[u8], destination: &mut [u8])
     requires source { length source.now ≡ width_bytes L.width }
@@ -224,7 +225,8 @@ impl Span<'_> {
     ghost use Rattle.vector_memory.specs.FieldOrder.{for_each, load_field, store_field};
     ghost use Rattle.vector_memory.specs.SpanAccess.{span_access};
 
-    /// How many bytes after one segment the next begins: at least the size of a field, as the compiler then knows.
+    /// Return the distance in bytes between the starts of segments. The compiler learns that it is at least
+    /// the size of a field.
     #[inline(always)]
     fn step(&self) -> usize
         requires { 1 ≤ self.now.segments.fields }
@@ -233,7 +235,7 @@ impl Span<'_> {
         self.distance.max(self.segments.size)
     }
 
-    /// How many segments it has: at most as many as have room in a group of registers, as the compiler then knows.
+    /// Return the number of segments. The compiler learns that they have room in a register group.
     #[inline(always)]
     fn count(&self) -> usize
         requires fields { 1 ≤ self.now.segments.fields }
@@ -243,7 +245,8 @@ impl Span<'_> {
         (self.stop - self.body.start()).min(GROUP_BYTES / self.segments.size)
     }
 
-    /// Copies one field of the active indices from its bytes to the registers.
+    /// Copy one field of the active indices from its bytes to the registers; with `fill`, masked-off elements
+    /// become all ones.
     #[inline(always)]
     pub(crate) fn read_field<L: Lane>(
         &self,
@@ -275,7 +278,7 @@ impl Span<'_> {
         }
     }
 
-    /// Copies one field of the active indices from the registers to its bytes.
+    /// Copy one field of the active indices from the registers to its bytes.
     #[inline(always)]
     pub(crate) fn write_field<L: Lane>(&self, file: &VFile, field: usize, bytes: &mut [u8])
         requires length { length bytes.old ≡ self.now.length }

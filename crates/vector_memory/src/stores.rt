@@ -12,7 +12,7 @@ use crate::user_bytes::UserBytes;
 use rv_model::{Fault, MemEnd, VFile};
 
 impl<A: Addresses> Moves<'_, A> {
-    /// Stores the segment of one index, if it is active and wholly allowed.
+    /// Store the segment of one index, if it is active and each of its bytes may be stored.
     #[inline(always)]
     fn store_index<M: UserBytes>(
         &self,
@@ -38,7 +38,8 @@ impl<A: Addresses> Moves<'_, A> {
         Ok(())
     }
 
-    /// Stores the indices one by one, at most `limit` of them, up to the first that isn't wholly allowed.
+    /// Store the indices one by one, at most `limit` of them, up to the first whose segment may not be
+    /// stored.
     #[inline(never)]
     fn store_each<M: UserBytes>(&self, file: &VFile, limit: usize, memory: &mut M) -> MemEnd
         ensures stored { IsStored limit
@@ -59,8 +60,8 @@ impl<A: Addresses> Moves<'_, A> {
         end_without_fault(stop, self.body.end())
     }
 
-    /// Stores the indices, at most `limit` of them, up to the first that isn't wholly allowed: at once, where they lie
-    /// close together and all bytes between them may be stored.
+    /// Store the indices, at most `limit` of them, up to the first whose segment may not be stored. They are
+    /// stored at once if they are close together and all bytes between them may be stored.
     #[inline(always)]
     pub(crate) fn store<M: UserBytes>(&self, file: &VFile, limit: usize, memory: &mut M) -> MemEnd
         ensures stored { IsStored limit

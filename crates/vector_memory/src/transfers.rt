@@ -1,4 +1,4 @@
-//! Loads and stores of segments at one distance from one another: all but the indexed ones ("V" Vector Extension 1.0,
+//! Loads and stores of segments at a constant distance: all but the indexed ones ("V" Vector Extension 1.0,
 //! sections 7.4, 7.5 and 7.7 to 7.9).
 ghost use Rattle.std.specs.Prelude.{◌≡◌, ◌+◌, ◌*◌, ◌≤◌, ℕ};
 ghost use Rattle.vector_memory.specs.Distances.{Fits, moved_by, transfer_run};
@@ -17,8 +17,8 @@ use reg_groups::mask_register;
 use rv_model::instructions::operations::UnitOp;
 use rv_model::{GROUP_BYTES, MemEnd, VState};
 
-/// What such a load or store does: whether none of its segments is masked off, the segments and their count, and where
-/// they lie in memory.
+/// A load or store of segments at a constant distance: whether it is unmasked, its segments and their
+/// addresses, and the number of segments.
 #[derive(Clone, Copy)]
 pub(crate) struct Transfer {
     pub op: UnitOp,
@@ -29,7 +29,7 @@ pub(crate) struct Transfer {
 }
 
 impl Transfer {
-    /// Carries it out segment by segment.
+    /// Execute it segment by segment.
     pub(crate) fn run_segments<M: UserBytes>(
         &self,
         extent: Extent,
@@ -52,7 +52,7 @@ impl Transfer {
         moves.run(self.op, extent, memory, state)
     }
 
-    /// The index after the last one that it moves, where it leaves a length of `left`.
+    /// Return the index after the last one that it moves, if the vector length after it is `left`.
     #[inline(always)]
     fn end(&self, state: &VState, left: u16) -> usize
         requires fits { Fits state.now self.now }
@@ -67,7 +67,7 @@ impl Transfer {
         }
     }
 
-    /// Shows each element that it moves, where it leaves a length of `left`.
+    /// Pass each element that it moves to the viewer, if the vector length after it is `left`.
     #[inline(always)]
     pub(crate) fn show<V: Viewer>(&self, state: &VState, left: u16, viewer: &mut V)
         requires fits { Fits state.now self.now }

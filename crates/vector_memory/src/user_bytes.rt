@@ -4,29 +4,29 @@ ghost use Rattle.rv_model.specs.memory.Memory.{Memory, can_access, bytes_at, put
 
 use rv_model::{Access, Fault};
 
-/// The bytes of one user, by address. An access that isn't wholly allowed is refused with its first
-/// address, and changes nothing; one of no bytes is always allowed.
+/// Memory of one user, by byte address. An access that isn't allowed for each of its bytes is refused with
+/// its first address, and changes nothing. An access of no bytes is always allowed.
 pub trait UserBytes {
     // The user's memory.
     ghost memory: { Self → Memory };
 
-    // The same user and all else, with this memory.
+    // The same value with its memory replaced.
     ghost with_memory: { Self → Memory → Self };
 
-    /// Whether each of the `len` bytes from an address on may be accessed.
+    /// Check whether each of the `len` bytes from an address on may be accessed.
     fn check(&self, addr: u64, len: usize, access: Access) -> Result<(), Fault>
         ensures ok { IsOk result ↔ (can_access access (memory self.now) addr len ≡ true) }
         ensures fault { IfErr result (λ fault. fault.addr ≡ addr) };
 
-    /// Fills the buffer with the bytes from an address on.
+    /// Fill the buffer with the bytes from an address on.
     fn read(&self, addr: u64, access: Access, bytes: &mut [u8]) -> Result<(), Fault>
         ensures ok { IsOk result ↔ (can_access access (memory self.now) addr (length bytes.old) ≡ true) }
         ensures fault { IfErr result (λ fault. fault.addr ≡ addr) }
         ensures value { OnOk result (bytes.new ≡ bytes_at (memory self.now) addr (length bytes.old)) }
         ensures unchanged { OnErr result (bytes.new ≡ bytes.old) };
 
-    /// Fills the buffer with the bytes from an address on, if they are found at once. Answers whether they are; none
-    /// need ever be found so.
+    /// Fill the buffer with the bytes from an address on, if a fast path finds them. Return whether it did;
+    /// an implementation may always return `false`.
     #[inline(always)]
     fn read_at_once(&self, _addr: u64, _access: Access, _bytes: &mut [u8]) -> bool
         ensures allowed { result ≡ true → can_access _access (memory self.now) _addr (length _bytes.old) ≡ true }
@@ -36,8 +36,8 @@ pub trait UserBytes {
         false
     }
 
-    /// Writes the bytes from an address on, if their place is found at once. Answers whether it is; none need ever be
-    /// found so.
+    /// Write the bytes from an address on, if a fast path finds their place. Return whether it did; an
+    /// implementation may always return `false`.
     #[inline(always)]
     fn write_at_once(&mut self, _addr: u64, _access: Access, _bytes: &[u8]) -> bool
         ensures allowed { result ≡ true → can_access _access (memory self.old) _addr (length _bytes.now) ≡ true }
@@ -48,7 +48,7 @@ pub trait UserBytes {
         false
     }
 
-    /// Writes the bytes from an address on.
+    /// Write the bytes from an address on.
     fn write(&mut self, addr: u64, access: Access, bytes: &[u8]) -> Result<(), Fault>
         ensures ok { IsOk result ↔ (can_access access (memory self.old) addr (length bytes.now) ≡ true) }
         ensures fault { IfErr result (λ fault. fault.addr ≡ addr) }
@@ -56,9 +56,9 @@ pub trait UserBytes {
         ensures others { OnOk result (self.new ≡ with_memory self.old (memory self.new)) }
         ensures unchanged { OnErr result (self.new ≡ self.old) };
 
-    // The memory that is there already changes nothing.
+    // Replacing the memory by itself changes nothing.
     ghost with_memory_same: { (u : Self) → with_memory u (memory u) ≡ u };
 
-    // Of two memories, one after the other, the later one stays.
+    // After two replacements, the memory is the later one.
     ghost with_memory_twice: { (u : Self) (m n : Memory) → with_memory (with_memory u m) n ≡ with_memory u n };
 }

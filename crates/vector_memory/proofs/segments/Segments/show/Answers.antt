@@ -19,7 +19,7 @@ module _ (d : Direction) (s : Segments) (file : List ℕ) (index address : ℕ) 
   abbrev field : ℕ → Transfer
   field f = record { index = index; field = f; size = s.size; kind = Moved ((address + f * s.size) % 2 ^ 64) }
 
-  -- one field more
+  -- one more field
   field_more : (n : ℕ) → shown (n + 1) ≡ shown n ++ element_of d (place_in s) file (field n) ∷ []
   field_more n =
       ap (map (element_of d (place_in s) file)) (map-range_with_len_more field 0 n n (zero-add n))
