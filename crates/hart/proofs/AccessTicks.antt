@@ -1,4 +1,4 @@
--- The step of a load or store, by ticks that are counted from the vector states that it finds and leaves.
+-- The step of a load or store, with ticks that are counted from the vector states before and after it.
 use Rattle.std.proofs.Common.{◌≡◌, ℕ, Bool, true, false, ◌&&◌, cond, Option, Some, inl, inr, refl, sym, ◌∙◌, ap, subst, arith}
 use Rattle.std.specs.Prelude.{nat_lt}
 use Rattle.std.proofs.lemmas.Bool.Decides.{nat_tests}
@@ -25,11 +25,11 @@ choice true b x y h = refl
 choice false true x y h = absurd (cc (h refl))
 choice false false x y h = refl
 
--- the ticks that show if it is a fault-only-first load
+-- the ticks that are counted as if the instruction were a fault-only-first load
 abbrev pub shown_ticks : ℕ → VectorAccess → VState → VState → VEnd → ℕ
 shown_ticks limit a = access_ticks limit (record a { first_only = true })
 
--- no other leaves a shorter length
+-- only a fault-only-first load reduces the length, so these ticks are those of each load or store
 no_other : (limit : ℕ) (i : AccessInstr) (a : VectorAccess) (s : HartState) → access_of i s.vector s.scalar ≡ Some a
     → shown_ticks limit a s.vector (access_step limit i (Some a) s).state.vector (access_step limit i (Some a) s).end
     ≡ access_ticks limit a s.vector (access_step limit i (Some a) s).state.vector (access_step limit i (Some a) s).end
@@ -62,11 +62,11 @@ taken limit i a s e legal =
     ∙ sym (no_other limit i a s e)
 
 module _ (limit : ℕ) (i : AccessInstr) (word : ℕ) (s : HartState) (ticks : ℕ) where
-  -- these are the ticks that show
+  -- `ticks` are these counted ticks
   abbrev pub Shows : VectorStepped → Type 0
   Shows d = (a : VectorAccess) → access_of i s.vector s.scalar ≡ Some a → ticks ≡ shown_ticks limit a s.vector d.state.vector d.end
 
-  -- and so those of its step; an illegal one takes one, whatever was counted
+  -- `ticks` are the ticks of the step; an illegal instruction takes one tick, whatever was counted
   abbrev IsStep : VectorStepped → Type 0
   IsStep d = after_vector (vector_ticks limit (instr.Access i) s) d.end word d.state ≡ after_vector ticks d.end word d.state
 

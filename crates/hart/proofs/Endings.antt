@@ -1,4 +1,5 @@
--- An instruction that answers ticks ran, and took these; one that answers none noted how it ended and what it took.
+-- If the function of an instruction returns a positive number, the instruction ran and took this number of ticks. If it returns 0, the
+-- `Ending` has its end and ticks.
 use Rattle.std.proofs.Common.{◌≡◌, ℕ, zero, suc, ◌≤◌, refl, arith}
 use Rattle.rv_model.specs.declared.step.step_end.StepEnd.TheVariants.{Ran}
 use Rattle.hart.specs.declared.ending.Ending.{Ending}

@@ -1,4 +1,4 @@
--- Nothing is cut where there are as many ticks as a vector has elements at most.
+-- Nothing is cut if the limit in ticks is at least the maximum number of elements of a vector.
 use Rattle.std.proofs.Common.{◌≡◌, ◌≢◌, ℕ, ◌≤◌, true, false, Option, Some, refl}
 use Rattle.rv_model.specs.declared.instructions.instruction.Instr.{Instr}
 use Rattle.rv_model.specs.declared.instructions.instruction.Instr.TheVariants as instr
@@ -12,13 +12,13 @@ use Rattle.rv_model.proofs.Choices.{of_bool}
 use Rattle.rv_model.proofs.step_lemmas.FetchesResume.{step_uncut}
 use Rattle.rv_model.proofs.step_lemmas.StepTicks.{scalar_steps_take_one_tick}
 
--- what isn't scalar touches the vector unit
+-- an instruction that isn't scalar touches the vector unit
 vector_touches : (o : Option Instr) → is_scalar o ≡ false → touches o ≡ true
 vector_touches (Some (instr.Vector i)) h = refl
 vector_touches (Some (instr.Access i)) h = refl
 vector_touches _ h = absurd (cc)
 
--- a vector length is known to be one of the vector type where the instruction touches the vector unit
+-- premise: if the instruction touches the vector unit, the vector length is one that the vector type allows
 pub never_cut : (limit : ℕ) (s : HartState) → (touches (fetched s.memory s.scalar.pc) ≡ true → IsConfiguration s.vector.conf) → GROUP_BYTES ≤ limit
     → (step limit s).end ≢ Cut
 never_cut limit s conf enough =

@@ -1,4 +1,4 @@
--- The model's step, told by the parts of one user.
+-- The model's step, stated for the parts of a user's view.
 use Rattle.std.specs.Prelude.{ℕ, zero, suc, ◌≡◌, ◌||◌, Bool, List, false, true, if◌then◌else◌}
 use Rattle.rv_model.specs.declared.vector.policy.Policy.{Policy}
 use Rattle.rv_model.specs.declared.scalar.Scalar.{Scalar}
@@ -17,7 +17,8 @@ use Rattle.hart.specs.declared.ending.Ending.{Ending}
 use Rattle.hart.specs.declared.view.StepTerms.{StepTerms}
 use Rattle.hart.specs.declared.view.View.{View}
 
--- the state that a view shows, for any output buffer, by what its bytes and its lender of the vector state hold
+-- The model's state of a view, for any output buffer. `memory` and `lent` return the memory of the view's bytes, and the seat of its
+-- per-user adapter.
 abbrev pub shown : {M V : Type 0} → (M → Memory) → (V → Seat) → View M V → List ℕ → HartState
 shown memory lent view = hart_state view.scalar.now (lent view.vectors.now).state (memory view.memory.now) view.policy
 
@@ -25,18 +26,19 @@ shown memory lent view = hart_state view.scalar.now (lent view.vectors.now).stat
 abbrev pub hart_of : {M V : Type 0} → (M → Memory) → (V → Seat) → View M V → HartState
 hart_of memory lent view = shown memory lent view view.output.now.items
 
--- two views refer to the same registers, bytes, lender and output buffer, and go by the same policy
+-- two views refer to the same registers, memory, per-user adapter and output buffer, and have the same policy
 abbrev pub SameParts : {M V : Type 0} → View M V → View M V → Type 0
 SameParts old new =
     (new.scalar.ghost_name ≡ old.scalar.ghost_name) × (new.memory.ghost_name ≡ old.memory.ghost_name)
     × (new.vectors.ghost_name ≡ old.vectors.ghost_name) × (new.output.ghost_name ≡ old.output.ghost_name)
     × (new.policy ≡ old.policy)
 
--- a step or an instruction leads from the one state to the other, with this end and these ticks
+-- a step or an instruction takes the state `before` to the state `after`, with this end and these ticks
 abbrev pub LeadsTo : (HartState → Stepped) → HartState → HartState → StepEnd → ℕ → Type 0
 LeadsTo instruction before after end ticks = instruction before ≡ ends_after ticks end after
 
--- how an instruction ended that answered so many ticks, and those that it took: it ran, or answered none and noted both
+-- The end and the ticks of an instruction, from the number that its function returned and from its `Ending`. A positive number is the ticks
+-- of an instruction that ran; after 0 both are in the `Ending`.
 unfoldable pub end_by : ℕ → Ending → StepEnd
 end_by zero ending = ending.end
 end_by (suc ticks) ending = Ran
@@ -45,72 +47,73 @@ unfoldable pub ticks_by : ℕ → Ending → ℕ
 ticks_by zero ending = ending.ticks
 ticks_by (suc ticks) ending = suc ticks
 
--- a step or an instruction leads from the one state to the other, and answered and noted this
+-- a step or an instruction takes `before` to `after`; its function returned `ticks`, and left this `Ending`
 abbrev pub EndsBy : (HartState → Stepped) → HartState → HartState → ℕ → Ending → Type 0
 EndsBy instruction before after ticks ending =
     LeadsTo instruction before after (end_by ticks ending) (ticks_by ticks ending)
 
--- the same in one tick for an instruction of scalar registers, memory and the output buffer, whatever all else is
+-- `LeadsTo` in one tick for an instruction that uses only scalar registers, memory and the output buffer, for any other state
 abbrev pub LeadsOutput : (HartState → Stepped) → Scalar → Memory → List ℕ → Scalar → Memory → List ℕ → StepEnd → Type 0
 LeadsOutput instruction scalar memory output scalar' memory' output' end =
     (vector : VState) (policy : Policy)
     → LeadsTo instruction (hart_state scalar vector memory policy output)
     (hart_state scalar' vector memory' policy output') end 1
 
--- the same for an instruction that leaves the output buffer as it is, whatever it holds
+-- `LeadsTo` for an instruction that leaves the output buffer unchanged, for any contents of the buffer
 abbrev pub Leads : (HartState → Stepped) → (List ℕ → HartState) → (List ℕ → HartState) → StepEnd → ℕ → Type 0
 Leads instruction before after end ticks =
     (output : List ℕ) → LeadsTo instruction (before output) (after output) end ticks
 
--- the same in one tick for an instruction of scalar registers and memory, whatever all else is
+-- `Leads` in one tick for an instruction that uses only scalar registers and memory, for any other state
 abbrev pub LeadsScalar : (HartState → Stepped) → Scalar → Memory → Scalar → Memory → StepEnd → Type 0
 LeadsScalar instruction scalar memory scalar' memory' end =
     (vector : VState) (policy : Policy)
     → Leads instruction (hart_state scalar vector memory policy) (hart_state scalar' vector memory' policy) end 1
 
--- the same for an instruction of scalar registers alone
+-- the same for an instruction that uses only scalar registers
 abbrev pub LeadsRegisters : (HartState → Stepped) → Scalar → Scalar → StepEnd → Type 0
 LeadsRegisters instruction scalar scalar' end =
     (memory : Memory) → LeadsScalar instruction scalar memory scalar' memory end
 
--- an instruction marks the seat if it changes the vector state, whatever the output buffer holds, and leaves a mark that
--- is there
+-- an instruction marks the seat as dirty if it changes the vector state, for any output buffer, and never clears the mark
 abbrev pub Marks : (HartState → Bool) → (List ℕ → HartState) → Seat → Seat → Type 0
 Marks dirties before old new = (output : List ℕ) → new.dirty ≡ (old.dirty || dirties (before output))
 
--- an instruction leaves the seat that it may have been lent: marked where it changed the vector state, and else as it
--- was; what was lent has a length that its vector type allows
+-- The seat after an instruction that may have borrowed it: marked as dirty if the instruction changed the vector state, otherwise
+-- unchanged. A vector state that was borrowed has a length that its vector type allows.
 abbrev pub LeavesSeat : Bool → (HartState → Bool) → (List ℕ → HartState) → Seat → Seat → Type 0
 LeavesSeat touched dirties before old new =
     Marks dirties before old new × (new.dirty ≡ false → new.state ≡ old.state)
     × (touched ≡ true → IsConfiguration old.state.conf)
 
--- the same, and the lender of the seat: it lent it if the instruction touches the vector unit, and may lend it again
+-- The same, and the per-user adapter of the seat: it provided the seat if the instruction touches the vector unit, and can provide it
+-- again.
 abbrev pub Returns : {V : Type 0} → (V → Type 0) → (V → Seat) → (V → Seat → V)
     → Bool → (HartState → Bool) → (List ℕ → HartState) → V → V → Type 0
 Returns ready lent back touched dirties before old new =
     LeavesSeat touched dirties before (lent old) (lent new) × (new ≡ (if touched then back old (lent new) else old))
     × ready new
 
--- the state of these registers and bytes, and of the vector state that a lender has, for any output buffer
+-- the model's state of these registers, this memory and the vector state of an adapter, for any output buffer
 abbrev lent_state : {M V : Type 0} → (M → Memory) → (V → Seat) → StepTerms → Scalar → M → V → List ℕ → HartState
 lent_state memory lent terms scalar bytes vectors =
     hart_state scalar (lent vectors).state (memory bytes) terms.policy
 
--- the instruction that a word is leads from these registers, bytes and lender to those, and answered and noted this
+-- The instruction that a word encodes takes these registers, memory and adapter to those with a prime. Its function returned `ticks`, and
+-- left this `Ending`.
 abbrev pub Executes : {M V : Type 0} → (M → Memory) → (V → Seat) → StepTerms → ℕ
     → Scalar → M → V → Scalar → M → V → ℕ → Ending → Type 0
 Executes memory lent terms word scalar bytes vectors scalar' bytes' vectors' ticks ending =
     Leads (executed terms.limit (scan table word) word) (lent_state memory lent terms scalar bytes vectors)
     (lent_state memory lent terms scalar' bytes' vectors') (end_by ticks ending) (ticks_by ticks ending)
 
--- and this lender returns the seat that it may have been lent
+-- the adapter and its seat after this instruction, which borrows the seat if it touches the vector unit
 abbrev pub Seats : {M V : Type 0} → (M → Memory) → (V → Type 0) → (V → Seat) → (V → Seat → V) → StepTerms → ℕ
     → Scalar → M → V → V → Type 0
 Seats memory ready lent back terms word scalar bytes vectors vectors' =
     Returns ready lent back (touches (scan table word)) (dirties terms.limit (scan table word))
     (lent_state memory lent terms scalar bytes vectors) vectors vectors'
 
--- the loads and stores that one function carries out: those of unit stride, or all others
+-- the loads and stores that one function executes: those of unit stride, or all others
 abbrev pub access_group : Bool → Instr → Bool
 access_group unit_stride = if unit_stride then is_unit_stride else is_other_access

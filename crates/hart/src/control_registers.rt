@@ -1,5 +1,5 @@
-//! Instructions that read and write control registers (Unprivileged ISA 20191213, chapter 9, "Zicsr"), all of
-//! them of the vector extension.
+//! Instructions that read and write control registers (Unprivileged ISA 20191213, chapter 9, "Zicsr"). All
+//! these registers are part of the vector extension.
 ghost use Rattle.std.specs.Prelude.{◌≡◌};
 ghost use Rattle.rv_model.specs.vector.Control.{control_value, csr_form, is_write, with_control, written_value};
 
@@ -7,10 +7,10 @@ use rv_model::instructions::operations::{CsrImmediateOp, CsrOp};
 use rv_model::{ControlRegister, RoundingMode, VState};
 use vtype_rules::vtype_number;
 
-// The bytes of a vector register.
+// The number of bytes of a vector register.
 const VLENB: u64 = 32;
 
-/// What a register reads.
+/// Return the value of a control register.
 pub(crate) fn read(register: ControlRegister, state: &VState) -> u64
     ensures { result ≡ control_value register state.now }
 {
@@ -25,7 +25,7 @@ pub(crate) fn read(register: ControlRegister, state: &VState) -> u64
     }
 }
 
-/// Writes the bits that a register holds; a read-only one stays.
+/// Write the bits that a control register has; a read-only register is unchanged.
 pub(crate) fn write(register: ControlRegister, value: u64, state: &mut VState)
     ensures { state.new ≡ with_control register value state.old }
 {
@@ -41,7 +41,7 @@ pub(crate) fn write(register: ControlRegister, value: u64, state: &mut VState)
     }
 }
 
-/// The number that an instruction writes, of the one that it read and its operand.
+/// Return the value that an instruction writes, from the value that it read and its operand.
 pub(crate) fn written_value(op: CsrOp, old: u64, operand: u64) -> u64
     ensures { result ≡ written_value op old operand }
 {
@@ -52,8 +52,7 @@ pub(crate) fn written_value(op: CsrOp, old: u64, operand: u64) -> u64
     }
 }
 
-/// Whether an instruction writes; `source` is the number of the register, or the immediate, that is its
-/// operand.
+/// Return whether an instruction writes; `source` is the number of its source register, or its immediate.
 pub(crate) fn is_write(op: CsrOp, source: u32) -> bool
     ensures { result ≡ is_write op source }
 {
@@ -63,7 +62,7 @@ pub(crate) fn is_write(op: CsrOp, source: u32) -> bool
     }
 }
 
-/// The operation with a register that an operation with an immediate does.
+/// Return the operation with a register operand that an operation with an immediate performs.
 pub(crate) fn csr_form(op: CsrImmediateOp) -> CsrOp
     ensures { result ≡ csr_form op }
 {

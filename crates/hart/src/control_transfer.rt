@@ -12,7 +12,7 @@ use crate::retirement::retire;
 use rv_model::{Cause, Field, Reg, Scalar, StepEnd};
 use scalar_core::{b_immediate, i_immediate, j_immediate};
 
-/// Where JAL goes.
+/// Return the target of JAL.
 #[inline(always)]
 pub(crate) fn jump_target(pc: u64, imm: Field<20>) -> u64
     ensures { result ≡ sum w64 pc (j_immediate imm) }
@@ -20,7 +20,7 @@ pub(crate) fn jump_target(pc: u64, imm: Field<20>) -> u64
     pc.wrapping_add(j_immediate(imm))
 }
 
-/// Where JALR goes.
+/// Return the target of JALR; bit 0 is cleared.
 #[inline(always)]
 pub(crate) fn register_target(base: u64, imm: Field<12>) -> u64
     ensures { result ≡ register_target base imm }
@@ -29,7 +29,7 @@ pub(crate) fn register_target(base: u64, imm: Field<12>) -> u64
     target - target % 2
 }
 
-/// Where a branch goes.
+/// Return the target of a branch.
 #[inline(always)]
 pub(crate) fn branch_target(pc: u64, imm: Field<12>) -> u64
     ensures { result ≡ sum w64 pc (b_immediate imm) }
@@ -37,8 +37,8 @@ pub(crate) fn branch_target(pc: u64, imm: Field<12>) -> u64
     pc.wrapping_add(b_immediate(imm))
 }
 
-/// A jump, which leaves in `rd` the address of the instruction that follows it. Nothing changes where no
-/// instruction may stand at the target.
+/// Jump to `target`, and write the address of the next instruction to `rd`. If `target` isn't a multiple of
+/// 4, the instruction faults and nothing changes.
 #[inline(always)]
 pub(crate) fn jump(rd: Reg, target: u64, scalar: &mut Scalar) -> StepEnd
     ensures model { LeadsRegisters (jump_step rd target) scalar.old scalar.new result }
@@ -52,7 +52,8 @@ pub(crate) fn jump(rd: Reg, target: u64, scalar: &mut Scalar) -> StepEnd
     StepEnd::Ran
 }
 
-/// A branch.
+/// Branch to `target` if `taken`, and retire the instruction otherwise. If the branch is taken and `target`
+/// isn't a multiple of 4, the instruction faults and nothing changes.
 #[inline(always)]
 pub(crate) fn jump_if(taken: bool, target: u64, scalar: &mut Scalar) -> StepEnd
     ensures model { LeadsRegisters (branch_step taken target) scalar.old scalar.new result }

@@ -1,11 +1,11 @@
-//! How an instruction ends that doesn't run on.
+//! Ends of instructions other than `StepEnd::Ran`.
 ghost use Rattle.std.specs.Prelude.{◌≡◌};
 ghost use Rattle.rv_model.specs.machine.UserMachine.{stop_of};
 ghost use Rattle.hart.specs.States.{end_by, ticks_by};
 
 use rv_model::{StepEnd, Stop};
 
-/// Why an instruction's end stops the program, if it does.
+/// Return why an instruction's end stops the program; `None` if the program doesn't stop.
 pub fn stop_of(end: StepEnd) -> Option<Stop>
     ensures { result ≡ stop_of end }
 {
@@ -18,9 +18,10 @@ pub fn stop_of(end: StepEnd) -> Option<Stop>
     }
 }
 
-/// How an instruction ended that didn't run on, and the ticks that it took. One that ran returns its ticks, at least 1,
-/// and leaves this as it is; any other returns 0. It isn't one value that each instruction returns, since the end is
-/// then written to memory and read again: 4 machine instructions more for `add`, 17 for `vadd.vv`.
+/// End and ticks of an instruction with an end other than `StepEnd::Ran`. The function of an instruction that
+/// ran returns its ticks, at least 1, and leaves this unchanged; the function of any other instruction
+/// returns 0. If each function returned one value instead, the end would be written to memory and read again.
+/// That costs 4 more machine instructions for `add`, and 17 for `vadd.vv`.
 #[derive(Clone, Copy)]
 pub struct Ending {
     pub end: StepEnd,
@@ -28,7 +29,7 @@ pub struct Ending {
 }
 
 impl Ending {
-    /// An ending before the first instruction.
+    /// Return an ending before the first instruction.
     pub fn new() -> Ending {
         Ending {
             end: StepEnd::Ran,
@@ -36,7 +37,7 @@ impl Ending {
         }
     }
 
-    /// Notes how an instruction ended and the ticks that it took, and returns 0.
+    /// Save how an instruction ended and the ticks that it took, and return 0.
     #[tactic(auto, unfolding(crate::specs::States::end_by, crate::specs::States::ticks_by))]
     #[inline(always)]
     pub(crate) fn note(&mut self, end: StepEnd, ticks: usize) -> usize
@@ -48,7 +49,8 @@ impl Ending {
         0
     }
 
-    /// Returns the one tick of an instruction that ran; notes how any other ended in one tick, and returns 0.
+    /// Return the one tick of an instruction that ran. For any other end, save the end and one tick, and
+    /// return 0.
     #[tactic(auto, unfolding(crate::specs::States::end_by, crate::specs::States::ticks_by))]
     #[inline(always)]
     pub(crate) fn in_one_tick(&mut self, end: StepEnd) -> usize
@@ -61,7 +63,7 @@ impl Ending {
         }
     }
 
-    /// How the instruction ended that returned so many ticks, and the ticks that it took.
+    /// Return the end and the ticks of the instruction whose function returned `ticks`.
     #[tactic(auto, using(crate::proofs::Endings::took_ticks, crate::proofs::Endings::noted_ticks))]
     #[inline(always)]
     pub fn told(&self, ticks: usize) -> (StepEnd, usize)

@@ -1,4 +1,4 @@
-//! Calls of the environment, and breakpoints (Unprivileged ISA 20191213, section 2.8).
+//! Environment calls and breakpoints (Unprivileged ISA 20191213, section 2.8).
 ghost use Rattle.rv_model.specs.step.ScalarStep.{environment_call, scalar_step};
 ghost use Rattle.hart.specs.States.{LeadsOutput};
 
@@ -9,11 +9,11 @@ use rv_model::instructions::operations::SystemOp;
 use rv_model::{OUTPUT_SIZE, Reg, Scalar, ScalarInstr, StepEnd};
 use vector_memory::UserBytes;
 
-/// What a call that isn't known answers, negated: ENOSYS of Linux.
+/// Error number of an unknown call, returned negated: ENOSYS of Linux.
 const NO_SUCH_CALL: u64 = 38;
 
-/// ECALL, by the number in a7 (x17), as in Linux: 93 and 94 exit with a0 (x10), 64 writes, any other
-/// answers in a0 that there is no such call.
+/// Execute ECALL. As in Linux, a7 (x17) is the number of the call: 93 and 94 exit with the low 8 bits of a0
+/// (x10) as status, 64 writes. Any other call returns an error in a0.
 #[tactic(auto, unfolding(rv_model::specs::step::ScalarStep::environment_call))]
 fn call_environment<M: UserBytes>(
     scalar: &mut Scalar,
@@ -33,7 +33,7 @@ fn call_environment<M: UserBytes>(
     write_rd(Reg::new(10), NO_SUCH_CALL.wrapping_neg(), scalar)
 }
 
-/// ECALL, and EBREAK, which stops the program where it stands.
+/// Execute ECALL or EBREAK. EBREAK stops the program and leaves the program counter unchanged.
 #[inline(always)]
 pub(crate) fn system<M: UserBytes>(
     op: SystemOp,

@@ -18,7 +18,7 @@ use rv_decode::{Kind, kind_of};
 use rv_model::{Access, Cause, GROUP_BYTES, StepEnd};
 use vector_memory::UserBytes;
 
-/// The word at an address, wherever it lies.
+/// Return the 32-bit word at an address, without the fast path; `None` if it may not be fetched.
 #[inline(never)]
 fn fetch_anywhere<M: UserBytes>(memory: &M, pc: u64) -> Option<u32>
     ensures { result ≡ (if can_access Fetch (M.memory memory.now) pc 4
@@ -32,7 +32,7 @@ fn fetch_anywhere<M: UserBytes>(memory: &M, pc: u64) -> Option<u32>
     }
 }
 
-/// Sets the word to the one at an address. Answers whether it may be fetched.
+/// Set `word` to the 32-bit word at an address. Return whether it may be fetched.
 #[inline(always)]
 pub fn fetch<M: UserBytes>(memory: &M, pc: u64, word: &mut u32) -> bool
     ensures allowed { result ≡ can_access Fetch (M.memory memory.now) pc 4 }
@@ -52,9 +52,9 @@ pub fn fetch<M: UserBytes>(memory: &M, pc: u64, word: &mut u32) -> bool
     }
 }
 
-/// Carries out one instruction of a user within `limit` ticks, and answers its ticks where it ran; any other answers
-/// none, and notes how it ended. The vector state is lent once where the instruction touches it, and else not at all;
-/// it is marked as dirty where the instruction changed it.
+/// Execute one instruction of a user within `limit` ticks. Return its ticks if it ran; otherwise return 0,
+/// and save its end and its ticks in `ending`. The vector state is borrowed once if the instruction touches
+/// it, and otherwise not at all. It is marked as dirty if the instruction changed it.
 #[tactic(auto, unfolding(rv_model::specs::step::Step::step))]
 #[inline(always)]
 pub fn cycle<M: UserBytes, V: Vectors>(
@@ -94,9 +94,9 @@ pub fn cycle<M: UserBytes, V: Vectors>(
     }
 }
 
-/// Carries out one instruction of a user within `limit` ticks, and answers how it ended and how many
-/// ticks it took. The vector state is lent once where the instruction touches it, and else not at all; it
-/// is marked as dirty where the instruction changed it.
+/// Execute one instruction of a user within `limit` ticks. Return how it ended and the ticks that it took.
+/// The vector state is borrowed once if the instruction touches it, and otherwise not at all. It is marked as
+/// dirty if the instruction changed it.
 #[inline(always)]
 pub fn step<M: UserBytes, V: Vectors>(
     view: &mut View<'_, '_, '_, '_, M, V>,
@@ -107,14 +107,16 @@ pub fn step<M: UserBytes, V: Vectors>(
     ensures model { LeadsTo (step_spec limit)
         (hart_of M.memory V.lent view.old) (hart_of M.memory V.lent view.new) result.0 result.1 }
 
-    // No vector has more elements, so nothing is cut.
+    // No vector has more than `GROUP_BYTES` elements, so nothing is cut.
     ensures uncut { GROUP_BYTES ≤ limit → result.0 ≢ StepEnd.Cut }
 
-    // If it is cut or faults, it goes on from there, any number of times, in memories that may grow.
+    // If it is cut or faults, it can be resumed there, any number of times, in memories that may have more
+    // mapped pages.
     ensures goes_on { StepGoesOn step_spec fetched limit (hart_of M.memory V.lent view.old)
         (ends_after result.1 result.0 (hart_of M.memory V.lent view.new)) }
 
-    // All else that the user's bytes and the lender hold stays, and the view refers to the same parts as before.
+    // All other state of the user's bytes and of the adapter is unchanged, and the view refers to the same
+    // parts as before.
     ensures memory { view.new.memory.now ≡ M.with_memory view.old.memory.now (M.memory view.new.memory.now) }
     ensures vectors { Returns V.ready V.lent V.back
         (touches (fetched (M.memory view.old.memory.now) view.old.scalar.now.pc))

@@ -1,4 +1,4 @@
-//! One instruction of one user: fetched, decoded and carried out.
+//! The instruction cycle of one user: fetch, decode and execute one instruction.
 #![tactic(auto)]
 
 mod control_registers;

@@ -1,5 +1,5 @@
-//! Loads and stores (Unprivileged ISA 20191213, sections 2.6 and 5.3). Where their bytes are found at once they are
-//! carried out in line, with one look for all widths.
+//! Loads and stores (Unprivileged ISA 20191213, sections 2.6 and 5.3). If the fast path of the user's memory
+//! finds their bytes, they are executed inline, with one lookup for all widths.
 ghost use Rattle.std.specs.Prelude.{◌≡◌, ℕ, ◌*◌, ◌%◌, ◌^◌, ◌<◌, ◌≤◌, ◌↔◌, IsOk, IfErr, OnOk, Ok, Err, true};
 ghost use Rattle.std.specs.Prelude.{false, if◌then◌else◌, length, slice_index};
 ghost use Rattle.std.specs.Int.{byte_len, from_le_bytes, to_le_bytes, w64};
@@ -17,7 +17,7 @@ use rv_model::{Access, Cause, Fault, Reg, Scalar, StepEnd};
 use scalar_core::sign_extend;
 use vector_memory::UserBytes;
 
-/// The address that a load or store names, by a register and an immediate that is sign-extended to 64 bits.
+/// Return the address of a load or store, from a register and an immediate that is sign-extended to 64 bits.
 #[inline(always)]
 pub(crate) fn access_address(base: u64, immediate: u64) -> u64
     ensures { result ≡ sum w64 base immediate }
@@ -25,7 +25,7 @@ pub(crate) fn access_address(base: u64, immediate: u64) -> u64
     base.wrapping_add(immediate)
 }
 
-/// How many bytes a load reads.
+/// Return the number of bytes that a load reads: 1, 2, 4 or 8.
 fn load_len(op: LoadOp) -> usize
     ensures len { result ≡ byte_len (load_width op) }
     ensures few { result ≤ 8 }
@@ -38,7 +38,7 @@ fn load_len(op: LoadOp) -> usize
     }
 }
 
-/// What a load makes of the number of eight bytes, the first of which it reads.
+/// Return the 64-bit value of a load, from the little-endian number of the eight bytes at its address.
 #[inline(always)]
 fn extend(op: LoadOp, number: u64) -> u64
     ensures { result ≡ extended op (number % 2 ^ (8 * byte_len (load_width op))) }
@@ -54,7 +54,7 @@ fn extend(op: LoadOp, number: u64) -> u64
     }
 }
 
-/// What a load makes of eight bytes, the first of which it reads.
+/// Return the 64-bit value of a load, from the eight bytes at its address.
 #[inline(always)]
 fn loaded(op: LoadOp, bytes: &[u8; 8]) -> u64
     ensures { result ≡ extended op (from_le_bytes (load_width op) bytes.now) }
@@ -62,7 +62,7 @@ fn loaded(op: LoadOp, bytes: &[u8; 8]) -> u64
     extend(op, u64::from_le_bytes(*bytes))
 }
 
-/// Reads the first of eight bytes, wherever they lie.
+/// Read the first `len` of eight bytes, without the fast path.
 fn read_first<M: UserBytes>(
     memory: &M,
     addr: u64,
@@ -78,7 +78,7 @@ fn read_first<M: UserBytes>(
     memory.read(addr, Access::Load, &mut bytes[..len])
 }
 
-/// The value that a load gives, wherever its bytes lie.
+/// Return the value of a load, without the fast path.
 #[inline(never)]
 fn load_anywhere<M: UserBytes>(op: LoadOp, addr: u64, memory: &M) -> Result<u64, Fault>
     ensures { result ≡ (if can_access Load (M.memory memory.now) addr (byte_len (load_width op))
@@ -90,8 +90,8 @@ fn load_anywhere<M: UserBytes>(op: LoadOp, addr: u64, memory: &M) -> Result<u64,
     Ok(loaded(op, &bytes))
 }
 
-/// Sets the value to the one that a load gives. Answers whether its bytes may be read. Whatever its width, it looks for
-/// eight bytes first.
+/// Set `value` to the value of a load. Return whether its bytes may be read. The fast path looks up eight
+/// bytes for each width.
 #[inline(always)]
 fn load_value<M: UserBytes>(op: LoadOp, addr: u64, memory: &M, value: &mut u64) -> bool
     ensures allowed { result ≡ can_access Load (M.memory memory.now) addr (byte_len (load_width op)) }
@@ -112,7 +112,7 @@ fn load_value<M: UserBytes>(op: LoadOp, addr: u64, memory: &M, value: &mut u64) 
     }
 }
 
-/// A load, which is refused where one of its bytes may not be read.
+/// Execute a load; it faults if one of its bytes may not be read.
 #[inline(always)]
 pub(crate) fn load<M: UserBytes>(
     op: LoadOp,
@@ -131,7 +131,7 @@ pub(crate) fn load<M: UserBytes>(
     write_rd(rd, value, scalar)
 }
 
-/// The bytes that a store writes, of those of a register.
+/// Return the bytes that a store writes, from the eight bytes of a register.
 #[inline(always)]
 fn stored(op: StoreOp, bytes: &[u8; 8]) -> &[u8]
     ensures len { length result.now ≡ byte_len (store_width op) }
@@ -145,7 +145,8 @@ fn stored(op: StoreOp, bytes: &[u8; 8]) -> &[u8]
     }
 }
 
-/// Stores the lowest bytes of a value, wherever they lie, or changes nothing. Answers whether it stored them.
+/// Store the low bytes of a value, without the fast path. Return whether they were stored; if not, nothing
+/// changes.
 #[inline(never)]
 fn store_anywhere<M: UserBytes>(op: StoreOp, addr: u64, value: u64, memory: &mut M) -> bool
     ensures allowed { result ≡ can_access Store (M.memory memory.old) addr (byte_len (store_width op)) }
@@ -161,7 +162,7 @@ fn store_anywhere<M: UserBytes>(op: StoreOp, addr: u64, value: u64, memory: &mut
     }
 }
 
-/// Stores the lowest bytes of a value, or changes nothing. Answers whether it stored them.
+/// Store the low bytes of a value. Return whether they were stored; if not, nothing changes.
 #[inline(always)]
 fn store_value<M: UserBytes>(op: StoreOp, addr: u64, value: u64, memory: &mut M) -> bool
     ensures allowed { result ≡ can_access Store (M.memory memory.old) addr (byte_len (store_width op)) }
@@ -177,7 +178,7 @@ fn store_value<M: UserBytes>(op: StoreOp, addr: u64, value: u64, memory: &mut M)
     store_anywhere(op, addr, value, memory)
 }
 
-/// A store of the lowest bytes of a value, which is refused where one of its bytes may not be written.
+/// Execute a store of the low bytes of a value; it faults if one of its bytes may not be written.
 #[inline(always)]
 pub(crate) fn store<M: UserBytes>(
     op: StoreOp,

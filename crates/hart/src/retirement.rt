@@ -1,11 +1,11 @@
-//! Instructions that ran: the register that they write, and the program counter, which moves on (Unprivileged
-//! ISA 20191213, section 2.1).
+//! Retirement of instructions: the register that they write, and the program counter (Unprivileged ISA
+//! 20191213, section 2.1).
 ghost use Rattle.std.specs.Prelude.{◌≡◌};
 ghost use Rattle.rv_model.specs.scalar.Registers.{advanced, with_register};
 
 use rv_model::{Reg, Scalar, StepEnd};
 
-/// The instruction ran, and the next one follows it.
+/// Retire an instruction: advance the program counter by 4.
 #[inline(always)]
 pub(crate) fn retire(scalar: &mut Scalar) -> StepEnd
     ensures end { result ≡ StepEnd.Ran }
@@ -15,7 +15,7 @@ pub(crate) fn retire(scalar: &mut Scalar) -> StepEnd
     StepEnd::Ran
 }
 
-/// The instruction ran and wrote this value to a register, and the next one follows it.
+/// Write a value to the register `rd`, and retire the instruction.
 #[inline(always)]
 pub(crate) fn write_rd(rd: Reg, value: u64, scalar: &mut Scalar) -> StepEnd
     ensures end { result ≡ StepEnd.Ran }

@@ -1,4 +1,4 @@
-//! Instructions on scalar registers and memory alone.
+//! Instructions that use only scalar registers and memory.
 ghost use Rattle.std.specs.Prelude.{◌≡◌, true};
 ghost use Rattle.rv_decode.specs.Opcodes.{is_scalar};
 ghost use Rattle.rv_model.specs.step.ScalarStep.{scalar_step};
@@ -14,7 +14,7 @@ use scalar_core::{
 };
 use vector_memory::UserBytes;
 
-/// Carries out an instruction of scalar registers and memory.
+/// Execute an instruction that uses only scalar registers and memory.
 #[inline(always)]
 pub(crate) fn execute_scalar<M: UserBytes>(
     instr: &ScalarInstr,

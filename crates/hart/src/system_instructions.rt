@@ -1,5 +1,5 @@
-//! Calls of the environment, breakpoints and accesses of control registers (Unprivileged ISA 20191213, section 2.8 and
-//! chapter 9, "Zicsr").
+//! Environment calls, breakpoints and accesses of control registers (Unprivileged ISA 20191213, section 2.8
+//! and chapter 9, "Zicsr").
 ghost use Rattle.std.specs.Prelude.{◌≡◌, ◌&&◌, ◌||◌, IfNone, IfSome, Some, bit_and, false, if◌then◌else◌, true, ℕ};
 ghost use Rattle.rv_model.specs.declared.vector.policy.Policy.{Policy};
 ghost use Rattle.rv_model.specs.instructions.Table.{scan, table};
@@ -24,19 +24,20 @@ use rv_model::instructions::operations::CsrOp;
 use rv_model::{ControlRegister, CsrInstr, Field, OUTPUT_SIZE, Reg, Scalar, StepEnd};
 use vector_memory::UserBytes;
 
-/// An access of the control register of this number.
+/// Access of the control register with the number `csr`.
 #[derive(Clone, Copy)]
 struct ControlAccess {
     csr: Field<12>,
     op: CsrOp,
     rd: Reg,
-    /// The number of the register that is the operand, or the immediate.
+    /// The number of the source register, or the immediate.
     source: u32,
     operand: u64,
 }
 
 impl ControlAccess {
-    /// The register, unless the access is illegal: there has to be one, which isn't read-only if it is written.
+    /// Return the control register; `None` if the access is illegal. It is illegal if there is no such
+    /// register, or if it writes a read-only one.
     fn register(&self) -> Option<ControlRegister>
         ensures some { IfSome result (λ register. control_register self.now.csr ≡ Some register) }
         ensures legal { IfSome result (λ register.
@@ -52,7 +53,8 @@ impl ControlAccess {
     }
 }
 
-/// Reads a control register, and writes it unless the operand is x0 or the immediate 0.
+/// Read a control register, and write it. CSRRS, CSRRC and their immediate forms don't write it if the source
+/// is x0 or the immediate 0.
 fn access_control<V: Vectors>(
     access: ControlAccess,
     word: u32,
@@ -80,7 +82,7 @@ fn access_control<V: Vectors>(
         return illegal(word, scalar);
     };
     let seat = vectors.seat();
-    // For the proof alone: the vector length is one that the vector type allows.
+    // For the proof only: the vector length is one that the vector type allows.
     seat.state.conf.length_law();
     let value = read(register, &seat.state);
     if is_write(access.op, access.source) {
@@ -94,8 +96,8 @@ fn access_control<V: Vectors>(
     write_rd(access.rd, value, scalar)
 }
 
-/// Executes the instruction that a word of SYSTEM is, and answers its one tick; none where it doesn't run on, and
-/// then notes how it ended.
+/// Execute the instruction that a word with the opcode SYSTEM encodes. Return its one tick if it ran;
+/// otherwise return 0, and save its end in `ending`.
 #[tactic(auto, unfolding(rv_model::specs::step::Step::executed, rv_model::specs::step::Step::dirties))]
 #[inline(never)]
 pub(crate) fn execute_system<M: UserBytes, V: Vectors>(

@@ -1,4 +1,4 @@
-//! How many ticks vector instructions take.
+//! The number of ticks that vector instructions take.
 ghost use Rattle.std.specs.Prelude.{◌≡◌, ◌≤◌, ℕ};
 ghost use Rattle.rv_model.specs.declared.instructions.instruction.Instr.TheVariants as instr;
 ghost use Rattle.rv_model.specs.step.Hart.{HartState};
@@ -7,13 +7,14 @@ ghost use Rattle.rv_model.specs.step.Step.{after_vector, vector_ends, vector_exe
 use rv_model::{AccessInstr, GROUP_BYTES, VEnd, VState};
 use vector_memory::index_count;
 
-/// The most ticks that an instruction takes: a load or store takes one for each index, at most 256, and any other
-/// instruction one.
+/// Maximum number of ticks of an instruction. A load or store takes one tick for each index, at most 256; any
+/// other instruction takes one.
 pub const MAX_TICKS: usize = GROUP_BYTES;
 
-/// The ticks of a load or store that had `limit` of them, found this `vl` and `vstart`, and left this state: one for
-/// each index that it came to, and one if it is illegal. Where it leaves a shorter length, it is a fault-only-first
-/// load, and came to that index.
+/// Return the ticks of a load or store with a limit of `limit` ticks. `vl` and `vstart` are from the state
+/// before it, `state` is the vector state after it. It takes one tick for each index that it attempted, and
+/// at least one. If it reduced the length, it is a fault-only-first load, and the last index that it
+/// attempted is the new length.
 #[inline(always)]
 pub(crate) fn access_ticks(
     access: &AccessInstr,

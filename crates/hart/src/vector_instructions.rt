@@ -1,5 +1,5 @@
-//! Instructions of the vector extension, on a vector state that is lent to them. Each answers its ticks, and none where
-//! it doesn't run on, and then notes how it ended.
+//! Instructions of the vector extension, which borrow a user's vector state. Each function returns the ticks
+//! of its instruction if it ran; otherwise it returns 0, and saves the end and the ticks in `ending`.
 #![tactic(auto, unfolding(rv_model::specs::step::Step::executed, rv_model::specs::step::Step::dirties))]
 
 ghost use Rattle.std.specs.Prelude.{◌≡◌, ◌||◌, ◌≤◌, ◌⊎◌, List, bit_and, ℕ};
@@ -26,7 +26,7 @@ use rv_model::{AccessInstr, Cause, Instr, Scalar, Seat, StepEnd, VEnd};
 use vec_unit::{exec_access, exec_arith, exec_operation};
 use vector_memory::UserBytes;
 
-/// Why an access is refused.
+/// Return the cause of a fault of a load or store.
 fn access_cause(store: bool) -> Cause
     ensures { result ≡ access_cause store }
 {
@@ -37,8 +37,9 @@ fn access_cause(store: bool) -> Cause
     }
 }
 
-/// Ends the step of a vector instruction that ended so, after so many ticks, or one where it is illegal: the program
-/// counter moves on where it is done, and what isn't illegal marks the seat.
+/// Complete the step of a vector instruction with this end and these ticks. The program counter advances if
+/// the instruction is done. Each end but `VEnd::Illegal` marks the seat as dirty; an illegal instruction
+/// takes one tick.
 #[tactic(auto, using(crate::proofs::Endings::took_ticks))]
 #[inline(always)]
 fn retire_vector(
@@ -75,8 +76,8 @@ fn retire_vector(
     }
 }
 
-/// Executes the vector operation that a word is which has no line of its own in the manual's table. The memory is a
-/// parameter for the contract alone, which says that it stays as it is.
+/// Execute the vector operation that a word encodes, if it has no row of its own in the manual's table of
+/// funct6. The memory is a parameter for the contract only, which says that it is unchanged.
 #[inline(never)]
 fn execute_irregular<M: UserBytes, V: Vectors>(
     word: u32,
@@ -99,14 +100,14 @@ fn execute_irregular<M: UserBytes, V: Vectors>(
         return ending.in_one_tick(illegal(word, scalar));
     };
     let seat = vectors.seat();
-    // For the proof alone: the vector length is one that the vector type allows.
+    // For the proof only: the vector length is one that the vector type allows.
     seat.state.conf.length_law();
     let end = exec_operation(operation, &mut seat.state, scalar, terms.policy);
     retire_vector(end, 1, word, scalar, seat, ending)
 }
 
-/// Executes the vector operation that a word of OP-V is: a regular one in line. The memory is passed on for the
-/// contract alone.
+/// Execute the vector operation that a word with the opcode OP-V encodes; operations of the funct6 table are
+/// decoded and executed inline. The memory is passed on for the contract only.
 #[inline(never)]
 fn execute_operation<M: UserBytes, V: Vectors>(
     word: u32,
@@ -127,13 +128,13 @@ fn execute_operation<M: UserBytes, V: Vectors>(
         return execute_irregular(word, scalar, memory, vectors, terms, ending);
     };
     let seat = vectors.seat();
-    // For the proof alone: the vector length is one that the vector type allows.
+    // For the proof only: the vector length is one that the vector type allows.
     seat.state.conf.length_law();
     let end = exec_arith(operation, &mut seat.state, scalar, terms.policy);
     retire_vector(end, 1, word, scalar, seat, ending)
 }
 
-/// Executes the load or store that a word is: one of unit stride, or any other one.
+/// Execute the vector load or store that a word encodes: one of unit stride, or any other one.
 #[inline(never)]
 fn execute_access<M: UserBytes, V: Vectors, const UNIT_STRIDE: bool>(
     word: u32,
@@ -160,7 +161,7 @@ fn execute_access<M: UserBytes, V: Vectors, const UNIT_STRIDE: bool>(
     };
     let StepTerms { limit, policy } = terms;
     let seat = vectors.seat();
-    // For the proof alone: the vector length is one that the vector type allows.
+    // For the proof only: the vector length is one that the vector type allows.
     seat.state.conf.length_law();
     let vl = usize::from(seat.state.conf.vl());
     let vstart = usize::from(seat.state.vstart);
@@ -170,7 +171,7 @@ fn execute_access<M: UserBytes, V: Vectors, const UNIT_STRIDE: bool>(
     retire_vector(end, ticks, word, scalar, seat, ending)
 }
 
-/// Executes the vector operation that a word of OP-V is.
+/// Execute the vector operation that a word with the opcode OP-V encodes.
 #[inline(always)]
 pub(crate) fn operation<M: UserBytes, V: Vectors>(
     word: u32,
@@ -194,7 +195,7 @@ pub(crate) fn operation<M: UserBytes, V: Vectors>(
     }
 }
 
-/// Executes the load or store that a word of LOAD-FP or STORE-FP is.
+/// Execute the vector load or store that a word with the opcode LOAD-FP or STORE-FP encodes.
 #[inline(always)]
 pub(crate) fn access<M: UserBytes, V: Vectors>(
     word: u32,

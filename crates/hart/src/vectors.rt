@@ -1,4 +1,4 @@
-//! Who lends a user's vector state.
+//! Per-user adapters, through which instructions borrow a user's vector state.
 ghost use Rattle.std.specs.Prelude.{◌≡◌};
 ghost use Rattle.std.specs.Borrow.{sem, Lends};
 ghost use Rattle.rv_model.specs.declared.vector.state.Seat.{Seat};
@@ -7,31 +7,31 @@ ghost use Rattle.rv_model.specs.lending.Seats.{IsGivenBack};
 
 use rv_model::Seat;
 
-/// Lends one user's vector state, to each instruction that touches it.
+/// Per-user adapter, which provides one user's vector state to each instruction that touches it.
 pub trait Vectors {
-    // The seat may be lent.
+    // The adapter can provide the seat.
     ghost ready: { Self → Type 0 };
 
-    // What `seat` lends.
+    // The seat that `seat` returns.
     ghost lent: { Self → Seat };
 
-    // The lender, once the seat has come back with this value.
+    // The adapter after the borrow ended with this value of the seat.
     ghost back: { Self → Seat → Self };
 
-    /// The user's vector state. Whoever changes it marks it as dirty, and never clears the mark.
+    /// Borrow the user's vector state. A caller that changes it marks it as dirty, and never clears the mark.
     fn seat(&mut self) -> &mut Seat
         requires { ready self.old }
         ensures* writes_back { sem 𝓛 (Lends Self.row seat_type.the_row self.entry result (back self.old)) }
         ensures value { result.now ≡ lent self.old };
 
-    // It may be lent again, if it came back dirty or as it was lent.
+    // The adapter can provide the seat again, if the borrow ended with a dirty or unchanged seat.
     ghost ready_again: { (v : Self) (s : Seat) → ready v → IsGivenBack (lent v) s → ready (back v s) };
 
-    // What came back is what is lent the next time.
+    // The next borrow starts with the value with which the last one ended.
     ghost lent_again: { (v : Self) (s : Seat) → ready v → lent (back v s) ≡ s };
 }
 
-/// A vector state that is lent to each instruction.
+/// Adapter that provides the same vector state to each instruction.
 #[derive(Drop)]
 pub struct OneSeat {
     pub seat: Seat,

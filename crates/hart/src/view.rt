@@ -1,11 +1,11 @@
-//! What an instruction of a user works on, and on what terms.
+//! The state that an instruction of a user reads and writes, and the limit and policy of a step.
 ghost use Rattle.std.specs.Prelude.{◌≤◌};
 
 use arrayvec::ArrayVec;
 use rv_model::{OUTPUT_SIZE, Policy, Scalar};
 
-/// One user's registers, bytes, lender of its vector state and output buffer, and what becomes of agnostic
-/// elements.
+/// Registers, memory, per-user adapter for the vector state, and output buffer of one user; and the policy
+/// for agnostic elements.
 #[derive(Drop)]
 pub struct View<'s, 'm, 'v, 'o, M, V> {
     pub scalar: &'s mut Scalar,
@@ -15,7 +15,7 @@ pub struct View<'s, 'm, 'v, 'o, M, V> {
     pub policy: Policy,
 }
 
-/// On what terms a step is made: within `limit` ticks, one at least, and what becomes of agnostic elements.
+/// Limit of a step in ticks, at least 1, and the policy for agnostic elements.
 #[derive(Clone, Copy)]
 pub struct StepTerms {
     pub limit: usize,

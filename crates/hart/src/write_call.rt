@@ -1,4 +1,4 @@
-//! The call of the environment that writes, as Linux has it. Its one file is the output buffer.
+//! The environment call `write`, as in Linux. Its only file is the output buffer.
 ghost use Rattle.std.specs.Prelude.{◌≡◌, ◌≤◌, ◌+◌, ◌-◌, ◌++◌, length, min, Ok, Err, if◌then◌else◌};
 ghost use Rattle.rv_model.specs.declared.memory.Access.TheVariants.{Load};
 ghost use Rattle.rv_model.specs.memory.Memory.{bytes_at, can_access};
@@ -10,16 +10,17 @@ use arrayvec::ArrayVec;
 use rv_model::{Access, Fault, OUTPUT_SIZE, Reg, Scalar, StepEnd, WRITE_SIZE};
 use vector_memory::UserBytes;
 
-/// The file that is the output buffer.
+/// File descriptor of the output buffer.
 const OUTPUT: u64 = 1;
 
-/// What a call answers for any other file, negated: EBADF of Linux.
+/// Error number for any other file descriptor, returned negated: EBADF of Linux.
 const BAD_FILE: u64 = 9;
 
-/// What a call answers where its bytes can't all be read, negated: EFAULT of Linux.
+/// Error number if some of the bytes can't be read, returned negated: EFAULT of Linux.
 const BAD_ADDRESS: u64 = 14;
 
-/// How many bytes a call writes, of those that it asks for.
+/// Return the number of bytes that a call for `asked` bytes writes: at most `WRITE_SIZE`, and at most the
+/// room in the output buffer.
 fn write_count(asked: u64, output: &ArrayVec<u8, OUTPUT_SIZE>) -> usize
     ensures value { result ≡ write_count asked output.now.items }
     ensures few { result ≤ write_size }
@@ -29,7 +30,8 @@ fn write_count(asked: u64, output: &ArrayVec<u8, OUTPUT_SIZE>) -> usize
     asked.min(most as u64) as usize
 }
 
-/// Adds `count` bytes of the user to the output buffer; none where they can't all be read.
+/// Append `count` bytes of the user's memory to the output buffer; append nothing if some of them can't be
+/// read.
 fn put_out<M: UserBytes>(
     addr: u64,
     count: usize,
@@ -50,8 +52,8 @@ fn put_out<M: UserBytes>(
     Ok(())
 }
 
-/// Writes bytes of the user to the output buffer, and answers in a0 (x10) how many, or an error. Where the
-/// buffer has no room, the program stops.
+/// Write bytes of the user's memory to the output buffer, and return in a0 (x10) their number or a negated
+/// error number. If the buffer is full, the program stops.
 #[tactic(auto, unfolding(rv_model::specs::step::WriteCall::write_call))]
 pub(crate) fn write<M: UserBytes>(
     scalar: &mut Scalar,

@@ -1,4 +1,4 @@
--- Where no instruction is fetched, or it is scalar, or the word is none, nothing is lent.
+-- If no word is fetched, or the word isn't an instruction, or the instruction is scalar, the vector state isn't borrowed.
 use Rattle.std.proofs.Common.{◌≡◌, Option, refl, subst, arith}
 use Rattle.std.proofs.lemmas.Grind.{common_steps}
 use Rattle.rv_model.specs.declared.instructions.instruction.Instr.{Instr}

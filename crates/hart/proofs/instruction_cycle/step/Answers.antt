@@ -1,4 +1,4 @@
--- A step that is cut or faults goes on: the vector state that it found was lent where it touched the vector unit.
+-- A step that is cut or faults can be resumed: it borrowed the vector state before it, if it touches the vector unit.
 use Rattle.std.proofs.Common.{◌≡◌, arith}
 use Rattle.std.proofs.lemmas.Grind.{common_steps}
 use Rattle.rv_model.specs.step.Hart.{HartState, Stepped, ends_after}

@@ -1,4 +1,4 @@
--- The ticks that are counted are those that show.
+-- The counted ticks are those of `shown_ticks`.
 use Rattle.std.proofs.Common.{arith}
 use Rattle.std.proofs.lemmas.Grind.{common_steps}
 use Rattle.hart.proofs.AccessTicks.{counted}

@@ -1,4 +1,4 @@
--- The ticks that are counted are those of the step.
+-- The counted ticks are those of the step.
 use Rattle.std.proofs.Common.{arith, refl}
 use Rattle.std.proofs.lemmas.Grind.{common_steps}
 use Rattle.rv_model.specs.step.Step.{executed}
