@@ -1,7 +1,7 @@
--- How each instruction is written: its name, which is that of the operation, beside its bits in `FixedBits` and `Operations`, with what
--- stands behind it by the form of the operands; and the slots behind the name, in their order, with where each stands in the word
--- (Unprivileged ISA, "RISC-V Assembly Programmer's Handbook", "RV32/64G Instruction Set Listings", and the sections that stand beside each
--- layout; V extension, "Vector Instruction Listing", and likewise)
+-- The text of each instruction: its name, and the slots that follow the name, in order. The name is that of the operation, which
+-- `FixedBits` and `Operations` list with its bits, and a suffix for the form of the operands. Each slot includes its place in the word.
+-- (Unprivileged ISA, "RISC-V Assembly Programmer's Handbook", "RV32/64G Instruction Set Listings", and the sections cited at each layout; V
+-- extension, "Vector Instruction Listing", and the sections cited at each layout.)
 use Rattle.std.specs.Prelude.{ℕ, ◌+◌, ◌==◌, Bool, List, [], ◌∷◌, ◌++◌, codes, if◌then◌else◌, true, false}
 use Rattle.rv_model.specs.instructions.Types.{VectorOp, Form, Eew, UnitOp, Direction, Order}
 use Rattle.rv_model.specs.instructions.Variants.{Instr, Upper, Jump, JumpRegister, Branch, Load, Store, RegisterImmediate, ShiftImmediate, ShiftImmediateWord, RegisterRegister, Fence, System, Register, Immediate, SetVli, SetIvli, SetVl, Arith, Carry, Move, WholeMove, MaskLogic, Compress, MaskToScalar, Extend, MaskUnary, ElementIndex, MoveToScalar, MoveToVector, UnitStride, Strided, Indexed, WholeLoad, WholeStore, MaskAccess}
@@ -25,16 +25,16 @@ use Rattle.rv_model.specs.declared.assembler.forms.Slot.TheVariants.{Comma, Open
 use Rattle.rv_model.specs.elements.Formulas.{has_unsigned_immediate}
 use Rattle.rv_model.specs.elements.FixedPoint.{has_unsigned_shift}
 
--- ---- what stands behind the name of a vector operation (V extension, "Vector Arithmetic Instruction encoding")
+-- ---- suffixes of the names of vector operations (V extension, "Vector Arithmetic Instruction encoding")
 
--- where the last source comes from: a vector register, a scalar register or an immediate
+-- the letter for the source of the last operand: a vector register, a scalar register or an immediate
 abbrev pub source_letter : Form → List ℕ
 source_letter form.V = codes "v"
 source_letter form.X = codes "x"
 source_letter form.I = codes "i"
 
--- what stands behind the name of an operation with a line of its own: `.vv` and the like, with `m` where a carry or a borrow
--- comes in; `.wv` and the like where the first source has twice the width; `.vs` behind reductions
+-- the suffix of an operation with a row of its own: `.vv` and the like, with `m` for a carry or borrow input; `.wv` and the like if the
+-- first source has twice the width; `.vs` for reductions
 abbrev pub vector_suffix : VectorOp → Form → Bool → List ℕ
 vector_suffix (vector_op.CarryOut op) f vm = codes ".v" ++ source_letter f ++ (if vm then [] else codes "m")
 vector_suffix (vector_op.NarrowShift op) f vm = codes ".w" ++ source_letter f
@@ -46,36 +46,36 @@ vector_suffix _ f vm = codes ".v" ++ source_letter f
 
 -- ---- the names of vector loads and stores (V extension, "Vector Loads and Stores")
 
--- the width of an element or of an index in bits
+-- the width of an element or an index, in bits
 abbrev pub width_digits : Eew → List ℕ
 width_digits width.E8 = codes "8"
 width_digits width.E16 = codes "16"
 width_digits width.E32 = codes "32"
 width_digits width.E64 = codes "64"
 
--- a load or a store
+-- the prefix of a load or a store
 abbrev pub direction_letters : Direction → List ℕ
 direction_letters direction.Load = codes "vl"
 direction_letters direction.Store = codes "vs"
 
--- indexed, unordered or ordered
+-- the letters of an indexed access, unordered or ordered
 abbrev pub order_letters : Order → List ℕ
 order_letters order.Unordered = codes "ux"
 order_letters order.Ordered = codes "ox"
 
--- nothing for one field, `seg` and their number for several, at most eight; nf is one less than that
+-- empty for one field, `seg` and the number of fields for 2 to 8 fields; nf is the number of fields less 1
 abbrev pub segment_text : ℕ → List ℕ
 segment_text nf = if nf == 0 then [] else codes "seg" ++ hex_digit (nf + 1) ∷ []
 
--- unit stride, with `ff` where only the first element may fault
+-- the name of a unit-stride access; `ff` marks loads where only the first element may fault
 abbrev pub unit_name : UnitOp → ℕ → Eew → List ℕ
 unit_name unit.Load nf w = codes "vl" ++ segment_text nf ++ codes "e" ++ width_digits w ++ codes ".v"
 unit_name unit.FaultOnlyFirst nf w = codes "vl" ++ segment_text nf ++ codes "e" ++ width_digits w ++ codes "ff.v"
 unit_name unit.Store nf w = codes "vs" ++ segment_text nf ++ codes "e" ++ width_digits w ++ codes ".v"
 
--- ---- the slots of vector operations with a line in "Vector Instruction Listing"
+-- ---- the slots of vector operations with a row in "Vector Instruction Listing"
 
--- vs1, rs1 or an immediate, uimm or simm5 ("Vector Arithmetic Instruction encoding")
+-- vs1, rs1, or an immediate, uimm or simm5 ("Vector Arithmetic Instruction encoding")
 abbrev pub second : Bool → Form → Slot
 second is_unsigned form.V = Vector Rs1
 second is_unsigned form.X = Scalar Rs1
@@ -86,8 +86,8 @@ second false form.I = Signed signed.Vector
 abbrev pub usual_slots : Bool → Form → List Slot
 usual_slots is_unsigned f = Vector Rd ∷ Comma ∷ Vector Rs2 ∷ Comma ∷ second is_unsigned f ∷ Mask ∷ []
 
--- `vd, vs1, vs2, vm` or `vd, rs1, vs2, vm`: of multiply-adds, whose vs1 or rs1 stands before vs2 ("Vector Arithmetic
--- Instruction encoding")
+-- `vd, vs1, vs2, vm` or `vd, rs1, vs2, vm`: the order of multiply-adds, with vs1 or rs1 before vs2 ("Vector Arithmetic Instruction
+-- encoding")
 abbrev pub multiply_add_slots : Form → List Slot
 multiply_add_slots f = Vector Rd ∷ Comma ∷ second false f ∷ Comma ∷ Vector Rs2 ∷ Mask ∷ []
 
@@ -95,12 +95,12 @@ multiply_add_slots f = Vector Rd ∷ Comma ∷ second false f ∷ Comma ∷ Vect
 abbrev pub carry_slots : Form → List Slot
 carry_slots f = Vector Rd ∷ Comma ∷ Vector Rs2 ∷ Comma ∷ second false f ∷ Comma ∷ V0 ∷ []
 
--- the same without v0, where vm says that no carry or borrow comes in
+-- the same, without v0 if vm is set and there is no carry or borrow input
 abbrev pub carry_out_slots : Bool → Form → List Slot
 carry_out_slots true f = Vector Rd ∷ Comma ∷ Vector Rs2 ∷ Comma ∷ second false f ∷ []
 carry_out_slots false f = carry_slots f
 
--- by the operation: which immediates are unsigned, and which operations are multiply-adds
+-- the slots of an operation, by whether its immediate is unsigned and whether it is a multiply-add
 abbrev pub arith_slots : VectorOp → Form → Bool → List Slot
 -- "Vector Integer Arithmetic Instructions"; the amount of a shift is unsigned, "Vector Single-Width Shift Instructions"
 arith_slots (vector_op.Binary op) f vm = usual_slots (has_unsigned_immediate op) f
@@ -119,20 +119,20 @@ arith_slots (vector_op.Permute op) f vm = usual_slots true f
 -- comparisons, reductions and other widening operations
 arith_slots _ f vm = usual_slots false f
 
--- ---- every instruction, a line a layout: its name and its slots
+-- ---- the name and the slots of every instruction, one equation for each layout
 
--- `(rs1)`: where memory is addressed
+-- `(rs1)`: the base address of an access to memory
 abbrev pub base : List Slot
 base = Open ∷ Scalar Rs1 ∷ Close ∷ []
 
 abbrev pub spelt : Instr → List ℕ × List Slot
 -- `lui rd, imm`: RV32I, "Integer Register-Immediate Instructions"
 spelt (instr.Scalar (Upper op rd imm)) = ((upper_entry op).0, Scalar Rd ∷ Comma ∷ Unsigned unsigned.Upper ∷ [])
--- `jal rd, offset`: RV32I, "Unconditional Jumps"; the distance from the instruction, with 21 bits, the lowest of them 0
+-- `jal rd, offset`: RV32I, "Unconditional Jumps"; offset is the 21-bit distance from the instruction, with lowest bit 0
 spelt (instr.Scalar (Jump rd imm)) = (codes "jal", Scalar Rd ∷ Comma ∷ Signed signed.Jump ∷ [])
 -- `jalr rd, offset(rs1)`: RV32I, "Unconditional Jumps"
 spelt (instr.Scalar (JumpRegister rd rs1 imm)) = (codes "jalr", Scalar Rd ∷ Comma ∷ Signed signed.Immediate ∷ base)
--- `beq rs1, rs2, offset`: RV32I, "Conditional Branches"; the distance from the instruction, with 13 bits, the lowest of them 0
+-- `beq rs1, rs2, offset`: RV32I, "Conditional Branches"; offset is the 13-bit distance from the instruction, with lowest bit 0
 spelt (instr.Scalar (Branch op rs1 rs2 imm)) = ((branch_entry op).0, Scalar Rs1 ∷ Comma ∷ Scalar Rs2 ∷ Comma ∷ Signed signed.Branch ∷ [])
 -- `ld rd, offset(rs1)`: RV32I and RV64I, "Load and Store Instructions"
 spelt (instr.Scalar (Load op rd rs1 imm)) = ((load_entry op).0, Scalar Rd ∷ Comma ∷ Signed signed.Immediate ∷ base)
@@ -149,7 +149,7 @@ spelt (instr.Scalar (ShiftImmediateWord op rd rs1 shamt)) =
     ((shift_immediate_word_entry op).0, Scalar Rd ∷ Comma ∷ Scalar Rs1 ∷ Comma ∷ Unsigned unsigned.ShiftWord ∷ [])
 -- `add rd, rs1, rs2`: RV32I and RV64I, "Integer Register-Register Operations"; M
 spelt (instr.Scalar (RegisterRegister op rd rs1 rs2)) = ((register_entry op).0, Scalar Rd ∷ Comma ∷ Scalar Rs1 ∷ Comma ∷ Scalar Rs2 ∷ [])
--- `fence` alone: RV32I, "Memory Ordering Instructions"
+-- `fence` without operands: RV32I, "Memory Ordering Instructions"
 spelt (instr.Scalar (Fence rd rs1 ordering)) = (codes "fence", [])
 -- `ecall`: RV32I, "Environment Call and Breakpoints"
 spelt (instr.Scalar (System op)) = ((system_entry op).0, [])
@@ -165,7 +165,7 @@ spelt (instr.Vector (SetIvli rd avl vtype)) =
     (codes "vsetivli", Scalar Rd ∷ Comma ∷ Unsigned unsigned.Immediate ∷ Comma ∷ slot.ShortVectorType ∷ [])
 -- `vsetvl rd, rs1, rs2`: V, "Configuration-Setting Instructions"
 spelt (instr.Vector (SetVl rd rs1 rs2)) = (codes "vsetvl", Scalar Rd ∷ Comma ∷ Scalar Rs1 ∷ Comma ∷ Scalar Rs2 ∷ [])
--- `vadd.vv vd, vs2, vs1, vm` and the like: by the operation, above
+-- `vadd.vv vd, vs2, vs1, vm` and the like: the suffix and the slots depend on the operation, above
 spelt (instr.Vector (Arith arith vd vs2 vm)) =
     ((vector_entry arith.0).0 ++ vector_suffix arith.0 (form_of arith.1) vm, arith_slots arith.0 (form_of arith.1) vm)
 -- `vadc.vvm vd, vs2, vs1, v0`: V, "Vector Integer Add-with-Carry / Subtract-with-Borrow Instructions", "Vector Integer
@@ -215,10 +215,10 @@ spelt (instr.Access (WholeStore count vd rs1)) = (codes "vs" ++ hex_digit (regis
 -- `vlm.v vd, (rs1)`: V, "Vector Unit-Stride Instructions"
 spelt (instr.Access (MaskAccess direction vd rs1)) = (direction_letters direction ++ codes "m.v", Vector Rd ∷ Comma ∷ base)
 
--- the name of an instruction, whatever its registers and numbers are
+-- the name of an instruction, which doesn't depend on its registers and numbers
 abbrev pub mnemonic : Instr → List ℕ
 mnemonic i = (spelt i).0
 
--- the slots of its text
+-- the slots of an instruction's text
 abbrev pub slots : Instr → List Slot
 slots i = (spelt i).1

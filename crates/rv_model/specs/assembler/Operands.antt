@@ -1,5 +1,5 @@
--- The operands of each instruction's text by the fields of the instruction: what its slots (`InstructionTexts`, where the manual's sections
--- stand) hold, in their order. Nothing else rests on this: it is for a law
+-- The operands of each instruction's text, from the fields of the instruction: the operands that its slots hold, in order. The slots are in
+-- `InstructionTexts`, with the manual's sections. Only a law uses these definitions.
 use Rattle.std.specs.Prelude.{ℕ, ◌≡◌, ◌==◌, List, [], ◌∷◌, flat_map, Bool, true, false, if◌then◌else◌, IfSome}
 use Rattle.rv_model.specs.instructions.Types.{VectorOp, Source}
 use Rattle.rv_model.specs.instructions.Variants.{Instr, Upper, Jump, JumpRegister, Branch, Load, Store, RegisterImmediate, ShiftImmediate, ShiftImmediateWord, RegisterRegister, Fence, System, Register, Immediate, SetVli, SetIvli, SetVl, Arith, Carry, Move, WholeMove, MaskLogic, Compress, MaskToScalar, Extend, MaskUnary, ElementIndex, MoveToScalar, MoveToVector, UnitStride, Strided, Indexed, WholeLoad, WholeStore, MaskAccess}
@@ -15,24 +15,24 @@ use Rattle.rv_model.specs.assembler.Slots.{scale}
 use Rattle.rv_model.specs.assembler.Fields.{value_of, bit_count}
 use Rattle.rv_model.specs.assembler.InstructionTexts.{slots}
 
--- an operand of a text, with what it is in the instruction
+-- an operand of a text, with its value in the instruction
 pub data TextOperand : Type 0 where
   -- `x` and the number of a scalar register
   X : ℕ → TextOperand
   -- `v` and the number of a vector register
   V : ℕ → TextOperand
-  -- an unsigned number of so many bits
+  -- the width in bits and the value of an unsigned number
   Unsigned : ℕ → ℕ → TextOperand
-  -- a whole number of steps of a size, counted in two's complement of so many bits
+  -- the step, and the width in bits and the value of the number of steps, in two's complement
   Signed : ℕ → ℕ → ℕ → TextOperand
   -- a control register, by its name or its number
   ControlRegister : ℕ → TextOperand
-  -- vtype, by the names of its parts or as a number of so many bits
+  -- the width in bits and the value of vtype, which is written by the names of its fields or as a number
   VType : ℕ → ℕ → TextOperand
-  -- `, v0.t`, or nothing where the instruction is not masked
+  -- `, v0.t`, or nothing if the instruction is not masked
   Mask : Bool → TextOperand
 
--- ---- vector operations with a line in "Vector Instruction Listing"
+-- ---- vector operations with a row in "Vector Instruction Listing"
 
 abbrev pub second : Bool → Source → TextOperand
 second is_unsigned (source.V vs1) = V vs1
@@ -59,7 +59,7 @@ arith_operands (vector_op.WidenMultiplyAdd op) source vd vs2 vm = multiply_add_o
 arith_operands (vector_op.Permute op) source vd vs2 vm = usual_operands true source vd vs2 vm
 arith_operands _ source vd vs2 vm = usual_operands false source vd vs2 vm
 
--- ---- every instruction, a line a layout
+-- ---- every instruction, one equation for each layout
 
 abbrev pub text_operands : Instr → List TextOperand
 text_operands (instr.Scalar (Upper op rd imm)) = X rd ∷ Unsigned 20 imm ∷ []
@@ -98,9 +98,9 @@ text_operands (instr.Access (WholeLoad count width vd rs1)) = V vd ∷ X rs1 ∷
 text_operands (instr.Access (WholeStore count vd rs1)) = V vd ∷ X rs1 ∷ []
 text_operands (instr.Access (MaskAccess op vd rs1)) = V vd ∷ X rs1 ∷ []
 
--- ---- the slots hold them
+-- ---- the law that the slots hold these operands
 
--- the operand that a slot has in a word; a mark between operands has none
+-- the operand that a slot has in a word; punctuation has none
 abbrev pub operand_in : ℕ → Slot → List TextOperand
 operand_in word (slot.Scalar place) = X (value_of (slot.Scalar place) word) ∷ []
 operand_in word (slot.Vector place) = V (value_of (slot.Vector place) word) ∷ []
@@ -112,6 +112,6 @@ operand_in word slot.ShortVectorType = VType 10 (value_of slot.ShortVectorType w
 operand_in word slot.Mask = Mask (value_of slot.Mask word == 1) ∷ []
 operand_in word _ = []
 
--- the slots of the instruction that a word is hold its fields
+-- The slots of a word's instruction hold the instruction's fields.
 abbrev pub SlotsHoldOperands : Type 0
 SlotsHoldOperands = (word : ℕ) → IfSome (scan table word) (λ i. flat_map (operand_in word) (slots i) ≡ text_operands i)

@@ -1,6 +1,5 @@
--- What the slots of a form take from the tokens, and the one text that each prints for an operand (V extension, "Vector Masking",
--- "Configuration-Setting Instructions"; the ranges are those of the fields). That vtype has names exactly where no bit is
--- reserved is this project's choice
+-- The value that a slot reads from the tokens, and the one text that it prints for an operand (V extension, "Vector Masking",
+-- "Configuration-Setting Instructions"; the ranges are those of the fields). This project prints vtype by names only if no bit is reserved.
 use Rattle.std.specs.Prelude.{ℕ, ◌+◌, ◌-◌, ◌*◌, ◌/◌, ◌%◌, ◌^◌, List, [], ◌∷◌, ◌++◌, Option, Some, option_map, Result, Ok, Err, nat_lt, ◌==◌, if◌then◌else◌, codes, decimal}
 use Rattle.std.specs.Option.{ok_or, option_map_or}
 use Rattle.std.specs.Str.{bytes_eq}
@@ -17,26 +16,26 @@ use Rattle.rv_model.specs.declared.assembler.forms.SignedField.TheVariants as si
 use Rattle.rv_model.specs.declared.assembler.forms.Slot.{Slot}
 use Rattle.rv_model.specs.declared.assembler.forms.Slot.TheVariants.{Comma, Open, Close, V0, Scalar, Vector, Unsigned, Signed, Csr, VectorType, ShortVectorType, Mask, Word}
 
--- what follows, if there is no refusal
+-- sequential composition: apply f to the result, unless it is a refusal
 infixl 10 ◌>>=◌
 abbrev pub ◌>>=◌ : {A B : Type 0} → Result A ℕ → (A → Result B ℕ) → Result B ℕ
 (Ok x) >>= f = f x
 (Err e) >>= f = Err e
 
--- the value and the tokens left if the token fits, else its column
+-- the value and the remaining tokens, if the token has a value; otherwise the token's column
 abbrev pub accept : ℕ → List Token → Option ℕ → Result (ℕ × List Token) ℕ
 accept column ts value = ok_or (option_map (λ v. (v, ts)) value) column
 
--- one token with this meaning; end is the column past the text
+-- the value of one token; `end` is the column past the end of the text
 abbrev pub one : ℕ → (List ℕ → Option ℕ) → List Token → Result (ℕ × List Token) ℕ
 one end f [] = Err end
 one end f (t ∷ ts) = accept t.column ts (f t.text)
 
--- how many values of a signed field are below 0
+-- the number of negative values of a signed field
 abbrev pub half : SignedField → ℕ
 half field = 2 ^ (bit_count (Signed field) - 1)
 
--- the number that one stands for in a signed field: distances are counted in steps of two bytes
+-- the bytes in one unit of a signed field: distances are counted in units of two bytes
 abbrev pub scale : SignedField → ℕ
 scale signed.Branch = 2
 scale signed.Jump = 2
@@ -49,12 +48,12 @@ signed_number end size count (t ∷ ts) =
     if bytes_eq t.text (codes "-") then one end (λ text. negated count (in_steps size (at_most (size * count) (number text)))) ts
     else accept t.column ts (in_steps size (at_most (size * count - 1) (number t.text)))
 
--- `, v0.t` gives 0, the end of the text 1
+-- 0 for `, v0.t`, 1 at the end of the text
 abbrev pub read_mask : ℕ → List Token → Result (ℕ × List Token) ℕ
 read_mask end [] = Ok (1, [])
 read_mask end (t ∷ ts) = if bytes_eq t.text (codes ",") then one end (literal (codes "v0.t")) ts else Err t.column
 
--- the names of vtype's parts behind the first: vlmul, tail and mask
+-- the names of vtype's fields after the first: vlmul, tail and mask
 unfoldable pub vtype_names : ℕ → ℕ → List Token → Result (ℕ × List Token) ℕ
 vtype_names end width ts = do
   a ← one end (literal (codes ",")) ts
@@ -65,14 +64,14 @@ vtype_names end width ts = do
   inactive ← one end (λ text. option_map flag_bit (with_name mask_name policies text)) c.1
   Ok (multiplier.0 + width * 8 + tail.0 * 64 + inactive.0 * 128, inactive.1)
 
--- vtype, by its names if the first token is an element width, else that token as a number below count
+-- vtype by its names if the first token is an element width; otherwise this token as a number below `count`
 abbrev pub vtype : ℕ → ℕ → List Token → Result (ℕ × List Token) ℕ
 vtype end count [] = Err end
 vtype end count (t ∷ ts) =
     option_map_or (λ width. vtype_names end width ts) (option_map sew_number (with_name sew_name sews t.text))
     (accept t.column ts (at_most (count - 1) (number t.text)))
 
--- the value that a slot takes from the tokens, and the tokens left; or the column of the first that doesn't fit
+-- the value that a slot reads from the tokens, and the remaining tokens; or the column of the first token that doesn't fit
 abbrev pub read : ℕ → Slot → List Token → Result (ℕ × List Token) ℕ
 read end Comma ts = one end (literal (codes ",")) ts
 read end Open ts = one end (literal (codes "(")) ts
@@ -88,17 +87,17 @@ read end ShortVectorType ts = vtype end 1024 ts
 read end Mask ts = read_mask end ts
 read end Word ts = one end (λ text. at_most (2 ^ 32 - 1) (number text)) ts
 
--- a signed number of steps
+-- a signed number, in units of `size` bytes
 abbrev pub signed_text : ℕ → ℕ → ℕ → List ℕ
 signed_text size count v = if nat_lt v count then decimal (size * v) else codes "-" ++ decimal (size * (2 * count - v))
 
--- vtype by the names of its parts, where neither vsew nor vlmul is reserved; else as a number
+-- vtype by the names of its fields if neither vsew nor vlmul is reserved, otherwise as a number
 abbrev pub vtype_named : Option Sew → Option Lmul → ℕ → List ℕ
 vtype_named (Some sew) (Some lmul) v =
     sew_name sew ++ codes ", " ++ lmul_name lmul ++ codes ", " ++ tail_name (v / 64 % 2 == 1) ++ codes ", " ++ mask_name (v / 128 % 2 == 1)
 vtype_named _ _ v = decimal v
 
--- vtype by names where it has them and no bit from 8 up is set, else as a number
+-- vtype by names if it has names and no bit from 8 up is set, otherwise as a number
 abbrev pub vtype_text : ℕ → List ℕ
 vtype_text v = if nat_lt v 256 then vtype_named (sew_with_number (v / 8 % 8)) (lmul_with_number (v % 8)) v else decimal v
 
