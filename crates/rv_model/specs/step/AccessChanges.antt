@@ -24,7 +24,7 @@ body_transfers a s =
 abbrev pub covers_register : VectorAccess → ℕ → Transfer → Bool
 covers_register a k t = is_within (element_start a t) t.size k
 
--- whether it covers the byte at an address
+-- whether a transfer covers the byte at an address
 abbrev pub covers : ℕ → ℕ → TransferKind → Bool
 covers x size (Moved address) = is_within address size x
 covers x size Ones = false
@@ -32,7 +32,7 @@ covers x size Ones = false
 abbrev pub covers_memory : ℕ → Transfer → Bool
 covers_memory x t = covers x t.size t.kind
 
--- ---- the tails that a load makes all ones
+-- ---- the tails that a load fills with ones
 
 -- whether a byte of the register file belongs to the tail of a field
 abbrev pub is_tail : GroupType → VectorAccess → ℕ → ℕ → Bool
@@ -40,27 +40,27 @@ is_tail g a k field =
     let from = VLENB * (a.register + field * registers g.emul) in
     is_within from (VLENB * registers g.emul) k && nat_le a.body.end ((k - from) / width_bytes g.width)
 
--- a byte belongs to the tail of no field, or no tails of this type are filled
+-- A byte belongs to the tail of no field; with None, the load fills no tails.
 abbrev pub MissesTails : Option GroupType → VectorAccess → ℕ → Type 0
 MissesTails None a k = ⊤
 MissesTails (Some g) a k = (field : ℕ) → field < a.fields → is_tail g a k field ≡ false
 
--- ---- what stays
+-- ---- the law
 
--- The registers `file` and the memory `m` after a load: it changes no memory, and no byte of the registers that none of its transfers covers
--- and that belongs to no tail that it fills.
+-- The registers `file` and the memory `m` after a load. The load preserves the memory, and each byte of the registers that none of its
+-- transfers covers and that belongs to no tail that it fills.
 pub record LoadKeeps (i : AccessInstr) (a : VectorAccess) (s : HartState) (file : List ℕ) (m : Memory) : Type 0 where
   pub memory : m ≡ s.memory
   pub size : length file ≡ length s.vector.file
   pub registers : (k : ℕ) → All (λ t. covers_register a k t ≡ false) (body_transfers a s) → MissesTails (filled_type i a s) a k
       → slice_index file k ≡ slice_index s.vector.file k
 
--- The same after a store: it changes no vector register, and no byte of memory that none of its transfers covers.
+-- The same after a store. It preserves the vector registers, and each byte of memory that none of its transfers covers.
 pub record StoreKeeps (a : VectorAccess) (s : HartState) (file : List ℕ) (m : Memory) : Type 0 where
   pub registers : file ≡ s.vector.file
   pub memory : (x : ℕ) → All (λ t. covers_memory x t ≡ false) (body_transfers a s) → memory_byte m x ≡ memory_byte s.memory x
 
--- The same after one that needs a vector type and has none.
+-- The same after an access that needs a vector type when there is none: it changes nothing.
 pub record BothStay (s : HartState) (file : List ℕ) (m : Memory) : Type 0 where
   pub registers : file ≡ s.vector.file
   pub memory : m ≡ s.memory
@@ -73,8 +73,8 @@ abbrev pub AccessKeeps : AccessInstr → Option VectorAccess → HartState → L
 AccessKeeps i None s file m = BothStay s file m
 AccessKeeps i (Some a) s file m = DirectionKeeps a.direction i a s file m
 
--- A step whose instruction is a vector load or store changes no byte of the vector registers or of memory outside its transfers and the tails
--- that it fills, whether it retires, faults, is cut, or is illegal.
+-- A step whose instruction is a vector load or store changes no byte of the vector registers or of memory outside its transfers and the
+-- tails that it fills. This holds whether it retires, faults, is cut, or is illegal.
 abbrev pub AccessesKeepOthers : Type 0
 AccessesKeepOthers = (limit : ℕ) (i : AccessInstr) (s : HartState) → length s.vector.file ≡ FILE_BYTES
     → fetched s.memory s.scalar.pc ≡ Some (instr.Access i)

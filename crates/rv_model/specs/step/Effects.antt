@@ -1,4 +1,4 @@
--- Laws of one instruction, whichever it is.
+-- Laws of every instruction.
 use Rattle.std.specs.Prelude.{ℕ, ◌≡◌, ◌≤◌, List, ◌++◌, length}
 use Rattle.rv_model.specs.declared.step.step_end.Cause.{Cause}
 use Rattle.rv_model.specs.declared.step.step_end.StepEnd.TheVariants.{Fault}
@@ -15,26 +15,26 @@ abbrev pub FaultsWriteNoRegister : Type 0
 FaultsWriteNoRegister = (limit : ℕ) (s : HartState) (cause : Cause) (pc value : ℕ)
     → (step limit s).end ≡ Fault cause pc value → (step limit s).state.scalar ≡ s.scalar
 
--- No instruction changes what x0 reads.
+-- No instruction changes the value that x0 reads.
 abbrev pub FirstRegisterStays : Type 0
 FirstRegisterStays = (limit : ℕ) (s : HartState) → read_register (step limit s).state.scalar 0 ≡ read_register s.scalar 0
 
--- what is put out: something is added to the output buffer, or nothing, and the buffer has room for it
+-- The output of a step: it appends bytes to the output buffer, possibly none, and the buffer has room for them.
 pub record PutsOut (old new : List ℕ) : Type 0 where
   pub more : List ℕ
   pub added : new ≡ old ++ more
   pub fits : length more ≤ output_room old
 
--- No instruction takes back what was put out, and none puts out more than there is room for.
+-- No instruction removes output, and none writes more output than there is room for.
 abbrev pub OutputGrowsWithin : Type 0
 OutputGrowsWithin = (limit : ℕ) (s : HartState) → PutsOut s.output (step limit s).state.output
 
--- Every instruction that finds a vector length that is one of the vector type leaves one that is.
+-- If the vector length is valid for the vector type before an instruction, it is valid after it.
 abbrev pub StepKeepsConfiguration : Type 0
 StepKeepsConfiguration =
     (limit : ℕ) (s : HartState) → IsConfiguration s.vector.conf → IsConfiguration (step limit s).state.vector.conf
 
--- No instruction changes what is allowed at an address, so none maps an address.
+-- No instruction changes the permissions of an address, so none maps an address.
 abbrev pub StepKeepsPermissions : Type 0
 StepKeepsPermissions = (access : Access) (limit : ℕ) (s : HartState) (x : ℕ)
     → can_access_byte access (step limit s).state.memory x ≡ can_access_byte access s.memory x

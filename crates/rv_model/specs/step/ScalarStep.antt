@@ -1,4 +1,4 @@
--- One scalar instruction, carried out (Unprivileged ISA 20191213, chapters 2, 5, 7 and 9).
+-- The execution of one scalar instruction (Unprivileged ISA 20191213, chapters 2, 5, 7 and 9).
 use Rattle.std.specs.Prelude.{ℕ, ◌%◌, ◌==◌, ◌&&◌, ◌||◌, Bool, Option, Some, None, if◌then◌else◌}
 use Rattle.std.specs.Int.{byte_len, to_le_bytes, w64}
 use Rattle.rv_model.specs.declared.vector.control_register.ControlRegister.{ControlRegister}
@@ -25,13 +25,13 @@ use Rattle.rv_model.specs.scalar.Registers.{read_register, with_register}
 use Rattle.rv_model.specs.step.WriteCall.{call_fails, write_call}
 use Rattle.rv_model.specs.vector.Control.{control_value, csr_form, with_control, written_value, is_write}
 
--- the program goes on at a target, with these registers, unless no instruction may stand there: that is at multiples of 4
+-- continue at a target with these registers; fault if the target isn't a multiple of 4
 abbrev pub jumps : ℕ → Scalar → HartState → Stepped
 jumps target scalar s =
     if target % 4 == 0 then ends Ran (record s { scalar = record scalar { pc = target } })
     else faults MisalignedTarget target s
 
--- a jump, which leaves in a register the address of the instruction that follows it
+-- a jump, which writes the address of the following instruction to a register
 abbrev pub jump_step : ℕ → ℕ → HartState → Stepped
 jump_step rd target s = jumps target (with_register rd (sum w64 s.scalar.pc 4) s.scalar) s
 
@@ -39,22 +39,22 @@ jump_step rd target s = jumps target (with_register rd (sum w64 s.scalar.pc 4) s
 abbrev pub branch_step : Bool → ℕ → HartState → Stepped
 branch_step taken target s = if taken then jumps target s.scalar s else retires s.scalar s
 
--- a load, which is refused where one of its bytes may not be read
+-- a load, which faults if one of its bytes may not be read
 abbrev pub load_step : LoadOp → ℕ → ℕ → HartState → Stepped
 load_step op rd addr s =
     if can_access access.Load s.memory addr (byte_len (load_width op))
     then gives rd (extended op (number_at (load_width op) s.memory addr)) s
     else faults LoadAccess addr s
 
--- a store of the lowest bytes of a number, which is refused where one of them may not be written
+-- a store of the lowest bytes of a number, which faults if one of its bytes may not be written
 abbrev pub store_step : StoreOp → ℕ → ℕ → HartState → Stepped
 store_step op addr value s =
     if can_access access.Store s.memory addr (byte_len (store_width op))
     then retires s.scalar (record s { memory = put_bytes s.memory addr (to_le_bytes (store_width op) value) })
     else faults StoreAccess addr s
 
--- an access of a control register, by the number of the register or of the immediate that is the operand: illegal where there
--- is no such register, or where it is written and may not be
+-- An access of a control register. `source` is the register number or the immediate of the operand, and `operand` its value. The access is
+-- illegal if there is no such control register, or if it writes a read-only one.
 abbrev pub csr_step : Option ControlRegister → CsrOp → ℕ → ℕ → ℕ → ℕ → HartState → Stepped
 csr_step None op rd source operand word s = faults IllegalInstruction word s
 csr_step (Some register) op rd source operand word s =
@@ -63,7 +63,7 @@ csr_step (Some register) op rd source operand word s =
     else if is_write op source then gives rd value (record s { vector = with_control register (written_value op value operand) s.vector })
     else gives rd value s
 
--- ECALL by the number in a7, as in Linux: 93 and 94 exit with a0 modulo 256, 64 writes, and there is no other call (error 38)
+-- ECALL, by the call number in a7, as in Linux: 93 and 94 exit with a0 modulo 256, 64 writes, and any other number fails with error 38
 unfoldable pub environment_call : HartState → Stepped
 environment_call s =
     let number = read_register s.scalar 17 in
@@ -71,13 +71,13 @@ environment_call s =
     else if number == 64 then write_call s
     else call_fails 38 s
 
--- an operation of a register and a number, to a register
+-- an operation on a register and a number, which writes its result to a register
 abbrev pub operates : RegisterOp → ℕ → ℕ → ℕ → HartState → Stepped
 operates op rd rs1 number s = gives rd (register_op_value op (read_register s.scalar rs1) number) s
 
 -- ---- each instruction
 
--- those of RV64I and of its extension M. Addresses are modulo 2 ^ 64; EBREAK stops the program where it stands.
+-- Instructions of RV64I and of its extension M. Addresses are modulo 2 ^ 64; EBREAK stops the program at its own address.
 abbrev pub scalar_step : ScalarInstr → HartState → Stepped
 scalar_step (Upper op rd imm) s = gives rd (upper_value op s.scalar.pc imm) s
 scalar_step (Jump rd imm) s = jump_step rd (sum w64 s.scalar.pc (j_immediate imm)) s
@@ -95,7 +95,7 @@ scalar_step (Fence rd rs1 ordering) s = retires s.scalar s
 scalar_step (System system.Ecall) s = environment_call s
 scalar_step (System system.Ebreak) s = ends Ebreak s
 
--- those that read and write a control register, by the word that each is
+-- instructions that read and write a control register; `word` is the instruction's word
 abbrev pub csr_executed : CsrInstr → ℕ → HartState → Stepped
 csr_executed (Register op rd rs1 csr) word s = csr_step (control_register csr) op rd rs1 (read_register s.scalar rs1) word s
 csr_executed (Immediate op rd imm csr) word s = csr_step (control_register csr) (csr_form op) rd imm imm word s

@@ -1,5 +1,5 @@
--- The scalar register that an instruction writes (Unprivileged ISA 20191213, chapters 2, 5, 7 and 9); x0, which never changes, where it writes
--- none.
+-- The scalar register that an instruction writes (Unprivileged ISA 20191213, chapters 2, 5, 7 and 9). An instruction that writes none has
+-- the target x0, which never changes.
 use Rattle.std.specs.Prelude.{ℕ, ◌≡◌, Option}
 use Rattle.std.specs.Option.{option_map_or}
 use Rattle.rv_model.specs.declared.instructions.csr.CsrInstr.TheVariants as csr
@@ -17,7 +17,7 @@ use Rattle.rv_model.specs.scalar.Registers.{with_register}
 use Rattle.rv_model.specs.step.Hart.{HartState}
 use Rattle.rv_model.specs.step.Step.{step, word_at}
 
--- a0, which holds the result of a system call; EBREAK has none
+-- a0, which holds the result of a system call; x0 for EBREAK, which has no result
 abbrev pub target_of_system : SystemOp → ℕ
 target_of_system system.Ecall = 10
 target_of_system system.Ebreak = 0
@@ -52,7 +52,7 @@ scalar_target (instr.Csr (csr.Immediate op rd imm number)) = rd
 scalar_target (instr.Vector i) = target_of_vector i
 scalar_target (instr.Access i) = 0
 
--- the target of a word that may be no instruction
+-- the target of an optional instruction; x0 if there is none
 abbrev pub target_of : Option Instr → ℕ
 target_of o = option_map_or scalar_target o 0
 
@@ -60,12 +60,12 @@ target_of o = option_map_or scalar_target o 0
 abbrev pub target_at : HartState → ℕ
 target_at s = target_of (scan table (word_at s.memory s.scalar.pc))
 
--- At most one register has a new value, and the program counter may have one.
+-- At most one register and the program counter have new values.
 pub record Wrote (register : ℕ) (old new : Scalar) : Type 0 where
   pub value : ℕ
   pub pc : ℕ
   pub is : new ≡ record (with_register register value old) { pc = pc }
 
--- A step writes no scalar register but the target of its instruction, and the program counter.
+-- A step writes no scalar register except the target of its instruction, and the program counter.
 abbrev pub WritesTarget : Type 0
 WritesTarget = (limit : ℕ) (s : HartState) → Wrote (target_at s) s.scalar (step limit s).state.scalar
