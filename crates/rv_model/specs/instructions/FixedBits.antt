@@ -1,5 +1,5 @@
--- Bit fields of a word of 32 bits, and the word as its fixed bits and its operands' fields; and the entry of each operation in the
--- manual's tables: its name, and the bits that it fixes in its word: opcode at bits 6 to 0, funct3 at 14 to 12, funct7 at 31 to 25
+-- Bit fields of a 32-bit word, and a word as its fixed bits and its operands' fields. The entry of each operation in the manual's tables is
+-- its name and the bits that it fixes: opcode in bits 6 to 0, funct3 in bits 14 to 12, funct7 in bits 31 to 25.
 use Rattle.std.specs.Prelude.{ℕ, ◌+◌, ◌-◌, ◌*◌, ◌/◌, ◌%◌, ◌^◌, List, [], ◌∷◌, Bool, true, false, nat_eq, codes}
 use Rattle.rv_model.specs.instructions.Types.{UpperOp, BranchOp, LoadOp, StoreOp, ImmediateOp, ShiftImmediateOp, ShiftImmediateWordOp, RegisterOp, SystemOp, CsrOp, CsrImmediateOp, MaskLogicOp, MaskToScalarOp, ExtendOp, MaskUnaryOp, Eew, UnitOp, Direction, Order, RegisterCount}
 use Rattle.rv_model.specs.declared.instructions.operations.UpperOp.TheVariants as upper
@@ -28,36 +28,36 @@ use Rattle.rv_model.specs.declared.instructions.operations.RegisterCount.TheVari
 abbrev pub field : ℕ → ℕ → ℕ → ℕ
 field low len word = word / 2 ^ low % 2 ^ len
 
--- bit 25, which says that a vector instruction is not masked
+-- bit 25, which is set if a vector instruction is not masked
 abbrev pub flag : ℕ → Bool
 flag word = nat_eq (field 25 1 word) 1
 
--- that bit
+-- the value of bit 25
 abbrev pub flag_bit : Bool → ℕ
 flag_bit true = 1
 flag_bit false = 0
 
--- an operand, or a piece of one, with its place
+-- an operand or a piece of one, with its lowest bit and its width in bits
 pub record Part : Type 0 where
   pub low : ℕ
   pub len : ℕ
   pub value : ℕ
 
--- len bits from bit low up that hold a value
+-- a value in the len bits from bit low up
 abbrev pub part : ℕ → ℕ → ℕ → Part
 part low len value = record { low = low; len = len; value = value }
 
--- the word of a code and its parts
+-- the word with the fixed bits `code` and these parts
 abbrev pub sum_of : ℕ → List Part → ℕ
 sum_of code [] = code
 sum_of code (p ∷ ps) = sum_of code ps + p.value * 2 ^ p.low
 
--- a mask, with ones at the parts' places too
+-- a mask, with ones added at the bits of the parts
 abbrev pub mask_of : ℕ → List Part → ℕ
 mask_of m [] = m
 mask_of m (p ∷ ps) = mask_of m ps + (2 ^ (p.len + p.low) - 2 ^ p.low)
 
--- ones where no part stands
+-- ones at the bits outside the parts
 abbrev pub fixed : List Part → ℕ
 fixed ps = 2 ^ 32 - 1 - mask_of 0 ps
 
@@ -69,7 +69,7 @@ coded opcode funct3 = opcode + funct3 * 2 ^ 12
 abbrev pub register_coded : ℕ → ℕ → ℕ → ℕ
 register_coded opcode funct3 funct7 = coded opcode funct3 + funct7 * 2 ^ 25
 
--- a vector operation with its place in the opcode map, whether it is fixed as not masked, and what stands at vs1
+-- the fixed bits of a vector operation: funct3, funct6, bit 25 if it must be set, and vs1
 abbrev pub vector_coded : ℕ → ℕ → ℕ → ℕ → ℕ
 vector_coded funct3 funct6 unmasked vs1 = coded 0x57 funct3 + funct6 * 2 ^ 26 + unmasked * 2 ^ 25 + vs1 * 2 ^ 15
 
@@ -178,8 +178,8 @@ csr_immediate_entry csr_immediate.Csrrwi = (codes "csrrwi", coded 0x73 5)
 csr_immediate_entry csr_immediate.Csrrsi = (codes "csrrsi", coded 0x73 6)
 csr_immediate_entry csr_immediate.Csrrci = (codes "csrrci", coded 0x73 7)
 
--- ---- vector operations with fewer operands (V extension, "Vector Instruction Listing"): funct3, funct6, bit 25
--- where it is fixed, vs1 where it is
+-- ---- vector operations with fewer operands (V extension, "Vector Instruction Listing"): funct3, funct6, and bit 25 and vs1 if they are
+-- fixed
 
 -- "Vector Mask-Register Logical Instructions"
 abbrev pub mask_logic_entry : MaskLogicOp → List ℕ × ℕ
@@ -228,18 +228,18 @@ abbrev pub direction_bits : Direction → ℕ
 direction_bits direction.Load = 0x07
 direction_bits direction.Store = 0x27
 
--- unit stride, by what stands at lumop or sumop (bits 24 to 20)
+-- the bits of a unit-stride access, with lumop or sumop (bits 24 to 20)
 abbrev pub unit_bits : UnitOp → ℕ
 unit_bits unit.Load = direction_bits direction.Load  -- vle8.v, vlseg2e8.v and the like
 unit_bits unit.FaultOnlyFirst = direction_bits direction.Load + 16 * 2 ^ 20  -- vle8ff.v, vlseg2e8ff.v
 unit_bits unit.Store = direction_bits direction.Store  -- vse8.v, vsseg2e8.v
 
--- mop of an indexed access
+-- the bits of an indexed access, with mop (bits 27 and 26)
 abbrev pub order_bits : Order → ℕ
 order_bits order.Unordered = 1 * 2 ^ 26  -- vluxei8.v, vsuxei8.v, vluxseg2ei8.v, vsuxseg2ei8.v and the like
 order_bits order.Ordered = 3 * 2 ^ 26  -- vloxei8.v, vsoxei8.v, vloxseg2ei8.v, vsoxseg2ei8.v
 
--- one less than the count, as a move of whole registers has it at vs1, and a load or store at nf
+-- the number of registers less 1, as in vs1 of a whole-register move and in nf of a whole-register load or store
 abbrev pub one_less : RegisterCount → ℕ
 one_less count.One = 0
 one_less count.Two = 1

@@ -1,6 +1,6 @@
--- The lines of the manual's table of vector operations (V extension, "Vector Instruction Listing"): the name, the half of the
--- opcode map, funct6 and the forms, each operation once; and the second operand: its form, and the five bits 19 to 15 that hold it (V
--- extension, "Vector Arithmetic Instruction encoding")
+-- The rows of the manual's table of vector operations (V extension, "Vector Instruction Listing"), with each operation once: its name, half
+-- of the opcode map, funct6 and forms. Also the second operand: its form, and bits 19 to 15, which hold it (V extension, "Vector Arithmetic
+-- Instruction encoding").
 use Rattle.std.specs.Prelude.{ℕ, ◌+◌, ◌*◌, ◌^◌, Bool, true, false, List, [], ◌∷◌, map, ◌++◌, codes}
 use Rattle.rv_model.specs.instructions.Types.{Form, Source, Line, Major, Forms, VectorOp, CarryOp}
 use Rattle.rv_model.specs.declared.instructions.operations.Form.TheVariants as form
@@ -24,13 +24,13 @@ use Rattle.rv_model.specs.declared.instructions.operations.WidenReduceOp.TheVari
 use Rattle.rv_model.specs.declared.instructions.operations.PermuteOp.TheVariants.{Vrgather, Vrgatherei16, Vslideup, Vslidedown, Vslide1up, Vslide1down}
 use Rattle.rv_model.specs.declared.instructions.operations.CarryOp.TheVariants.{Vadc, Vsbc, Vmerge}
 
--- where the operand comes from
+-- the form of an operand
 abbrev pub form_of : Source → Form
 form_of (source.V r) = form.V
 form_of (source.X r) = form.X
 form_of (source.I n) = form.I
 
--- the five bits: a register's number, or an immediate without its sign
+-- the five bits of an operand: a register number, or an immediate before sign extension
 abbrev pub source_number : Source → ℕ
 source_number (source.V r) = r
 source_number (source.X r) = r
@@ -42,15 +42,15 @@ source_of form.V n = source.V n
 source_of form.X n = source.X n
 source_of form.I n = source.I n
 
--- a line of OPIVV, OPIVX and OPIVI, and the name without what stands behind the dot
+-- a row of OPIVV, OPIVX and OPIVI, with the name up to the dot
 abbrev pub opi : List ℕ → ℕ → Forms → List ℕ × Line
 opi name funct6 forms = (name, record { major = Opi; funct6 = funct6; forms = forms })
 
--- a line of OPMVV and OPMVX, and the name
+-- a row of OPMVV and OPMVX, with the name up to the dot
 abbrev pub opm : List ℕ → ℕ → Forms → List ℕ × Line
 opm name funct6 forms = (name, record { major = Opm; funct6 = funct6; forms = forms })
 
--- whether a form is one of these
+-- whether a form is one of these forms
 abbrev pub has_form : Forms → Form → Bool
 has_form V form.V = true
 has_form X form.X = true
@@ -61,7 +61,7 @@ has_form Xi form.I = true
 has_form Vxi f = true
 has_form _ f = false
 
--- the entry of each operation that may be masked: its name, and its line
+-- the entry of each operation that may be masked: its name and its row
 abbrev pub vector_entry : VectorOp → List ℕ × Line
 -- "Vector Integer Arithmetic Instructions", one width
 vector_entry (Binary Vadd) = opi (codes "vadd") 0x00 Vxi
@@ -158,7 +158,7 @@ vector_entry (Permute Vslidedown) = opi (codes "vslidedown") 0x0f Xi
 vector_entry (Permute Vslide1up) = opm (codes "vslide1up") 0x0e X
 vector_entry (Permute Vslide1down) = opm (codes "vslide1down") 0x0f X
 
--- each of them
+-- all operations that may be masked
 abbrev pub vector_ops : List VectorOp
 vector_ops =
     map Binary (Vadd ∷ Vsub ∷ Vrsub ∷ Vminu ∷ Vmin ∷ Vmaxu ∷ Vmax ∷ Vand ∷ Vor ∷ Vxor ∷ Vsll ∷ Vsrl ∷ Vsra ∷ Vdivu ∷ Vdiv ∷
@@ -182,15 +182,15 @@ carry_entry Vadc = opi (codes "vadc") 0x10 Vxi
 carry_entry Vsbc = opi (codes "vsbc") 0x12 Vx
 carry_entry Vmerge = opi (codes "vmerge") 0x17 Vxi
 
--- the line of an operation
+-- the row of an operation
 abbrev pub line : VectorOp → Line
 line op = (vector_entry op).1
 
 abbrev pub carry_line : CarryOp → Line
 carry_line op = (carry_entry op).1
 
--- opcode and funct3 of a half of the opcode map, by form; where the second half would have an immediate, the configuration-setting
--- instructions stand
+-- opcode and funct3 of a half of the opcode map, by form; instead of an immediate form, the second half has the configuration-setting
+-- instructions
 abbrev pub major_bits : Major → Form → ℕ
 major_bits Opi form.V = coded 0x57 0
 major_bits Opi form.X = coded 0x57 4
@@ -199,6 +199,6 @@ major_bits Opm form.V = coded 0x57 2
 major_bits Opm form.X = coded 0x57 6
 major_bits Opm form.I = coded 0x57 7  -- excluded
 
--- the bits that a line fixes for one of its forms
+-- the bits that a row fixes for one of its forms
 abbrev pub line_bits : Line → Form → ℕ
 line_bits l f = l.funct6 * 2 ^ 26 + major_bits l.major f

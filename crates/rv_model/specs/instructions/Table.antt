@@ -1,6 +1,6 @@
--- The layout of each instruction's word: where its operands stand, and the bits that its operation fixes (Unprivileged ISA, "Base
--- Instruction Formats"; V extension, "Vector Instruction Formats"); and the instruction table: a row for each operation of the manual's
--- tables, with the bits that it fixes and the instruction that a word of the row is, in the order of the tables
+-- The layout of each instruction's word: the bits of its operands, and the bits that its operation fixes (Unprivileged ISA, "Base
+-- Instruction Formats"; V extension, "Vector Instruction Formats"). The instruction table has a row for each operation of the manual's
+-- tables, in their order, with its fixed bits and the instruction of each matching word.
 use Rattle.std.specs.Prelude.{ℕ, ◌+◌, ◌*◌, ◌/◌, ◌%◌, ◌^◌, List, [], ◌∷◌, ◌≡◌, ◌++◌, Contains, filter, flat_map, map, Option, Some, None, nat_eq, bit_and, if◌then◌else◌}
 use Rattle.rv_model.specs.instructions.FixedBits.{flag_bit, Part, part, sum_of, coded, vector_coded, width_bits, direction_bits, unit_bits, order_bits, one_less, count_bits, upper_entry, branch_entry, load_entry, store_entry, immediate_entry, shift_immediate_entry, shift_immediate_word_entry, register_entry, system_entry, csr_entry, csr_immediate_entry, mask_logic_entry, mask_to_scalar_entry, extend_entry, mask_unary_entry, field, flag, fixed}
 use Rattle.rv_model.specs.instructions.Operations.{form_of, source_number, line, carry_line, line_bits, major_bits, source_of, has_form, vector_ops}
@@ -33,7 +33,7 @@ use Rattle.rv_model.specs.declared.instructions.operations.Direction.TheVariants
 use Rattle.rv_model.specs.declared.instructions.operations.Order.TheVariants as order
 use Rattle.rv_model.specs.declared.instructions.operations.Form.TheVariants as form
 
--- what a word holds: the bits that its operation fixes, and its operands, each at its place, from the high bits to the low
+-- the contents of a word: the bits that its operation fixes, and its operands with their positions, from the high bits to the low
 abbrev pub word_with : ℕ → List Part → ℕ × List Part
 word_with bits parts = (bits, parts)
 
@@ -45,7 +45,7 @@ r_type bits rd rs1 rs2 = word_with bits (part 20 5 rs2 ∷ part 15 5 rs1 ∷ par
 abbrev pub i_type : ℕ → ℕ → ℕ → ℕ → ℕ × List Part
 i_type bits rd rs1 imm = word_with bits (part 20 12 imm ∷ part 15 5 rs1 ∷ part 7 5 rd ∷ [])
 
--- the word of each instruction
+-- the layout of each instruction's word
 abbrev pub layout : Instr → ℕ × List Part
 layout (instr.Scalar (Upper op rd imm)) = word_with (upper_entry op).1 (part 12 20 imm ∷ part 7 5 rd ∷ [])
 layout (instr.Scalar (Jump rd imm)) = word_with 0x6f  -- jal
@@ -103,11 +103,11 @@ layout (instr.Access (WholeStore count vd rs1)) = word_with (0x27 + count_bits c
 layout (instr.Access (MaskAccess direction vd rs1)) =
     word_with (direction_bits direction + 11 * 2 ^ 20 + 2 ^ 25) (part 15 5 rs1 ∷ part 7 5 vd ∷ [])  -- vlm.v, vsm.v
 
--- the operands
+-- the operands of an instruction, with their positions
 abbrev pub parts : Instr → List Part
 parts i = (layout i).1
 
--- all other bits
+-- the bits that an instruction fixes
 abbrev pub bits : Instr → ℕ
 bits i = (layout i).0
 
@@ -115,13 +115,13 @@ bits i = (layout i).0
 abbrev pub word_of : Instr → ℕ
 word_of i = sum_of (bits i) (parts i)
 
--- a row: the bits that it fixes, what they are, and the instruction of a word
+-- a row: the mask of the bits that it fixes, their values, and the instruction of a matching word
 pub record Row : Type 0 where
   pub mask : ℕ
   pub bits : ℕ
   pub instr : ℕ → Instr
 
--- the row of the instructions that this makes of words; they all fix the same bits, so that of the word 0 tells them
+-- the row of the instructions that `make` builds from words; all of them fix the same bits, so word 0 determines the row
 abbrev pub row : (ℕ → Instr) → Row
 row make = record { mask = fixed (parts (make 0)); bits = bits (make 0); instr = make }
 
@@ -129,15 +129,15 @@ row make = record { mask = fixed (parts (make 0)); bits = bits (make 0); instr =
 abbrev pub rows_of : {A : Type 0} → List A → (A → ℕ → Instr) → List Row
 rows_of ops make = map (λ op. row (make op)) ops
 
--- the rows for each of these
+-- the rows for each item of a list
 abbrev pub each : {A : Type 0} → List A → (A → List Row) → List Row
 each xs rows = flat_map rows xs
 
--- where the second operand of a vector operation may come from
+-- the forms of the second operand of a vector operation
 abbrev pub forms : List Form
 forms = form.V ∷ form.X ∷ form.I ∷ []
 
--- how many registers an instruction on whole registers may name
+-- the numbers of registers of whole-register instructions
 abbrev pub counts : List RegisterCount
 counts = One ∷ Two ∷ Four ∷ Eight ∷ []
 
@@ -185,7 +185,7 @@ table =
     ++ row (λ w. instr.Vector (SetVli (field 7 5 w) (field 15 5 w) (field 20 11 w))) ∷ []
     ++ row (λ w. instr.Vector (SetIvli (field 7 5 w) (field 15 5 w) (field 20 10 w))) ∷ []
     ++ row (λ w. instr.Vector (SetVl (field 7 5 w) (field 15 5 w) (field 20 5 w))) ∷ []
-    -- V, the lines of "Vector Instruction Listing" that may be masked
+    -- V, the rows of "Vector Instruction Listing" that may be masked
     ++ each forms (λ f. rows_of (filter (λ op. has_form (line op).forms f) vector_ops)
     (λ op w. instr.Vector (Arith (op, source_of f (field 15 5 w)) (field 7 5 w) (field 20 5 w) (flag w))))
     -- V, "Vector Integer Add-with-Carry / Subtract-with-Borrow Instructions", "Vector Integer Merge Instructions"
@@ -232,7 +232,7 @@ table =
 abbrev pub Matches : Row → ℕ → Type 0
 Matches r word = bit_and word r.mask ≡ r.bits
 
--- the word is of this row of the table
+-- the word belongs to this row of the table
 abbrev pub IsRow : ℕ → Row → Type 0
 IsRow word r = Contains table r × Matches r word
 

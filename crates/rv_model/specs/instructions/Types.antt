@@ -1,4 +1,4 @@
--- The types of operations and of their operands, which the files of this module and of those above it take from here.
+-- The types of operations and of their operands, for the files of this module and of the modules that depend on it.
 pub use Rattle.rv_model.specs.declared.instructions.source.Source.{Source}
 pub use Rattle.rv_model.specs.declared.instructions.operations.UpperOp.{UpperOp}
 pub use Rattle.rv_model.specs.declared.instructions.operations.BranchOp.{BranchOp}

@@ -1,5 +1,4 @@
--- An instruction and its variants, one for each layout of the operands, which the files of this module and of those above it take
--- from here.
+-- An instruction and its variants, one for each layout of the operands, for the files of this module and of the modules that depend on it.
 pub use Rattle.rv_model.specs.declared.instructions.instruction.Instr.{Instr}
 pub use Rattle.rv_model.specs.declared.instructions.scalar.ScalarInstr.TheVariants.{Upper, Jump, JumpRegister, Branch, Load, Store, RegisterImmediate, ShiftImmediate, ShiftImmediateWord, RegisterRegister, Fence, System}
 pub use Rattle.rv_model.specs.declared.instructions.csr.CsrInstr.TheVariants.{Register, Immediate}
