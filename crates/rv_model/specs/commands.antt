@@ -1,7 +1,11 @@
--- A user's commands, by groups: entering and leaving, memory, registers, programs, breakpoints, running. A group's file defines each of its
--- commands completely: its arguments, refusals, effect and printed lines. `Arguments`, `Reading` and `Printing` come first: the meaning of
--- a token as an argument, the order of arguments, and text that several commands print. The groups follow, in any order. `Commands` then
--- defines the command in a line, and its outcome for any user. `Operator` defines the operator's commands.
+-- The commands of users and of the operator. The module of a group defines each of its commands completely: its arguments, refusals,
+-- effects and output. Modules, in reading order:
+-- `Arguments`: the value of one argument.
+-- `Reading`: how a command reads its arguments in sequence.
+-- `Printing`: the output that several commands share.
+-- `Breakpoints`, `Entering`, `Memory`, `Programs`, `Registers` and `Running`: the groups of commands, in any order.
+-- `Commands`: the command that a line spells, and its effect for any user.
+-- `Operator`: the commands of the operator.
 pub mod Arguments
 pub mod Breakpoints
 pub mod Commands

@@ -1,8 +1,10 @@
--- Elements of vector registers, and the instructions that process them one by one, in reading order. `Elements` defines elements, mask
--- bits, the elements that an instruction changes, and registers with some elements or bits replaced. `Formulas` defines the result of each
--- operation as an integer or a truth value, with `FixedPoint`, `Masks` and `Reductions` for the chapters of these names. `Arithmetic`
--- defines the vector registers after an instruction, and `PermutationResults` those after a permutation. `Bodies` defines the elements that
--- each operation processes.
+-- Elements of vector registers, and the instructions that compute them. Modules, in reading order:
+-- `Elements`: elements, mask bits, the elements that an instruction changes, and replaced elements and bits of registers.
+-- `Formulas`: the result of each element-wise operation, as a whole number or a truth value.
+-- `FixedPoint`, `Masks` and `Reductions`: the same for the manual's chapters of these names.
+-- `Arithmetic`: the vector registers after an arithmetic instruction.
+-- `PermutationResults`: the vector registers after a permutation.
+-- `Bodies`: the body of each operation.
 pub mod Arithmetic
 pub mod Bodies
 pub mod Elements

@@ -1,5 +1,8 @@
--- ELF-64 images. `Fields`: the fields that a loader reads. `Faults`: the faults of an image. `Image`: the memory that an image describes.
--- `ImageCells`: a law of that memory, address by address.
+-- ELF-64 images. Modules, in reading order:
+-- `Fields`: the fields of an image.
+-- `Faults`: the faults that an image can have.
+-- `Image`: the memory that an image describes.
+-- `ImageCells`: a law of this memory, address by address.
 pub mod Faults
 pub mod Fields
 pub mod Image

@@ -1,6 +1,9 @@
--- The instruction table: what each word of 32 bits is. `BitFields` first; then `Operations` and `FixedBits`: the name and the
--- bits of each operation, as the manual's tables have them; then `Sources` and `Immediates`: operands; then `Layout`: where each
--- instruction's operands stand; then `Table`: the rows. `Types` and `Variants` have the types that these files take.
+-- The instruction table, which gives the instruction of each 32-bit word. Modules, in reading order:
+-- `FixedBits`: bit fields, and the name and fixed bits of each operation that isn't in `Operations`.
+-- `Operations`: the operations of the manual's vector instruction table, and their second operand.
+-- `Immediates`: the bits of immediates, and their 64-bit values.
+-- `Table`: the bit positions of each instruction's operands, and the rows of the table.
+-- `Types` and `Variants`: the types that these modules use.
 pub mod FixedBits
 pub mod Immediates
 pub mod Operations

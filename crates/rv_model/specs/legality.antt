@@ -1,5 +1,8 @@
--- Legality of vector instructions. `RegisterOperands`: operands as sets of register numbers, and their legal combinations.
--- `OperandShapes`: the operands of each shape of operation. `Legality`: each instruction. `Types`: the types that these files use.
+-- Legality of vector instructions. Modules, in reading order:
+-- `RegisterOperands`: operands as sets of register numbers, and the overlaps that are allowed.
+-- `OperandShapes`: the operands of each shape of operation.
+-- `Legality`: the legality of each instruction.
+-- `Types`: the types that these modules use.
 pub mod Legality
 pub mod OperandShapes
 pub mod RegisterOperands

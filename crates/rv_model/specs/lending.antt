@@ -1,8 +1,14 @@
--- Definitions that functions of the crates share in their contracts; no other definition depends on them. `GroupBounds`: register groups
--- that end inside the register file. `Writes`: elements and bits that a loop has written so far. `Contiguous`: vector loads and stores of
--- one block of bytes. `Accesses`, `Families`, `ListedBits` and `Search`: for the decoder. `Irregular`: vector instructions outside the
--- funct6 table. `NameTable` and `Slots`: for the assembler. `Text`: arguments and numbers of a line. `Cells` and `Files`: return of bytes
--- that were borrowed for writing. `Seats`: return of a borrowed vector state. `StoredMemory`: a memory as a stored value.
+-- Vocabulary of the contracts between functions of the crates. The other definitions don't depend on these modules:
+-- `GroupBounds`: register groups that end inside the register file.
+-- `Writes`: the elements and bits that are already written.
+-- `Contiguous`: vector loads and stores that move one block of bytes.
+-- `Accesses`, `Families`, `ListedBits` and `Search`: the vocabulary of decoders.
+-- `Irregular`: vector operations without a row of their own in the manual's table.
+-- `NameTable` and `Slots`: the vocabulary of an assembler.
+-- `Text`: tokens and numbers of a line.
+-- `Cells` and `Files`: bytes after a mutable borrow ends.
+-- `Seats`: a vector state after its borrow ends.
+-- `StoredMemory`: a memory as a stored value.
 pub mod Accesses
 pub mod Cells
 pub mod Contiguous

@@ -1,8 +1,17 @@
--- Machines and scripts, in reading order. `Setup`: constants of a run. `UserMachine`: one user's machine, and runs of its instructions.
--- `Cuts`: consecutive slices, and that they add up. `VectorUnit`: the shared vector unit and its counts. `World`: events of one machine,
--- and the machines of all users. `Grants`: the slices that the operator grants. `Script`: the whole output. `Laws`: isolation of the
--- users. `Turns`: fairness of slices in turn. `Refusals`: a refusal changes nothing. `AbsentUsers`: absent users have no state in the
--- vector unit. `ConfiguredUsers`: slices add up after any script. `Examples`: small scripts.
+-- Machines and scripts. Modules, in reading order:
+-- `Setup`: the constants of a run.
+-- `UserMachine`: one user's machine, the effects of commands and slices on it, and runs of instructions.
+-- `Cuts`: consecutive slices, and the law that they add up.
+-- `VectorUnit`: the one vector unit, as it is counted.
+-- `World`: one user's private machine, and the private machines of all users.
+-- `Grants`: the slices that the operator grants.
+-- `Script`: the whole output of a script.
+-- `Laws`: the laws that a user's output depends on that user's machine alone.
+-- `Turns`: the law that slices in turn are fair.
+-- `Refusals`: the law that a refusal changes nothing.
+-- `AbsentUsers`: the law that absent users have no state in the vector unit.
+-- `ConfiguredUsers`: the law that slices add up after any script.
+-- `Examples`: a small script with its output.
 pub mod AbsentUsers
 pub mod ConfiguredUsers
 pub mod Cuts

@@ -1,3 +1,3 @@
--- A user's memory. `Sizes`: pages and their number. `Memory`: the byte and the permissions at each address.
+-- A user's memory. Read `Sizes` first, with the page size and the number of pages, then `Memory`, with the byte at each address.
 pub mod Memory
 pub mod Sizes

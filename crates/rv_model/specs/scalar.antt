@@ -1,4 +1,4 @@
--- Scalar instructions on natural numbers (Unprivileged ISA 20191213). `Registers` comes first; read `Arithmetic`, `ControlTransfer` and
+-- Scalar instructions, as whole numbers (Unprivileged ISA 20191213). Read `Registers` first, then `Arithmetic`, `ControlTransfer` and
 -- `LoadsAndStores` in any order.
 pub mod Arithmetic
 pub mod ControlTransfer

@@ -1,8 +1,13 @@
--- One instruction of one machine. `Hart` first: what instructions work on, and how one ends; then `ScalarStep` and
--- `VectorStep`: an instruction carried out, with `WriteCall` for the call that writes and
--- `MemoryStep` for loads and stores of vectors; then `Step`: fetch, and when the vector unit is used; `Effects` are laws of all of
--- them, `Ticks` of their ticks, and `Resumes` of those that are cut or fault and are made again. `Targets`, `Changes` and `AccessChanges`
--- define the registers, elements and bytes that a step may change, with the laws that it changes no others.
+-- One instruction of one machine. Modules, in reading order:
+-- `Hart`: the state that instructions read and change, and how an instruction ends.
+-- `WriteCall`: the system call that writes.
+-- `ScalarStep`: scalar instructions.
+-- `MemoryStep`: the state after vector loads and stores.
+-- `Step`: vector instructions, the fetch of an instruction, and the use of the vector unit.
+-- `Effects`: laws of all steps.
+-- `Ticks`: laws of the ticks of steps.
+-- `Resumes`: laws of instructions that are cut or fault and run again.
+-- `Targets`, `Changes` and `AccessChanges`: the registers, elements and bytes that a step may change, and laws that it changes no others.
 pub mod AccessChanges
 pub mod Changes
 pub mod Effects

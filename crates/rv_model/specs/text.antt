@@ -1,5 +1,5 @@
--- Text as lines, arguments and numbers. `Lines`: lines, and lines with the tag of a user. `Words`: runs of bytes between spaces.
--- `Digits`: numbers that digits spell.
+-- Text as lines, tokens and numbers. Read `Lines` first, with lines of text and a user's tag, then `Words`, with the runs of bytes between
+-- spaces, then `Digits`, with the number that digits spell.
 pub mod Digits
 pub mod Lines
 pub mod Words

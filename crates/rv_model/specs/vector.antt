@@ -1,6 +1,11 @@
--- The vector state of a machine ("V" Vector Extension 1.0, sections 3 and 6). `Groups`: element widths, register groups, length and type.
--- `State`: the whole state. `RoundingModes`: numbers of the rounding modes. `TypeRules`: results of the vset instructions. `TypeNames`:
--- names of the parts of vtype. `ControlRegisters` and `Control`: the control registers. `Types`: the types that these files use.
+-- The vector state of a machine ("V" Vector Extension 1.0, sections 3 and 6). Modules, in reading order:
+-- `Groups`: element widths, register groups, the vector length and type, and the bytes of registers.
+-- `State`: the whole vector state.
+-- `TypeRules`: the vector length and type after the vset instructions.
+-- `TypeNames`: the names of the fields of vtype.
+-- `RoundingModes`: the numbers of the rounding modes.
+-- `ControlRegisters` and `Control`: the control registers, and their reads and writes.
+-- `Types`: the types that these modules use.
 pub mod Control
 pub mod ControlRegisters
 pub mod Groups
