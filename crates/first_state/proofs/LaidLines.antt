@@ -1,4 +1,4 @@
--- Lines that are laid one after another
+-- Lines that are applied in sequence.
 use Rattle.std.proofs.Common.{◌≡◌, ℕ, ◌+◌, Bool, true, false, List, [], ◌∷◌, Option, Ok, Err, sym, ap, ◌∙◌}
 use Rattle.std.specs.Prelude.{Result, if◌then◌else◌}
 use Rattle.rv_model.specs.step.Hart.{HartState}
@@ -15,12 +15,12 @@ use Rattle.first_state.specs.declared.laying.Lengths.{Lengths}
 use Rattle.first_state.specs.Laid.{after_line, configured, is_configuration, laid, state_with, with_registers}
 use Rattle.first_state.specs.Lines.{line_setting}
 
--- what a line leaves, if it is laid
+-- A valid line changes the state s to t; an invalid line is refused with its number.
 abbrev pub LeavesIf : Bool → List ℕ → HartState → HartState → Type 0
 LeavesIf is_laid line s t = (number : ℕ) (others : HartState → Result HartState ℕ)
     → after_line number (line_setting line) s others ≡ (if is_laid then others t else Err number)
 
--- what is left once a line is laid, or refused
+-- the result after one more line, valid or refused
 pub laid_next : (number : ℕ) (line : List ℕ) (lines rest : List (List ℕ)) (s t : HartState) (is_laid b : Bool) → lines ≡ line ∷ rest
     → LeavesIf is_laid line s t → is_laid ≡ b → laid number lines s ≡ (if b then laid (number + 1) rest t else Err number)
 unfolding laid
@@ -28,28 +28,28 @@ laid_next number line lines rest s t is_laid b e h is =
     ap (λ (ls : List (List ℕ)). laid number ls s) e ∙ h number (laid (number + 1) rest)
     ∙ ap (λ (b : Bool). if b then laid (number + 1) rest t else Err number) is
 
--- no line is left
+-- no lines remain
 pub laid_all : (number : ℕ) (lines : List (List ℕ)) (s : HartState) → lines ≡ [] → laid number lines s ≡ Ok s
 unfolding laid
 laid_all number lines s none = ap (λ (ls : List (List ℕ)). laid number ls s) none
 
--- ---- all lines, and the length and type that they leave
+-- ---- all lines, and the vector length and type after them
 
--- the length and type of a machine, beside it
+-- with the machine's own length and type, `state_with` is the state of the machine
 pub own_lengths : {M : Type 0} (memory : M → Memory) (alone : Alone M) (lengths : Lengths) → lengths.vl ≡ alone.vectors.seat.state.conf.vl
     → lengths.vtype ≡ alone.vectors.seat.state.conf.vtype → state_of memory alone ≡ state_with memory alone lengths
 own_lengths memory alone lengths vl vtype =
     sym (ap (λ (l : ℕ). state_with memory alone (record { vl = l; vtype = lengths.vtype })) vl
     ∙ ap (λ (t : Option VType). state_with memory alone (record { vl = alone.vectors.seat.state.conf.vl; vtype = t })) vtype)
 
--- a length and type that are laid over it
+-- `state_with` is the state of the machine with the configuration of these lengths
 pub lengths_laid : {M : Type 0} (memory : M → Memory) (alone : Alone M) (lengths : Lengths) (conf : Configuration)
     → conf ≡ record { vl = lengths.vl; vtype = lengths.vtype }
     → state_with memory alone lengths ≡ hart_state alone.scalar (record alone.vectors.seat.state { conf = conf }) (memory alone.memory) alone.policy alone.output.items
 lengths_laid memory alone lengths conf is =
     ap (λ (c : Configuration). hart_state alone.scalar (record alone.vectors.seat.state { conf = c }) (memory alone.memory) alone.policy alone.output.items) (sym is)
 
--- a state, if its length is one of its type
+-- a state, or a fault if its length isn't valid for its type
 abbrev the_choice : Bool → HartState → Result HartState RegistersFault
 the_choice b x = if b then Ok x else Err fault.Length
 

@@ -1,4 +1,4 @@
--- What a line of a text gives a register: the register's name and a number in hexadecimal digits, between spaces.
+-- The register that a line of text sets, and its value: the register's name and a number in hexadecimal digits, separated by spaces.
 use Rattle.std.specs.Prelude.{ℕ, ◌==◌, List, [], ◌∷◌, Option, Some, None, if◌then◌else◌, codes, option_map}
 use Rattle.std.specs.Option.{option_and_then}
 use Rattle.rv_model.specs.commands.Arguments.{address, instruction_address, register_bytes, scalar_register, vector_register, within}
@@ -9,15 +9,15 @@ use Rattle.rv_model.specs.vector.TypeRules.{vector_type, vtype_number}
 pub use Rattle.first_state.specs.declared.setting.Setting.{Setting}
 use Rattle.first_state.specs.declared.setting.Setting.TheVariants.{Scalar, Vector, Counter, Length, Kind, Start, Rounding, Saturation}
 
--- a number up to this one
+-- a number of at most `most`
 abbrev pub number_up_to : ℕ → List ℕ → Option ℕ
 number_up_to most word = within 0 most (address word)
 
--- the vector type that `vtype` holds as a number: vill alone, or a supported one
+-- the vector type that a number encodes as in `vtype`: vill alone, or a supported type
 abbrev pub kind_numbered : ℕ → Option Setting
 kind_numbered n = if n == vtype_number None then Some (Kind None) else option_map (λ t. Kind (Some t)) (vector_type n)
 
--- what gives a register with a name of its own its value, by what the value's word may be; no name of these: None
+-- the setting of a register other than x1 to x31 and v0 to v31: None for another name, Some None for an invalid value
 abbrev pub named_setting : List ℕ → List ℕ → Option (Option Setting)
 named_setting name value = meaning_in (
     (codes "pc", option_map Counter (instruction_address value))
@@ -27,7 +27,7 @@ named_setting name value = meaning_in (
     ∷ (codes "vxrm", option_map (λ n. Rounding (rounding_mode n)) (number_up_to 3 value))
     ∷ (codes "vxsat", option_map (λ n. Saturation (n == 1)) (number_up_to 1 value)) ∷ []) name
 
--- the same of x1 to x31 and of v0 to v31, the 32 bytes of which stand with byte 0 first
+-- the same for x1 to x31, and for v0 to v31, whose 32 bytes are given with byte 0 first
 abbrev pub scalar_setting : List ℕ → Option ℕ → Option Setting
 scalar_setting value None = None
 scalar_setting value (Some register) = option_map (Scalar register) (address value)
@@ -36,7 +36,7 @@ abbrev pub vector_setting : List ℕ → Option ℕ → Option Setting
 vector_setting value None = None
 vector_setting value (Some register) = option_map (Vector register) (register_bytes value)
 
--- of any register: None where the name or the value is none
+-- the setting of any register; None if the name or the value is invalid
 abbrev pub first_of : Option Setting → Option Setting → Option Setting
 first_of (Some setting) other = Some setting
 first_of None other = other
@@ -50,7 +50,7 @@ setting_of name value =
     setting_or (named_setting name value)
     (first_of (scalar_setting value (scalar_register name)) (vector_setting value (vector_register name)))
 
--- by the words of a line: no word gives nothing, and any but two are none
+-- the setting from a line's tokens: Some None for an empty line, and None unless there are exactly two tokens
 abbrev pub words_setting : List (List ℕ) → Option (Option Setting)
 words_setting [] = Some None
 words_setting (name ∷ []) = None

@@ -1,4 +1,5 @@
--- What a run begins with: the machine of a user who has entered, and what the monitor's `load` leaves of it or refuses.
+-- The initial state of a run: the machine of a user who has entered, and the state after the monitor's `load` or the fault that prevents
+-- it.
 use Rattle.std.specs.Prelude.{ℕ, nat_lt, List, Option, Some, None, if◌then◌else◌}
 use Rattle.rv_model.specs.commands.Programs.{with_image}
 use Rattle.rv_model.specs.declared.images.ElfFault.{ElfFault}
@@ -12,15 +13,15 @@ use Rattle.rv_model.specs.step.Hart.{HartState}
 use Rattle.first_state.specs.declared.fault.LoadFault.{LoadFault}
 use Rattle.first_state.specs.declared.fault.LoadFault.TheVariants.{Elf, Quota}
 
--- no memory, and all registers 0, under a policy
+-- the state after `enter`: no memory, and all registers 0, under a policy
 abbrev pub entered : Policy → HartState
 entered policy = record initial.hart { policy = policy }
 
--- the memory of an image, at its entry, with x2 as the stack pointer
+-- the state after `load`: the memory of an image, the image's entry as program counter, and x2 as stack pointer
 abbrev pub loaded : List ℕ → Policy → HartState
 loaded image policy = record (with_image image).hart { policy = policy }
 
--- why an image isn't loaded, by its first fault: that one, or too many pages
+-- the fault that prevents an image from being loaded: its first ELF fault, or too many pages
 abbrev pub fault_of : List ℕ → Option ElfFault → Option LoadFault
 fault_of image (Some fault) = Some (Elf fault)
 fault_of image None = if nat_lt page_quota (page_count (memory_of_image image)) then Some Quota else None

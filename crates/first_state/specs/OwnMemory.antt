@@ -3,7 +3,7 @@ use Rattle.rv_model.specs.memory.Memory.{Memory}
 use Rattle.user_mem.specs.Users.{memory_of_user, with_memory}
 use Rattle.first_state.specs.declared.own_bytes.OwnBytes.{OwnBytes}
 
--- that of the first user of the pool
+-- the memory of the pool's first user
 abbrev pub own_memory : {A : Type 0} → OwnBytes A → Memory
 own_memory bytes = memory_of_user bytes.pool 1
 

@@ -1,9 +1,9 @@
-//! Why a run can't begin.
+//! Faults that prevent a run from starting.
 use rv_model::ElfFault;
 use std::fmt;
 use thiserror::Error;
 
-/// Why an image isn't loaded.
+/// Reason why an image isn't loaded.
 #[derive(Debug, Drop)]
 pub enum LoadFault {
     /// The image has this fault.
@@ -24,24 +24,24 @@ impl fmt::Display for LoadFault {
     }
 }
 
-/// Why bytes aren't placed in memory.
+/// Reason why bytes aren't placed in memory.
 #[derive(Debug, Drop, Error)]
 pub enum PlaceFault {
-    /// They end past `ADDRESS_END`.
+    /// The bytes end past `ADDRESS_END`.
     #[error("bytes end past address 2^48")]
     Range,
-    /// With their pages there would be more than `PAGE_QUOTA`.
+    /// With the pages of the bytes, more than `PAGE_QUOTA` pages would be mapped.
     #[error("bytes take too many pages")]
     Quota,
 }
 
-/// Why registers aren't given what a text says.
+/// Reason why a text doesn't set the registers.
 #[derive(Debug, Drop, Error)]
 pub enum RegistersFault {
-    /// A line, by its number from 1 on, isn't the name of a register and a number that it can hold.
+    /// The line with this number, counted from 1, isn't a register name and a value that the register can hold.
     #[error("line {0}: no register and a value that it can have")]
     Line(usize),
-    /// The length isn't one of the vector type.
+    /// The vector length isn't valid for the vector type.
     #[error("vl is no length of vtype")]
     Length,
 }

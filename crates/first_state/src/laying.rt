@@ -1,4 +1,4 @@
-//! A register's value laid over a machine.
+//! Sets a register of a machine.
 ghost use Rattle.std.specs.Prelude.{◌≡◌};
 ghost use Rattle.first_state.specs.Laid.{state_with, with_setting};
 
@@ -7,14 +7,14 @@ use recording::Alone;
 use rv_model::VType;
 use vector_memory::UserBytes;
 
-/// A vector length, and a vector type that needn't allow it.
+/// Vector length, and a vector type for which it may be invalid.
 #[derive(Clone, Copy)]
 pub(crate) struct Lengths {
     pub(crate) vl: u16,
     pub(crate) vtype: Option<VType>,
 }
 
-/// Gives a register its value. The length and type stand beside the machine, since they needn't fit yet.
+/// Set a register. The vector length and type are separate from the machine because they needn't match yet.
 pub(crate) fn lay<M: UserBytes>(alone: &mut Alone<M>, lengths: &mut Lengths, setting: &Setting)
     ensures state { state_with M.memory alone.new lengths.new
         ≡ with_setting setting.now (state_with M.memory alone.old lengths.old) }

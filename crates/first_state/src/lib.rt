@@ -1,4 +1,4 @@
-//! What a recorded run begins with: an image, bytes that are placed in memory, and registers.
+//! Initial state of a recorded run: an image, bytes that are placed in memory, and registers.
 #![tactic(auto)]
 
 mod fault;

@@ -1,4 +1,4 @@
-//! Lines of a text of registers.
+//! Lines of a text that sets registers.
 ghost use Rattle.std.specs.Prelude.{◌≡◌, ◌≤◌, ◌==◌, IfSome, None, Some, option_map};
 ghost use Rattle.std.specs.Option.{option_and_then};
 ghost use Rattle.rv_model.specs.commands.Arguments.{address, instruction_address, scalar_register, vector_register};
@@ -19,10 +19,10 @@ use line_text::{Words, address, instruction_address, scalar_register, vector_reg
 use rv_model::{Reg, RegisterBytes, RoundingMode, VReg};
 use vtype_rules::{vector_type, vtype_number};
 
-/// The most elements that a vector length can be.
+/// Maximum vector length, in elements.
 const MAX_LENGTH: u64 = 256;
 
-/// A number of 1 to 16 hexadecimal digits that is no greater than this one.
+/// Return the number of 1 to 16 hexadecimal digits, if it is at most `most`.
 fn number_up_to(most: u64, word: &[u8]) -> Option<u64>
     ensures value { result ≡ number_up_to most word.now }
     ensures bound { IfSome result (λ n. n ≤ most) }
@@ -83,8 +83,8 @@ fn saturation(value: &[u8]) -> Option<Setting>
     Some(Setting::Saturation(number == 1))
 }
 
-/// What a value gives the register of a name of its own. `None` is another name, and `Some(None)` a value that the
-/// register can't have.
+/// Return the setting of a register other than `xN` and `vN`. `None` means another name, and `Some(None)` a value that the register can't
+/// hold.
 fn named_setting(name: &[u8], value: &[u8]) -> Option<Option<Setting>>
     ensures { result ≡ named_setting name.now value.now }
 {
@@ -127,7 +127,7 @@ fn vector_setting(name: &[u8], value: &[u8]) -> Option<Setting>
     Some(Setting::Vector { register, bytes })
 }
 
-/// What a value gives the register of a name.
+/// Return the setting of a register, from its name and value.
 fn setting_of(name: &[u8], value: &[u8]) -> Option<Setting>
     ensures { result ≡ setting_of name.now value.now }
 {
@@ -140,8 +140,8 @@ fn setting_of(name: &[u8], value: &[u8]) -> Option<Setting>
     vector_setting(name, value)
 }
 
-/// What a line gives a register. `Some(None)` is a line without words, and `None` one that isn't the name of a register
-/// and a value that it can have.
+/// Return the setting of a line. `Some(None)` means an empty line. `None` means a line that isn't a register name and a value that the
+/// register can hold.
 #[tactic(auto, unfolding(crate::specs::Lines::line_setting))]
 pub(crate) fn line_setting(line: &[u8]) -> Option<Option<Setting>>
     ensures { result ≡ line_setting line.now }

@@ -1,4 +1,4 @@
-//! The bytes of the only user of a machine.
+//! Memory of the only user of a machine.
 ghost use Rattle.std.specs.Prelude.{◌≡◌, length};
 ghost use Rattle.rv_model.specs.machine.Setup.{user_count};
 
@@ -7,20 +7,20 @@ use std::alloc::{Allocator, Global};
 use user_mem::{NoMemory, Pool};
 use vector_memory::UserBytes;
 
-/// The bytes of a machine's only user, the first of a pool. Only `new` takes memory.
+/// Memory of a machine's only user, the first of a pool. Only `new` allocates.
 #[derive(Drop)]
 pub struct OwnBytes<A: Allocator = Global> {
     pub(crate) pool: Pool<A>,
 }
 
-/// The user of the pool that the bytes are of.
+/// Return the user of the pool whose memory this is.
 pub(crate) fn own_user() -> User
     ensures { result ≡ 1 }
 {
     User::at_index(0)
 }
 
-/// The pool has a memory for each user: a law, which does nothing.
+/// Law: the pool has a memory for each user. The function does nothing.
 pub(crate) fn own_memory_law<A: Allocator>(memory: &OwnBytes<A>)
     ensures { length memory.now.pool ≡ user_count }
 {
@@ -32,7 +32,7 @@ impl<A: Allocator> OwnBytes<A> {
     ghost use Rattle.std.specs.FinMap.{empty};
     ghost use Rattle.first_state.specs.OwnMemory.{own_memory};
 
-    /// No page.
+    /// Create a memory without pages. Return `NoMemory` if the allocation fails.
     pub(crate) fn new(alloc: A) -> Result<Self, NoMemory>
         ensures { IfOk result (λ bytes. own_memory bytes ≡ empty) }
     {

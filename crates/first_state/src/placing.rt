@@ -1,4 +1,4 @@
-//! Bytes placed in the memory of a machine.
+//! Places bytes in the memory of a machine.
 ghost use Rattle.std.specs.Prelude.{◌≡◌, ◌<◌, Err, Ok, MatchResult, OnOk, length, true};
 ghost use Rattle.recording.specs.Machines.{state_of};
 ghost use Rattle.rv_model.specs.machine.Setup.{user_count};
@@ -14,7 +14,7 @@ use recording::Alone;
 use rv_model::{ADDRESS_END, Access, PAGE_SIZE, Permissions};
 use std::alloc::Allocator;
 
-/// Maps the page of an address with zeros, unless it is there.
+/// Map the page of an address with zeros, unless it is already mapped.
 #[tactic(auto, using(crate::specs::Replaced::own_memory_there, crate::proofs::Pages::page_is_there))]
 fn map_page_of<A: Allocator>(
     memory: &mut OwnBytes<A>,
@@ -48,7 +48,7 @@ fn map_page_of<A: Allocator>(
     }
 }
 
-/// Puts a byte at an address, whose page is mapped if it isn't there.
+/// Write a byte at an address, and map the address's page first if it isn't mapped.
 #[tactic(auto, using(crate::specs::Replaced::own_memory_there))]
 fn place_byte<A: Allocator>(
     memory: &mut OwnBytes<A>,
@@ -71,11 +71,11 @@ fn place_byte<A: Allocator>(
     Ok(())
 }
 
-/// Places bytes in a machine's memory from an address on, whatever their pages allow a program. Pages that aren't there
-/// are mapped, with zeros and these permissions.
+/// Place bytes in a machine's memory from an address on, whatever the permissions of their pages are. Pages that aren't mapped are mapped
+/// with zeros and these permissions.
 ///
-/// `Range` where a byte has no address below `ADDRESS_END`, `Quota` where there would be more than `PAGE_QUOTA` pages,
-/// whichever of both is met first. Then some of the bytes are placed.
+/// Return `Range` if a byte's address isn't below `ADDRESS_END`, and `Quota` if more than `PAGE_QUOTA` pages would be mapped, whichever
+/// occurs first. The bytes before that one are then already placed.
 pub fn place_bytes<A: Allocator>(
     alone: &mut Alone<OwnBytes<A>>,
     addr: u64,

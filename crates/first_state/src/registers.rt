@@ -1,4 +1,4 @@
-//! A text of registers laid over a machine.
+//! Applies a text of registers to a machine.
 ghost use Rattle.std.specs.Prelude.{◌≡◌, ◌<◌, ◌∷◌, [], ℕ, Result, Err, Ok, IfSome, MatchOption, MatchResult, false, true, if◌then◌else◌, length, position};
 ghost use Rattle.std.specs.Option.{option_map_or};
 ghost use Rattle.rv_model.specs.text.Lines.{is_newline, pieces};
@@ -14,7 +14,7 @@ use recording::Alone;
 use rv_model::VConf;
 use vector_memory::UserBytes;
 
-/// The place of the first newline, if there is one.
+/// Return the index of the first newline, if there is one.
 fn first_newline(text: &[u8]) -> Option<usize>
     ensures first { result ≡ position is_newline text.now }
     ensures bound { IfSome result (λ end. end < length text.now) }
@@ -22,7 +22,7 @@ fn first_newline(text: &[u8]) -> Option<usize>
     text.iter().position(|byte| *byte == b'\n')
 }
 
-/// The line before the first newline, and what follows that newline, if there is one.
+/// Return the line before the first newline, and the text after that newline, if there is one.
 #[tactic(auto, using(crate::proofs::Texts::lines_with_a_newline, crate::proofs::Texts::lines_without_a_newline))]
 fn cut(text: &[u8]) -> (&[u8], Option<&[u8]>)
     ensures pieces { pieces text.now ≡ result.0.now ∷ option_map_or (λ rest. pieces rest.now) result.1 [] }
@@ -34,7 +34,7 @@ fn cut(text: &[u8]) -> (&[u8], Option<&[u8]>)
     }
 }
 
-/// Gives a register what a line says. Answers whether it says something of the kind; else nothing changes.
+/// Set the register of a line. Return whether the line is valid; an invalid line changes nothing.
 fn lay_line<M: UserBytes>(alone: &mut Alone<M>, lengths: &mut Lengths, line: &[u8]) -> bool
     ensures laid { (number : ℕ) (others : HartState → Result HartState ℕ)
         → after_line number (line_setting line.now) (state_with M.memory alone.old lengths.old) others
@@ -51,8 +51,8 @@ fn lay_line<M: UserBytes>(alone: &mut Alone<M>, lengths: &mut Lengths, line: &[u
     }
 }
 
-/// Gives registers what the lines of a text say, in their order. Refused with the number of the first line, from 1 on,
-/// that gives no register a value that it can have.
+/// Set the registers of the lines of a text, in order. Return the number, counted from 1, of the first line that doesn't set a register to
+/// a valid value.
 fn lay_lines<M: UserBytes>(
     alone: &mut Alone<M>,
     lengths: &mut Lengths,
@@ -76,7 +76,7 @@ fn lay_lines<M: UserBytes>(
     Ok(())
 }
 
-/// The length and type, if a `vset` leaves them.
+/// Return the vector length and type as a configuration, if a vset instruction can leave them.
 fn configuration(lengths: Lengths) -> Option<VConf>
     ensures { MatchOption result (is_configuration lengths.vl lengths.vtype ≡ false)
         (λ c. (is_configuration lengths.vl lengths.vtype ≡ true) × (c ≡ record { vl = lengths.vl; vtype = lengths.vtype })) }
@@ -99,13 +99,14 @@ fn configuration(lengths: Lengths) -> Option<VConf>
     }
 }
 
-/// Gives registers what the lines of a text say: `pc`, `x1` to `x31`, `vl`, `vtype`, `vstart`, `vxrm` or `vxsat` and a
-/// number in hexadecimal digits, or `v0` to `v31` and the 64 digits of its bytes, byte 0 first, between spaces. A later
-/// line of a register hides an earlier one, and a line without words gives nothing. Registers that aren't named stay.
+/// Set registers from the lines of a text. A line is a register's name and its value, separated by spaces. The value of `pc`, `x1` to
+/// `x31`, `vl`, `vtype`, `vstart`, `vxrm` and `vxsat` is a hexadecimal number. The value of `v0` to `v31` is the 64 hexadecimal digits of
+/// its bytes, byte 0 first. A later line for a register overrides an earlier one, and an empty line sets nothing. Other registers are
+/// unchanged.
 ///
-/// Refused with the number of the first line, from 1 on, that is none of these or has a value that the register can't
-/// have, and else where the length in the end isn't one that a `vset` leaves with the type. Then registers that lines
-/// name have any value.
+/// Return `Line` with the number, counted from 1, of the first line of another form or with a value that the register can't hold. Otherwise
+/// return `Length` if no vset instruction can leave the final length with the final type. After an error, the registers that lines name
+/// have unspecified values.
 pub fn lay_registers<M: UserBytes>(alone: &mut Alone<M>, text: &[u8]) -> Result<(), RegistersFault>
     ensures laid { MatchResult result
         (λ _. with_registers text.now (state_of M.memory alone.old) ≡ Ok (state_of M.memory alone.new))

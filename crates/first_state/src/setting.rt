@@ -1,7 +1,7 @@
-//! What a line of a text of registers gives one of them.
+//! Register that a line of a text sets, and its value.
 use rv_model::{Reg, RegisterBytes, RoundingMode, VReg, VType};
 
-/// A register's value.
+/// Register and its value.
 #[derive(Drop)]
 pub enum Setting {
     /// One of `x1` to `x31`.

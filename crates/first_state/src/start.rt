@@ -1,4 +1,4 @@
-//! The machine that a run begins with.
+//! Initial machine of a run.
 ghost use Rattle.std.specs.Prelude.{◌≡◌, ◌↔◌, None, Some, IfErr, IfOk, IsOk, OnErr, OnOk};
 ghost use Rattle.rv_model.specs.scalar.Registers.{initial_scalar, with_register};
 ghost use Rattle.rv_model.specs.vector.State.{initial_vector};
@@ -15,13 +15,13 @@ use rv_model::{Policy, Reg, Scalar, Seat, VState};
 use std::alloc::Allocator;
 use user_mem::NoMemory;
 
-/// The number of the register that holds the stack pointer.
+/// Number of the register that holds the stack pointer.
 const STACK_POINTER: u32 = 2;
 
-/// The stack pointer of a program that begins.
+/// Initial stack pointer of a program.
 const STACK_TOP: u64 = 0x7fff_efc0;
 
-/// A vector state that wasn't used yet.
+/// Return a vector state that hasn't been used.
 fn new_seat() -> OneSeat
     ensures { result.seat.state ≡ initial_vector }
 {
@@ -33,7 +33,7 @@ fn new_seat() -> OneSeat
     }
 }
 
-/// The machine of a user who has just entered: no memory, and all registers 0.
+/// Create the machine of a user who has just entered: no memory, and all registers 0. Return `NoMemory` if the allocation fails.
 pub fn enter<A: Allocator>(alloc: A, policy: Policy) -> Result<Alone<OwnBytes<A>>, NoMemory>
     ensures { IfOk result (λ alone. state_of own_memory alone ≡ entered policy) }
 {
@@ -47,7 +47,7 @@ pub fn enter<A: Allocator>(alloc: A, policy: Policy) -> Result<Alone<OwnBytes<A>
     })
 }
 
-/// The registers of a program that begins at an entry.
+/// Return the initial registers of a program with this entry address.
 #[tactic(auto, unfolding(rv_model::specs::scalar::Registers::initial_scalar))]
 fn first_registers(entry: u64) -> Scalar
     ensures { result ≡ with_register 2 0x7fffefc0 (record initial_scalar { pc = entry }) }
@@ -58,8 +58,8 @@ fn first_registers(entry: u64) -> Scalar
     scalar
 }
 
-/// Begins the machine anew with the memory of an image, as the monitor's `load` does; the policy stays. A refused
-/// image changes nothing.
+/// Restart the machine with the memory of an image, as the monitor's `load` does; the policy is unchanged. If the image is refused, nothing
+/// changes.
 #[tactic(auto, using(crate::specs::Replaced::own_memory_there))]
 pub fn load<A: Allocator>(alone: &mut Alone<OwnBytes<A>>, image: &[u8]) -> Result<(), LoadFault>
     ensures accepted { IsOk result ↔ (load_fault image.now ≡ None) }

@@ -4,7 +4,7 @@ use Rattle.first_state.specs.OwnMemory.{own_memory}
 use Rattle.first_state.specs.Placed.{in_memory, placed}
 use Rattle.first_state.proofs.placing.place_bytes.Given as goal
 
--- what is left to be placed comes to the same as all
+-- placing the remaining bytes in the current memory has the result of placing all bytes
 abbrev pub invariant-loop-byte : goal.invariant-loop-byte
 invariant-loop-byte g l = record {
   at : l.at ≡ l.addr + l.byte-index;

@@ -4,7 +4,7 @@ use Rattle.rv_model.specs.text.Lines.{pieces}
 use Rattle.first_state.specs.Laid.{laid, state_with}
 use Rattle.first_state.proofs.registers.lay_lines.Given as goal
 
--- the lines that are left come to the same as all
+-- applying the remaining lines to the current state has the result of applying all lines
 abbrev pub invariant-loop-rest : goal.invariant-loop-rest
 invariant-loop-rest g l = record {
   laid : laid l.number (option_map_or (λ rest. pieces rest.now) l.rest []) (state_with g.M.UserBytes.memory l.alone l.lengths)
