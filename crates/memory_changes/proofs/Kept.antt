@@ -1,4 +1,4 @@
--- The changes by one instruction, as they are kept.
+-- The changes of one instruction, as `keep` records them.
 use Rattle.std.proofs.Common.{◌≡◌, ◌∙◌, ◌+◌, ◌%◌, ◌^◌, ◌∷◌, [], ℕ, List, ap, append-nil, flat_map, subst, sym}
 use Rattle.rv_model.specs.declared.step.step_end.StepEnd.{StepEnd}
 use Rattle.rv_model.specs.memory.Memory.{Memory}
@@ -29,7 +29,7 @@ kept took before old new s next end ticks noted made places number spent lines =
           (subst (λ sink. took sink (changes_at new.number new.ticks old.pc s.memory next.memory old.places.items) new.sink) noted.sink (lines s.memory noted.bytes));
     }
 
--- what is said of slices, said of what they are of
+-- a property of two slices holds for the lists that they borrow from
 pub of_slices : {K : Type 0} (took : K → List ℕ → K → Type 0) (sink new : K) (lines : Memory → List Place → List ℕ) (bytes items : List ℕ) (them places : List Place) → bytes ≡ items
     → them ≡ places → ((m : Memory) → bytes ≡ flat_map (held m) them → took sink (lines m them) new) → (m : Memory) → items ≡ flat_map (held m) places
     → took sink (lines m places) new

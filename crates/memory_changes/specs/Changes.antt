@@ -1,4 +1,4 @@
--- The changes of watched places in a run: a line for each instruction and each place that holds other bytes after it than before.
+-- The changes of watched places in a run: a line for each instruction and each place whose bytes it changes.
 use Rattle.std.specs.Prelude.{ℕ, ◌≡◌, ◌+◌, ◌%◌, ◌^◌, List, [], ◌∷◌, ◌++◌, flat_map, length, codes, decimal, if◌then◌else◌}
 use Rattle.std.specs.List.{sum_by}
 use Rattle.std.specs.Str.{bytes_eq}
@@ -23,37 +23,37 @@ change_line number ticks pc addr old new =
     decimal number ++ spaced (decimal ticks) ++ spaced (hex16 pc) ++ spaced (hex16 addr) ++ spaced (encode_lower old) ++ spaced (encode_lower new)
     ++ codes "\n"
 
--- none, if the bytes are the same
+-- the line of a place; none if its bytes are the same
 abbrev pub change : ℕ → ℕ → ℕ → ℕ → List ℕ → List ℕ → List ℕ
 change number ticks pc addr old new = if bytes_eq old new then [] else change_line number ticks pc addr old new
 
--- of each place, between two memories
+-- the lines of all places, between two memories
 abbrev pub changes_at : ℕ → ℕ → ℕ → Memory → Memory → List Place → List ℕ
 changes_at number ticks pc m n places = flat_map (λ place. change number ticks pc place.addr (held m place) (held n place)) places
 
--- the ticks of the instruction that found this
+-- the ticks of the instruction that starts in this state
 abbrev pub ticks_of : HartState → ℕ
 ticks_of s = (step 256 s).ticks
 
--- of the instruction that found this
+-- the lines of the instruction that starts in this state
 abbrev pub changes_by : List Place → ℕ → ℕ → HartState → List ℕ
 changes_by places number ticks s = changes_at number ticks s.scalar.pc s.memory (step 256 s).state.memory places
 
--- one number more, and these more ticks, as far as 64 bits tell
+-- the number of the next instruction, modulo 2 ^ 64; `ticks_more` adds an instruction's ticks, modulo 2 ^ 64
 abbrev pub one_more : ℕ → ℕ
 one_more number = (number + 1) % 2 ^ 64
 
 abbrev pub ticks_more : ℕ → HartState → ℕ
 ticks_more ticks s = (ticks + ticks_of s) % 2 ^ 64
 
--- of instructions, before which there were so many, with so many ticks
+-- the lines of instructions that follow `number` instructions with `ticks` ticks
 unfoldable pub changes_from : List Place → ℕ → ℕ → List HartState → List ℕ
 changes_from places number ticks [] = []
 changes_from places number ticks (s ∷ states) =
     changes_by places (one_more number) (ticks_more ticks s) s ++ changes_from places (one_more number) (ticks_more ticks s) states
 
--- Whichever instruction of a run one looks at, with those before it and those after it: its lines stand between those of the others. Its
--- number is one more than there were before it, its ticks are those of all up to it.
+-- The lines of each instruction of a run are between those of the instructions before and after it. Its number is one more than the number
+-- of instructions before it. Its ticks are the sum of the ticks up to and including this instruction.
 abbrev pub LinesOfEach : Type 0
 LinesOfEach = (places : List Place) (before : List HartState) (s : HartState) (after : List HartState)
     → let number : ℕ = (length before + 1) % 2 ^ 64 in

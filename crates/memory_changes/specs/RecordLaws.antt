@@ -1,4 +1,4 @@
--- Laws of records of changes: of no instruction, and of some and then others.
+-- Laws of records of changes: for no instructions, and for two sequences of instructions.
 use Rattle.std.proofs.Common.{◌≡◌, ◌∙◌, ◌++◌, ◌∷◌, [], ℕ, List, ap, refl, subst, sym, append_assoc}
 use Rattle.rv_model.specs.step.Hart.{HartState}
 use Rattle.memory_changes.specs.Changes.{Place, changes_by, changes_from, one_more, ticks_more}

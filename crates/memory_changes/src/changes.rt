@@ -1,4 +1,4 @@
-//! The changes of a run.
+//! Changes of watched places in a run.
 ghost use Rattle.std.specs.Prelude.{◌≡◌, IfOk};
 
 use crate::lines::{Moment, write_changes};
@@ -10,7 +10,8 @@ use rv_model::StepEnd;
 use std::alloc::{AllocError, Allocator, Global};
 use vector_memory::UserBytes;
 
-/// Writes a line for each change of a place, and instruction by instruction.
+/// Recorder that writes a line for each change of a place, instruction by instruction. `ticks` counts the ticks of all recorded
+/// instructions.
 #[derive(Drop)]
 pub struct Changes<K, A: Allocator = Global> {
     pub sink: K,
@@ -22,7 +23,7 @@ pub struct Changes<K, A: Allocator = Global> {
 }
 
 impl<K: Sink + Drop, A: Allocator> Changes<K, A> {
-    /// Before the first instruction. Takes all memory that is needed.
+    /// Create a recorder before the first instruction. It allocates all memory that the run needs; return `AllocError` if that fails.
     pub fn new(alloc: A, sink: K, places: Vec<Place, A>) -> Result<Self, AllocError>
         ensures sink { IfOk result (λ changes. changes.sink ≡ sink) }
         ensures places { IfOk result (λ changes. changes.places ≡ places) }

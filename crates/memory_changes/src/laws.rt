@@ -1,7 +1,7 @@
-//! The law of changes.
+//! Law of changes.
 ghost use Rattle.memory_changes.specs.Changes.{LinesOfEach};
 
-/// The lines of a run have those of each of its instructions, by its number and in its place.
+/// Law: the lines of a run contain the lines of each instruction, with its number and at its position.
 pub fn lines_of_each()
     ensures { LinesOfEach }
 {}

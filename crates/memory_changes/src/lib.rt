@@ -1,4 +1,4 @@
-//! Places in the memory of a machine that are watched while it runs, and the lines of what changes there.
+//! Watched places in the memory of a running machine, and lines of their changes.
 #![tactic(auto)]
 
 mod changes;

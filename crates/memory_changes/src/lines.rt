@@ -1,4 +1,4 @@
-//! The lines of changes.
+//! Lines of changes.
 ghost use Rattle.std.specs.Prelude.{◌≡◌, ◌++◌, ◌+◌, ◌≤◌, length, flat_map, OnOk};
 ghost use Rattle.hex.specs.Hex.{encode_lower};
 ghost use Rattle.rv_model.specs.commands.Printing.{hex16};
@@ -12,7 +12,7 @@ use line_text::{Reply, push_bytes, push_decimal, push_hex16};
 use recording::RecordFault;
 use vector_memory::UserBytes;
 
-/// An instruction that may have changed something: its number, the ticks that were used up with it, and where it stands.
+/// Instruction that may have changed a place: its number, the ticks up to and including it, and its address.
 #[derive(Clone, Copy)]
 pub(crate) struct Moment {
     pub(crate) number: u64,
@@ -20,7 +20,7 @@ pub(crate) struct Moment {
     pub(crate) pc: u64,
 }
 
-/// Adds bytes after a space, two hexadecimal digits each.
+/// Append a space and bytes, with two hexadecimal digits each.
 fn push_held(reply: &mut Reply, bytes: &[u8])
     requires few { length bytes.now ≤ 256 }
     requires room { length reply.old + 513 ≤ 4096 }
@@ -31,7 +31,7 @@ fn push_held(reply: &mut Reply, bytes: &[u8])
     push_bytes(reply, bytes);
 }
 
-/// Adds a number after a space, in 16 hexadecimal digits.
+/// Append a space and a number in 16 hexadecimal digits.
 fn push_address(reply: &mut Reply, addr: u64)
     requires { length reply.old + 17 ≤ 4096 }
     ensures text { reply.new ≡ reply.old ++ spaced (hex16 addr) }
@@ -41,7 +41,7 @@ fn push_address(reply: &mut Reply, addr: u64)
     push_hex16(reply, addr);
 }
 
-/// Adds the line of a change.
+/// Append the line of a change.
 #[tactic(auto, unfolding(crate::specs::Changes::change_line))]
 fn push_change(reply: &mut Reply, moment: &Moment, addr: u64, old: &[u8], new: &[u8])
     requires empty { length reply.old ≡ 0 }
@@ -60,7 +60,7 @@ fn push_change(reply: &mut Reply, moment: &Moment, addr: u64, old: &[u8], new: &
     reply.push(b"\n");
 }
 
-/// Writes the line of a change.
+/// Write the line of a change. Return `Write` if the sink fails.
 #[inline(never)]
 fn write_change<K: Sink>(
     sink: &mut K,
@@ -82,7 +82,7 @@ fn write_change<K: Sink>(
     }
 }
 
-/// Writes the line of a place that held these bytes, if it holds others now, which are read into a buffer.
+/// Write the line of a place if its bytes differ from `old`. The buffer receives the current bytes.
 #[inline(always)]
 fn compare_bytes<M: UserBytes, K: Sink>(
     sink: &mut K,
@@ -105,7 +105,7 @@ fn compare_bytes<M: UserBytes, K: Sink>(
     write_change(sink, moment, place.addr, old, new)
 }
 
-/// Writes the line of a place that held these bytes, if it holds others now; what is small costs less.
+/// Write the line of a place if its bytes differ from `old`. A small place needs only a small buffer, which costs less.
 #[inline(always)]
 fn compare_place<M: UserBytes, K: Sink>(
     sink: &mut K,
@@ -124,7 +124,7 @@ fn compare_place<M: UserBytes, K: Sink>(
     compare_bytes(sink, memory, moment, place, old, &mut [0; MAX_LENGTH])
 }
 
-/// Writes the lines of the places that hold other bytes now than they held, by what they held, one place after another.
+/// Write the lines of the places whose bytes changed, in order. `old` holds the bytes of all places before the instruction.
 #[inline(always)]
 pub(crate) fn write_changes<M: UserBytes, K: Sink>(
     sink: &mut K,
@@ -139,7 +139,7 @@ pub(crate) fn write_changes<M: UserBytes, K: Sink>(
 {
     let mut rest = old;
     for place in places {
-        // Never so, since `old` has the bytes of all places; the proof needs the test.
+        // This never happens because `old` has the bytes of all places; the proof needs the test.
         if rest.len() < place.len {
             return Err(RecordFault::Unmapped);
         }

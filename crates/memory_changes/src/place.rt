@@ -1,10 +1,10 @@
 //! Places in memory.
 ghost use Rattle.std.specs.Prelude.{◌≡◌, ◌≤◌, ◌<◌, ◌↔◌, IfSome, IsSome};
 
-/// The most bytes of a place.
+/// Maximum length of a place, in bytes.
 pub const MAX_LENGTH: usize = 256;
 
-/// So many bytes are copied at little cost.
+/// Maximum length of a place that costs little to copy, in bytes.
 pub(crate) const SMALL_LENGTH: usize = 16;
 
 /// A place in memory: 1 to `MAX_LENGTH` bytes from an address on.
@@ -16,7 +16,7 @@ pub struct Place {
 }
 
 impl Place {
-    /// So many bytes from an address on, if there are 1 to `MAX_LENGTH`.
+    /// Create a place of `len` bytes from an address on, if `len` is from 1 to `MAX_LENGTH`.
     pub fn new(addr: u64, len: usize) -> Option<Place>
         ensures some { IsSome result ↔ ((0 < len) × (len ≤ 256)) }
         ensures value { IfSome result (λ place. (place.addr ≡ addr) × (place.len ≡ len)) }

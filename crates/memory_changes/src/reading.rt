@@ -1,4 +1,4 @@
-//! What places hold.
+//! Reads the bytes of places.
 ghost use Rattle.std.specs.Prelude.{◌≡◌, ◌≤◌, ◌++◌, flat_map, length, OnOk};
 ghost use Rattle.rv_model.specs.declared.memory.Access.TheVariants.{Monitor};
 ghost use Rattle.rv_model.specs.memory.Memory.{bytes_at, can_access};
@@ -10,7 +10,8 @@ use rv_model::Access;
 use std::alloc::Allocator;
 use vector_memory::UserBytes;
 
-/// Fills the buffer with the bytes from an address on, whatever their pages allow. Refused where a byte isn't mapped.
+/// Fill the buffer with the bytes from an address on, whatever the permissions of their pages are. Return `Unmapped` if a byte isn't
+/// mapped.
 #[inline(always)]
 pub(crate) fn read_bytes<M: UserBytes>(
     memory: &M,
@@ -28,7 +29,7 @@ pub(crate) fn read_bytes<M: UserBytes>(
     }
 }
 
-/// Adds the bytes of a place, which are read into a buffer.
+/// Append the bytes of a place, which are read into a buffer first.
 #[inline(always)]
 fn add_bytes<M: UserBytes, A: Allocator>(
     memory: &M,
@@ -41,14 +42,14 @@ fn add_bytes<M: UserBytes, A: Allocator>(
 {
     let part = &mut buffer[..place.len];
     read_bytes(memory, place.addr, part)?;
-    // `Changes::new` takes room for all places, so this never fails.
+    // `Changes::new` reserves room for all places, so this never fails.
     match bytes.extend_from_slice(part) {
         Ok(()) => Ok(()),
         Err(_) => Err(RecordFault::Unmapped),
     }
 }
 
-/// Adds the bytes of a place; what is small costs less.
+/// Append the bytes of a place. A small place needs only a small buffer, which costs less.
 #[inline(always)]
 fn add_place<M: UserBytes, A: Allocator>(
     memory: &M,
@@ -63,7 +64,7 @@ fn add_place<M: UserBytes, A: Allocator>(
     add_bytes(memory, place, &mut [0; MAX_LENGTH], bytes)
 }
 
-/// Reads the bytes of places, one place after another.
+/// Read the bytes of places, in order.
 #[tactic(auto, using(crate::proofs::Lists::first_more))]
 #[inline(always)]
 pub(crate) fn read_places<M: UserBytes, A: Allocator>(
@@ -80,7 +81,7 @@ pub(crate) fn read_places<M: UserBytes, A: Allocator>(
     Ok(())
 }
 
-/// Whether each byte of a place is mapped.
+/// Return whether each byte of a place is mapped.
 pub fn has_memory<M: UserBytes>(memory: &M, place: &Place) -> bool
     ensures { result ≡ can_access Monitor (M.memory memory.now) place.now.addr place.now.len }
 {
