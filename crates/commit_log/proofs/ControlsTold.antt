@@ -1,4 +1,4 @@
--- That a line tells the control registers: those that read otherwise than before are told, and the others stay.
+-- A line gives the control registers: it names those whose value changed, and the others are unchanged.
 use Rattle.std.proofs.Common.{◌≡◌, ◌∙◌, ap, refl, sym, ℕ, ◌==◌, ◌≤◌, Bool, true, false, List, [], ◌∷◌, ◌++◌, Option, Some, None, arith}
 use Rattle.std.specs.Prelude.{IfSome, MatchOption}
 use Rattle.std.proofs.lemmas.Bool.Decides.{nat_tests}
@@ -20,7 +20,7 @@ use Rattle.vtype_rules.proofs.NumberLaws.{number_again}
 use Rattle.commit_log.specs.Lines.{told_control, told_controls}
 use Rattle.commit_log.specs.Told.{ControlsAreTold, with_controls, with_read_control}
 
--- ---- numbers stand for what they are of
+-- ---- values from their numbers
 
 flag_again : (b : Bool) → (flag_bit b == 1) ≡ b
 flag_again true = refl
@@ -34,7 +34,7 @@ type_again : (o : Option VType) → IfSome o IsSupported → vector_type (vtype_
 type_again None h = refl
 type_again (Some t) h = number_again (Some t) (vtype_number (Some t)) refl h
 
--- of a length of a vector type, that is supported
+-- a vector type whose vector length is valid is supported
 supported : (o : Option VType) (n : ℕ) → MatchOption o (n ≡ 0) (λ t. IsSupported t × (n ≤ vlmax t)) → IfSome o IsSupported
 supported None n h = tt
 supported (Some t) n h = h.0
@@ -42,9 +42,9 @@ supported (Some t) n h = h.0
 equal : (a b : ℕ) → (a == b) ≡ true → a ≡ b
 equal a b e = grind (arith, nat_tests)
 
--- ---- one after another
+-- ---- sequences of control registers
 
--- one is told where it reads otherwise, and stays where it doesn't
+-- a control register is named if its value changed; otherwise it is unchanged
 told_then : (old new : VState) (r : ControlRegister) (xs : List (ControlRegister × ℕ)) (v : VState)
     → (control_value r old ≡ control_value r new → with_read_control r (control_value r new) v ≡ v)
     → with_controls (told_control old new r ++ xs) v ≡ with_controls xs (with_read_control r (control_value r new) v)

@@ -38,7 +38,7 @@ permute_emul _ vd t = refl
 
 -- ---- operands
 
--- the registers that are written, of those of some operands
+-- the registers of those operands that are written
 abbrev pub written : List Operand → List ℕ
 written os = flat_map registers_of (filter (λ o. is_destination o.role) os)
 
@@ -56,7 +56,7 @@ sources_written : (shape : Shape) (vs2 : ℕ) (s : Source) (vm : Bool) (t : VTyp
 sources_written WideSource vs2 s vm t = source_written WideSource s vm t
 sources_written shape vs2 s vm t = source_written shape s vm t
 
--- the registers of one that is written, and of others that aren't
+-- the registers of an operand that is written, followed by those of operands that aren't
 pub alone_written : (rs rest : List ℕ) → rest ≡ [] → rs ++ rest ≡ rs
 alone_written rs rest none = ap (λ (l : List ℕ). rs ++ l) none ∙ append-nil rs
 

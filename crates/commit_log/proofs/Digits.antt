@@ -1,4 +1,4 @@
--- Hexadecimal digits, and those of bytes that are put together.
+-- Hexadecimal digits of bytes, and of concatenated bytes.
 use Rattle.std.proofs.Common.{◌≡◌, refl, sym, ap, ◌∙◌, ℕ, suc, ◌+◌, ◌/◌, ◌%◌, ◌<◌, cond, nat_lt, bit_and, List, [], ◌∷◌, ◌++◌, length, take, drop, append_assoc, arith}
 use Rattle.std.specs.Int.{to_be_bytes, w32, w64}
 use Rattle.std.specs.Prelude.{reverse, slice_index}
@@ -10,7 +10,7 @@ use Rattle.commit_log.specs.LineTexts.{highest_first}
 
 -- ---- one digit
 
--- as the lanes have it
+-- the digit as the lanes compute it
 abbrev pub digit_of : ℕ → ℕ
 digit_of n = (n + cond (top 7 (cond (nat_lt n 10) 255 0)) 48 87) % 256
 
@@ -18,13 +18,13 @@ digit_is : (n : ℕ) → n < 16 → digit_of n ≡ slice_index lower_digits n
 digit_is (suc (suc (suc (suc (suc (suc (suc (suc (suc (suc (suc (suc (suc (suc (suc (suc n)))))))))))))))) h = absurd (omega (arith, h))
 digit_is _ h = refl
 
--- ---- of some bytes
+-- ---- the digits of bytes
 
 abbrev pub digits_by : List ℕ → List ℕ
 digits_by [] = []
 digits_by (b ∷ bs) = digit_of (b / 16) ∷ digit_of (bit_and b 15) ∷ digits_by bs
 
--- each is a byte
+-- each item is a byte
 abbrev pub AreBytes : List ℕ → Type 0
 AreBytes [] = Unit {0}
 AreBytes (b ∷ bs) = (b < 256) × AreBytes bs
@@ -45,7 +45,7 @@ pub list_of_8 : (xs : List ℕ) → length xs ≡ 8 → xs ≡ slice_index xs 0 
 list_of_8 (a0 ∷ a1 ∷ a2 ∷ a3 ∷ a4 ∷ a5 ∷ a6 ∷ a7 ∷ []) h = refl
 list_of_8 _ h = absurd (omega (arith, h))
 
--- ---- the last ones
+-- ---- the last digits
 
 pub low_digits : (n : ℕ) → take 8 (drop 8 (encode_lower (to_be_bytes w64 n))) ≡ encode_lower (to_be_bytes w32 n)
 unfolding encode_with
@@ -57,7 +57,7 @@ unfolding encode_with
 behind_zeros (a0 ∷ a1 ∷ a2 ∷ a3 ∷ []) h = refl
 behind_zeros _ h = absurd (omega (arith, h))
 
--- ---- put together
+-- ---- concatenated bytes
 
 pub encode-append : (xs ys : List ℕ) → encode_lower (xs ++ ys) ≡ encode_lower xs ++ encode_lower ys
 unfolding encode_with
@@ -68,11 +68,11 @@ encode-append (x ∷ xs) ys =
 pub highest_first-append : (xs ys : List ℕ) → highest_first (xs ++ ys) ≡ highest_first ys ++ highest_first xs
 highest_first-append xs ys = ap encode_lower (reverse-append xs ys) ∙ encode-append (reverse ys) (reverse xs)
 
--- the last bytes of some, then the ones before
+-- the digits of the bytes from index n on, followed by those of the first n bytes
 split_at : (n : ℕ) (xs : List ℕ) → highest_first xs ≡ highest_first (drop n xs) ++ highest_first (take n xs)
 split_at n xs = ap highest_first (sym (take-append-drop n xs)) ∙ highest_first-append (take n xs) (drop n xs)
 
--- a text with the last of some bytes, and then the 8 before them
+-- a text to which the digits of the last bytes are appended, and then those of the 8 bytes before them
 pub part_pushed : (n : ℕ) (text mid new bs : List ℕ) → mid ≡ text ++ highest_first (drop (n + 8) bs) → new ≡ mid ++ highest_first (take 8 (drop n bs))
     → new ≡ text ++ highest_first (drop n bs)
 part_pushed n text mid new bs last e =

@@ -26,7 +26,7 @@ use Rattle.rv_model.proofs.Choices.{of_either}
 use Rattle.commit_log.specs.Targets.{registers_from, vector_targets}
 use Rattle.commit_log.proofs.Destinations.{alone_written, mask_written, written as written_of}
 
--- the registers that an access fills; none, where they are stored
+-- the registers that an access fills; none for a store
 abbrev pub filled : VectorAccess → List ℕ
 filled a = if reads_memory a.direction then registers_from a.register (a.fields * a.field_registers) else []
 
@@ -68,7 +68,7 @@ module _ (v : VState) (x : Scalar) where
   mask_filled direction.Store vd rs1 t = refl
   mask_filled direction.Load vd rs1 t = append-nil _
 
-  -- under a vector type, or none where there is none
+  -- the registers under a vector type; none without one
   typed : (i : AccessInstr) (o : Option VType) (make : VType → VectorAccess) → ((t : VType) → vector_targets (instr.Access i) (Some t) ≡ filled (make t))
       → vector_targets (instr.Access i) None ≡ [] → vector_targets (instr.Access i) o ≡ option_map_or filled (option_map make o) []
   typed i None make each none = none

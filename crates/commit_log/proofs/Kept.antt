@@ -1,4 +1,4 @@
--- The line of one instruction, as it is kept.
+-- The line of one instruction, as `keep` records it.
 use Rattle.std.proofs.Common.{◌≡◌, ◌∙◌, ◌++◌, ◌∷◌, [], ℕ, Bool, true, false, List, Option, None, Some, ap, refl, subst, sym, append-nil, append_assoc, if◌then◌else◌}
 use Rattle.std.proofs.lemmas.Bool.{and_parts, false≢true}
 use Rattle.std.specs.Option.{option_map_or}
@@ -21,7 +21,7 @@ use Rattle.commit_log.specs.Lines.{instruction_line}
 use Rattle.commit_log.proofs.Retired.{Retired, of_counted, steps_retire}
 use Rattle.commit_log.specs.Logged.{Gathered, IsLogged, IsNoted, is_within, line_by, logged, logged_from, number_after, one_more}
 
--- a line that was added to what was gathered
+-- a line that is appended to the buffered text
 pub line_added : {K : Type 0} (Took : K → List ℕ → K → Type 0) (sink after : K) (text mid new line : List ℕ) → Gathered Took sink text [] after mid → new ≡ mid ++ line
     → Gathered Took sink text line after new
 line_added Took sink after text mid new line room added =
@@ -32,20 +32,20 @@ line_added Took sink after text mid new line room added =
           ∙ (sym (append_assoc room.written mid line) ∙ ap (λ (l : List ℕ). l ++ line) (room.all ∙ append-nil text));
     }
 
--- what is noted of the word that the code reads is noted of the state's
+-- the state saved for the word that the code reads is the state saved for the word of `s`
 pub noted_word : (s : HartState) (word : ℕ) (i : Option Instr) (x : Scalar) (v : VState) (f : Found) → i ≡ scan table word → word ≡ word_of s
     → Finds word i x v f → Finds (word_of s) (scan table (word_of s)) x v f
 noted_word s word i x v f instr_is word_is finds =
     subst (λ (w : ℕ). Finds w (scan table w) x v f) word_is (subst (λ (o : Option Instr). Finds word o x v f) instr_is finds)
 
--- an instruction that is counted is one
+-- an instruction that completed has a word in the instruction table
 was_instruction : (s next : HartState) (ticks : ℕ) (end : StepEnd) → step 256 s ≡ ends_after ticks end next → is_counted end ≡ true
     → scan table (word_of s) ≡ None → ⊥
 unfolding executed
 was_instruction s next ticks end made counts none =
     of_counted s (λ (r : Stepped). ⊥) None none (λ h. absurd (false≢true h)) (ap (λ (o : Stepped). is_counted o.end) made ∙ counts)
 
--- what one instruction adds
+-- the bytes that one instruction adds
 abbrev added : Window → ℕ → HartState → List ℕ
 added w number s = if is_within w (one_more number) then logged s else []
 
@@ -59,13 +59,13 @@ module _ {K : Type 0} (Took : K → List ℕ → K → Type 0) (before old : Log
   counts_are : (is_counted end && is_within old.window old.number) ≡ (is_counted (step 256 s).end && is_within before.window (one_more before.number))
   counts_are = rw (noted.window_is, noted.number_is, made) refl
 
-  -- its line, where it has one
+  -- its line, if it has one
   line_where : (b : Bool) → (is_counted end && is_within old.window old.number) ≡ b → added before.window before.number s ≡ (if b then line_by s (step 256 s) else [])
   line_where b is =
       both_of (is_within before.window (one_more before.number)) (is_counted (step 256 s).end) (line_by s (step 256 s))
       ∙ ap (λ (c : Bool). if c then line_by s (step 256 s) else []) (sym counts_are ∙ is)
 
-  -- these bytes are those of the instruction
+  -- the log after these bytes, which are those of the instruction
   logged_by : (bytes : List ℕ) (new : Log K) → new.window ≡ old.window → new.number ≡ old.number → Gathered Took old.sink old.text bytes new.sink new.text
       → added before.window before.number s ≡ bytes → IsLogged Took before (s ∷ []) new
   unfolding logged_from number_after

@@ -1,4 +1,4 @@
--- That a line tells the vector registers of a load or store: a load changes none but those of its destination, a store none.
+-- A line gives the vector registers of a load or store: a load changes only those of its destination, and a store none.
 use Rattle.std.proofs.Common.{◌≡◌, ◌∙◌, inl, inr, ap, refl, sym, subst, ℕ, ◌+◌, ◌*◌, ◌-◌, ◌/◌, ◌<◌, ◌≤◌, ◌&&◌, Bool, true, false, cond, List, [], length, Option, Some, None, arith}
 use Rattle.std.specs.Prelude.{All, IfSome, nat_le}
 use Rattle.std.specs.Option.{option_and_then, option_map, option_map_or}
@@ -36,13 +36,13 @@ use Rattle.commit_log.specs.Told.{with_vectors}
 use Rattle.commit_log.proofs.FilledRegisters.{filled, filled_are}
 use Rattle.commit_log.proofs.VectorRegions.{region_told, unchanged}
 
--- ---- what a load leaves alone
+-- ---- bytes that a load doesn't change
 
--- a byte lies beside so many registers
+-- a byte is outside `count` registers from `first` on
 abbrev Outside : ℕ → ℕ → ℕ → Type 0
 Outside first count k = Beside k (32 * first) (32 * count)
 
--- the elements of a field lie in its registers
+-- the elements of a field are inside the field's registers
 abbrev InGroups : VectorAccess → Type 0
 InGroups a = (i : ℕ) → i < a.body.end → i * a.size + a.size ≤ 32 * a.field_registers
 
@@ -51,7 +51,7 @@ abbrev AreFields : VectorAccess → Option GroupType → Type 0
 AreFields a o = IfSome o (λ g. registers g.emul ≡ a.field_registers)
 
 module _ (a : VectorAccess) (k : ℕ) (out : Outside a.register (a.fields * a.field_registers) k) where
-  -- a byte beside all fields is beside each
+  -- a byte outside all fields is outside each of them
   beside_field : (f : ℕ) → f < a.fields → Outside (a.register + f * a.field_registers) a.field_registers k
   beside_field f below =
       let up : (f + 1) * a.field_registers ≤ a.fields * a.field_registers = mul-le-mul_right a.field_registers (omega (arith, below)) in
@@ -72,12 +72,12 @@ module _ (a : VectorAccess) (k : ℕ) (out : Outside a.register (a.fields * a.fi
 
 -- ---- each access
 
--- what is made of a vector type, if there is one
+-- a property of an access that depends on the vector type, if there is one
 pub typed_fits : (o : Option VType) (make : VType → VectorAccess) (P : VectorAccess → Type 0) → ((t : VType) → o ≡ Some t → P (make t)) → IfSome (option_map make o) P
 typed_fits None make P each = tt
 typed_fits (Some t) make P each = each t refl
 
--- what is asked of one
+-- the properties of an access that the law needs
 record Fits (i : AccessInstr) (s : HartState) (a : VectorAccess) : Type 0 where
   inside : a.direction ≡ direction.Load → InGroups a
   tails : AreFields a (filled_type i a s)
@@ -91,13 +91,13 @@ whole_fits E8 count = omega arith
 whole_fits _ count = omega arith
 
 module _ (s : HartState) (is : IsConfiguration s.vector.conf) where
-  -- under the vector type, if the tails of these groups are filled
+  -- under the vector type, if the filled tails are those of these groups
   tails_under : (i : AccessInstr) (a : VectorAccess) (t : VType) → s.vector.conf.vtype ≡ Some t → AreFields a (tail_type i t) → AreFields a (filled_type i a s)
   tails_under i a t e fits =
       subst (λ (o : Option VType). AreFields a (option_and_then (λ u. cond (reads_memory a.direction && fills_tail s.policy u a.body) (tail_type i u) None) o)) (sym e)
       (of_either (AreFields a) (reads_memory a.direction && fills_tail s.policy t a.body) _ _ fits tt)
 
-  -- where there are none
+  -- for accesses whose tails are never filled
   no_tails : (i : AccessInstr) (a : VectorAccess) → ((t : VType) → AreFields a (tail_type i t)) → AreFields a (filled_type i a s)
   no_tails i a none =
       of_option s.vector.conf.vtype (λ o. AreFields a (option_and_then (λ u. cond (reads_memory a.direction && fills_tail s.policy u a.body) (tail_type i u) None) o)) (λ e. tt)

@@ -1,4 +1,4 @@
--- That a line tells the memory: what was stored, one element after another.
+-- A line gives the memory: the bytes of each element are stored in order.
 use Rattle.std.proofs.Common.{◌≡◌, ◌∙◌, ap, refl, sym, subst, ℕ, zero, suc, ◌+◌, ◌-◌, ◌*◌, ◌%◌, ◌^◌, ◌≤◌, ◌==◌, ◌&&◌, ◌||◌, Bool, true, false, cond, List, [], ◌∷◌, ◌++◌, map, min, Option, Some, None, arith}
 use Rattle.std.specs.Prelude.{not, nat_le, IfSome}
 use Rattle.std.specs.Int.{byte_len, w64}
@@ -58,20 +58,20 @@ use Rattle.commit_log.specs.Told.{MemoryIsTold, with_stored}
 use Rattle.commit_log.proofs.LoadsTold.{typed_fits}
 use Rattle.commit_log.proofs.Retired.{of_counted, of_done}
 
--- ---- elements, one after another
+-- ---- sequences of elements
 
 stored_then : (xs ys : List MovedElement) (m : Memory) → with_stored (xs ++ ys) m ≡ with_stored ys (with_stored xs m)
 stored_then [] ys m = refl
 stored_then (x ∷ xs) ys m = stored_then xs ys (option_map_or (put_bytes m x.address) x.stored m)
 
--- those that were loaded
+-- elements that are loaded store nothing
 loads_nothing : (d : Direction) (place : Transfer → ℕ) (file : List ℕ) (ts : List Transfer) (m : Memory) → d ≡ direction.Load
     → with_stored (map (element_of d place file) ts) m ≡ m
 loads_nothing direction.Load place file [] m is = refl
 loads_nothing direction.Load place file (t ∷ ts) m is = loads_nothing direction.Load place file ts m refl
 loads_nothing direction.Store place file ts m is = absurd (cc)
 
--- those of a segment
+-- the elements of a segment are stored
 segment_stored : (i address size : ℕ) (place : Transfer → ℕ) (file fields : List ℕ) (m : Memory)
     → with_stored (map (element_of direction.Store place file) (map (λ f. record { index = i; field = f; size = size; kind = Moved ((address + f * size) % 2 ^ 64) }) fields)) m
     ≡ memory_stored m place file (map (λ f. record { index = i; field = f; size = size; kind = Moved ((address + f * size) % 2 ^ 64) }) fields)
@@ -109,9 +109,9 @@ stores_all : (d : Direction) (a : VectorAccess) (place : Transfer → ℕ) (file
 stores_all direction.Load a place file i n m is = absurd (cc)
 stores_all direction.Store a place file i n m is = transfers_stored a place file i n m
 
--- ---- what a store leaves
+-- ---- the memory after a store
 
--- of all indices, once it is done
+-- a store that completes has stored the elements of all indices
 store_is : (limit : ℕ) (a : VectorAccess) (v : VState) (m : Memory) → (store_run limit a v m).end ≡ memory_end.Done
     → (store_run limit a v m).memory ≡ memory_stored m (element_start a) v.file (transfers (plan a false) a.body.start (a.body.end - a.body.start))
 unfolding store_run end_at
@@ -136,7 +136,7 @@ directed_stored : (d : Direction) (limit : ℕ) (fill : Bool) (a : VectorAccess)
 directed_stored direction.Load limit fill a v m is h = absurd (cc)
 directed_stored direction.Store limit fill a v m is h = store_is limit a v m h
 
--- no store shortens the length
+-- no store shortens the vector length
 unit_whole : (op : UnitOp) → unit_direction op ≡ direction.Store → is_first_only op ≡ false
 unit_whole unit.Store e = refl
 unit_whole _ e = absurd (cc)
@@ -162,7 +162,7 @@ done_is d _ h = absurd (cc)
 abbrev Tells : Instr → HartState → Stepped → Type 0
 Tells i s r = is_counted r.end ≡ true → with_stored (told_moved i s r.state.vector.conf.vl) s.memory ≡ r.state.memory
 
--- nothing is stored
+-- the memory is unchanged
 abbrev Stays : HartState → Stepped → Type 0
 Stays s r = is_counted r.end ≡ true → s.memory ≡ r.state.memory
 

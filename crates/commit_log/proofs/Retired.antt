@@ -1,4 +1,4 @@
--- What an instruction leaves that ran. A vector load or store that ran is legal, and leaves no greater length than it found.
+-- The state after an instruction that completed. A vector load or store that completed is legal, and doesn't increase the vector length.
 use Rattle.std.proofs.Common.{◌≡◌, ℕ, ◌≤◌, true, Option, Some, refl, sym, subst, arith}
 use Rattle.rv_model.specs.accesses.VectorAccess.{access_of}
 use Rattle.rv_model.specs.declared.instructions.access.AccessInstr.{AccessInstr}
@@ -23,7 +23,7 @@ abbrev pub Retired : Instr → HartState → Stepped → Type 0
 Retired i s r = is_counted r.end ≡ true → Retires i s.vector r.state.vector.conf.vl
 
 module _ (s : HartState) where
-  -- what holds of the instruction that is fetched, where it ran, holds of the step
+  -- a property of the fetched instruction, if it completes, holds for the step
   pub of_counted : (P : Stepped → Type 0) (o : Option Instr) → scan table (word_of s) ≡ o
       → (is_counted (executed 256 o (word_of s) s).end ≡ true → P (executed 256 o (word_of s) s)) → is_counted (step 256 s).end ≡ true → P (step 256 s)
   unfolding step
@@ -36,7 +36,7 @@ module _ (s : HartState) where
   after P ticks vector_end.Done word w is h = is refl
   after P ticks _ word w is h = absurd (cc)
 
-  -- what holds of a legal vector instruction that is done holds of its step
+  -- a property of a legal vector instruction that completes holds for its step
   pub of_done : (P : VState → Memory → Type 0) (i : Instr) (word : ℕ)
       → (is_legal i s.vector.conf.vtype s.vector.vstart ≡ true → (performed 256 i s).end ≡ vector_end.Done → P (performed 256 i s).state.vector (performed 256 i s).state.memory)
       → is_counted (vector_step 256 i word s).end ≡ true → P (vector_step 256 i word s).state.vector (vector_step 256 i word s).state.memory

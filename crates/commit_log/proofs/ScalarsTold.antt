@@ -1,4 +1,4 @@
--- That a line tells the scalar registers: a step writes no other one than its instruction names.
+-- A line gives the scalar registers: a step writes only the register that its instruction names.
 use Rattle.std.proofs.Common.{◌≡◌, ◌∙◌, ap, sym, subst, refl, ℕ, zero, suc, ◌==◌, Bool, cond, List, [], ◌∷◌, Option}
 use Rattle.std.specs.Prelude.{slice_index, slice_set}
 use Rattle.rv_model.specs.declared.instructions.instruction.Instr.{Instr}
@@ -11,13 +11,13 @@ use Rattle.rv_model.proofs.step_lemmas.Targets.{writes_target}
 use Rattle.commit_log.specs.Lines.{told_scalar}
 use Rattle.commit_log.specs.Told.{ScalarsAreTold, with_scalars}
 
--- an element is set to what it holds
+-- an element is set to its own value
 set_again : (xs : List ℕ) (i v : ℕ) → slice_set xs i (slice_index (slice_set xs i v) i) ≡ slice_set xs i v
 set_again [] i v = refl
 set_again (x ∷ xs) zero v = refl
 set_again (x ∷ xs) (suc i) v = ap (λ (ys : List ℕ). x ∷ ys) (set_again xs i v)
 
--- a register takes a value, wherever the program goes on
+-- a register gets a value, whatever the new program counter is
 given : (rd v pc : ℕ) (x : Scalar) → with_scalars (told_scalar rd (record (with_register rd v x) { pc = pc })) x ≡ record (with_register rd v x) { pc = x.pc }
 given rd v pc x =
     let put : Bool → Scalar = λ b. cond b x (record x { x = slice_set x.x rd v }) in

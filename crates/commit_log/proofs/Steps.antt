@@ -1,11 +1,11 @@
--- One register more of a line, and a whole line.
+-- One more register of a line, and the whole line.
 use Rattle.std.proofs.Common.{◌≡◌, sym, ap, ◌∙◌, ℕ, suc, ◌+◌, ◌-◌, ◌<◌, List, ◌∷◌, ◌++◌, flat_map, append_assoc, arith}
 use Rattle.std.specs.List.{range_with_len}
 use Rattle.rv_model.specs.vector.Groups.{register_of}
 use Rattle.commit_log.specs.LineTexts.{vector_text}
 use Rattle.commit_log.specs.Lines.{told_vectors}
 
--- the first of some numbers, and the others
+-- the first of a range of numbers, and the others
 range_more : (a i n : ℕ) → i < n → range_with_len (a + i) (n - i) ≡ (a + i) ∷ range_with_len (a + (i + 1)) (n - (i + 1))
 range_more a i n h =
     let some : n - i ≡ suc (n - (i + 1)) = omega (arith, h) in
@@ -20,7 +20,7 @@ vectors_more file text new whole a i n h put all =
     (append_assoc text (vector_text (a + i, register_of file (a + i))) (flat_map vector_text (told_vectors file (range_with_len (a + (i + 1)) (n - (i + 1)))))
     ∙ sym (ap (λ (rs : List ℕ). text ++ flat_map vector_text (told_vectors file rs)) (range_more a i n h)) ∙ all)
 
--- ---- a whole line
+-- ---- the whole line
 
 pub line_pushed : (text t1 t2 t3 t4 t5 p s c v k m n : List ℕ)
     → t1 ≡ text ++ p → t2 ≡ ((t1 ++ s) ++ c) ++ v → t3 ≡ t2 ++ k → t4 ≡ t3 ++ m → t5 ≡ t4 ++ n

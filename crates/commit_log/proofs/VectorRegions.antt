@@ -1,4 +1,4 @@
--- Registers that are told over others: where the bytes differ in some registers alone, telling those is telling all.
+-- Registers of one file written over another file. If the files differ only in some registers, writing these gives the whole new file.
 use Rattle.std.proofs.Common.{◌≡◌, ◌∙◌, ◌⊎◌, inl, inr, ap, refl, sym, ℕ, zero, suc, ◌+◌, ◌-◌, ◌*◌, ◌<◌, ◌≤◌, List, [], ◌∷◌, max, min, length, get_or, arith}
 use Rattle.std.specs.List.{range_with_len}
 use Rattle.std.specs.Simd.Lanes.{chunk, put_chunk}
@@ -12,24 +12,24 @@ use Rattle.commit_log.specs.Lines.{told_vectors}
 use Rattle.commit_log.specs.Targets.{registers_from}
 use Rattle.commit_log.specs.Told.{with_vectors}
 
--- ---- registers that are told over others
+-- ---- registers written over another file
 
--- registers that nothing has written
+-- registers written over the file that they come from
 pub same : (file rs : List ℕ) → with_vectors (told_vectors file rs) file ≡ file
 unfolding with_register_bytes register_of
 same file [] = refl
 same file (r ∷ rs) = ap (with_vectors (told_vectors file rs)) (put_same (32 * r) 32 file) ∙ same file rs
 
--- a file that nothing has changed
+-- registers written over a file that is equal to the new one
 pub unchanged : (file new rs : List ℕ) → new ≡ file → with_vectors (told_vectors new rs) file ≡ new
 unchanged file new rs is = ap (λ (f : List ℕ). with_vectors (told_vectors f rs) file) is ∙ (same file rs ∙ sym is)
 
--- bytes that differ between two places alone
+-- bytes that differ only from index `low` up to index `high`
 record Differs (low high : ℕ) (old new : List ℕ) : Type 0 where
   size : length new ≡ length old
   others : (k : ℕ) → (k < low) ⊎ (high ≤ k) → get_or new k 0 ≡ get_or old k 0
 
--- after the first register
+-- the first register has been written
 first_told : (r n : ℕ) (old new : List ℕ) → length new ≡ 1024 → r < 32 → Differs (32 * r) (32 * (r + suc n)) old new
     → Differs (32 * (r + 1)) (32 * (r + 1 + n)) (put_chunk (32 * r) old (chunk (32 * r) 32 new)) new
 first_told r n old new long inside d =
@@ -69,7 +69,7 @@ told_over (suc n) r old new long inside d =
     told_over n (r + 1) (put_chunk (32 * r) old (chunk (32 * r) 32 new)) new long (omega (arith, inside))
     (first_told r n old new long (omega (arith, inside)) d)
 
--- bytes that differ in so many registers alone
+-- bytes that differ only in `count` registers from `vd` on
 pub region_told : (file new : List ℕ) (vd count : ℕ) → length file ≡ 1024 → length new ≡ length file
     → ((k : ℕ) → (k < 32 * vd) ⊎ (32 * (vd + count) ≤ k) → get_or new k 0 ≡ get_or file k 0)
     → with_vectors (told_vectors new (registers_from vd count)) file ≡ new

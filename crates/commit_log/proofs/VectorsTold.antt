@@ -1,4 +1,4 @@
--- That a line tells the vector registers: an instruction changes none but those of its destination.
+-- A line gives the vector registers: an instruction changes only those of its destination.
 use Rattle.std.proofs.Common.{◌≡◌, ◌∙◌, inl, inr, ap, refl, sym, subst, ℕ, ◌*◌, ◌++◌, ◌∷◌, [], Bool, true, cond, List, flat_map, length, Some, None}
 use Rattle.std.specs.List.{filter}
 use Rattle.std.specs.Option.{unwrap_or}
@@ -38,11 +38,11 @@ told_then : (xs ys : List (ℕ × List ℕ)) (file : List ℕ) → with_vectors 
 told_then [] ys file = refl
 told_then (x ∷ xs) ys file = told_then xs ys (with_register_bytes x.0 x.1 file)
 
--- the registers of the operands that are destinations
+-- the registers of those operands that are destinations
 abbrev told_of : List Operand → List ℕ
 told_of os = flat_map registers_of (filter (λ o. is_destination o.role) os)
 
--- where only those of the first destination changed
+-- if only the registers of the first destination changed
 first_told : (os : List Operand) (selected : ℕ → Bool) (old new : List ℕ) → length old ≡ 1024 → DiffersAtMost (written_of os) selected old new
     → with_vectors (told_vectors new (told_of os)) old ≡ new
 first_told [] selected old new long = λ is. sym is
@@ -57,7 +57,7 @@ first_told (o ∷ os) selected old new long =
     ∙ same new (told_of os))
     (λ e. first_told os selected old new long)
 
--- no control register is a vector register
+-- writing a control register doesn't change the vector registers
 control_file : (r : ControlRegister) (n : ℕ) (v : VState) → (with_control r n v).file ≡ v.file
 control_file Vstart n v = refl
 control_file _ n v = refl
@@ -91,7 +91,7 @@ module _ (s : HartState) (i : Instr) where
       of_test (λ (d : VectorStepped). Told d.state.vector.file) (is_legal i s.vector.conf.vtype s.vector.vstart) _ _
       done (λ e. same s.vector.file (vector_targets i s.vector.conf.vtype))
 
-  -- by what a vector instruction leaves, where it is legal
+  -- from the registers after a vector instruction, if it is legal
   step_told : scan table (word_of s) ≡ Some i → (is_legal i s.vector.conf.vtype s.vector.vstart ≡ true → Told (performed 256 i s).state.vector.file)
       → Told (step 256 s).state.vector.file
   step_told is done = elim (told s (λ r. r.state.vector.file ≡ s.vector.file) (record {

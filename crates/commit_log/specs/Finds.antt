@@ -1,4 +1,4 @@
--- What an instruction finds, as far as its line is made of it.
+-- The state before an instruction, as far as the instruction's line depends on it.
 use Rattle.std.specs.Prelude.{ℕ, ◌≡◌, ◌≤◌, true, Option, Some, ⊤}
 use Rattle.rv_model.specs.declared.instructions.instruction.Instr.{Instr}
 use Rattle.rv_model.specs.declared.instructions.instruction.Instr.TheVariants as instr
@@ -13,30 +13,30 @@ use Rattle.rv_model.specs.declared.vector.state.VState.{VState}
 use Rattle.std.specs.Int.{w64}
 use Rattle.commit_log.specs.declared.found.Found.{Found}
 
--- where a scalar load or store moves, and what a store has
+-- the address of a scalar load or store, and the value that a store writes
 abbrev pub Moves : ScalarInstr → Scalar → Found → Type 0
 Moves (Load op rd rs1 imm) x f = f.address ≡ sum w64 (read_register x rs1) (i_immediate imm)
 Moves (Store op rs1 rs2 imm) x f = (f.address ≡ sum w64 (read_register x rs1) (s_immediate imm)) × (f.value ≡ read_register x rs2)
 Moves _ x f = ⊤
 
--- what is noted of the instruction itself: of a scalar load or store what it moves, of a vector one all registers
+-- the saved operands of an instruction: those of a scalar load or store, and all registers for a vector load or store
 abbrev pub Notes : Option Instr → Scalar → VState → Found → Type 0
 Notes (Some (instr.Scalar i)) x v f = Moves i x f
 Notes (Some (instr.Access i)) x v f = (f.scalar ≡ x) × (f.vector ≡ v)
 Notes _ x v f = ⊤
 
--- all else that was noted stays
+-- all other saved fields are unchanged
 abbrev pub SameOtherwise : Found → Found → Type 0
 SameOtherwise old new = new ≡ record old { address = new.address; value = new.value; scalar = new.scalar; vector = new.vector }
 
--- the control registers as they were found
+-- the control registers before the instruction
 pub record KeepsControls (v : VState) (f : Found) : Type 0 where
   pub conf_is : f.conf ≡ v.conf
   pub vstart_is : f.vstart ≡ v.vstart
   pub vxrm_is : f.vxrm ≡ v.vxrm
   pub vxsat_is : f.vxsat ≡ v.vxsat
 
--- An instruction, which is this word, finds these registers.
+-- `f` is the state saved before an instruction with this word and these registers.
 pub record Finds (word : ℕ) (i : Option Instr) (x : Scalar) (v : VState) (f : Found) : Type 0 where
   pub pc_is : f.pc ≡ x.pc
   pub word_is : f.word ≡ word
@@ -44,7 +44,7 @@ pub record Finds (word : ℕ) (i : Option Instr) (x : Scalar) (v : VState) (f : 
   pub controls : KeepsControls v f
   pub notes : Notes i x v f
 
--- what holds of a vector load or store that ran: it is legal, and leaves no greater length than it finds
+-- a vector load or store that retires is legal, and doesn't increase the vector length
 abbrev pub Retires : Instr → VState → ℕ → Type 0
 Retires (instr.Access i) v vl = (is_legal (instr.Access i) v.conf.vtype v.vstart ≡ true) × (vl ≤ v.conf.vl)
 Retires _ v vl = ⊤

@@ -1,4 +1,4 @@
--- How a line of the log is spelled: in the form of Spike's `--log-commits`.
+-- The text of a line of the log, in the form of Spike's `--log-commits`.
 use Rattle.std.specs.Prelude.{ℕ, ◌+◌, ◌/◌, ◌%◌, ◌++◌, List, [], ◌∷◌, Option, Some, None, codes, decimal, flat_map, reverse, nat_lt, if◌then◌else◌}
 use Rattle.hex.specs.Hex.{encode_lower}
 use Rattle.rv_model.specs.commands.Printing.{hex8, hex16}
@@ -9,11 +9,11 @@ use Rattle.rv_model.specs.declared.vector.types.VType.{VType}
 use Rattle.vector_memory.specs.MovedElements.{MovedElement}
 use Rattle.commit_log.specs.Lines.{Line}
 
--- the number of a register in two places: below 10 its digit and a space
+-- the number of a register in two columns: a number below 10 is its digit and a space
 abbrev pub two_places : ℕ → List ℕ
 two_places n = if nat_lt n 10 then (48 + n) ∷ 32 ∷ [] else (48 + n / 10) ∷ (48 + n % 10) ∷ []
 
--- two hexadecimal digits a byte, the last byte first
+-- two hexadecimal digits for each byte, the last byte first
 abbrev pub highest_first : List ℕ → List ℕ
 highest_first bytes = encode_lower (reverse bytes)
 
@@ -29,7 +29,7 @@ configuration_text told = codes " " ++ sew_name told.0.sew ++ codes " " ++ lmul_
 abbrev pub vector_text : ℕ × List ℕ → List ℕ
 vector_text told = codes " v" ++ two_places told.0 ++ codes " 0x" ++ highest_first told.1
 
--- a control register by its number and its name, as far as its value
+-- the number and the name of a control register, up to its value
 abbrev pub control_head : ControlRegister → List ℕ
 control_head Vstart = codes " c8_vstart 0x"
 control_head Vxsat = codes " c9_vxsat 0x"
@@ -39,24 +39,24 @@ control_head Vl = codes " c3104_vl 0x"
 control_head Vtype = codes " c3105_vtype 0x"
 control_head Vlenb = codes " c3106_vlenb 0x"
 
--- one, and its value
+-- a control register and its value
 abbrev pub control_text : ControlRegister × ℕ → List ℕ
 control_text told = control_head told.0 ++ hex16 told.1
 
--- the bytes that were stored, if any were
+-- the bytes that were stored, if there are any
 abbrev pub stored_text : Option (List ℕ) → List ℕ
 stored_text None = []
 stored_text (Some bytes) = codes " 0x" ++ highest_first bytes
 
--- an element that was moved: its address, and what was stored there
+-- a moved element: its address, and the bytes stored there
 abbrev pub moved_text : MovedElement → List ℕ
 moved_text moved = codes " mem 0x" ++ hex16 moved.address ++ stored_text moved.stored
 
--- where an instruction stood, and its word
+-- the address of an instruction, and its word
 abbrev pub place_text : ℕ → ℕ → List ℕ
 place_text pc word = codes "core   0: 0 0x" ++ hex16 pc ++ codes " (0x" ++ hex8 word ++ codes ")"
 
--- all of it
+-- the whole line
 abbrev pub line_text : Line → List ℕ
 line_text l =
     place_text l.pc l.word ++ flat_map scalar_text l.scalars ++ flat_map configuration_text l.configuration

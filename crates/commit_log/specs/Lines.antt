@@ -1,4 +1,4 @@
--- What the line of an instruction says: where it stood, and what it wrote, by the state that it found and the one that it left.
+-- The contents of an instruction's line: its address, its word and its effects, from the states before and after it.
 use Rattle.std.specs.Prelude.{ℕ, ◌==◌, List, [], ◌∷◌, map, flat_map, Some, None, if◌then◌else◌}
 use Rattle.std.specs.Int.{to_le_bytes, w64}
 use Rattle.std.specs.Option.{option_map_or}
@@ -23,19 +23,19 @@ use Rattle.rv_model.specs.declared.vector.types.VType.{VType}
 use Rattle.vector_memory.specs.MovedElements.{MovedElement, moved_elements}
 use Rattle.commit_log.specs.Targets.{vector_targets}
 
--- what a line says
+-- the contents of a line
 pub record Line : Type 0 where
   pub pc : ℕ
   pub word : ℕ
-  -- each scalar register that was written, and its value
+  -- each scalar register that was written, with its new value
   pub scalars : List (ℕ × ℕ)
-  -- of a vector instruction the vector type and length that it left, if there is a type
+  -- for a vector instruction, the vector type and length after it, if there is a type
   pub configuration : List (VType × ℕ)
-  -- each vector register of the destination, and its bytes
+  -- each vector register of the destination, with its new bytes
   pub vectors : List (ℕ × List ℕ)
-  -- each control register that changed, and its value
+  -- each control register that changed, with its new value
   pub controls : List (ControlRegister × ℕ)
-  -- each element that was moved between registers and memory, in the order of the elements
+  -- each element that was moved between registers and memory, in element order
   pub moved : List MovedElement
 
 -- ---- registers
@@ -48,25 +48,25 @@ told_scalar register x = if register == 0 then [] else (register, read_register 
 abbrev pub told_configuration : Configuration → List (VType × ℕ)
 told_configuration c = option_map_or (λ t. (t, c.vl) ∷ []) c.vtype []
 
--- of these registers each with its bytes
+-- each of these registers with its bytes
 abbrev pub told_vectors : List ℕ → List ℕ → List (ℕ × List ℕ)
 told_vectors file registers = map (λ r. (r, register_of file r)) registers
 
--- the control registers that a line may name, by their numbers; vcsr shows two of them once more
+-- the control registers that a line may name, in the order of their numbers; vcsr is omitted because it combines vxrm and vxsat
 abbrev pub told_registers : List ControlRegister
 told_registers = Vstart ∷ Vxsat ∷ Vxrm ∷ Vl ∷ Vtype ∷ []
 
--- one, if it reads otherwise than before
+-- a control register with its new value, if the value changed
 abbrev pub told_control : VState → VState → ControlRegister → List (ControlRegister × ℕ)
 told_control old new r = if control_value r old == control_value r new then [] else (r, control_value r new) ∷ []
 
--- all that do
+-- all control registers that changed, with their new values
 abbrev pub told_controls : VState → VState → List (ControlRegister × ℕ)
 told_controls old new = flat_map (told_control old new) told_registers
 
 -- ---- memory
 
--- what an instruction moved, by the state that it found and the length that it left
+-- the elements that an instruction moved, from the state before it and the vector length after it
 abbrev pub told_moved : Instr → HartState → ℕ → List MovedElement
 told_moved (instr.Scalar (Load op rd rs1 imm)) s vl =
     record { address = sum w64 (read_register s.scalar rs1) (i_immediate imm); stored = None } ∷ []
@@ -78,9 +78,9 @@ told_moved (instr.Scalar (Store op rs1 rs2 imm)) s vl =
 told_moved (instr.Access i) s vl = option_map_or (moved_elements s.vector vl) (access_of i s.vector s.scalar) []
 told_moved _ s vl = []
 
--- ---- all of it
+-- ---- the whole line
 
--- the line of an instruction that found this and left that
+-- the line of an instruction, from its word, the state before it, and the registers after it
 abbrev pub instruction_line : Instr → ℕ → HartState → Scalar → VState → Line
 instruction_line i word s x v =
     record {

@@ -1,4 +1,4 @@
--- Laws of logs: of no instruction, and of some and then others.
+-- Laws of logs: for no instructions, and for two sequences of instructions.
 use Rattle.std.proofs.Common.{◌≡◌, ◌∙◌, ◌++◌, ◌∷◌, [], ℕ, List, ap, refl, subst, sym, append-nil, append_assoc, if◌then◌else◌}
 use Rattle.rv_model.specs.step.Hart.{HartState}
 use Rattle.commit_log.specs.declared.log.Log.{Log}

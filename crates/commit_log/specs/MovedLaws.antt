@@ -1,4 +1,4 @@
--- Laws of the texts of moved elements: of none, of some and then others, and of the room for them.
+-- Laws of the texts of moved elements: for no elements, for two sequences of elements, and for the room that they need.
 use Rattle.std.proofs.Common.{◌≡◌, ◌∙◌, ◌+◌, ◌*◌, ◌≤◌, ◌++◌, [], ℕ, List, ap, arith, flat_map, length, sym, append-nil, append_assoc}
 use Rattle.std.proofs.lemmas.List.Concat.{flat_map-append}
 use Rattle.vector_memory.specs.MovedElements.{MovedElement}

@@ -1,4 +1,4 @@
--- What the line of an instruction tells: written over what the instruction found, it is what the instruction left.
+-- The state that results from an instruction's line: applied to the state before the instruction, the line gives the state after it.
 use Rattle.std.specs.Prelude.{ℕ, ◌≡◌, ◌==◌, true, List, [], ◌∷◌, length, Some}
 use Rattle.std.specs.Option.{option_map_or}
 use Rattle.rv_model.specs.declared.instructions.instruction.Instr.{Instr}
@@ -19,17 +19,17 @@ use Rattle.recording.specs.Runs.{is_counted, word_of}
 use Rattle.vector_memory.specs.MovedElements.{MovedElement}
 use Rattle.commit_log.specs.Lines.{Line, instruction_line}
 
--- scalar registers with these values
+-- the scalar registers after these values are written
 abbrev pub with_scalars : List (ℕ × ℕ) → Scalar → Scalar
 with_scalars [] x = x
 with_scalars (told ∷ rest) x = with_scalars rest (with_register told.0 told.1 x)
 
--- vector registers with these bytes
+-- the bytes of the vector registers after these registers are written
 abbrev pub with_vectors : List (ℕ × List ℕ) → List ℕ → List ℕ
 with_vectors [] file = file
 with_vectors (told ∷ rest) file = with_vectors rest (with_register_bytes told.0 told.1 file)
 
--- a control register that reads this
+-- the vector state in which a control register reads `n`
 abbrev pub with_read_control : ControlRegister → ℕ → VState → VState
 with_read_control Vstart n v = record v { vstart = n }
 with_read_control Vxsat n v = record v { vxsat = n == 1 }
@@ -38,36 +38,36 @@ with_read_control Vl n v = record v { conf = record v.conf { vl = n } }
 with_read_control Vtype n v = record v { conf = record v.conf { vtype = vector_type n } }
 with_read_control _ n v = v
 
--- control registers that read these values
+-- the vector state in which control registers read these values
 abbrev pub with_controls : List (ControlRegister × ℕ) → VState → VState
 with_controls [] v = v
 with_controls (told ∷ rest) v = with_controls rest (with_read_control told.0 told.1 v)
 
--- the bytes that were stored, one element after another
+-- the memory after the bytes of each element are stored, in order
 abbrev pub with_stored : List MovedElement → Memory → Memory
 with_stored [] m = m
 with_stored (moved ∷ rest) m = with_stored rest (option_map_or (put_bytes m moved.address) moved.stored m)
 
--- the line of the instruction that finds this state
+-- the line of the instruction that starts in this state
 abbrev pub line_of : Instr → HartState → Line
 line_of i s = instruction_line i (word_of s) s (step 256 s).state.scalar (step 256 s).state.vector
 
--- Each instruction that ran, or exited, leaves the scalar registers as its line tells, but for the program counter.
+-- The line of an instruction that retires or exits gives the scalar registers after it, except for the program counter.
 abbrev pub ScalarsAreTold : Type 0
 ScalarsAreTold = (s : HartState) (i : Instr) → scan table (word_of s) ≡ Some i → is_counted (step 256 s).end ≡ true
     → with_scalars (line_of i s).scalars s.scalar ≡ record (step 256 s).state.scalar { pc = s.scalar.pc }
 
--- Each instruction leaves the control registers as its line tells, where it finds a length that is one of the vector type.
+-- The line of an instruction gives the control registers after it, if the vector length before it is valid for the vector type.
 abbrev pub ControlsAreTold : Type 0
 ControlsAreTold = (s : HartState) (i : Instr) → IsConfiguration s.vector.conf
     → with_controls (line_of i s).controls s.vector ≡ record (step 256 s).state.vector { file = s.vector.file }
 
--- Each instruction that ran, or exited, leaves the memory as its line tells.
+-- The line of an instruction that retires or exits gives the memory after it.
 abbrev pub MemoryIsTold : Type 0
 MemoryIsTold = (s : HartState) (i : Instr) → scan table (word_of s) ≡ Some i → is_counted (step 256 s).end ≡ true
     → with_stored (line_of i s).moved s.memory ≡ (step 256 s).state.memory
 
--- Each instruction leaves the vector registers as its line tells, where it finds a length that is one of the vector type.
+-- The line of an instruction gives the vector registers after it, if the vector length before it is valid for the vector type.
 abbrev pub VectorsAreTold : Type 0
 VectorsAreTold = (s : HartState) (i : Instr) → scan table (word_of s) ≡ Some i → IsConfiguration s.vector.conf → length s.vector.file ≡ FILE_BYTES
     → with_vectors (line_of i s).vectors s.vector.file ≡ (step 256 s).state.vector.file

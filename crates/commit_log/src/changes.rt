@@ -11,7 +11,7 @@ use crate::text::{TEXT_SIZE, Text};
 use rv_model::{ControlRegister, VState};
 use vtype_rules::vtype_number;
 
-/// What stands before the value of a control register that a line may name.
+/// Return the text before the value of a control register that a line may name.
 #[inline(always)]
 fn control_head(register: ControlRegister) -> &'static [u8]
     ensures value { result.now ≡ control_head register }
@@ -28,7 +28,7 @@ fn control_head(register: ControlRegister) -> &'static [u8]
     }
 }
 
-/// Adds a control register and its value, if it reads otherwise than before.
+/// Append a control register and its value, if the value changed.
 #[inline(always)]
 fn push_control(text: &mut Text, register: ControlRegister, old: u64, new: u64)
     requires { length text.old + 31 ≤ TEXT_SIZE }
@@ -42,7 +42,7 @@ fn push_control(text: &mut Text, register: ControlRegister, old: u64, new: u64)
     }
 }
 
-/// Adds the control registers that an instruction changed, in the order of their numbers.
+/// Append the control registers that an instruction changed, in the order of their numbers.
 #[inline(always)]
 pub(crate) fn push_changes(text: &mut Text, found: &Found, state: &VState)
     requires { length text.old + 155 ≤ TEXT_SIZE }

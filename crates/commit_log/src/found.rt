@@ -1,13 +1,13 @@
-//! What an instruction found.
+//! State before an instruction.
 ghost use Rattle.std.specs.Prelude.{◌≡◌, ℕ};
 ghost use Rattle.commit_log.specs.Finds.{Finds, Moves, Notes, SameOtherwise};
 
 use rv_model::{Instr, RoundingMode, Scalar, ScalarInstr, VConf, VState};
 use scalar_core::{i_immediate, s_immediate};
 
-/// What an instruction found, as far as its line says what it did: where it stood, its word and what it is, the control
-/// registers; of a scalar load or store the address, and the number that is stored; of a vector load or store all
-/// registers.
+/// State before an instruction, as far as the instruction's line depends on it: the program counter, the word and its instruction, and the
+/// control registers. For a scalar load or store, it includes the address and the value that a store writes. For a vector load or store, it
+/// includes all registers.
 #[derive(Drop)]
 pub struct Found {
     pub(crate) pc: u64,
@@ -24,7 +24,7 @@ pub struct Found {
 }
 
 impl Found {
-    /// Nothing yet.
+    /// Create an empty state.
     pub fn new() -> Found {
         Found {
             pc: 0,
@@ -41,7 +41,7 @@ impl Found {
         }
     }
 
-    /// Notes the registers of a vector load or store.
+    /// Save the registers of a vector load or store.
     #[inline(never)]
     fn note_access(&mut self, scalar: &Scalar, vector: &VState)
         ensures { self.new ≡ record self.old { scalar = scalar.now; vector = vector.now } }
@@ -50,7 +50,7 @@ impl Found {
         self.vector.copy_from(vector);
     }
 
-    /// Notes the address of a scalar load or store, and the number that a store has.
+    /// Save the address of a scalar load or store, and the value that a store writes.
     #[inline(always)]
     fn note_scalar(&mut self, instr: &ScalarInstr, scalar: &Scalar)
         ensures address { Moves instr.now scalar.now self.new }
@@ -68,7 +68,7 @@ impl Found {
         }
     }
 
-    /// Notes what an instruction moves.
+    /// Save the operands of a load or store.
     #[inline(always)]
     fn note_operands(&mut self, instr: &Option<Instr>, scalar: &Scalar, vector: &VState)
         ensures notes { Notes instr.now scalar.now vector.now self.new }
@@ -81,7 +81,7 @@ impl Found {
         }
     }
 
-    /// Notes what a word finds, which is this instruction.
+    /// Save the state before an instruction; `instr` is the instruction of `word`.
     #[inline(always)]
     pub fn note(&mut self, word: u32, instr: &Option<Instr>, scalar: &Scalar, vector: &VState)
         ensures { Finds word instr.now scalar.now vector.now self.new }

@@ -1,8 +1,8 @@
-//! What a line tells of the state that its instruction left.
+//! Laws of the state that results from a line.
 ghost use Rattle.commit_log.specs.Told.{ControlsAreTold, MemoryIsTold, ScalarsAreTold, VectorsAreTold};
 
-/// The laws of lines: what the line of an instruction says of scalar registers, of vector registers, of control registers and of
-/// memory, written over the state that was found, is what the definition's step leaves.
+/// Laws of lines: applied to the state before an instruction, the instruction's line gives the state after the definitions' step. There is
+/// one law each for scalar registers, control registers, memory and vector registers.
 pub fn line_laws()
     ensures scalars { ScalarsAreTold }
     ensures controls { ControlsAreTold }

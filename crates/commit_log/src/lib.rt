@@ -1,4 +1,4 @@
-//! A log of the instructions that ran: a line for each, in the form of Spike's `--log-commits`.
+//! Log of the instructions that completed: a line for each, in the form of Spike's `--log-commits`.
 #![tactic(auto)]
 
 mod changes;

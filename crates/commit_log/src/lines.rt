@@ -1,4 +1,4 @@
-//! The line of an instruction.
+//! Line of an instruction.
 ghost use Rattle.std.specs.Prelude.{◌≡◌, ◌+◌, ◌*◌, ◌<◌, ◌≤◌, ◌++◌, [], ℕ, flat_map, length, if◌then◌else◌};
 ghost use Rattle.rv_model.specs.declared.instructions.instruction.Instr.{Instr};
 ghost use Rattle.rv_model.specs.step.Hart.{HartState};
@@ -18,7 +18,7 @@ use crate::targets::{Registers, scalar_target, vector_targets};
 use crate::text::{LINE_SIZE, TEXT_SIZE, Text};
 use rv_model::{Instr, Reg, Scalar, VECTOR_REGISTERS, VReg, VState};
 
-/// Adds a scalar register and its value, unless it is x0.
+/// Append a scalar register and its value, unless it is x0.
 #[inline(always)]
 fn push_scalar(text: &mut Text, number: u32, scalar: &Scalar)
     requires number { number < 32 }
@@ -34,7 +34,7 @@ fn push_scalar(text: &mut Text, number: u32, scalar: &Scalar)
     }
 }
 
-/// Adds the vector type and the vector length, if there is a type.
+/// Append the vector type and the vector length, if there is a type.
 #[inline(always)]
 fn push_configuration(text: &mut Text, state: &VState)
     requires { length text.old + 30 ≤ TEXT_SIZE }
@@ -51,7 +51,7 @@ fn push_configuration(text: &mut Text, state: &VState)
     }
 }
 
-/// Adds the type and the length that an instruction left, if it is a vector one.
+/// Append the vector type and length after an instruction, if it is a vector instruction.
 #[inline(always)]
 fn push_type(text: &mut Text, instr: &Instr, state: &VState)
     requires { length text.old + 30 ≤ TEXT_SIZE }
@@ -65,7 +65,7 @@ fn push_type(text: &mut Text, instr: &Instr, state: &VState)
     }
 }
 
-/// Adds a vector register and its bytes.
+/// Append a vector register and its bytes.
 #[inline(always)]
 fn push_vector(text: &mut Text, number: u32, state: &VState)
     requires number { number < 32 }
@@ -79,7 +79,7 @@ fn push_vector(text: &mut Text, number: u32, state: &VState)
     push_register(text, state.file.register(VReg::new(number)));
 }
 
-/// Adds vector registers, each with its bytes.
+/// Append vector registers, each with its bytes.
 #[inline(always)]
 fn push_vectors(text: &mut Text, registers: Registers, state: &VState)
     requires inside { registers.first < 32 }
@@ -95,7 +95,7 @@ fn push_vectors(text: &mut Text, registers: Registers, state: &VState)
     }
 }
 
-/// Adds where an instruction stood, and its word.
+/// Append the address of an instruction, and its word.
 #[inline(always)]
 fn push_place(text: &mut Text, pc: u64, word: u32)
     requires { length text.old + 43 ≤ TEXT_SIZE }
@@ -109,7 +109,7 @@ fn push_place(text: &mut Text, pc: u64, word: u32)
     text.push(b")");
 }
 
-/// Adds the registers that an instruction wrote: scalar ones, the vector type and length, vector ones.
+/// Append the registers that an instruction wrote: scalar registers, the vector type and length, and vector registers.
 #[inline(always)]
 fn push_registers(text: &mut Text, found: &Found, instr: &Instr, scalar: &Scalar, vector: &VState)
     requires { length text.old + 2325 ≤ TEXT_SIZE }
@@ -123,7 +123,7 @@ fn push_registers(text: &mut Text, found: &Found, instr: &Instr, scalar: &Scalar
     push_vectors(text, vector_targets(instr, found.conf.vtype()), vector);
 }
 
-/// Adds the line of an instruction that ran, by what it found and by the registers that it left.
+/// Append the line of an instruction that completed, from the state before it and the registers after it.
 #[inline(always)]
 fn push_instruction(text: &mut Text, found: &Found, instr: &Instr, scalar: &Scalar, vector: &VState)
     requires { length text.old + 90000 ≤ TEXT_SIZE }
@@ -138,8 +138,8 @@ fn push_instruction(text: &mut Text, found: &Found, instr: &Instr, scalar: &Scal
     text.push(b"\n");
 }
 
-/// Adds the line of an instruction that ran, by what it found and by the registers that it left; none, if the word is no
-/// instruction.
+/// Append the line of an instruction that completed, from the state before it and the registers after it. Append nothing if the word isn't
+/// an instruction.
 #[inline(always)]
 pub(crate) fn push_line(text: &mut Text, found: &Found, scalar: &Scalar, vector: &VState)
     requires { length text.old + LINE_SIZE ≤ TEXT_SIZE }

@@ -1,4 +1,4 @@
-//! The log of a run.
+//! Log of a run.
 ghost use Rattle.std.specs.Prelude.{ℕ, ◌≡◌, ◌+◌, ◌≤◌, ◌∷◌, ◌&&◌, [], Some, true, length, IfOk, OnOk};
 ghost use Rattle.recording.specs.Machines.{state_of};
 ghost use Rattle.recording.specs.Runs.{is_counted, word_of};
@@ -24,7 +24,7 @@ use rv_model::StepEnd;
 use std::alloc::{AllocError, Global};
 use vector_memory::UserBytes;
 
-/// The instructions that have a line, by their numbers, of which the first is 1: from one up to another, both among them.
+/// Range of the numbers of instructions that have a line, both ends included. The first instruction has number 1.
 #[derive(Clone, Copy, Debug)]
 pub struct Window {
     pub from: u64,
@@ -32,7 +32,7 @@ pub struct Window {
 }
 
 impl Window {
-    /// Whether a number is in it.
+    /// Return whether a number is in the window.
     #[inline(always)]
     fn contains(self, number: u64) -> bool
         ensures { result ≡ is_within self number }
@@ -41,7 +41,8 @@ impl Window {
     }
 }
 
-/// Writes a line for each instruction of a window that ran. The lines are gathered, and written once there are many.
+/// Recorder that writes a line for each instruction of a window that completed. The lines are buffered, and written when the buffer may be
+/// too full for another line.
 #[derive(Drop)]
 pub struct Log<K> {
     pub sink: K,
@@ -52,7 +53,7 @@ pub struct Log<K> {
 }
 
 impl<K: Sink + Drop> Log<K> {
-    /// Before the first instruction. Takes all memory that is needed.
+    /// Create a log before the first instruction. It allocates all memory that the run needs; return `AllocError` if that fails.
     pub fn new(alloc: Global, sink: K, window: Window) -> Result<Self, AllocError>
         ensures sink { IfOk result (λ log. log.sink ≡ sink) }
         ensures window { IfOk result (λ log. log.window ≡ window) }
@@ -69,7 +70,7 @@ impl<K: Sink + Drop> Log<K> {
     }
 }
 
-/// Writes the lines that were gathered.
+/// Write the buffered lines, and empty the buffer. Return `Write` if the sink fails.
 fn write_gathered<K: Sink>(sink: &mut K, text: &mut Text) -> Result<(), RecordFault>
     ensures told { OnOk result (K.took sink.old text.old sink.new) }
     ensures none { OnOk result (text.new ≡ []) }
@@ -82,7 +83,7 @@ fn write_gathered<K: Sink>(sink: &mut K, text: &mut Text) -> Result<(), RecordFa
 }
 
 impl<K: Sink> Log<K> {
-    /// Writes the lines that were gathered, as all instructions were recorded.
+    /// Write the lines that are still buffered, after the last instruction. Return `Write` if the sink fails.
     pub fn finish(&mut self) -> Result<(), RecordFault>
         ensures { OnOk result (K.took self.old.sink self.old.text self.new.sink) }
     {
@@ -90,7 +91,7 @@ impl<K: Sink> Log<K> {
     }
 }
 
-/// Whether there is room for another line.
+/// Return whether the buffer has room for another line.
 #[inline(always)]
 fn has_room(text: &Text) -> bool
     ensures { result ≡ true → length text.now + LINE_SIZE ≤ TEXT_SIZE }
@@ -98,7 +99,7 @@ fn has_room(text: &Text) -> bool
     text.as_slice().len() <= TEXT_SIZE - LINE_SIZE
 }
 
-/// Writes the lines that were gathered, if they may leave no room for another.
+/// Write the buffered lines, unless the buffer has room for another line.
 #[inline(always)]
 fn make_room<K: Sink>(sink: &mut K, text: &mut Text) -> Result<(), RecordFault>
     ensures told { OnOk result (Gathered K.took sink.old text.old [] sink.new text.new) }
@@ -111,7 +112,7 @@ fn make_room<K: Sink>(sink: &mut K, text: &mut Text) -> Result<(), RecordFault>
     Ok(())
 }
 
-/// Adds the line of an instruction that found this and left that, once there is room for it.
+/// Append the line of an instruction, from the state before it and the machine after it. Make room in the buffer first.
 #[inline(always)]
 fn add_line<M: UserBytes, K: Sink>(
     sink: &mut K,
@@ -129,7 +130,7 @@ fn add_line<M: UserBytes, K: Sink>(
     Ok(())
 }
 
-/// Notes what an instruction finds.
+/// Save the state before an instruction.
 #[inline(always)]
 fn note_found<M: UserBytes>(found: &mut Found, alone: &Alone<M>)
     ensures { can_access Fetch (M.memory alone.now.memory) alone.now.scalar.pc 4 ≡ true
@@ -145,7 +146,7 @@ fn note_found<M: UserBytes>(found: &mut Found, alone: &Alone<M>)
     );
 }
 
-/// Notes what an instruction finds, if its number is in the window.
+/// Save the state before an instruction, if its number is in the window.
 #[inline(always)]
 fn note_instruction<M: UserBytes, K: Sink>(log: &mut Log<K>, alone: &Alone<M>)
     ensures { IsNoted log.old (state_of M.memory alone.now) log.new }
@@ -157,7 +158,7 @@ fn note_instruction<M: UserBytes, K: Sink>(log: &mut Log<K>, alone: &Alone<M>)
     note_found(&mut log.found, alone);
 }
 
-/// Whether an instruction of this number that ended so has a line: it ran, and is in the window.
+/// Return whether an instruction with this end and number has a line: it completed, and is in the window.
 #[inline(always)]
 fn has_line(end: StepEnd, window: Window, number: u64) -> bool
     ensures { result ≡ (is_counted end && is_within window number) }
@@ -165,7 +166,7 @@ fn has_line(end: StepEnd, window: Window, number: u64) -> bool
     is_counted(end) && window.contains(number)
 }
 
-/// Adds the line of the instruction that was noted, if it ran and its number is in the window.
+/// Append the line of the instruction whose state was saved, if it completed and its number is in the window.
 #[inline(always)]
 fn keep_instruction<M: UserBytes, K: Sink>(
     log: &mut Log<K>,

@@ -1,4 +1,4 @@
-//! What an instruction moved between registers and memory.
+//! Elements that an instruction moved between registers and memory.
 ghost use Rattle.std.specs.Prelude.{◌≡◌, ◌+◌, ◌≤◌, ◌++◌, ℕ, flat_map, length};
 ghost use Rattle.std.specs.Int.{byte_len};
 ghost use Rattle.rv_model.specs.scalar.LoadsAndStores.{store_width};
@@ -14,7 +14,7 @@ use crate::text::{TEXT_SIZE, Text};
 use rv_model::instructions::operations::StoreOp;
 use rv_model::{Instr, ScalarInstr};
 
-/// How many bytes a store has.
+/// Return the number of bytes that a store writes.
 #[inline(always)]
 fn store_bytes(op: StoreOp) -> usize
     ensures value { result ≡ byte_len (store_width op) }
@@ -28,7 +28,7 @@ fn store_bytes(op: StoreOp) -> usize
     }
 }
 
-/// Adds what an instruction moved, by what it found, and by the length that it left.
+/// Append the elements that an instruction moved, from the state before it and the vector length after it.
 #[inline(always)]
 pub(crate) fn push_memory(text: &mut Text, found: &Found, instr: &Instr, vl: u16)
     requires room { length text.old + 86057 ≤ TEXT_SIZE }

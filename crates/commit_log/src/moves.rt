@@ -1,4 +1,4 @@
-//! What a vector load or store moved ("V" Vector Extension 1.0, chapter 7).
+//! Elements that a vector load or store moved ("V" Vector Extension 1.0, chapter 7).
 ghost use Rattle.std.specs.Prelude.{◌≡◌, ◌+◌, ◌*◌, ◌≤◌, ◌++◌, [], IsTrue, flat_map, length};
 ghost use Rattle.std.specs.Option.{option_map_or};
 ghost use Rattle.rv_model.specs.accesses.VectorAccess.{access_of};
@@ -38,7 +38,7 @@ impl Viewer for Text {
     ghost fewer = { fewer_moved };
 }
 
-/// Adds the elements that a load or store moved, by the registers that it found and the length that it left.
+/// Append the elements that a load or store moved, from the registers before it and the vector length after it.
 #[inline(never)]
 pub(crate) fn push_moves(
     text: &mut Text,
@@ -53,7 +53,7 @@ pub(crate) fn push_moves(
         ++ flat_map moved_text (option_map_or (moved_elements state.now vl) (access_of instr.now state.now scalar.now) []) }
     ensures bound { length text.new ≤ length text.old + 86057 }
 {
-    // Always so of an instruction that ran; the bound of the text needs the test.
+    // This always holds for an instruction that completed; the bound of the text needs the test.
     if legal_access(instr, &state.conf) && vl <= state.conf.vl() {
         show_moves(instr, state, scalar, vl, text);
     }

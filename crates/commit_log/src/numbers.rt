@@ -1,4 +1,4 @@
-//! Numbers as a line shows them.
+//! Numbers in the form that a line shows.
 ghost use Rattle.std.specs.Prelude.{◌≡◌, ◌++◌, ◌+◌, ◌<◌, ◌≤◌, length, decimal, reverse};
 ghost use Rattle.hex.specs.Hex.{encode_lower};
 ghost use Rattle.rv_model.specs.commands.Printing.{hex8, hex16};
@@ -9,13 +9,13 @@ use itoa::Buffer;
 use rv_model::VLENB;
 use std::simd::prelude::*;
 
-/// The place of the byte that each of 16 digits is of.
+/// Index of the byte that each of 16 digits belongs to.
 const PLACES_16: [usize; 16] = [0, 0, 1, 1, 2, 2, 3, 3, 4, 4, 5, 5, 6, 6, 7, 7];
 
-/// 0 for the high digit of a byte, 1 for the low one.
+/// 0 for the high digit of a byte, 1 for the low digit.
 const PARTS_16: [u8; 16] = [0, 1, 0, 1, 0, 1, 0, 1, 0, 1, 0, 1, 0, 1, 0, 1];
 
-/// The hexadecimal digits of 8 bytes, two a byte.
+/// Return the hexadecimal digits of 8 bytes, two for each byte.
 #[inline(always)]
 fn digits_of_8(bytes: &[u8]) -> [u8; 16]
     requires { length bytes.now ≡ 8 }
@@ -34,7 +34,7 @@ fn digits_of_8(bytes: &[u8]) -> [u8; 16]
     (numbers + offsets).to_array()
 }
 
-/// Adds 16 hexadecimal digits, the highest first.
+/// Append a number in 16 hexadecimal digits, the highest first.
 #[tactic(auto, unfolding(rv_model::specs::commands::Printing::hex16))]
 #[inline(always)]
 pub(crate) fn push_hex16(text: &mut Text, number: u64)
@@ -45,7 +45,7 @@ pub(crate) fn push_hex16(text: &mut Text, number: u64)
     text.push(&digits_of_8(&number.to_be_bytes()));
 }
 
-/// Adds 8 hexadecimal digits, the highest first.
+/// Append a number in 8 hexadecimal digits, the highest first.
 #[inline(always)]
 pub(crate) fn push_hex8(text: &mut Text, number: u32)
     requires { length text.old + 8 ≤ TEXT_SIZE }
@@ -55,7 +55,7 @@ pub(crate) fn push_hex8(text: &mut Text, number: u32)
     text.push(&digits_of_8(&u64::from(number).to_be_bytes())[8..]);
 }
 
-/// 8 bytes, the last one first.
+/// Return 8 bytes in reverse order.
 #[inline(always)]
 fn reversed_8(bytes: &[u8]) -> [u8; 8]
     requires { length bytes.now ≡ 8 }
@@ -66,7 +66,7 @@ fn reversed_8(bytes: &[u8]) -> [u8; 8]
     ]
 }
 
-/// Adds two hexadecimal digits for each of 8 bytes, the last byte first.
+/// Append two hexadecimal digits for each of 8 bytes, the last byte first.
 #[inline(always)]
 fn push_8(text: &mut Text, bytes: &[u8])
     requires size { length bytes.now ≡ 8 }
@@ -77,7 +77,7 @@ fn push_8(text: &mut Text, bytes: &[u8])
     text.push(&digits_of_8(&reversed_8(bytes)));
 }
 
-/// Adds two hexadecimal digits for each of 4 bytes, the last byte first: the last digits of 8 bytes.
+/// Append two hexadecimal digits for each of 4 bytes, the last byte first. They are the last 8 of the digits of 8 bytes.
 #[inline(always)]
 fn push_4(text: &mut Text, bytes: &[u8])
     requires size { length bytes.now ≡ 4 }
@@ -89,7 +89,7 @@ fn push_4(text: &mut Text, bytes: &[u8])
     text.push(&digits_of_8(&reversed)[8..]);
 }
 
-/// The same of at most 8 bytes.
+/// Append two hexadecimal digits for each of at most 8 bytes, the last byte first, for any number of bytes.
 #[inline(never)]
 fn push_few(text: &mut Text, bytes: &[u8])
     requires size { length bytes.now ≤ 8 }
@@ -106,7 +106,7 @@ fn push_few(text: &mut Text, bytes: &[u8])
     text.push(&digits[..2 * size]);
 }
 
-/// Adds two hexadecimal digits for each of at most 8 bytes, the last byte first.
+/// Append two hexadecimal digits for each of at most 8 bytes, the last byte first.
 #[inline(always)]
 pub(crate) fn push_reversed(text: &mut Text, bytes: &[u8])
     requires size { length bytes.now ≤ 8 }
@@ -121,7 +121,7 @@ pub(crate) fn push_reversed(text: &mut Text, bytes: &[u8])
     }
 }
 
-/// Adds the 64 hexadecimal digits of a register, the last byte first.
+/// Append the 64 hexadecimal digits of a vector register, the last byte first.
 #[inline(always)]
 pub(crate) fn push_register(text: &mut Text, bytes: &[u8])
     requires size { length bytes.now ≡ VLENB }
@@ -135,7 +135,7 @@ pub(crate) fn push_register(text: &mut Text, bytes: &[u8])
     push_8(text, &bytes[0..8]);
 }
 
-/// Adds the number of a register in two places.
+/// Append the number of a register in two columns.
 #[inline(always)]
 pub(crate) fn push_number(text: &mut Text, number: u32)
     requires number { number < 32 }
@@ -151,7 +151,7 @@ pub(crate) fn push_number(text: &mut Text, number: u32)
     }
 }
 
-/// Adds a decimal number.
+/// Append a decimal number.
 #[inline(always)]
 pub(crate) fn push_decimal(text: &mut Text, number: u64)
     requires { length text.old + 20 ≤ TEXT_SIZE }

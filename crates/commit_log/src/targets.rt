@@ -1,4 +1,4 @@
-//! The registers that an instruction writes.
+//! Registers that an instruction writes.
 ghost use Rattle.std.specs.Prelude.{◌≡◌, ◌+◌, ◌*◌, ◌<◌, [], ℕ, None, Option, Some, if◌then◌else◌};
 ghost use Rattle.rv_model.specs.declared.instructions.operations.Eew.{Eew};
 ghost use Rattle.rv_model.specs.legality.Legality.{mask_result};
@@ -15,8 +15,8 @@ use rv_model::instructions::operations::{
 use rv_model::{AccessInstr, CsrInstr, Field, Instr, ScalarInstr, Sew, VReg, VType, VectorInstr};
 use vector_memory::unit_direction;
 
-/// The scalar register that an instruction on scalar registers writes: x0, which never changes, if it writes none. ECALL
-/// answers in x10.
+/// Return the scalar register that a scalar instruction writes; x0, which never changes, if it writes none. ECALL returns its result in
+/// x10.
 #[inline(always)]
 fn target_of_scalar(instr: &ScalarInstr) -> u32
     ensures value { result ≡ target_of_scalar instr.now }
@@ -38,7 +38,7 @@ fn target_of_scalar(instr: &ScalarInstr) -> u32
     }
 }
 
-/// The same of a vector instruction that neither loads nor stores.
+/// Return the same for a vector instruction that neither loads nor stores.
 #[inline(always)]
 fn target_of_vector(instr: &VectorInstr) -> u32
     ensures value { result ≡ target_of_vector instr.now }
@@ -54,7 +54,7 @@ fn target_of_vector(instr: &VectorInstr) -> u32
     }
 }
 
-/// The scalar register that an instruction writes: x0, which never changes, if it writes none.
+/// Return the scalar register that an instruction writes; x0, which never changes, if it writes none.
 #[inline(always)]
 pub(crate) fn scalar_target(instr: &Instr) -> u32
     ensures value { result ≡ scalar_target instr.now }
@@ -68,14 +68,14 @@ pub(crate) fn scalar_target(instr: &Instr) -> u32
     }
 }
 
-/// So many vector registers, from one on.
+/// Sequence of `count` vector registers, from register `first` on.
 #[derive(Clone, Copy)]
 pub(crate) struct Registers {
     pub first: u32,
     pub count: u64,
 }
 
-/// No vector register.
+/// Return a sequence of no vector registers.
 #[inline(always)]
 fn none() -> Registers
     ensures { result ≡ record { first = 0; count = 0 } }
@@ -83,7 +83,7 @@ fn none() -> Registers
     Registers { first: 0, count: 0 }
 }
 
-/// The registers of a group of a multiplier in eighths of a register.
+/// Return the registers of a group; `emul` is its multiplier, in eighths of a register.
 #[inline(always)]
 fn group(first: VReg, emul: u32) -> Registers
     ensures value { result ≡ record { first = first; count = 1 * registers emul } }
@@ -95,7 +95,7 @@ fn group(first: VReg, emul: u32) -> Registers
     }
 }
 
-/// The registers of `nf` + 1 groups of a multiplier in eighths of a register.
+/// Return the registers of `nf` + 1 groups; `emul` is the multiplier of each, in eighths of a register.
 #[inline(always)]
 fn groups(first: VReg, nf: Field<3>, emul: u32) -> Registers
     ensures value { result ≡ record { first = first; count = (nf + 1) * registers emul } }
@@ -107,7 +107,7 @@ fn groups(first: VReg, nf: Field<3>, emul: u32) -> Registers
     }
 }
 
-/// The same registers, if they are loaded; a store writes none.
+/// Return the same registers for a load, and none for a store.
 #[inline(always)]
 fn loaded(direction: Direction, registers: Registers) -> Registers
     requires { registers.first < 32 }
@@ -121,7 +121,7 @@ fn loaded(direction: Direction, registers: Registers) -> Registers
     }
 }
 
-/// The multiplier of the destination of an operation, in eighths of a register.
+/// Return the multiplier of the destination of an operation, in eighths of a register.
 #[tactic(auto, using(crate::proofs::Destinations::permute_emul, crate::proofs::Destinations::wide_emul))]
 #[inline(always)]
 fn destination_emul(op: VectorOp, vtype: VType) -> u32
@@ -144,7 +144,7 @@ fn destination_emul(op: VectorOp, vtype: VType) -> u32
     }
 }
 
-/// The multiplier of the destination of an operation on one mask, in eighths of a register.
+/// Return the multiplier of the destination of an operation on one mask, in eighths of a register.
 #[inline(always)]
 fn unary_emul(op: MaskUnaryOp, vtype: VType) -> u32
     ensures { (vd : ℕ) → result ≡ (mask_result op vd vtype).emul }
@@ -155,7 +155,7 @@ fn unary_emul(op: MaskUnaryOp, vtype: VType) -> u32
     }
 }
 
-/// The vector registers that an instruction writes which neither loads nor stores, under a vector type.
+/// Return the vector registers that an instruction writes under a vector type, if it neither loads nor stores.
 #[tactic(auto, using(crate::proofs::Destinations::alone_written, crate::proofs::Destinations::mask_written, crate::proofs::Destinations::shape_written), unfolding(rv_model::specs::legality::Legality::operands))]
 #[inline(always)]
 fn typed_targets(instr: &VectorInstr, vtype: VType) -> Registers
@@ -186,7 +186,7 @@ fn typed_targets(instr: &VectorInstr, vtype: VType) -> Registers
     }
 }
 
-/// The registers of a load of whole registers, whatever the vector type is.
+/// Return the registers of a whole-register load, whatever the vector type is.
 #[inline(always)]
 fn whole(count: RegisterCount, vd: VReg) -> Registers
     ensures value { (width : Eew) (rs1 : ℕ) (vtype : Option VType) → registers_from result.first result.count
@@ -196,7 +196,7 @@ fn whole(count: RegisterCount, vd: VReg) -> Registers
     group(vd, 8 * u32::from(register_count(count)))
 }
 
-/// The vector registers that a load writes without a vector type: only one of whole registers does.
+/// Return the vector registers that a load writes without a vector type. Only whole-register loads write any.
 #[tactic(auto, unfolding(rv_model::specs::legality::Legality::operands))]
 #[inline(always)]
 fn untyped_targets(instr: &AccessInstr) -> Registers
@@ -209,7 +209,7 @@ fn untyped_targets(instr: &AccessInstr) -> Registers
     }
 }
 
-/// The vector registers that a load writes, under a vector type.
+/// Return the vector registers that a load writes under a vector type.
 #[tactic(auto, unfolding(rv_model::specs::legality::Legality::operands))]
 #[inline(always)]
 fn typed_access_targets(instr: &AccessInstr, vtype: VType) -> Registers
@@ -252,7 +252,7 @@ fn typed_access_targets(instr: &AccessInstr, vtype: VType) -> Registers
     }
 }
 
-/// The vector registers that a load writes, under the vector type that it finds, if there is one.
+/// Return the vector registers that a load writes, under the vector type before it, if there is one.
 #[inline(always)]
 fn access_targets(instr: &AccessInstr, vtype: Option<VType>) -> Registers
     ensures value { registers_from result.first result.count ≡ vector_targets (Instr.Access instr.now) vtype }
@@ -264,7 +264,7 @@ fn access_targets(instr: &AccessInstr, vtype: Option<VType>) -> Registers
     }
 }
 
-/// The vector registers that an instruction writes, under the vector type that it finds, if there is one.
+/// Return the vector registers that an instruction writes, under the vector type before it, if there is one.
 #[tactic(auto, unfolding(rv_model::specs::legality::Legality::operands))]
 #[inline(always)]
 pub(crate) fn vector_targets(instr: &Instr, vtype: Option<VType>) -> Registers

@@ -1,16 +1,17 @@
-//! Text that is gathered before it is written.
+//! Text that is buffered before it is written.
 ghost use Rattle.std.specs.Prelude.{◌≡◌, ◌+◌, ◌≤◌, [], ◌++◌, length, IfOk};
 
 use std::alloc::{AllocError, Global};
 use std::marker::Model;
 
-/// More bytes than a line has: its registers take fewer than 4,096, and each of at most 2,048 moved elements 42.
+/// Upper bound of the length of a line, in bytes. The registers take fewer than 4,096 bytes, and each of at most 2,048 moved elements takes
+/// 42.
 pub const LINE_SIZE: usize = 90_112;
 
-/// The bytes that are gathered at most.
+/// Capacity of a text, in bytes.
 pub const TEXT_SIZE: usize = 160 * 1024;
 
-/// Bytes up to `TEXT_SIZE`.
+/// Text of at most `TEXT_SIZE` bytes.
 #[derive(Drop)]
 pub struct Text {
     bytes: Vec<u8>,
@@ -29,7 +30,7 @@ impl Model for Text {
 }
 
 impl Text {
-    /// No text yet.
+    /// Create an empty text. Return `AllocError` if the allocation fails.
     pub fn new(alloc: Global) -> Result<Text, AllocError>
         ensures { IfOk result (λ text. text ≡ []) }
     {
@@ -39,14 +40,14 @@ impl Text {
         })
     }
 
-    /// Empties the text.
+    /// Remove all bytes of the text.
     pub fn clear(&mut self)
         ensures { self.new ≡ [] }
     {
         self.len = 0;
     }
 
-    /// The bytes of the text.
+    /// Return the bytes of the text, at most `TEXT_SIZE`.
     pub fn as_slice(&self) -> &[u8]
         ensures value { result.now ≡ self.now }
         ensures bound { length result.now ≤ TEXT_SIZE }
@@ -54,7 +55,7 @@ impl Text {
         &self.bytes[..self.len]
     }
 
-    /// Adds bytes at the end.
+    /// Append bytes to the text.
     #[inline(always)]
     pub(crate) fn push(&mut self, bytes: &[u8])
         requires { length self.old + length bytes.now ≤ TEXT_SIZE }
