@@ -1,4 +1,4 @@
-//! A user's commands, by what they are about, the operator's, and why one is refused.
+//! Commands of users, by subject; commands of the operator; and the reasons for a refusal.
 mod arguments;
 mod breakpoints;
 mod command;

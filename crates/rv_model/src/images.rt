@@ -1,4 +1,4 @@
-//! What an ELF-64 image says of its segments, and what may be wrong with it.
+//! Program headers of ELF-64 images, and the faults of images.
 mod laws;
 
 ghost use Rattle.std.specs.Prelude.{◌≡◌, ◌≤◌, length};
@@ -13,22 +13,22 @@ pub struct ProgramHeader {
     pub kind: u32,
     /// `p_flags`: the sum of 1 for execute, 2 for write and 4 for read.
     pub flags: u32,
-    /// `p_offset`: where the segment's bytes begin in the file.
+    /// `p_offset`: the offset in the file of the segment's first byte.
     pub offset: u64,
-    /// `p_vaddr`: where the segment begins in memory.
+    /// `p_vaddr`: the address of the segment's first byte.
     pub address: u64,
-    /// `p_filesz`: how many bytes it has in the file.
+    /// `p_filesz`: the segment's size in the file, in bytes.
     pub file_size: u64,
-    /// `p_memsz`: how many bytes it has in memory.
+    /// `p_memsz`: the segment's size in memory, in bytes.
     pub memory_size: u64,
 }
 
 /// Why an image can't be loaded.
 #[derive(Clone, Copy, Debug, PartialEq, Eq)]
 pub enum ElfFault {
-    /// The file has no room for a file header, which has 64 bytes.
+    /// The file is shorter than a file header, which has 64 bytes.
     BadShort,
-    /// The file doesn't begin with 7F 45 4C 46.
+    /// The file doesn't start with 7F 45 4C 46.
     BadMagic,
     /// The file isn't of the 64-bit class.
     BadClass,
@@ -38,11 +38,11 @@ pub enum ElfFault {
     BadType,
     /// The file isn't for RISC-V.
     BadMachine,
-    /// A program header hasn't 56 bytes.
+    /// The size of a program header isn't 56 bytes.
     BadHeaderSize,
     /// The program header table runs past the end of the file.
     BadHeaderTable,
-    /// The program wants an interpreter.
+    /// The program requires an interpreter.
     BadInterp,
     /// A segment has more bytes in the file than in memory.
     BadFileSize,
@@ -50,12 +50,12 @@ pub enum ElfFault {
     BadOutside,
     /// A segment runs past address 2^48.
     BadAddress,
-    /// The entry isn't divisible by 4.
+    /// The entry address isn't divisible by 4.
     BadEntry,
 }
 
 impl ElfFault {
-    /// The name that the monitor prints.
+    /// Return the name that the monitor prints.
     pub fn name(self) -> &'static str
         ensures name { result.now ≡ fault_name self }
         ensures short { length result.now ≤ 11 }

@@ -1,34 +1,34 @@
 //! The register operands of vector instructions ("V" Vector Extension 1.0, section 5.2).
 use crate::instructions::VReg;
 
-/// What an instruction does with the registers of an operand.
+/// The use that an instruction makes of the registers of an operand.
 #[derive(Clone, Copy)]
 pub enum Role {
-    /// They are a source.
+    /// A source.
     Read,
-    /// They hold the mask of a masked instruction.
+    /// The mask of a masked instruction.
     Control,
-    /// They are not used.
+    /// No use.
     Unused,
-    /// They are the destination.
+    /// The destination.
     Write,
-    /// They are a destination that may overlap no source, and not the mask.
+    /// A destination that may overlap neither a source nor the mask.
     Apart,
-    /// They are the destination of a reduction, which may overlap anything.
+    /// The destination of a reduction, which may overlap any source and the mask.
     Free,
 }
 
-/// What the registers of an operand hold.
+/// Contents of the registers of an operand.
 #[derive(Clone, Copy)]
 pub enum Content {
     /// A mask: elements of one bit.
     Mask,
-    /// Elements of so many bits.
+    /// Elements of this width in bits.
     Elements(u16),
 }
 
-/// A register operand: for each field of a segment a group of registers, one group after another. `emul`
-/// is the multiplier of one group, in eighths of a register.
+/// A register operand: one register group for each field of a segment, one group after another. `emul` is the
+/// multiplier of one group, in eighths of a register.
 #[derive(Clone, Copy)]
 pub struct Operand {
     pub role: Role,
@@ -38,11 +38,10 @@ pub struct Operand {
     pub fields: u8,
 }
 
-/// How the element widths of an operation's operands follow from SEW, and what its destination may
-/// overlap.
+/// Operand widths of an operation in terms of SEW, and the overlaps that its destination may have.
 #[derive(Clone, Copy)]
 pub enum Shape {
-    /// All have SEW.
+    /// All operands have SEW.
     Single,
     /// The destination has twice SEW.
     Widening,
@@ -52,12 +51,12 @@ pub enum Shape {
     Narrowing,
     /// The destination is a mask.
     Compare,
-    /// All have SEW, and the destination may overlap no source.
+    /// All operands have SEW, and the destination may overlap no source.
     Gather,
-    /// As `Gather`, with indices of 16 bits.
+    /// Like `Gather`, with indices of 16 bits.
     GatherIndices16,
     /// The destination and the second source are single elements.
     Reduction,
-    /// As `Reduction`, where these have twice SEW.
+    /// Like `Reduction`, but the single elements have twice SEW.
     WideReduction,
 }

@@ -1,4 +1,4 @@
-//! The definitions that every contract of the monitor cites, and the small types they speak of.
+//! Definitions that the contracts of the monitor use, and the types in these definitions.
 #![tactic(auto)]
 
 pub mod assembler;

@@ -1,4 +1,4 @@
-//! Users, what their programs do, and the laws of machines.
+//! Users, the states of their programs, and laws about machines.
 mod laws;
 mod standing;
 mod stats;

@@ -1,26 +1,26 @@
-//! How a user's memory is divided, and what it allows.
+//! Sizes and permissions of a user's memory.
 ghost use Rattle.std.specs.Prelude.{◌≡◌};
 ghost use Rattle.rv_model.specs.memory.Memory.{permits, WritesBytes, KeepsPermissions, MapsZeros, MapsPermissions};
 ghost use Rattle.rv_model.specs.memory.Memory.{ReadsBytes, AllowsEachByte};
 
 use crate::machine::USER_COUNT;
 
-/// The bytes of a page.
+/// Size of a page in bytes.
 pub const PAGE_SIZE: u64 = 4096;
 
-/// How many pages a user may have.
+/// Largest number of pages of a user.
 pub const PAGE_QUOTA: usize = 256;
 
-/// How many frames hold the pages of all users: enough for each to have as many as a user may.
+/// Number of frames for the pages of all users, enough for each user's quota.
 pub const FRAME_COUNT: usize = USER_COUNT * PAGE_QUOTA;
 
-/// The end of addresses: each mapped one is below it.
+/// The end of the address space: each mapped address is below it.
 pub const ADDRESS_END: u64 = 1 << 48;
 
-/// How many pages there are below the end of addresses.
+/// Number of pages below the end of the address space.
 pub(crate) const PAGE_LIMIT: u64 = ADDRESS_END / PAGE_SIZE;
 
-/// What a page may be used for.
+/// Permissions of a page.
 #[derive(Clone, Copy, Debug, Default, PartialEq, Eq)]
 pub struct Permissions {
     pub read: bool,
@@ -28,7 +28,7 @@ pub struct Permissions {
     pub execute: bool,
 }
 
-/// Why memory is accessed. A program fetches, loads and stores; the monitor looks at any mapped page.
+/// Purpose of a memory access. A program fetches, loads and stores; the monitor may access any mapped page.
 #[derive(Clone, Copy, Debug, PartialEq, Eq)]
 pub enum Access {
     Fetch,
@@ -37,13 +37,13 @@ pub enum Access {
     Monitor,
 }
 
-/// An access that isn't wholly allowed, by its first address.
+/// An access that isn't allowed at each of its bytes; `addr` is its first address.
 #[derive(Clone, Copy, Debug, PartialEq, Eq)]
 pub struct Fault {
     pub addr: u64,
 }
 
-/// Why pages can't be mapped: too many of the user's own, or one of them is there.
+/// Reason why pages can't be mapped: the user would exceed the quota, or one of the pages is mapped already.
 #[derive(Clone, Copy, Debug, PartialEq, Eq)]
 pub enum MapRefusal {
     Quota,
@@ -51,7 +51,7 @@ pub enum MapRefusal {
 }
 
 impl Access {
-    /// Whether a page with these permissions allows the access.
+    /// Return whether a page with these permissions allows the access.
     pub fn is_permitted(self, permissions: Permissions) -> bool
         ensures { result ≡ permits self permissions }
     {
@@ -64,7 +64,7 @@ impl Access {
     }
 }
 
-/// What a write, new pages, a read and a check mean at each address.
+/// Laws about the effect of a write, of new pages, of a read and of a check at each address.
 pub fn memory_laws()
     ensures written { WritesBytes }
     ensures kept { KeepsPermissions }

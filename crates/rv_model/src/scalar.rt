@@ -13,7 +13,7 @@ pub struct Scalar {
 }
 
 impl Scalar {
-    /// All registers zero.
+    /// Return registers that are all zero, and a program counter of zero.
     #[tactic(auto, unfolding(crate::specs::scalar::Registers::initial_scalar))]
     pub fn new() -> Scalar
         ensures { result ≡ initial_scalar }
@@ -21,14 +21,14 @@ impl Scalar {
         Scalar { x: [0; 32], pc: 0 }
     }
 
-    /// The value of a register.
+    /// Return the value of a register; x0 is 0.
     pub fn read(&self, register: Reg) -> u64
         ensures { result ≡ read_register self.now register }
     {
         self.x[register.number() as usize]
     }
 
-    /// Writes a register; a write to x0 changes nothing.
+    /// Write a register; a write to x0 changes nothing.
     pub fn write(&mut self, register: Reg, value: u64)
         ensures { self.new ≡ with_register register value self.old }
     {

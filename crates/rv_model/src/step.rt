@@ -1,4 +1,4 @@
-//! How instructions end, and laws of them.
+//! How instructions end, and laws about steps.
 mod byte_laws;
 mod laws;
 mod memory_end;

@@ -1,9 +1,9 @@
-//! Numbers in digits.
+//! Parsing of numbers in a radix.
 ghost use Rattle.std.specs.Prelude.{◌≡◌, ◌≤◌, ◌^◌};
 ghost use Rattle.rv_model.specs.text.Digits.{digit, digits_after};
 ghost use Rattle.rv_model.specs.lending.Text.{capped};
 
-/// The value of a hexadecimal digit in either case, or 16 for any other byte.
+/// Return the value of a hexadecimal digit of either case, or 16 for any other byte.
 fn digit(byte: u8) -> u128
     ensures { result ≡ digit byte }
 {
@@ -15,8 +15,8 @@ fn digit(byte: u8) -> u128
     }
 }
 
-/// The number that digits of a radix spell, or `cap` in place of a larger one; 0 for no digits, and
-/// `None` where a byte is no digit of the radix.
+/// Return the value of the digits in a radix, or `cap` if the value is greater. An empty text gives 0; a byte that
+/// isn't a digit of the radix gives `None`.
 pub fn digits(radix: u128, cap: u128, word: &[u8]) -> Option<u128>
     requires radix { 1 ≤ radix × radix ≤ 16 }
     requires cap { cap ≤ 2 ^ 64 }

@@ -1,6 +1,6 @@
-//! The slots of an instruction's text, and the forms of text: lists of slots.
+//! The slots of an instruction's text, and the forms of texts, which are lists of slots.
 
-/// The place of a register's number in a word: bits 11 to 7, 19 to 15 or 24 to 20.
+/// Position of a register number in a word: `Rd` is bits 11 to 7, `Rs1` 19 to 15, `Rs2` 24 to 20.
 #[derive(Clone, Copy)]
 pub enum Place {
     Rd,
@@ -8,10 +8,10 @@ pub enum Place {
     Rs2,
 }
 
-/// An unsigned number, with its place in a word.
+/// An unsigned number, by its position in a word.
 #[derive(Clone, Copy)]
 pub enum UnsignedField {
-    /// 5 bits at rs1.
+    /// 5 bits, in the field of rs1.
     Immediate,
     /// The amount of a 64-bit shift: bits 25 to 20.
     Shift,
@@ -21,22 +21,22 @@ pub enum UnsignedField {
     Upper,
 }
 
-/// A signed number, with its place in a word.
+/// A signed number, by its position in a word.
 #[derive(Clone, Copy)]
 pub enum SignedField {
-    /// 5 bits at rs1.
+    /// 5 bits, in the field of rs1.
     Vector,
     /// The 12 bits of the I format.
     Immediate,
     /// The 12 bits of the S format.
     Store,
-    /// An even distance in bytes of 13 bits, as the B format has it.
+    /// An even 13-bit distance in bytes, in the B format.
     Branch,
-    /// An even distance in bytes of 21 bits, as the J format has it.
+    /// An even 21-bit distance in bytes, in the J format.
     Jump,
 }
 
-/// A place in an instruction's text, which wants one token or more.
+/// A slot of an instruction's text, filled by one or more tokens; `Mask` may be empty.
 #[derive(Clone, Copy)]
 pub enum Slot {
     /// `,`
@@ -53,30 +53,30 @@ pub enum Slot {
     Vector(Place),
     Unsigned(UnsignedField),
     Signed(SignedField),
-    /// A control register, by its name or its 12-bit number.
+    /// A control register, as a name or a 12-bit number.
     Csr,
-    /// vtype, by the names of its parts or as a number of 11 bits.
+    /// vtype, as the names of its fields or as an 11-bit number.
     VectorType,
-    /// vtype, by the names of its parts or as a number of 10 bits.
+    /// vtype, as the names of its fields or as a 10-bit number.
     ShortVectorType,
-    /// `, v0.t` or nothing: bit 25, clear where the instruction is masked.
+    /// `, v0.t` or nothing: bit 25, which is clear if the instruction is masked.
     Mask,
-    /// A whole word, in 32 bits.
+    /// A whole 32-bit word.
     Word,
 }
 
-/// What stands at rs1 as a vector operation's last source.
+/// Kind of a vector operation's last source, in the field of rs1.
 #[derive(Clone, Copy)]
 pub enum SourceKind {
     /// `v0` to `v31`.
     Vector,
     /// `x0` to `x31`.
     Scalar,
-    /// A signed number of 5 bits.
+    /// A signed 5-bit number.
     Immediate,
 }
 
-/// A form of text, named for the instructions that have it.
+/// A form of instruction texts, named after its instructions.
 #[derive(Clone, Copy)]
 pub enum Form {
     /// `ecall`

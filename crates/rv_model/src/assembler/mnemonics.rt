@@ -1,17 +1,17 @@
-//! The names of instructions, each with the form of its text and the bits that it fixes in a word.
+//! The names of instructions, each with the form of its text and the word bits that it fixes.
 use crate::assembler::forms::{Form, SourceKind};
 
-/// A name, with spaces behind it; the form of its text; and its word where all operands are zeros.
+/// A name, padded with spaces; the form of its text; and its word with all operands zero.
 #[derive(Clone, Copy)]
 pub struct Mnemonic(pub [u8; 16], pub Form, pub u32);
 
-/// How many instructions have names.
+/// Number of instruction names.
 pub const NAME_COUNT: usize = 597;
 
-/// How many rows the table has: the names of instructions, and `.word`.
+/// Number of rows of the table: the instruction names and `.word`.
 pub const ROW_COUNT: usize = NAME_COUNT + 1;
 
-/// Every name of an instruction, and `.word` as the last.
+/// All instruction names, and `.word` in the last row.
 pub static MNEMONICS: [Mnemonic; ROW_COUNT] = [
     // RV64I
     Mnemonic(*b"lui             ", Form::Upper, 0x0000_0037),

@@ -1,4 +1,4 @@
-//! The arguments of commands that have types of their own.
+//! Types of command arguments.
 ghost use Rattle.std.specs.Prelude.{◌≡◌, ◌≤◌, ◌+◌};
 ghost use Rattle.rv_model.specs.commands.Arguments.{byte_string};
 
@@ -21,7 +21,7 @@ impl Model for ByteString {
 }
 
 impl ByteString {
-    /// The 1 to 256 bytes that an even number of hexadecimal digits spells.
+    /// Return the 1 to 256 bytes of an even number of hexadecimal digits, or `None` for any other text.
     pub fn from_hex(text: &[u8]) -> Option<ByteString>
         ensures { result ≡ byte_string text.now }
     {
@@ -38,7 +38,7 @@ impl ByteString {
         Some(ByteString { bytes })
     }
 
-    /// The bytes.
+    /// Return the bytes.
     pub fn as_slice(&self) -> &[u8]
         ensures { result.now ≡ self.now }
     {
@@ -46,7 +46,7 @@ impl ByteString {
     }
 }
 
-/// A part of a command's line: the name of an image, or the text of an instruction.
+/// Part of a command's line: the name of an image, or the text of an instruction.
 #[derive(Drop)]
 pub struct LinePart<'a> {
     bytes: &'a [u8],
@@ -61,14 +61,14 @@ impl<'a> Model for LinePart<'a> {
 }
 
 impl<'a> LinePart<'a> {
-    /// The part that has these bytes.
+    /// Return the part with these bytes.
     pub fn new(bytes: &'a [u8]) -> LinePart<'a>
         ensures { result ≡ bytes.now }
     {
         LinePart { bytes }
     }
 
-    /// The bytes.
+    /// Return the bytes.
     pub fn as_slice(&self) -> &'a [u8]
         ensures { result.now ≡ self.now }
     {
@@ -95,7 +95,7 @@ impl<const MAX: usize> Model for Count<MAX> {
 }
 
 impl<const MAX: usize> Count<MAX> {
-    /// A count that is small enough.
+    /// Return a count, which must be at most `MAX`.
     pub fn new(count: usize) -> Count<MAX>
         requires { count ≤ MAX }
         ensures { result ≡ count }
@@ -103,7 +103,7 @@ impl<const MAX: usize> Count<MAX> {
         Count { count }
     }
 
-    /// The count.
+    /// Return the count.
     pub fn get(self) -> usize
         ensures value { result ≡ self.entry }
         ensures small { self.entry ≤ MAX }
@@ -112,7 +112,7 @@ impl<const MAX: usize> Count<MAX> {
     }
 }
 
-/// Whole pages, none of which ends beyond `ADDRESS_END`.
+/// A range of whole pages that ends at or below `ADDRESS_END`.
 #[derive(Clone, Copy)]
 pub struct PageRange {
     first: u64,
@@ -137,8 +137,8 @@ impl PageRange {
     ghost use Rattle.rv_model.specs.commands.Arguments.{page_range};
     ghost use Rattle.rv_model.specs.memory.Sizes.{page_limit};
 
-    /// So many pages from the one at an address on, if the address is divisible by `PAGE_SIZE`
-    /// and the pages end at `ADDRESS_END` or below.
+    /// Return the range of `count` pages from `addr` on, or `None` unless the address is divisible by `PAGE_SIZE` and
+    /// the range ends at or below `ADDRESS_END`.
     pub fn new(addr: u64, count: usize) -> Option<PageRange>
         ensures { result ≡ page_range addr count }
     {
@@ -149,7 +149,7 @@ impl PageRange {
         Some(PageRange { first, count })
     }
 
-    /// The number of the first page: its address divided by `PAGE_SIZE`.
+    /// Return the number of the first page: its address divided by `PAGE_SIZE`.
     pub fn first(self) -> u64
         ensures value { result ≡ self.first }
         ensures inside { self.first + self.count ≤ page_limit }
@@ -157,7 +157,7 @@ impl PageRange {
         self.first
     }
 
-    /// How many pages there are.
+    /// Return the number of pages.
     pub fn count(self) -> usize
         ensures { result ≡ self.count }
     {

@@ -3,10 +3,10 @@
 /// A command on a user's breakpoints.
 #[derive(Clone, Copy)]
 pub enum BreakpointCommand {
-    /// `break ADDR`: the program is to stop before the instruction there.
+    /// `break ADDR`: set a breakpoint at this address; the program stops before it executes the instruction there.
     Break(u64),
-    /// `unbreak ADDR`: it is no longer to stop there.
+    /// `unbreak ADDR`: remove the breakpoint at this address.
     Unbreak(u64),
-    /// `breaks`: the addresses of all breakpoints.
+    /// `breaks`: print the addresses of all breakpoints.
     Breaks,
 }

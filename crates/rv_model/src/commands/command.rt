@@ -1,4 +1,4 @@
-//! Any command of a user.
+//! All commands of a user.
 use crate::commands::breakpoints::BreakpointCommand;
 use crate::commands::entering::EnteringCommand;
 use crate::commands::memory::MemoryCommand;
@@ -6,10 +6,10 @@ use crate::commands::programs::ProgramCommand;
 use crate::commands::registers::RegisterCommand;
 use crate::commands::running::RunningCommand;
 
-/// A command of a user with its arguments. It borrows names and texts from its line.
+/// A user's command with its arguments. It borrows names and texts from the command's line.
 #[derive(Drop)]
 pub enum Cmd<'a> {
-    /// A command that begins or ends the user's machine.
+    /// A command that creates or removes the user's machine.
     Entering(EnteringCommand),
     /// A command on the user's memory.
     Memory(MemoryCommand),
@@ -19,6 +19,6 @@ pub enum Cmd<'a> {
     Programs(ProgramCommand<'a>),
     /// A command on the user's breakpoints.
     Breakpoints(BreakpointCommand),
-    /// A command that runs instructions, or tells how far the program is.
+    /// A command that executes instructions, or prints the program's state or output.
     Running(RunningCommand),
 }

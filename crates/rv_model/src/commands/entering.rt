@@ -1,10 +1,10 @@
-//! Commands that begin and end a user's machine.
+//! Commands that create and remove a user's machine.
 
-/// A command that begins or ends the user's machine.
+/// A command that creates or removes the user's machine.
 #[derive(Clone, Copy)]
 pub enum EnteringCommand {
-    /// `enter`: the user's machine begins.
+    /// `enter`: create the user's machine.
     Enter,
-    /// `leave`: the user is absent, and all that the user had is dropped.
+    /// `leave`: remove the user's machine, with all that belongs to it; the user is absent.
     Leave,
 }

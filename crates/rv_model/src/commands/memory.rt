@@ -5,17 +5,17 @@ use crate::memory::Permissions;
 /// A command on the user's memory.
 #[derive(Drop)]
 pub enum MemoryCommand {
-    /// `map ADDR PAGES PERM`: pages of zeros.
+    /// `map ADDR PAGES PERM`: map pages of zeros.
     Map {
         pages: PageRange,
         permissions: Permissions,
     },
-    /// `poke ADDR HEX`: bytes written to mapped pages.
+    /// `poke ADDR HEX`: write bytes to mapped pages.
     Poke {
         addr: u64,
         bytes: ByteString,
     },
-    /// `peek ADDR N`: 1 to 256 bytes of mapped pages are shown.
+    /// `peek ADDR N`: print 1 to 256 bytes of mapped pages.
     Peek {
         addr: u64,
         count: Count<256>,

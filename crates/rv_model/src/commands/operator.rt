@@ -2,15 +2,15 @@
 use crate::commands::arguments::Count;
 use crate::machine::User;
 
-/// A command of the operator, who grants slices.
+/// A command of the operator, who grants slices to users.
 #[derive(Clone, Copy)]
 pub enum OperatorCommand {
-    /// `slices N`: 1 to 1,000 slices are granted in turn to the users whose programs run.
+    /// `slices N`: grant 1 to 1,000 slices in turn to the users with running programs.
     Slices(Count<1000>),
-    /// `run U`: a slice is granted to this user.
+    /// `run U`: grant a slice to this user.
     Run(User),
-    /// `list`: what each user's program does.
+    /// `list`: print the state of each user's program.
     List,
-    /// `stats`: how often the vector unit was switched, and whose state it holds.
+    /// `stats`: print the numbers of vector-unit switches, and the user whose state the unit holds.
     Stats,
 }

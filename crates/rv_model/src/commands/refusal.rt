@@ -1,35 +1,35 @@
-//! Why a command is refused.
+//! Reasons for a refusal.
 use crate::images::ElfFault;
 
-/// Why a command is refused, in the order in which the reasons are tested.
+/// The reason for a refusal, in the order of the tests.
 #[derive(Clone, Copy, Debug, PartialEq, Eq)]
 pub enum Refusal {
     /// E03: there is no such command.
     UnknownCommand,
-    /// E04: a wrong number of words, or a word out of its form or range.
+    /// E04: the number of arguments is wrong, or an argument has the wrong form or is out of range.
     Argument,
-    /// E05: the user has not entered.
+    /// E05: the user hasn't entered.
     NotEntered,
     /// E06: the user has entered already.
     AlreadyEntered,
-    /// E07: the user's program runs.
+    /// E07: the user's program is running.
     Running,
     /// E08: there is no image of this name.
     ImageName,
     /// E09: the image has a fault.
     ElfFault(ElfFault),
-    /// E10: the user would have more than 256 pages.
+    /// E10: the user's number of pages would exceed 256.
     Quota,
-    /// E11: an address that isn't mapped.
+    /// E11: an address isn't mapped.
     NotMapped,
-    /// E12: the user has 16 breakpoints.
+    /// E12: the user already has 16 breakpoints.
     BreakpointLimit,
-    /// E13: a breakpoint stands there that is to be set, or none that is to be removed.
+    /// E13: the breakpoint to set exists already, or the one to remove doesn't exist.
     Breakpoint,
-    /// E14: the user's program doesn't run.
+    /// E14: the user's program isn't running.
     NotRunning,
-    /// E15: the text spells no instruction; the column, from 1, of the first token that doesn't fit.
+    /// E15: the text isn't an instruction; the value is the column, from 1, of the first token that doesn't fit.
     Assembler(usize),
-    /// E16: a page that is mapped already.
+    /// E16: a page is mapped already.
     AlreadyMapped,
 }

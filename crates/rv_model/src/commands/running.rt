@@ -1,19 +1,19 @@
-//! Commands that run instructions, and tell how far the program is and what it has put out.
+//! Commands that execute instructions, or print the program's state or output.
 use crate::commands::arguments::Count;
 
-/// A command that runs instructions, or tells how far the program is or what it has put out.
+/// A command that executes instructions, or prints the program's state or output.
 #[derive(Clone, Copy)]
 pub enum RunningCommand {
-    /// `step N`: 1 to 256 instructions are carried out.
+    /// `step N`: execute 1 to 256 instructions.
     Step(Count<256>),
-    /// `go`: the program runs, in slices that are granted to it.
+    /// `go`: start the program, which runs in the slices that the operator grants.
     Go,
-    /// `stop`: the program stops.
+    /// `stop`: stop the program.
     Stop,
-    /// `state`: whether the user's program runs, and where it stands.
+    /// `state`: print whether the user's program is running, and its program counter.
     State,
-    /// `trace`: the addresses of the last 16 instructions that ran to their end.
+    /// `trace`: print the addresses of the last 16 instructions that retired.
     Trace,
-    /// `out`: what the program has put out; the output buffer is emptied.
+    /// `out`: print and empty the program's output buffer.
     Out,
 }

@@ -1,8 +1,8 @@
-//! A law of the memory that an image describes.
+//! A law about the memory that an image describes.
 ghost use Rattle.rv_model.specs.images.ImageCells.{HoldsCellsBelowEnd};
 
-/// The memory that an image describes holds at each address below the end what the image says there, and nothing past
-/// it.
+/// At each address below `ADDRESS_END`, the memory of an image has the cell that the image describes. It has none at or
+/// above that address.
 pub fn images_hold_cells()
     ensures { HoldsCellsBelowEnd }
 {}

@@ -2,7 +2,7 @@
 use crate::instructions::operands::{Field, Reg, VReg};
 use crate::instructions::operations::{Direction, Eew, Order, RegisterCount, UnitOp};
 
-/// A vector load or store: which one, and each operand that its word holds.
+/// A vector load or store: its operation, and each operand that its word encodes.
 #[derive(Clone, Copy)]
 pub enum AccessInstr {
     /// `vle32.v vd, (rs1), vm`, `vle32ff.v`, `vse32.v` and their segment forms; `nf` is one less than
@@ -25,7 +25,7 @@ pub enum AccessInstr {
         rs2: Reg,
         vm: bool,
     },
-    /// `vluxei32.v vd, (rs1), vs2, vm` and the like, and their segment forms; `width` is the index's.
+    /// `vluxei32.v vd, (rs1), vs2, vm`, its variants, and their segment forms; `width` is that of an index.
     Indexed {
         direction: Direction,
         order: Order,
@@ -36,14 +36,14 @@ pub enum AccessInstr {
         vs2: VReg,
         vm: bool,
     },
-    /// `vl1re32.v vd, (rs1)` and the like.
+    /// `vl1re32.v vd, (rs1)` and its variants.
     WholeLoad {
         count: RegisterCount,
         width: Eew,
         vd: VReg,
         rs1: Reg,
     },
-    /// `vs1r.v vd, (rs1)` and the like.
+    /// `vs1r.v vd, (rs1)` and its variants.
     WholeStore {
         count: RegisterCount,
         vd: VReg,

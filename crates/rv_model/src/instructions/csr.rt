@@ -5,14 +5,14 @@ use crate::instructions::operations::{CsrImmediateOp, CsrOp};
 /// An instruction on a control register; `csr` is its 12-bit number.
 #[derive(Clone, Copy)]
 pub enum CsrInstr {
-    /// `csrrw rd, csr, rs1` and the like; `csr` is the 12-bit number of the control register.
+    /// `csrrw rd, csr, rs1` and its variants; `csr` is the 12-bit number of the control register.
     Register {
         op: CsrOp,
         rd: Reg,
         rs1: Reg,
         csr: Field<12>,
     },
-    /// `csrrwi rd, csr, imm` and the like.
+    /// `csrrwi rd, csr, imm` and its variants.
     Immediate {
         op: CsrImmediateOp,
         rd: Reg,

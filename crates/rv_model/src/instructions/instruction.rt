@@ -1,17 +1,17 @@
-//! The instructions, by their group.
+//! Instructions, by group.
 use crate::instructions::access::AccessInstr;
 use crate::instructions::csr::CsrInstr;
 use crate::instructions::scalar::ScalarInstr;
 use crate::instructions::vector::VectorInstr;
 
-/// An instruction: an operation, and each operand that its word holds.
+/// An instruction: its operation, and each operand that its word encodes.
 #[derive(Clone, Copy)]
 pub enum Instr {
-    /// One of RV64I and its extension M.
+    /// An instruction of RV64I or its extension M.
     Scalar(ScalarInstr),
-    /// One that reads and writes a control register.
+    /// An instruction that reads and writes a control register.
     Csr(CsrInstr),
-    /// One of the vector extension that neither loads nor stores.
+    /// An instruction of the vector extension that neither loads nor stores.
     Vector(VectorInstr),
     /// A vector load or store.
     Access(AccessInstr),

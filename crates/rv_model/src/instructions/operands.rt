@@ -22,7 +22,7 @@ impl Model for Reg {
 }
 
 impl Reg {
-    /// The scalar register with this number, 0 to 31.
+    /// Return the scalar register with this number, 0 to 31.
     pub fn new(number: u32) -> Reg
         requires { number < 32 }
         ensures { result ≡ number }
@@ -30,7 +30,7 @@ impl Reg {
         Reg { number }
     }
 
-    /// The register's number, 0 to 31.
+    /// Return the register's number, 0 to 31.
     pub fn number(self) -> u32
         ensures value { result ≡ self }
         ensures small { self < 32 }
@@ -58,7 +58,7 @@ impl Model for VReg {
 }
 
 impl VReg {
-    /// The vector register with this number, 0 to 31.
+    /// Return the vector register with this number, 0 to 31.
     pub fn new(number: u32) -> VReg
         requires { number < 32 }
         ensures { result ≡ number }
@@ -66,7 +66,7 @@ impl VReg {
         VReg { number }
     }
 
-    /// The register's number, 0 to 31.
+    /// Return the register's number, 0 to 31.
     pub fn number(self) -> u32
         ensures value { result ≡ self }
         ensures small { self < 32 }
@@ -94,7 +94,7 @@ impl<const BITS: u32> Model for Field<BITS> {
 }
 
 impl<const BITS: u32> Field<BITS> {
-    /// The field with this value, which has to fit.
+    /// Return the field with this value, which must be below 2^`BITS`.
     pub fn new(value: u32) -> Field<BITS>
         requires { value < 2 ^ BITS }
         ensures { result ≡ value }
@@ -102,7 +102,7 @@ impl<const BITS: u32> Field<BITS> {
         Field { value }
     }
 
-    /// The field's value.
+    /// Return the field's value, below 2^`BITS`.
     pub fn value(self) -> u32
         ensures value { result ≡ self.entry }
         ensures small { self.entry < 2 ^ BITS }

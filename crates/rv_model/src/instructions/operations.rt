@@ -104,7 +104,7 @@ pub enum RegisterOp {
     Remuw,
 }
 
-/// Calls of the environment (Unprivileged ISA, RV32I, "Environment Call and Breakpoints").
+/// Environment calls and breakpoints (Unprivileged ISA, RV32I, "Environment Call and Breakpoints").
 #[derive(Clone, Copy)]
 pub enum SystemOp {
     Ecall,
@@ -175,8 +175,7 @@ pub enum CompareOp {
     Vmsgt,
 }
 
-/// Operations of one width that saturate or round (V extension, "Vector Fixed-Point Arithmetic
-/// Instructions").
+/// Saturating and rounding operations of a single width (V extension, "Vector Fixed-Point Arithmetic Instructions").
 #[derive(Clone, Copy)]
 pub enum FixedPointOp {
     Vsaddu,
@@ -220,8 +219,8 @@ pub enum WidenOp {
     Vwmul,
 }
 
-/// Operations whose result and first source have twice the width: `vwaddu.wv` and the like (V extension,
-/// "Vector Widening Integer Add/Subtract").
+/// Operations whose result and first source have twice the width, such as `vwaddu.wv` (V extension, "Vector Widening
+/// Integer Add/Subtract").
 #[derive(Clone, Copy)]
 pub enum WideSourceOp {
     Vwaddu,
@@ -282,8 +281,7 @@ pub enum PermuteOp {
     Vslide1down,
 }
 
-/// An operation with a line of its own in the manual's table, for which bit 25 says whether it is
-/// masked.
+/// An operation with its own row in the manual's table. Bit 25 of its word, `vm`, selects whether it is masked.
 #[derive(Clone, Copy)]
 pub enum VectorOp {
     Binary(BinaryOp),
@@ -323,8 +321,7 @@ pub enum MaskLogicOp {
     Vmxnor,
 }
 
-/// Counts and searches of a mask's bits, to a scalar register (V extension, "Vector Mask
-/// Instructions").
+/// Counts and searches of set mask bits, with a scalar result (V extension, "Vector Mask Instructions").
 #[derive(Clone, Copy)]
 pub enum MaskToScalarOp {
     Vcpop,
@@ -342,7 +339,8 @@ pub enum ExtendOp {
     VsextVf2,
 }
 
-/// Bits by where a mask's first set bit is (V extension, "vmsbf.m set-before-first mask bit" and the like).
+/// Masks of the elements before, up to or at a mask's first set bit (V extension, "vmsbf.m set-before-first mask bit"
+/// and the sections after it).
 #[derive(Clone, Copy)]
 pub enum MaskScanOp {
     Vmsbf,
@@ -350,7 +348,7 @@ pub enum MaskScanOp {
     Vmsif,
 }
 
-/// Operations on one mask, to a vector register (V extension, "Vector Mask Instructions").
+/// Operations on one mask, with a result in a vector register (V extension, "Vector Mask Instructions").
 #[derive(Clone, Copy)]
 pub enum MaskUnaryOp {
     Scan(MaskScanOp),
@@ -365,8 +363,7 @@ pub enum Major {
     Opm,
 }
 
-/// Where the second operand of a vector operation comes from: a vector register, a scalar register
-/// or an immediate.
+/// Kind of the second operand of a vector operation: a vector register, a scalar register or an immediate.
 #[derive(Clone, Copy)]
 pub enum Form {
     V,
@@ -374,7 +371,7 @@ pub enum Form {
     I,
 }
 
-/// The forms that a line of the manual's table allows.
+/// The operand forms that a row of the manual's table allows.
 #[derive(Clone, Copy)]
 pub enum Forms {
     V,
@@ -384,8 +381,8 @@ pub enum Forms {
     Vxi,
 }
 
-/// A line of the manual's table of vector operations: the half of the opcode map, the six bits of
-/// funct6, and the forms.
+/// A row of the manual's table of vector operations: the half of the opcode map, the six bits of funct6, and the
+/// operand forms.
 #[derive(Clone, Copy)]
 pub struct Line {
     pub major: Major,
@@ -393,8 +390,7 @@ pub struct Line {
     pub forms: Forms,
 }
 
-/// EEW: the width of a memory element in bits, or of an index (V extension, "Vector Load/Store Width
-/// Encoding").
+/// EEW: the width in bits of a memory element or of an index (V extension, "Vector Load/Store Width Encoding").
 #[derive(Clone, Copy)]
 pub enum Eew {
     E8,
@@ -412,7 +408,7 @@ pub enum UnitOp {
     Store,
 }
 
-/// Whether memory is read or written.
+/// Direction of a memory access: a read or a write.
 #[derive(Clone, Copy)]
 pub enum Direction {
     Load,
@@ -426,7 +422,7 @@ pub enum Order {
     Ordered,
 }
 
-/// How many whole registers are moved (V extension, "Vector Load/Store Whole Register Instructions"
+/// Number of registers that an instruction moves whole (V extension, "Vector Load/Store Whole Register Instructions"
 /// and "Whole Vector Register Move").
 #[derive(Clone, Copy)]
 pub enum RegisterCount {

@@ -1,4 +1,4 @@
-//! Vector operations with a second operand of a form that the manual's table allows them.
+//! Vector operations with a second operand in a form that the manual's table allows.
 ghost use Rattle.std.specs.Prelude.{◌≡◌, true};
 ghost use Rattle.rv_model.specs.instructions.Operations.{has_form, line, carry_line, form_of};
 
@@ -29,7 +29,7 @@ impl Model for Arith {
 }
 
 impl Arith {
-    /// The pair of an operation and a source of one of its forms.
+    /// Return the pair of an operation and a source in one of the operation's forms.
     pub fn new(op: VectorOp, source: Source) -> Arith
         requires { has_form (line op).forms (form_of source) ≡ true }
         ensures { result ≡ (op, source) }
@@ -37,7 +37,7 @@ impl Arith {
         Arith { op, source }
     }
 
-    /// The operation and its source.
+    /// Return the operation and its source.
     pub fn parts(self) -> (VectorOp, Source)
         ensures value { result ≡ self }
         ensures allowed { has_form (line self.0).forms (form_of self.1) ≡ true }
@@ -69,7 +69,7 @@ impl Model for Carry {
 }
 
 impl Carry {
-    /// The pair of an operation and a source of one of its forms.
+    /// Return the pair of an operation and a source in one of the operation's forms.
     pub fn new(op: CarryOp, source: Source) -> Carry
         requires { has_form (carry_line op).forms (form_of source) ≡ true }
         ensures { result ≡ (op, source) }
@@ -77,7 +77,7 @@ impl Carry {
         Carry { op, source }
     }
 
-    /// The operation and its source.
+    /// Return the operation and its source.
     pub fn parts(self) -> (CarryOp, Source)
         ensures value { result ≡ self }
         ensures allowed { has_form (carry_line self.0).forms (form_of self.1) ≡ true }

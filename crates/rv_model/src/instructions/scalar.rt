@@ -5,7 +5,7 @@ use crate::instructions::operations::{
     SystemOp, UpperOp,
 };
 
-/// An instruction on scalar registers and memory: an operation, and each operand that its word holds.
+/// An instruction on scalar registers and memory: its operation, and each operand that its word encodes.
 #[derive(Clone, Copy)]
 pub enum ScalarInstr {
     /// `lui rd, imm`, `auipc rd, imm`: the upper 20 bits of a 32-bit number.
@@ -25,56 +25,56 @@ pub enum ScalarInstr {
         rs1: Reg,
         imm: Field<12>,
     },
-    /// `beq rs1, rs2, imm` and the like: `imm` has bits 12 to 1 of the distance in bytes.
+    /// `beq rs1, rs2, imm` and its variants: `imm` has bits 12 to 1 of the distance in bytes.
     Branch {
         op: BranchOp,
         rs1: Reg,
         rs2: Reg,
         imm: Field<12>,
     },
-    /// `ld rd, imm(rs1)` and the like.
+    /// `ld rd, imm(rs1)` and its variants.
     Load {
         op: LoadOp,
         rd: Reg,
         rs1: Reg,
         imm: Field<12>,
     },
-    /// `sd rs2, imm(rs1)` and the like.
+    /// `sd rs2, imm(rs1)` and its variants.
     Store {
         op: StoreOp,
         rs1: Reg,
         rs2: Reg,
         imm: Field<12>,
     },
-    /// `addi rd, rs1, imm` and the like.
+    /// `addi rd, rs1, imm` and its variants.
     RegisterImmediate {
         op: ImmediateOp,
         rd: Reg,
         rs1: Reg,
         imm: Field<12>,
     },
-    /// `slli rd, rs1, shamt` and the like: the shift amount, in bits.
+    /// `slli rd, rs1, shamt` and its variants: `shamt` is the shift amount in bits.
     ShiftImmediate {
         op: ShiftImmediateOp,
         rd: Reg,
         rs1: Reg,
         shamt: Field<6>,
     },
-    /// `slliw rd, rs1, shamt` and the like.
+    /// `slliw rd, rs1, shamt` and its variants.
     ShiftImmediateWord {
         op: ShiftImmediateWordOp,
         rd: Reg,
         rs1: Reg,
         shamt: Field<5>,
     },
-    /// `add rd, rs1, rs2` and the like.
+    /// `add rd, rs1, rs2` and its variants.
     RegisterRegister {
         op: RegisterOp,
         rd: Reg,
         rs1: Reg,
         rs2: Reg,
     },
-    /// `fence`, with the fields that it ignores and the 12 bits of fm, pred and succ.
+    /// `fence`, with the register fields that it ignores and the 12 bits of fm, pred and succ.
     Fence {
         rd: Reg,
         rs1: Reg,

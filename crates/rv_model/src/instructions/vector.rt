@@ -6,7 +6,7 @@ use crate::instructions::operations::{
 use crate::instructions::pairs::{Arith, Carry};
 use crate::instructions::source::Source;
 
-/// A vector instruction that neither loads nor stores: an operation, and each operand that its word holds.
+/// A vector instruction that neither loads nor stores: its operation, and each operand that its word encodes.
 #[derive(Clone, Copy)]
 pub enum VectorInstr {
     /// `vsetvli rd, rs1, vtype`.
@@ -27,14 +27,14 @@ pub enum VectorInstr {
         rs1: Reg,
         rs2: Reg,
     },
-    /// `vadd.vv vd, vs2, vs1, vm` and the like. `vm` says that it is not masked, as in each variant.
+    /// `vadd.vv vd, vs2, vs1, vm` and its variants. A set `vm` means unmasked, here and in the other variants.
     Arith {
         arith: Arith,
         vd: VReg,
         vs2: VReg,
         vm: bool,
     },
-    /// `vadc.vvm vd, vs2, vs1, v0` and the like.
+    /// `vadc.vvm vd, vs2, vs1, v0` and its variants.
     Carry {
         carry: Carry,
         vd: VReg,
@@ -51,7 +51,7 @@ pub enum VectorInstr {
         vd: VReg,
         vs2: VReg,
     },
-    /// `vmand.mm vd, vs2, vs1` and the like.
+    /// `vmand.mm vd, vs2, vs1` and its variants.
     MaskLogic {
         op: MaskLogicOp,
         vd: VReg,
@@ -71,14 +71,14 @@ pub enum VectorInstr {
         vs2: VReg,
         vm: bool,
     },
-    /// `vzext.vf2 vd, vs2, vm` and the like.
+    /// `vzext.vf2 vd, vs2, vm` and its variants.
     Extend {
         op: ExtendOp,
         vd: VReg,
         vs2: VReg,
         vm: bool,
     },
-    /// `vmsbf.m vd, vs2, vm`, `viota.m` and the like.
+    /// `vmsbf.m vd, vs2, vm`, `viota.m` and their variants.
     MaskUnary {
         op: MaskUnaryOp,
         vd: VReg,

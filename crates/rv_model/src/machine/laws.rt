@@ -1,4 +1,4 @@
-//! Laws of the definitions, and small examples of them.
+//! Laws about machines, and small examples.
 ghost use Rattle.rv_model.specs.machine.AbsentUsers.{AbsentUsersHaveNothing, AbsentUsersLeaveTheUnit};
 ghost use Rattle.rv_model.specs.machine.AbsentUsers.{HappeningsKeepNothing, ScriptsKeepNothing};
 ghost use Rattle.rv_model.specs.machine.ConfiguredUsers.{HappeningsKeepConfigurations, ScriptsKeepConfigurations};
@@ -15,8 +15,8 @@ ghost use Rattle.rv_model.specs.machine.World.{new_world};
 ghost use Rattle.rv_model.specs.machine.Turns.{NobodyHasTwoTurns, EachRunningUserHasATurn, GrantsAreInTurn};
 ghost use Rattle.rv_model.specs.machine.Turns.{ScriptsAreInTurn, OneTurnBetweenTurns};
 
-/// Each user's lines are those of a private machine that is given the user's own commands and
-/// slices: from any eight machines, and from new ones.
+/// Each user's lines are those of a private machine that receives only the user's own commands and slices. This holds
+/// for any eight machines at the start, and for new ones.
 pub fn each_user_alone()
     ensures from_any { EachUserAlone }
     ensures from_new { EachNewUserAlone }
@@ -26,33 +26,33 @@ pub fn each_user_alone()
     ensures eight { MachinesStayEight }
 {}
 
-/// A small script prints what a reader expects, and an empty one nothing.
+/// A small script prints the expected lines, and an empty script prints nothing.
 pub fn small_scripts_print()
     ensures { SmallScriptsPrint }
 {}
 
-/// An instruction that faults writes no scalar register; no instruction changes x0.
+/// An instruction that faults writes neither a scalar register nor the program counter; no instruction changes x0.
 pub fn registers_that_stay()
     ensures fault { FaultsWriteNoRegister }
     ensures first { FirstRegisterStays }
 {}
 
-/// No instruction takes back what was put out, and none puts out more than there is room for.
+/// No instruction removes a byte from the output buffer, and none adds more bytes than the buffer has room for.
 pub fn output_that_grows()
     ensures { OutputGrowsWithin }
 {}
 
-/// No instruction leaves a vector length that isn't one of the vector type, and none maps an
-/// address or changes what is allowed at one.
+/// If the vector type allows the vector length before an instruction, the same is true after it. No instruction maps an
+/// address or changes its permissions.
 pub fn configurations_that_stay()
     ensures length { StepKeepsConfiguration }
     ensures permissions { StepKeepsPermissions }
 {}
 
-/// A slice and then another are one of the ticks of both, and so are any number of them: where an
-/// instruction was cut shows nowhere, unless it has stored over its own word before. That asks for a
-/// vector length of the vector type, which new machines have, and keep whatever happens to them. So
-/// it holds after any script.
+/// Consecutive slices print the same lines and leave the same machine as one slice with the sum of their ticks. So the
+/// output doesn't show where a slice cut an instruction, unless the instruction had overwritten its own word before the
+/// cut. The law assumes a vector length that the vector type allows. New machines have such a length, and each event
+/// preserves that, so the law holds after any script.
 pub fn slices_add_up()
     ensures cuts { CutsAreInvisible }
     ensures slices { SlicesAddUp }
@@ -63,9 +63,9 @@ pub fn slices_add_up()
     ensures after_scripts { SlicesAddUpAfterScripts }
 {}
 
-/// No user whose program runs waits for ever. Slices are granted in turn; while the user has no
-/// turn nobody else has two, as between two turns of the user in a script; and one of any eight
-/// turns in a row is the user's.
+/// No user with a running program waits for ever. The operator's slices are granted in turn. While such a user has no
+/// turn, no other user has two; in a script, this covers the time between two turns of the user. One of any eight turns
+/// in a row is the user's.
 pub fn turns_are_fair()
     ensures at_most_one { NobodyHasTwoTurns }
     ensures in_eight { EachRunningUserHasATurn }
@@ -74,16 +74,16 @@ pub fn turns_are_fair()
     ensures between { OneTurnBetweenTurns }
 {}
 
-/// What is answered by a refusal, an answer that begins with E, changes nothing: neither a machine of
-/// any user, nor whose turn it is, nor the record of the vector unit with its counts.
+/// A refused command, whose reply starts with E, changes nothing: no user's machine, no turn, and not the record of the
+/// vector unit with its counts.
 pub fn refusals_change_nothing()
     ensures reasons { ReasonsAreRefusals }
     ensures happenings { RefusedHappeningsChangeNothing }
     ensures lines { RefusedLinesChangeNothing }
 {}
 
-/// A user who is absent doesn't own the vector unit and has no state saved, at first and after
-/// whatever happens. So what happens to an absent user, `enter` too, leaves the unit's record.
+/// An absent user doesn't own the vector unit and has no saved state; this holds in a new world and after any events.
+/// So no event of an absent user, `enter` included, changes the record of the unit.
 pub fn absent_users_have_nothing()
     ensures new { AbsentUsersHaveNothing new_world }
     ensures happenings { HappeningsKeepNothing }

@@ -1,12 +1,12 @@
-//! What becomes of a user's program, as the operator sees it.
+//! The state of a user's program, as the operator sees it.
 
-/// What a user's program does.
+/// State of a user's program.
 #[derive(Clone, Copy, Debug, PartialEq, Eq)]
 pub enum Standing {
     /// The user has not entered.
     Absent,
     /// The program is stopped.
     Stopped,
-    /// The program runs.
+    /// The program is running.
     Running,
 }

@@ -1,8 +1,8 @@
-//! How the vector unit was used, as the operator sees it.
+//! Statistics of the vector unit, as the operator sees them.
 use crate::machine::User;
 
-/// How often a vector state was saved, restored and used for the first time, and the user whose
-/// state the vector unit holds. The counts stay at the greatest number of 64 bits.
+/// Numbers of vector states saved, restored and used for the first time, and the user whose state the vector unit
+/// holds. The counts saturate at 2^64 - 1.
 #[derive(Clone, Copy)]
 pub struct Stats {
     pub saves: u64,

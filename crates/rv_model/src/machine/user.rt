@@ -4,10 +4,10 @@ ghost use Rattle.rv_model.specs.machine.Setup.{user_count};
 
 use std::marker::Model;
 
-/// How many users there are.
+/// The number of users.
 pub const USER_COUNT: usize = 8;
 
-/// One of the users, by number from 1 on.
+/// A user, identified by a number from 1 to `USER_COUNT`.
 #[derive(Clone, Copy)]
 pub struct User {
     number: u8,
@@ -27,7 +27,7 @@ impl Model for User {
 }
 
 impl User {
-    /// The user with this number, 1 to `USER_COUNT`.
+    /// Return the user with this number, or `None` unless it is 1 to `USER_COUNT`.
     pub fn new(number: u8) -> Option<User>
         ensures valid { IsSome result ↔ ((1 ≤ number) × (number ≤ user_count)) }
         ensures value { IfSome result (λ u. u ≡ number) }
@@ -39,7 +39,7 @@ impl User {
         }
     }
 
-    /// The user at a place in a table of all users, from 0.
+    /// Return the user at this 0-based index in a table of all users.
     pub fn at_index(index: usize) -> User
         requires { index < user_count }
         ensures { result ≡ index + 1 }
@@ -49,7 +49,7 @@ impl User {
         }
     }
 
-    /// The user's number, 1 to `USER_COUNT`.
+    /// Return the user's number, 1 to `USER_COUNT`.
     pub fn number(self) -> u8
         ensures value { result ≡ self }
         ensures low { 1 ≤ result }
@@ -58,7 +58,7 @@ impl User {
         self.number
     }
 
-    /// The user's place in a table of all users, from 0.
+    /// Return the user's 0-based index in a table of all users.
     pub fn index(self) -> usize
         ensures value { result ≡ self - 1 }
         ensures small { result < user_count }

@@ -1,12 +1,12 @@
-//! How one vector load or store ends.
+//! The end of one vector load or store.
 
-/// How one vector load or store ends.
+/// The end of one vector load or store.
 #[derive(Clone, Copy, Debug, PartialEq, Eq)]
 pub enum MemEnd {
-    /// It is done; or it is a fault-only-first load, and shortened the vector length.
+    /// The instruction completes; a fault-only-first load may have reduced the vector length.
     Done,
-    /// The access at this address isn't allowed; the elements before that index are done.
+    /// The access at this address isn't allowed; the elements before this index are complete.
     Fault { index: usize, addr: u64 },
-    /// It was cut before that index; the elements before it are done.
+    /// A tick limit cuts the instruction before this index; the elements before it are complete.
     Cut { index: usize },
 }

@@ -1,7 +1,7 @@
-//! How much a program puts out.
+//! Limits on a program's output.
 
-/// The bytes that a user's output buffer holds at most.
+/// Capacity of a user's output buffer in bytes.
 pub const OUTPUT_SIZE: usize = 1024;
 
-/// The bytes that one call writes at most.
+/// Largest number of bytes that one call writes.
 pub const WRITE_SIZE: usize = 256;

@@ -1,25 +1,25 @@
-//! How one instruction ends.
+//! The end of one instruction.
 ghost use Rattle.std.specs.Prelude.{◌≡◌};
 ghost use Rattle.rv_model.specs.step.Hart.{cause_number};
 
-/// Why an instruction faults (Privileged Architecture 20211203, section 4.1.8, "scause").
+/// The cause of a fault (Privileged Architecture 20211203, section 4.1.8, "scause").
 #[derive(Clone, Copy, Debug, PartialEq, Eq)]
 pub enum Cause {
     /// A jump or branch to an address that isn't divisible by 4.
     MisalignedTarget,
-    /// An instruction fetch that isn't allowed.
+    /// An instruction fetch that isn't allowed at each of its bytes.
     FetchAccess,
-    /// A word that is no instruction, a vector instruction that isn't legal, or an access of a control register that
-    /// isn't there or may not be written.
+    /// A word that isn't an instruction, an illegal vector instruction, or an access to a control register that doesn't
+    /// exist or is read-only.
     IllegalInstruction,
-    /// A load that isn't wholly allowed.
+    /// A load that isn't allowed at each of its bytes.
     LoadAccess,
-    /// A store that isn't wholly allowed.
+    /// A store that isn't allowed at each of its bytes.
     StoreAccess,
 }
 
 impl Cause {
-    /// The number of the cause.
+    /// Return the number of the cause in `scause`.
     pub fn number(self) -> u8
         ensures { result ≡ cause_number self }
     {
@@ -33,35 +33,35 @@ impl Cause {
     }
 }
 
-/// How one instruction ends.
+/// The end of one instruction.
 #[derive(Clone, Copy, Debug, PartialEq, Eq)]
 pub enum StepEnd {
-    /// It ran, and the next one follows.
+    /// The instruction retires, and the next one follows.
     Ran,
     /// The program exits with this status.
     Exit(u8),
-    /// It is a breakpoint of the program's own, which stops there.
+    /// The instruction is EBREAK, and the program stops at it.
     Ebreak,
-    /// The instruction at `pc` faults; `value` is the address or the word that caused it.
+    /// The instruction at `pc` faults; `value` is the address or the word that causes the fault.
     Fault { cause: Cause, pc: u64, value: u64 },
-    /// It is a call that writes, and the output buffer has no room; the program stops there.
+    /// The instruction is a write call and the output buffer has no room; the program stops at it.
     OutputFull,
-    /// It is a vector load or store that was cut: the elements before `vstart` are done, and the rest of it is done
-    /// the next time.
+    /// A tick limit cuts the vector load or store: the elements before `vstart` are complete, and the next execution
+    /// continues with the rest.
     Cut,
 }
 
-/// Why a program stops.
+/// The reason for a program's stop.
 #[derive(Clone, Copy, Debug, PartialEq, Eq)]
 pub enum Stop {
-    /// A breakpoint stands at the program counter.
+    /// A breakpoint is at the program counter.
     Breakpoint,
-    /// An EBREAK instruction stands at the program counter.
+    /// An EBREAK instruction is at the program counter.
     Ebreak,
     /// The program exits with this status.
     Exit(u8),
-    /// An instruction faults; `value` is the address or the word that caused it.
+    /// An instruction faults; `value` is the address or the word that causes the fault.
     Fault { cause: Cause, value: u64 },
-    /// A call that writes stands at the program counter, and the output buffer has no room.
+    /// A write call is at the program counter, and the output buffer has no room.
     OutputFull,
 }

@@ -1,14 +1,14 @@
-//! How one vector instruction ends.
+//! The end of one vector instruction.
 
-/// How one vector instruction ends.
+/// The end of one vector instruction.
 #[derive(Clone, Copy, Debug, PartialEq, Eq)]
 pub enum VEnd {
-    /// It is done.
+    /// The instruction completes.
     Done,
-    /// It is illegal, and nothing has changed.
+    /// The instruction is illegal and changes nothing.
     Illegal,
-    /// The access at this address isn't allowed; the elements before it are done.
+    /// The access at this address isn't allowed; the elements before it are complete.
     Fault { store: bool, addr: u64 },
-    /// It is a load or store that was cut before that index; the elements before it are done.
+    /// A tick limit cuts the load or store before this index; the elements before it are complete.
     Cut { index: usize },
 }

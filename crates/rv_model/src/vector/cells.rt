@@ -1,8 +1,8 @@
-//! Bytes of which a part is lent for writing.
+//! An array of bytes with mutable borrows of a part.
 ghost use Rattle.std.specs.Prelude.{◌≡◌, ◌≤◌, slice_range};
 ghost use Rattle.std.specs.Borrow.{sem};
 
-/// An array of bytes in a struct of its own.
+/// An array of bytes, as a struct.
 #[derive(Clone, Copy, Drop)]
 pub(crate) struct Cells<const N: usize> {
     pub bytes: [u8; N],
@@ -11,7 +11,7 @@ pub(crate) struct Cells<const N: usize> {
 impl<const N: usize> Cells<N> {
     ghost use Rattle.rv_model.specs.lending.Cells.{LendsPart};
 
-    /// The bytes from one place up to another, for writing.
+    /// Return the bytes from index `from` up to but not including `to`, for writing.
     pub fn part_mut(&mut self, from: usize, to: usize) -> &mut [u8]
         requires order { from ≤ to }
         requires inside { to ≤ N }

@@ -1,8 +1,8 @@
-//! The control registers that a program may access: those of the vector extension.
+//! The control registers that a program may access, all of the vector extension.
 /// A control register of the vector extension ("V" Vector Extension 1.0, sections 3.4 to 3.10).
 #[derive(Clone, Copy, Debug, PartialEq, Eq)]
 pub enum ControlRegister {
-    /// The element that the next vector instruction begins with.
+    /// The index of the first element that the next vector instruction executes.
     Vstart,
     /// The fixed-point saturation flag.
     Vxsat,
@@ -18,7 +18,7 @@ pub enum ControlRegister {
     Vlenb,
 }
 
-/// Every control register.
+/// All control registers.
 static CONTROL_REGISTERS: [ControlRegister; 7] = [
     ControlRegister::Vstart,
     ControlRegister::Vxsat,
@@ -35,7 +35,7 @@ impl ControlRegister {
     ghost use Rattle.rv_model.specs.vector.ControlRegisters.{register_name, register_number};
     ghost use Rattle.rv_model.specs.vector.TypeNames.{with_name};
 
-    /// The register's number, of 12 bits.
+    /// Return the register's 12-bit number.
     pub fn number(self) -> u32
         ensures value { result ≡ register_number self }
         ensures small { result < 2 ^ 12 }
@@ -51,7 +51,7 @@ impl ControlRegister {
         }
     }
 
-    /// The register's name in assembler text, at most 16 bytes.
+    /// Return the register's name in assembler text, at most 16 bytes.
     pub fn name(self) -> &'static str
         ensures value { result.now ≡ register_name self }
         ensures short { length result.now ≤ 16 }
@@ -67,7 +67,7 @@ impl ControlRegister {
         }
     }
 
-    /// Whether no instruction may write the register.
+    /// Return whether the register is read-only for instructions.
     pub fn is_read_only(self) -> bool
         ensures { result ≡ is_read_only self }
     {
@@ -80,7 +80,7 @@ impl ControlRegister {
         }
     }
 
-    /// The register with this number.
+    /// Return the register with this number, or `None` if no register has it.
     pub fn with_number(number: u32) -> Option<ControlRegister>
         ensures { result ≡ control_register number }
     {
@@ -90,7 +90,7 @@ impl ControlRegister {
             .find(|register| register.number() == number)
     }
 
-    /// The register with this name.
+    /// Return the register with this name, or `None` if no register has it.
     pub fn with_name(name: &[u8]) -> Option<ControlRegister>
         ensures { result ≡ with_name register_name control_registers name.now }
     {

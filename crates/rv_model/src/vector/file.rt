@@ -30,7 +30,7 @@ impl VFile {
     ghost use Rattle.rv_model.specs.vector.Groups.{register_of, with_register_bytes};
     ghost use Rattle.rv_model.specs.vector.State.{zero_file};
 
-    /// All registers zero.
+    /// Return a file with all registers zero.
     #[tactic(auto, unfolding(crate::specs::vector::State::zero_file))]
     pub fn new() -> VFile
         ensures { result ≡ zero_file }
@@ -42,7 +42,7 @@ impl VFile {
         }
     }
 
-    /// The 32 bytes of a register.
+    /// Return the 32 bytes of a register.
     #[tactic(auto, unfolding(crate::specs::vector::Groups::register_of))]
     pub fn register(&self, register: VReg) -> &[u8]
         ensures value { result.now ≡ register_of self.now register }
@@ -52,7 +52,7 @@ impl VFile {
         self.part(start, start + VLENB)
     }
 
-    /// Writes the 32 bytes of a register; all others stay.
+    /// Write the 32 bytes of a register; all others are unchanged.
     #[tactic(auto, unfolding(crate::specs::vector::Groups::with_register_bytes))]
     pub fn set_register(&mut self, register: VReg, bytes: &RegisterBytes)
         ensures { self.new ≡ with_register_bytes register bytes.now self.old }
@@ -62,14 +62,14 @@ impl VFile {
             .copy_from_slice(bytes.as_slice());
     }
 
-    /// Takes the registers of another file.
+    /// Copy the registers of another file.
     pub(crate) fn copy_from(&mut self, other: &VFile)
         ensures { self.new ≡ other.now }
     {
         self.cells.bytes = other.cells.bytes;
     }
 
-    /// The bytes from one place up to another; register r begins at byte 32 r.
+    /// Return the bytes from index `from` up to but not including `to`; register r starts at byte 32 r.
     pub fn part(&self, from: usize, to: usize) -> &[u8]
         requires order { from ≤ to }
         requires inside { to ≤ FILE_BYTES }
@@ -79,7 +79,7 @@ impl VFile {
         &self.cells.bytes[from..to]
     }
 
-    /// The bytes from one place up to another, for writing.
+    /// Return the bytes from index `from` up to but not including `to`, for writing.
     pub fn part_mut(&mut self, from: usize, to: usize) -> &mut [u8]
         requires order { from ≤ to }
         requires inside { to ≤ FILE_BYTES }

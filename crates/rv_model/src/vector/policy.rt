@@ -1,7 +1,7 @@
-//! What becomes of agnostic elements.
+//! Policy for agnostic elements.
 
-/// What becomes of elements that the vector type calls agnostic: they keep their values, or become
-/// all ones (section 3.4.3, `vta` and `vma`).
+/// Policy for elements that are agnostic by the vector type: they keep their values or become all ones (section 3.4.3,
+/// `vta` and `vma`).
 #[derive(Clone, Copy, PartialEq, Eq)]
 pub enum Policy {
     Keep,

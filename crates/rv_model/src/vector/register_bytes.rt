@@ -21,14 +21,14 @@ impl Model for RegisterBytes {
 }
 
 impl RegisterBytes {
-    /// These bytes.
+    /// Return a register value with these bytes.
     pub fn new(bytes: &[u8; VLENB]) -> RegisterBytes
         ensures { result ≡ bytes.now }
     {
         RegisterBytes { bytes: *bytes }
     }
 
-    /// The bytes that exactly 64 hexadecimal digits spell.
+    /// Return the bytes of exactly 64 hexadecimal digits, or `None` for any other text.
     pub fn from_hex(text: &[u8]) -> Option<RegisterBytes>
         ensures { result ≡ register_bytes text.now }
     {
@@ -39,14 +39,14 @@ impl RegisterBytes {
         }
     }
 
-    /// The bytes, as an array.
+    /// Return the bytes as an array.
     pub fn as_array(&self) -> &[u8; VLENB]
         ensures { result.now ≡ self.now }
     {
         &self.bytes
     }
 
-    /// The bytes.
+    /// Return the bytes as a slice.
     pub fn as_slice(&self) -> &[u8]
         ensures value { result.now ≡ self.now }
         ensures size { length result.now ≡ VLENB }

@@ -1,18 +1,17 @@
-//! What a vset instruction asks for.
+//! The request of a vset instruction.
 
-/// How many elements are asked for ("V" Vector Extension 1.0, section 6.2, "AVL encoding").
+/// The requested number of elements ("V" Vector Extension 1.0, section 6.2, "AVL encoding").
 #[derive(Clone, Copy, Debug, PartialEq, Eq)]
 pub enum RequestedLength {
-    /// So many, or as many as there can be.
+    /// This number of elements, at most VLMAX.
     Elements(u64),
-    /// As many as there can be.
+    /// VLMAX elements.
     Maximum,
-    /// As many as before, if there can be just as many of the new type as of the old one.
+    /// The present vector length, if VLMAX of the new type equals that of the old type.
     Keep,
 }
 
-/// The number of a vector type, as `vtype` holds it, and a length (section 6, "Configuration-Setting
-/// Instructions").
+/// The requested value of `vtype`, and the requested length (section 6, "Configuration-Setting Instructions").
 #[derive(Clone, Copy, Debug, PartialEq, Eq)]
 pub struct VectorRequest {
     pub vtype: u64,

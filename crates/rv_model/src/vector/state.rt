@@ -4,8 +4,8 @@ use crate::vector::sizes::GROUP_BYTES;
 use crate::vector::types::VType;
 use std::marker::Model;
 
-/// The vector length `vl` in elements, at most VLMAX, and `vtype`, which is supported here or is
-/// `vill` alone (sections 3.4 and 3.5).
+/// The vector length `vl` in elements, at most VLMAX, and `vtype`: a type that the machine supports, or `vill` alone
+/// (sections 3.4 and 3.5).
 #[derive(Clone, Copy)]
 pub struct VConf {
     vl: u16,
@@ -28,14 +28,14 @@ impl VConf {
     ghost use Rattle.std.specs.Prelude.{◌≡◌, ◌≤◌, IfSome};
     ghost use Rattle.rv_model.specs.vector.Groups.{initial_configuration, IsConfiguration, IsSupported, vlmax};
 
-    /// `vill` alone, with a length of 0.
+    /// Return the configuration with `vill` set and length 0.
     pub fn vill() -> VConf
         ensures { result ≡ initial_configuration }
     {
         VConf { vl: 0, vtype: None }
     }
 
-    /// A supported vector type, and a length that it allows.
+    /// Return the configuration with a supported vector type and a length in elements, at most VLMAX.
     pub fn new(vl: u16, vtype: VType) -> VConf
         requires supported { IsSupported vtype }
         requires length { vl ≤ vlmax vtype }
@@ -47,7 +47,7 @@ impl VConf {
         }
     }
 
-    /// The vector length in elements, 0 to 256.
+    /// Return the vector length in elements, 0 to 256.
     #[tactic(auto, using(crate::proofs::legality_lemmas::Bounds::configuration_below))]
     pub fn vl(self) -> u16
         ensures value { result ≡ self.vl }
@@ -56,12 +56,12 @@ impl VConf {
         self.vl
     }
 
-    /// The vector length is one that the vector type allows: a law, which does nothing.
+    /// A law, without effect: the vector length is at most VLMAX of the vector type, and 0 with `vill`.
     pub fn length_law(self)
         ensures { IsConfiguration self }
     {}
 
-    /// The same vector type with a length that is no greater.
+    /// Return the configuration with the same vector type and a length in elements, at most the present one.
     pub fn shortened(self, vl: u16) -> VConf
         requires { vl ≤ self.vl }
         ensures { result ≡ record self { vl = vl } }
@@ -69,7 +69,7 @@ impl VConf {
         VConf { vl, ..self }
     }
 
-    /// The vector type; `None` is `vill`.
+    /// Return the vector type, or `None` for `vill`.
     pub fn vtype(self) -> Option<VType>
         ensures value { result ≡ self.vtype }
         ensures supported { IfSome result (λ t. IsSupported t) }
@@ -92,7 +92,7 @@ impl RoundingMode {
     ghost use Rattle.std.specs.Prelude.{◌≡◌};
     ghost use Rattle.rv_model.specs.vector.RoundingModes.{rounding_mode, rounding_number};
 
-    /// The number of the mode, as `vxrm` holds it.
+    /// Return the number of the mode in `vxrm`, 0 to 3.
     pub fn number(self) -> u8
         ensures { result ≡ rounding_number self }
     {
@@ -104,7 +104,7 @@ impl RoundingMode {
         }
     }
 
-    /// The mode that the low two bits of a number say.
+    /// Return the mode that the low two bits of a number encode.
     pub fn with_number(number: u64) -> RoundingMode
         ensures { result ≡ rounding_mode number }
     {
@@ -117,8 +117,8 @@ impl RoundingMode {
     }
 }
 
-/// All of a machine's vector state: the registers, `vl` and `vtype`, `vstart` below 256, the
-/// rounding mode and the saturation flag `vxsat` (sections 3.1, 3.4, 3.5 and 3.7 to 3.9).
+/// The vector state of a machine: the registers, `vl` and `vtype`, `vstart` below 256, the rounding mode and the
+/// saturation flag `vxsat`. Sections 3.1, 3.4, 3.5 and 3.7 to 3.9 define them.
 #[derive(Drop)]
 pub struct VState {
     pub file: VFile,
@@ -132,7 +132,7 @@ impl VState {
     ghost use Rattle.std.specs.Prelude.{◌≡◌};
     ghost use Rattle.rv_model.specs.vector.State.{initial_vector};
 
-    /// Zeros, with `vill` set.
+    /// Return the initial state: zeros, with `vill` set.
     #[tactic(auto, unfolding(crate::specs::vector::State::initial_vector))]
     pub fn new() -> VState
         ensures { result ≡ initial_vector }
@@ -146,7 +146,7 @@ impl VState {
         }
     }
 
-    /// Takes another vector state whole.
+    /// Copy all of another vector state.
     pub fn copy_from(&mut self, other: &VState)
         ensures { self.new ≡ other.now }
     {
@@ -158,7 +158,7 @@ impl VState {
     }
 }
 
-/// A vector state that is lent, and whether it was changed since it was last saved.
+/// A borrowed vector state, and whether it was changed since it was last saved.
 #[derive(Drop)]
 pub struct Seat {
     pub state: VState,

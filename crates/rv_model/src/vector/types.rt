@@ -2,7 +2,7 @@
 use crate::instructions::operations::Eew;
 use crate::vector::sizes::VLENB;
 
-/// An element width in bits, as that which is selected (section 3.4.1, `vsew`).
+/// An element width in bits, such as the selected one, SEW (section 3.4.1, `vsew`).
 #[derive(Clone, Copy, PartialEq, Eq)]
 pub enum Sew {
     E8,
@@ -20,7 +20,7 @@ impl Sew {
     ghost use Rattle.rv_model.specs.vector.TypeNames.{sew_name, with_name, sews};
     ghost use Rattle.rv_model.specs.vector.TypeRules.{sew_number, sew_with_number};
 
-    /// The element width that a load or store names (section 7.3).
+    /// Return the element width that a load or store encodes (section 7.3).
     pub fn from_width(width: Eew) -> Sew
         ensures { result ≡ element_width width }
     {
@@ -32,7 +32,7 @@ impl Sew {
         }
     }
 
-    /// The width in bits, 8 to 64.
+    /// Return the width in bits, 8 to 64.
     pub fn bits(self) -> u16
         ensures { result ≡ sew_bits self }
     {
@@ -44,7 +44,7 @@ impl Sew {
         }
     }
 
-    /// `vsew` of the width (section 3.4.1).
+    /// Return `vsew` of the width, 0 to 3 (section 3.4.1).
     pub fn number(self) -> u8
         ensures value { result ≡ sew_number self }
         ensures small { result < 4 }
@@ -57,7 +57,7 @@ impl Sew {
         }
     }
 
-    /// The width with this `vsew`; the others are reserved.
+    /// Return the width with this `vsew`, or `None` for a reserved one.
     pub fn with_number(number: u8) -> Option<Sew>
         ensures value { result ≡ sew_with_number number }
         ensures number { IfSome result (λ sew. sew_number sew ≡ number) }
@@ -71,7 +71,7 @@ impl Sew {
         }
     }
 
-    /// The name in assembler text, at most 3 bytes (section 6.1).
+    /// Return the name in assembler text, at most 3 bytes (section 6.1).
     pub fn name(self) -> &'static str
         ensures value { result.now ≡ sew_name self }
         ensures short { length result.now ≤ 3 }
@@ -84,7 +84,7 @@ impl Sew {
         }
     }
 
-    /// The width with this name.
+    /// Return the width with this name, or `None` if no width has it.
     pub fn with_name(name: &[u8]) -> Option<Sew>
         ensures { result ≡ with_name sew_name sews name.now }
     {
@@ -124,7 +124,7 @@ impl Lmul {
     ghost use Rattle.rv_model.specs.vector.TypeNames.{lmul_name, with_name, lmuls};
     ghost use Rattle.rv_model.specs.vector.TypeRules.{lmul_number, lmul_with_number};
 
-    /// The multiplier in eighths of a register, 1 to 64.
+    /// Return the multiplier in eighths of a register, 1 to 64.
     pub fn eighths(self) -> u16
         ensures { result ≡ lmul_eighths self }
     {
@@ -139,7 +139,7 @@ impl Lmul {
         }
     }
 
-    /// `vlmul` of the multiplier (section 3.4.2).
+    /// Return `vlmul` of the multiplier, 0 to 7 (section 3.4.2).
     pub fn number(self) -> u8
         ensures value { result ≡ lmul_number self }
         ensures small { result < 8 }
@@ -155,7 +155,7 @@ impl Lmul {
         }
     }
 
-    /// The multiplier with this `vlmul`; the others are reserved.
+    /// Return the multiplier with this `vlmul`, or `None` for a reserved one.
     pub fn with_number(number: u8) -> Option<Lmul>
         ensures value { result ≡ lmul_with_number number }
         ensures number { IfSome result (λ lmul. lmul_number lmul ≡ number) }
@@ -172,7 +172,7 @@ impl Lmul {
         }
     }
 
-    /// The name in assembler text, at most 3 bytes (section 6.1).
+    /// Return the name in assembler text, at most 3 bytes (section 6.1).
     pub fn name(self) -> &'static str
         ensures value { result.now ≡ lmul_name self }
         ensures short { length result.now ≤ 3 }
@@ -188,7 +188,7 @@ impl Lmul {
         }
     }
 
-    /// The multiplier with this name.
+    /// Return the multiplier with this name, or `None` if no multiplier has it.
     pub fn with_name(name: &[u8]) -> Option<Lmul>
         ensures { result ≡ with_name lmul_name lmuls name.now }
     {
@@ -213,7 +213,7 @@ impl VType {
     ghost use Rattle.rv_model.specs.vector.Groups.{vlmax, IsSupported};
     ghost use Rattle.rv_model.specs.vector.TypeNames.{mask_name, with_name, policies, tail_name};
 
-    /// VLMAX: how many elements a group has, at most 256 (section 3.4.2).
+    /// Return VLMAX, the number of elements of a group, at most 256 (section 3.4.2).
     #[tactic(auto, using(crate::proofs::element_lemmas::Widths::vlmax_by_bytes))]
     pub fn vlmax(self) -> u16
         ensures { result ≡ vlmax self }
@@ -221,13 +221,13 @@ impl VType {
         self.lmul.eighths() * VLENB as u16 / self.sew.bits()
     }
 
-    /// Whether the element width is at most LMUL x 64.
+    /// Return whether the element width is at most LMUL x 64 bits.
     pub fn is_supported(self) -> bool
         ensures { IsTrue result ↔ IsSupported self }
     {
         self.sew.bits() <= self.lmul.eighths() * 8
     }
-    /// The name of a policy for the tail, in assembler text: agnostic or undisturbed (section 6.1).
+    /// Return the assembler name of a policy for tail elements: `ta` (agnostic) or `tu` (undisturbed) (section 6.1).
     pub fn tail_name(agnostic: bool) -> &'static str
         ensures value { result.now ≡ tail_name agnostic }
         ensures short { length result.now ≤ 2 }
@@ -235,7 +235,7 @@ impl VType {
         if agnostic { "ta" } else { "tu" }
     }
 
-    /// Whether a policy for the tail with this name is agnostic.
+    /// Return whether the tail policy with this name is agnostic, or `None` if the name is neither `ta` nor `tu`.
     pub fn tail_with_name(name: &[u8]) -> Option<bool>
         ensures { result ≡ with_name tail_name policies name.now }
     {
@@ -246,8 +246,8 @@ impl VType {
         }
     }
 
-    /// The name of a policy for masked-off elements, in assembler text: agnostic or undisturbed
-    /// (section 6.1).
+    /// Return the assembler name of a policy for masked-off elements: `ma` (agnostic) or `mu` (undisturbed) (section
+    /// 6.1).
     pub fn mask_name(agnostic: bool) -> &'static str
         ensures value { result.now ≡ mask_name agnostic }
         ensures short { length result.now ≤ 2 }
@@ -255,7 +255,7 @@ impl VType {
         if agnostic { "ma" } else { "mu" }
     }
 
-    /// Whether a policy for masked-off elements with this name is agnostic.
+    /// Return whether the mask policy with this name is agnostic, or `None` if the name is neither `ma` nor `mu`.
     pub fn mask_with_name(name: &[u8]) -> Option<bool>
         ensures { result ≡ with_name mask_name policies name.now }
     {
