@@ -1,4 +1,4 @@
--- Laws of assembler text.
+-- Laws about assembler text.
 pub mod Found
 pub mod Lines
 pub mod ListedTexts

@@ -1,5 +1,5 @@
--- Laws of what commands print: no printed byte is a newline. One file for each group, as in `specs/commands`.
--- `Commands`: a command that is refused changes nothing, and no other prints a refusal.
+-- Laws about the lines that commands print: no byte of a line is a newline. One file for each group, as in `specs/commands`.
+-- `Commands`: a refused command changes nothing, and no other command prints a refusal.
 pub mod Breakpoints
 pub mod Commands
 pub mod Memory

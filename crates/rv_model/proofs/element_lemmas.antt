@@ -1,5 +1,5 @@
--- Laws of elements: `Widths` and `Writes` first, then `Reads`, `Sets`, `Bits`, `Actives`, `Packed`, `Arithmetic`, `Tails` and `KeptBits`; `Numbers`
--- stands by itself, with `Rounding` upon it, and so does `Ranges`.
+-- Laws about elements. In this order, each module uses only modules before it: `Widths`, `Writes`, `Ranges`, `Reads`, `Sets`, `Bits`,
+-- `Actives`, `Packed`, `Arithmetic`, `Tails`, `KeptBits`, `Numbers`, `Rounding`.
 pub mod Actives
 pub mod Arithmetic
 pub mod Bits

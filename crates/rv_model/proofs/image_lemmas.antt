@@ -1,2 +1,2 @@
--- Laws of images: the memory that one describes.
+-- Laws about images: the memory that an image describes.
 pub mod Cells

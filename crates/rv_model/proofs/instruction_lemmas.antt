@@ -1,4 +1,4 @@
--- Laws of the instruction table: `Parts` and `Words` first, then `Rows`, `Scans` and `RoundTrips`.
+-- Laws about the instruction table: `Parts` and `Words` first, then `Rows`, `Scans` and `RoundTrips`.
 pub mod Parts
 pub mod RoundTrips
 pub mod Rows

@@ -1,4 +1,4 @@
--- Laws of legality.
+-- Laws about legality.
 pub mod Accesses
 pub mod Bounds
 pub mod Meaning

@@ -1,5 +1,5 @@
--- Laws of machines and scripts: `EventLines` and `Grants` first, then `Headline`, then `Refusals`,
--- `AbsentUsers` and `ConfiguredUsers`.
+-- Laws about machines and scripts: `EventLines` and `Grants` first, then `Headline`, then `Refusals`, `AbsentUsers` and
+-- `ConfiguredUsers`.
 pub mod AbsentUsers
 pub mod Configurations
 pub mod ConfiguredUsers

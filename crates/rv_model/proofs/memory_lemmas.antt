@@ -1,2 +1,2 @@
--- Laws of memory.
+-- Laws about memory.
 pub mod Memory

@@ -1,5 +1,5 @@
--- Laws of one instruction, where a vector load or store is cut, the ticks that it takes, and that it can be run again; `Targets` and
--- `Kept..`: what a step doesn't change.
+-- Laws about one instruction: the cuts of vector loads and stores, the ticks, and repeated execution. `Targets` and `Kept..`: registers
+-- and memory that a step leaves unchanged.
 pub mod Configurations
 pub mod Cuts
 pub mod Effects

@@ -1,4 +1,4 @@
--- Laws of lines and of digits.
+-- Laws about lines and digits.
 pub mod Digits
 pub mod Lines
 pub mod Newlines

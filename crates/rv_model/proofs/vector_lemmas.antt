@@ -1,3 +1,3 @@
--- Laws of the vector state.
+-- Laws about the vector state.
 pub mod CellsMemory
 pub mod Lengths

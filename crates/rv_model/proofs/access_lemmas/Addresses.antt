@@ -8,7 +8,7 @@ use mir.Val.{hbits, sel}
 use Rattle.rv_model.specs.elements.Formulas.{wrap}
 use Rattle.rv_model.proofs.element_lemmas.Numbers.{left_of, mod_sum, wrap-add}
 
--- a product with a negative number, by the natural number that differs from it by 2 ^ 64
+-- a product with a negative number equals, modulo 2 ^ 64, the product with the natural number that differs from it by 2 ^ 64
 negative_product : (i n m : ℕ) → n + suc m ≡ 2 ^ 64 → wrap w64 (neg_ℤ (pos (i * suc m))) ≡ (i * n) % 2 ^ 64
 negative_product i n m e = named (i * suc m) (sym (ap (λ x. i * x) e) ∙ mul-add i n (suc m))
   where
@@ -18,7 +18,7 @@ negative_product i n m e = named (i * suc m) (sym (ap (λ x. i * x) e) ∙ mul-a
         sym (add-mul-mod_self_right 0 i (2 ^ 64)) ∙ ap (λ x. x % 2 ^ 64) whole
     named (suc p) h = left_of w64 p i (i * n) (sym h)
 
--- a multiple of a signed stride, added modulo 2 ^ 64, is that of the natural number with the same bits
+-- adding a multiple of a signed stride modulo 2 ^ 64 is adding that multiple of the natural number with the same bits
 stride_address : (base i n : ℕ) → n < 2 ^ 64 → (base + i * n) % 2 ^ 64 ≡ wrap w64 (pos base +ℤ pos i *ℤ cast_signed w64 n)
 stride_address base i n h = named (nat_lt n (2 ^ hbits w64)) refl
   where
@@ -33,7 +33,7 @@ stride_address base i n h = named (nat_lt n (2 ^ hbits w64)) refl
         ap (λ x. x % 2 ^ 64) turned ∙ sym (mod_sum (i * n) base (2 ^ 64)) ∙ ap (λ x. (x + base) % 2 ^ 64) (sym product)
         ∙ wrap-add w64 (neg_ℤ (pos (i * suc m))) base ∙ ap (wrap w64) (+ℤ_comm (neg_ℤ (pos (i * suc m))) (pos base)))
 
--- the same, where the product is one modulo 2 ^ 64
+-- the same if the product is reduced modulo 2 ^ 64
 pub stride_sum : (base i n : ℕ) → n < 2 ^ 64 → (base + (n * i) % 2 ^ 64) % 2 ^ 64 ≡ wrap w64 (pos base +ℤ pos i *ℤ cast_signed w64 n)
 stride_sum base i n h =
     let turned : base + (n * i) % 2 ^ 64 ≡ (n * i) % 2 ^ 64 + base = omega arith in

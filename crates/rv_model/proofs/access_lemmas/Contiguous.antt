@@ -22,7 +22,7 @@ use Rattle.rv_model.proofs.memory_lemmas.Memory.{can_access-at, can_access_from,
 
 -- ---- lists of bytes
 
--- bytes written after others
+-- bytes written directly after other bytes
 put_after : (at next : ℕ) (file xs ys : List ℕ) → next ≡ at + length xs → put_chunk next (put_chunk at file xs) ys ≡ put_chunk at file (xs ++ ys)
 put_after at next [] xs ys e = refl
 put_after zero next (x ∷ file) [] ys e = let same : next ≡ 0 = omega arith in ap (λ n. put_chunk n (x ∷ file) ys) same
@@ -36,7 +36,7 @@ put_none at [] = refl
 put_none zero (x ∷ file) = refl
 put_none (suc at) (x ∷ file) = ap (λ bytes. x ∷ bytes) (put_none at file)
 
--- bytes read after others
+-- bytes read directly after other bytes
 range_after : (a next n k : ℕ) → next ≡ a + n → range_with_len a (n + k) ≡ range_with_len a n ++ range_with_len next k
 range_after a next zero k e =
     let count : 0 + k ≡ k = omega arith in let same : a ≡ next = omega arith in ap (range_with_len a) count ∙ ap (λ x. range_with_len x k) same
@@ -57,7 +57,7 @@ chunk_after at n k file = take-add n k (drop at file) ∙ ap (λ xs. take n (dro
 
 -- ---- contiguous elements
 
--- the transfer of an element alone
+-- the transfer of a single element
 abbrev element : ℕ → ℕ → ℕ → Transfer
 element i address size = record { index = i; field = 0; size = size; kind = Moved address }
 
@@ -77,7 +77,7 @@ module _ (a : VectorAccess) (fill : Bool) (start n address : ℕ) (c : IsContigu
       ∙ ap (λ fields. map (λ f. record { index = i; field = f; size = a.size; kind = Moved ((a.address i + f * a.size) % 2 ^ 64) }) (range_with_len 0 fields)) c.alone
       ∙ ap (λ x. element i x a.size ∷ []) (ap (λ x. x % 2 ^ 64) first ∙ mod-eq_of_lt (no_wrap k h))
 
-  -- an index more
+  -- the transfers of the first k indices
   abbrev so_far : ℕ → List Transfer
   so_far k = transfers (plan a fill) start k
 
@@ -92,7 +92,7 @@ module _ (a : VectorAccess) (fill : Bool) (start n address : ℕ) (c : IsContigu
       ap so_far count ∙ transfers_more (plan a fill) start (start + k) (omega arith)
       ∙ ap (λ x. so_far x ++ plan a fill (start + k)) before ∙ ap (λ ts. so_far k ++ ts) (element_moved k h)
 
-  -- ---- what may be done
+  -- ---- allowed transfers
 
   pub block_allowed : (access : Access) (m : Memory) → can_access access m address (n * a.size) ≡ true → AllAllowed access m (plan a fill) start (start + n)
   unfolding are_allowed
@@ -106,12 +106,12 @@ module _ (a : VectorAccess) (fill : Bool) (start n address : ℕ) (c : IsContigu
       (omega (arith, mul-add-lt k a.size j n less l)) (omega arith)) in
       ap (λ x. are_allowed access m (plan a fill x)) (sym here) ∙ ap (are_allowed access m) (element_moved k less) ∙ ap (λ b. b && true) one
 
-  -- ---- what is left
+  -- ---- results
 
   element_place : (k x : ℕ) → element_start a (element (start + k) x a.size) ≡ element_start a (element start address a.size) + k * a.size
   element_place k x = omega (arith, add-mul start k a.size)
 
-  -- of a load
+  -- the registers after the first k indices of a load
   module _ (m : Memory) (file : List ℕ) where
     loaded_so_far : (k : ℕ) → k ≤ n
         → registers_loaded m (element_start a) file (so_far k) ≡ put_chunk (element_start a (element start address a.size)) file (bytes_at m address (k * a.size))
@@ -138,7 +138,7 @@ module _ (a : VectorAccess) (fill : Bool) (start n address : ℕ) (c : IsContigu
         ≡ put_chunk (element_start a (element start address a.size)) file (bytes_at m address (n * a.size))
     block_loaded = loaded_so_far n (omega arith)
 
-    -- of a store
+    -- the memory after the first k indices of a store
     stored_so_far : length (chunk (element_start a (element start address a.size)) (n * a.size) file) ≡ n * a.size → (k : ℕ) → k ≤ n
         → memory_stored m (element_start a) file (so_far k) ≡ put_bytes m address (chunk (element_start a (element start address a.size)) (k * a.size) file)
     stored_so_far whole zero h =
@@ -167,7 +167,7 @@ module _ (a : VectorAccess) (fill : Bool) (start n address : ℕ) (c : IsContigu
         ≡ put_bytes m address (chunk (element_start a (element start address a.size)) (n * a.size) file)
     block_stored whole = stored_so_far whole n (omega arith)
 
--- ---- how an instruction ends where no index faults
+-- ---- the end of an instruction without a fault
 
 pub stops_all : (access : Access) (m : Memory) (each : Plan) (i limit n stop : ℕ) → stop ≡ min n limit → i ≤ limit → AllAllowed access m each i stop
     → Stopped access m each i limit n stop (cond (nat_lt stop n) (Cut stop) Done)

@@ -1,4 +1,4 @@
--- A run of a load or store goes on where it stopped.
+-- A run of a load or store continues where it stopped.
 use Rattle.std.proofs.Common.{◌≡◌, ℕ, Bool, subst}
 use Rattle.rv_model.specs.declared.instructions.instruction.Instr.TheVariants as instr
 use Rattle.rv_model.specs.declared.instructions.access.AccessInstr.{AccessInstr}

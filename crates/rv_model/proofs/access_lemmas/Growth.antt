@@ -17,7 +17,7 @@ use Rattle.rv_model.proofs.access_lemmas.Moves.{stored_allows}
 use Rattle.rv_model.proofs.memory_lemmas.Memory.{can_access-at, get-put_byte_other, get-put_byte_same, get-put_bytes_outside, same_memory, with_byte}
 use Rattle.rv_model.proofs.Choices.{of_option}
 
--- ---- what is allowed is mapped
+-- ---- allowed addresses are mapped
 
 mapped : (access : Access) (o : Option Cell) → option_map_or (λ c. permits access c.permissions) o false ≡ true → (c : Cell) × (o ≡ Some c)
 mapped access None h = absurd (cc)
@@ -35,7 +35,7 @@ mapped_allowed : (m : Memory) (x : ℕ) (c : Cell) → get m x ≡ Some c → me
 unfolding memory.can_access_byte
 mapped_allowed m x c e = monitored (get m x) c e
 
--- ---- what was allowed stays so, and has the same bytes
+-- ---- allowed addresses stay allowed and keep their bytes
 
 extends_at : (access : Access) (m more : Memory) (x : ℕ) → Extends m more → memory.can_access_byte access m x ≡ true → get more x ≡ get m x
 extends_at access m more x grown h =
@@ -81,7 +81,7 @@ are_allowed_extends access m more (t ∷ ts) grown h =
     let parts = and_parts (can_transfer access m t) (list_all (can_transfer access m) ts) h in
     and_from _ _ (can_move_extends access m more t.size t.kind grown parts.0) (are_allowed_extends access m more ts grown parts.1)
 
--- a load of what was allowed leaves the same registers
+-- allowed transfers of a load leave the same registers in the grown memory
 pub loaded_extends : (m more : Memory) (place : Transfer → ℕ) (file : List ℕ) (ts : List Transfer) → Extends m more → are_allowed Load m ts ≡ true → registers_loaded more place file ts ≡ registers_loaded m place file ts
 unfolding registers_loaded are_allowed
 loaded_extends m more place file [] grown h = refl
@@ -90,7 +90,7 @@ loaded_extends m more place file (t ∷ ts) grown h =
     ap (λ (bytes : List ℕ). registers_loaded more place (put_chunk (place t) file bytes) ts) (bytes_loaded_extends m more t.size t.kind grown parts.0)
     ∙ loaded_extends m more place (put_chunk (place t) file (bytes_loaded m t.size t.kind)) ts grown parts.1
 
--- ---- one memory laid over another
+-- ---- overlays
 
 find_append : (q : ℕ) (xs ys : List (ℕ × Cell)) → find nat_cmp q (xs ++ ys) ≡ option_or (find nat_cmp q xs) (find nat_cmp q ys)
 find_append q [] ys = refl
@@ -110,12 +110,12 @@ get-overlay m more x =
 pub overlay_extends : (m more : Memory) → Extends m (overlay m more)
 overlay_extends m more x c e = get-overlay m more x ∙ ap (λ (o : Option Cell). option_or o (get more x)) e
 
--- over one that has all of it, it changes nothing
+-- the overlay of a memory on one that contains all of it is the larger one
 pub overlay_grown : OverlayOfGrown
 overlay_grown m more grown = same_memory _ _ (λ x. of_option (get m x) (λ o. get (overlay m more) x ≡ get more x)
     (λ e. get-overlay m more x ∙ ap (λ (o : Option Cell). option_or o (get more x)) e) (λ c e. overlay_extends m more x c e ∙ sym (grown x c e)))
 
--- over one that maps none but its addresses, nothing is new
+-- the overlay of a memory on one that maps the same addresses is the first one
 pub overlay_same : (m more : Memory) → ((x : ℕ) → memory.can_access_byte Monitor more x ≡ memory.can_access_byte Monitor m x)
     → overlay m more ≡ m
 overlay_same m more same = same_memory _ _ (λ x. at x (get m x) (get more x) refl refl)
@@ -128,7 +128,7 @@ overlay_same m more same = same_memory _ _ (λ x. at x (get m x) (get more x) re
 
 -- ---- stores
 
--- what is written at an address depends on the memory at that address alone
+-- the result of a write at an address depends only on the memory at that address
 put_byte_local : (m other : Memory) (a b x : ℕ) → get m x ≡ get other x → get (put_byte m a b) x ≡ get (put_byte other a b) x
 put_byte_local m other a b x e = elim (cases_eq x a) [
   | inl q ↦
@@ -154,7 +154,7 @@ stored_local m other place file (t ∷ ts) x e =
     let bs = chunk (place t) t.size file in
     stored_local (with_element m bs t.kind) (with_element other bs t.kind) place file ts x (element_local m other bs t.kind x e)
 
--- what is allowed covers no address that isn't mapped
+-- an allowed access covers only mapped addresses
 outside : (m : Memory) (a n x : ℕ) → get m x ≡ None → can_access Store m a n ≡ true → ((x < a) ⊎ (a + n ≤ x))
 outside m a n x none ok = elim (cases_lt x a) [
   | inl l ↦ inl l
@@ -184,12 +184,12 @@ stored_outside m other place file (t ∷ ts) x none h =
     stored_outside m (with_element other bs t.kind) place file ts x none parts.1
     ∙ element_outside m other t.size bs t.kind x short none parts.0
 
--- a store keeps each address mapped
+-- an address that is mapped before a store is mapped after it
 stored_maps : (m : Memory) (place : Transfer → ℕ) (file : List ℕ) (ts : List Transfer) (x : ℕ) (c : Cell) → get m x ≡ Some c → (d : Cell) × (get (memory_stored m place file ts) x ≡ Some d)
 stored_maps m place file ts x c e =
     allowed_mapped Monitor (memory_stored m place file ts) x (stored_allows Monitor m place file ts x ∙ mapped_allowed m x c e)
 
--- with what is new there from the start, what was stored leaves just the memory that has grown
+-- a store to the memory with the new addresses mapped from the start leaves exactly the grown memory
 pub overlay_stored : (m more : Memory) (place : Transfer → ℕ) (file : List ℕ) (ts : List Transfer) → are_allowed Store m ts ≡ true → Extends (memory_stored m place file ts) more → memory_stored (overlay m more) place file ts ≡ more
 overlay_stored m more place file ts ok grown = same_memory _ _ (λ x. of_option (get m x) (λ o. get (memory_stored (overlay m more) place file ts) x ≡ get more x)
     (λ e. stored_outside m (overlay m more) place file ts x e ok ∙ get-overlay m more x ∙ ap (λ (o : Option Cell). option_or o (get more x)) e)

@@ -45,7 +45,7 @@ segments_in_file g vd nf vl s f i below before =
       mul_comm vl (width_bytes g.width),
     )
 
--- of elements that follow one another in so many registers
+-- contiguous elements in a group of `count` registers
 rows_in_file : (vd count size end f i : ℕ) → vd + count ≤ VECTOR_REGISTERS → end * size ≤ VLENB * count → f < 1 → i < end
     → VLENB * (vd + f * count) + i * size + size ≤ FILE_BYTES
 rows_in_file vd count size end zero i room fits one before = omega (arith, room, fits, row_fits i size end size before (omega arith))

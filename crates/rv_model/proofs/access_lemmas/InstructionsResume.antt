@@ -1,4 +1,4 @@
--- Each legal vector load and store, stopped and run again.
+-- Each legal vector load and store that stops and is executed again.
 use Rattle.std.proofs.Common.{◌≡◌, ◌≢◌, ℕ, ◌+◌, ◌-◌, ◌*◌, ◌%◌, ◌^◌, ◌<◌, ◌≤◌, inl, inr, Bool, true, false, List, Option, Some, refl, sym, ◌∙◌, ap, subst, arith}
 use Rattle.std.specs.Option.{option_map}
 use Rattle.std.specs.Prelude.{IsSomeAnd}
@@ -38,10 +38,10 @@ use Rattle.rv_model.proofs.legality_lemmas.Overlaps.{indexed_above, later_indice
 abbrev v0_of : List ℕ → List ℕ
 v0_of file = register_of file 0
 
--- ---- loads with addresses that no register of the file says
+-- ---- loads with addresses that don't depend on the vector registers
 
 module _ (limit later : ℕ) (fill : Bool) (x : Scalar) (v : VState) (m more : Memory) where
-  -- those that the mask may leave out, and whose destination isn't that
+  -- masked loads, whose destination isn't the mask
   masked_load : (make : VState → VectorAccess) → ((file : List ℕ) (start : ℕ) → make (record v { file = file; vstart = start }) ≡ access_again (make v) (v0_of file) start (make v).address)
       → (make v).body.start ≡ v.vstart → (make v).body.mask ≡ v0_of v.file → ((make v).body.unmasked ≡ false → 1 ≤ (make v).register)
       → Resumes (λ limit v m. load_run limit fill (make v) v m) limit later v m more
@@ -53,7 +53,7 @@ module _ (limit later : ℕ) (fill : Bool) (x : Scalar) (v : VState) (m more : M
       (λ k low high. plan_same a (access_again a (v0_of left) stop a.address) fill k
       (let_kept a.body.unmasked (v0_of left) a.body.mask k (λ e. mask_kept m a fill v.file stop (above e) ∙ sym masked)) refl refl refl)
 
-  -- ---- loads with addresses that a group of registers says
+  -- ---- loads with addresses from a register group
 
   indexed_load : (order : Order) (w : Eew) (nf vd rs1 vs2 : ℕ) (vm : Bool) (t : VType) (vstart : ℕ)
       → IsLegal (instr.Access (Indexed direction.Load order w nf vd rs1 vs2 vm)) (Some t) vstart → v.conf.vl ≤ vlmax t
@@ -96,7 +96,7 @@ module _ (limit later : ℕ) (fill : Bool) (x : Scalar) (v : VState) (m more : M
           element_kept indices vs2 k v.conf.vl left v.file (length_kept m a fill v.file stop) high (elements_fit (element_width w) t v.conf.vl few)
           (λ b from to. byte_kept m a fill v.file stop b (beside k b low high (from, to)))
 
--- ---- those that need a vector type
+-- ---- loads and stores that need a vector type
 
 abbrev typed_run : ℕ → Bool → (VType → VState → VectorAccess) → VState → Memory → AccessRun
 typed_run limit fill make v m = run_or_nothing limit fill (option_map (λ t. make t v) v.conf.vtype) v m

@@ -1,4 +1,4 @@
--- What a vector load that stops leaves alone: the mask, and the bytes that none of its transfers covers.
+-- Registers that an interrupted vector load leaves unchanged: the mask, and the bytes that none of its transfers covers.
 use Rattle.std.proofs.Common.{◌≡◌, ℕ, zero, suc, ◌+◌, ◌-◌, ◌*◌, ◌<◌, ◌≤◌, ◌⊎◌, inl, inr, Bool, true, false, ◌||◌, cond, List, [], ◌∷◌, ◌++◌, length, map, min, drop, get_or, refl, sym, ◌∙◌, ap, arith, length-take, length-drop}
 use Rattle.std.specs.List.{AllByRecursion, range_with_len}
 use Rattle.std.specs.Simd.Lanes.{chunk, put_chunk}
@@ -19,7 +19,7 @@ use Rattle.rv_model.proofs.memory_lemmas.Memory.{length-bytes_at}
 
 -- ---- transfers that miss a byte
 
--- a byte lies beside so many from one on
+-- byte b is outside the `size` bytes from `at` on
 abbrev pub Beside : ℕ → ℕ → ℕ → Type 0
 Beside b at size = (b < at) ⊎ (at + size ≤ b)
 
@@ -62,7 +62,7 @@ all_transfers P each i zero h = tt
 all_transfers P each i (suc n) h =
     all_append P (each i) (transfers each (i + 1) n) (h i (omega arith) (omega arith)) (all_transfers P each (i + 1) n (λ k l g. h k (omega arith) (omega arith)))
 
--- those of an index have its number, a field and a size
+-- the transfers of index i have this index, a field below n and this size
 abbrev IsOf : ℕ → ℕ → ℕ → Transfer → Type 0
 IsOf i size n t = (t.index ≡ i) × (t.field < n) × (t.size ≡ size)
 
@@ -85,9 +85,9 @@ all_planned P a fill i h =
       ]
     ]
 
--- ---- bytes that a load up to an index leaves alone
+-- ---- bytes that a load up to an index leaves unchanged
 
--- where an element of a field begins
+-- the start of an element of a field, as a byte index into the register file
 abbrev pub element_place : VectorAccess → ℕ → ℕ → ℕ
 element_place a field i = VLENB * (a.register + field * a.field_registers) + i * a.size
 
@@ -131,7 +131,7 @@ length_chunk_same at n xs ys e =
     length-take n (drop at xs) ∙ ap (λ (k : ℕ). min n k) (length-drop at xs ∙ ap (λ (k : ℕ). k - at) e ∙ sym (length-drop at ys))
     ∙ sym (length-take n (drop at ys))
 
--- a load that begins above v0 leaves it
+-- a load whose destination starts above v0 leaves v0 unchanged
 pub mask_kept : (m : Memory) (a : VectorAccess) (fill : Bool) (file : List ℕ) (stop : ℕ) → 1 ≤ a.register
     → register_of (loaded_to m a fill file stop) 0 ≡ register_of file 0
 unfolding register_of
@@ -139,7 +139,7 @@ mask_kept m a fill file stop above =
     same_chunk 0 32 (loaded_to m a fill file stop) file (length_kept m a fill file stop)
     (λ b low high. byte_kept m a fill file stop b (λ field i f g. inl (omega (arith, above, high))))
 
--- an element of a group none of whose bytes is covered
+-- an element of a group is unchanged if all its bytes are
 pub element_kept : (g : GroupType) (first i count : ℕ) (xs ys : List ℕ) → length xs ≡ length ys → i < count → width_bytes g.width * count ≤ VLENB * registers g.emul
     → ((b : ℕ) → VLENB * first + i * width_bytes g.width ≤ b → b < VLENB * first + i * width_bytes g.width + width_bytes g.width → get_or xs b 0 ≡ get_or ys b 0)
     → group_element g xs first i ≡ group_element g ys first i
@@ -164,9 +164,9 @@ element_kept g first i count xs ys e l room h =
     counted : k * count ≡ count * k
     counted = mul_comm k count
 
--- ---- plans that stay
+-- ---- unchanged plans
 
--- elements that are let through by masks that are the same where there is a mask
+-- two masks enable the same elements if they are equal or the instruction is unmasked
 pub let_kept : (unmasked : Bool) (mask other : List ℕ) (i : ℕ) → (unmasked ≡ false → mask ≡ other) → (unmasked || mask_bit mask i) ≡ (unmasked || mask_bit other i)
 let_kept true mask other i h = refl
 let_kept false mask other i h = ap (λ (bits : List ℕ). mask_bit bits i) (h refl)

@@ -1,4 +1,4 @@
--- What lists of transfers leave, put one after another.
+-- Results of lists of transfers, one after another.
 use Rattle.std.proofs.Common.{◌≡◌, ℕ, true, List, [], ◌∷◌, ◌++◌, refl, ◌∙◌, zero, suc, ◌+◌, ◌&&◌}
 use Rattle.std.specs.Simd.Lanes.{chunk, put_chunk}
 use Rattle.std.proofs.lemmas.List.Folds.{list_all-append}
@@ -8,7 +8,7 @@ use Rattle.rv_model.specs.memory.Memory.{Memory, can_access}
 use Rattle.rv_model.specs.memory.Memory as memory
 use Rattle.rv_model.proofs.memory_lemmas.Memory.{is_allowed-put_bytes}
 
--- ---- what may be done
+-- ---- allowed transfers
 
 pub allowed_none : (access : Access) (m : Memory) → are_allowed access m [] ≡ true
 unfolding are_allowed
@@ -18,7 +18,7 @@ pub are_allowed-append : (access : Access) (m : Memory) (xs ys : List Transfer) 
 unfolding are_allowed
 are_allowed-append access m xs ys = list_all-append (can_transfer access m) xs ys
 
--- ---- a load
+-- ---- loads
 
 pub loaded-append : (m : Memory) (place : Transfer → ℕ) (file : List ℕ) (xs ys : List Transfer) → registers_loaded m place file (xs ++ ys) ≡ registers_loaded m place (registers_loaded m place file xs) ys
 unfolding registers_loaded
@@ -33,7 +33,7 @@ pub loaded_one : (m : Memory) (place : Transfer → ℕ) (file : List ℕ) (t : 
 unfolding registers_loaded
 loaded_one m place file t = refl
 
--- ---- a store
+-- ---- stores
 
 pub stored-append : (m : Memory) (place : Transfer → ℕ) (file : List ℕ) (xs ys : List Transfer) → memory_stored m place file (xs ++ ys) ≡ memory_stored (memory_stored m place file xs) place file ys
 unfolding memory_stored
@@ -48,7 +48,7 @@ pub stored_one : (m : Memory) (place : Transfer → ℕ) (file : List ℕ) (t : 
 unfolding memory_stored
 stored_one m place file t = refl
 
--- ---- no store changes what may be done
+-- ---- a store changes no permission
 
 pub element_allows : (access : Access) (m : Memory) (bytes : List ℕ) (kind : TransferKind) (x : ℕ) → memory.can_access_byte access (with_element m bytes kind) x ≡ memory.can_access_byte access m x
 element_allows access m bytes (Moved address) x = is_allowed-put_bytes access m address bytes x
@@ -61,7 +61,7 @@ stored_allows access m place file (t ∷ ts) x =
     stored_allows access (with_element m (chunk (place t) t.size file) t.kind) place file ts x
     ∙ element_allows access m (chunk (place t) t.size file) t.kind x
 
--- two memories that allow the same
+-- two memories that allow an access at the same addresses
 abbrev pub AllowTheSame : Access → Memory → Memory → Type 0
 AllowTheSame access m n = (x : ℕ) → memory.can_access_byte access m x ≡ memory.can_access_byte access n x
 

@@ -1,4 +1,4 @@
--- The transfers of a vector load or store that stop before their end and go on from there.
+-- The transfers of a vector load or store that stops before its end and continues from there.
 use Rattle.std.proofs.Common.{◌≡◌, ℕ, zero, suc, ◌+◌, ◌-◌, ◌<◌, ◌≤◌, true, false, cond, List, ◌++◌, min, refl, sym, ◌∙◌, ap, subst, inl, inr, arith}
 use Rattle.std.proofs.lemmas.Bool.{and_from, cases_eq, cases_lt, le-leb}
 use Rattle.rv_model.specs.accesses.Restarts.{Extends, overlay}
@@ -12,7 +12,7 @@ use Rattle.rv_model.proofs.access_lemmas.Growth.{are_allowed_extends, loaded_ext
 use Rattle.rv_model.proofs.access_lemmas.Moves.{AllowTheSame, allowed_none, are_allowed-append, are_allowed_same, bad_address_same, loaded-append, stored-append, stored_allows}
 use Rattle.rv_model.proofs.access_lemmas.Stops.{AllAllowed, first_bad, first_bad_skip, stop_is, stop_past, transfers-add}
 
--- ---- plans that are the same from one index up to another
+-- ---- plans that are equal from one index up to another
 
 transfers_same : (each other : Plan) (i n : ℕ) → ((k : ℕ) → i ≤ k → k < i + n → each k ≡ other k) → transfers each i n ≡ transfers other i n
 unfolding transfers
@@ -22,7 +22,7 @@ transfers_same each other i (suc n) h =
     let rest = transfers_same each other (i + 1) n (λ k l g. h k (omega arith) (omega arith)) in
     cc
 
--- and tests that are
+-- and tests that are equal
 first_bad_same : (access : Access) (m other : Memory) (each rest : Plan) (i n none : ℕ)
     → ((k : ℕ) → i ≤ k → k < i + n → are_allowed access m (each k) ≡ are_allowed access other (rest k))
     → first_bad access m each i n none ≡ first_bad access other rest i n none
@@ -50,7 +50,7 @@ end_same access m other each rest cut n stop h = elim (cases_lt stop n) [
   | inr g ↦ let done = le-leb n stop g in cc
 ]
 
--- ---- where transfers stop
+-- ---- the index where transfers stop
 
 module _ (access : Access) (m : Memory) (each : Plan) where
   pub first_bad_bounds : (i n none : ℕ) → i + n ≤ none → (i ≤ first_bad access m each i n none) × (first_bad access m each i n none ≤ none)
@@ -75,7 +75,7 @@ module _ (access : Access) (m : Memory) (each : Plan) where
         | false ↦ λ e g. absurd (omega arith)
       ] refl h
 
-  -- it is no less than where it begins, and no more than the end and the cut
+  -- it is at least the start, and at most the end and the cut
   stop_bounds : (i cut n : ℕ) → i ≤ min n cut → (i ≤ stop_index access m each i cut n) × (stop_index access m each i cut n ≤ min n cut)
   stop_bounds i cut n h =
       let b = first_bad_bounds i (min n cut - i) (min n cut) (omega (arith, h)) in
@@ -91,7 +91,7 @@ module _ (access : Access) (m : Memory) (each : Plan) where
     | inr low ↦ (stop_bounds i cut n low).1
   ]
 
-  -- also where it begins past the end, if it isn't done
+  -- the same if the start is past the end, for transfers that aren't complete
   pub stop_from : (i cut n : ℕ) → i ≤ cut → stop_index access m each i cut n < n → i ≤ stop_index access m each i cut n
   stop_from i cut n low less = elim (cases_lt (min n cut) i) [
     | inl past ↦ absurd (omega (arith, low, less, stop_past access m each i cut n past, past))
@@ -109,14 +109,14 @@ module _ (access : Access) (m : Memory) (each : Plan) where
       are_allowed-append access m (each i) (transfers each (i + 1) n)
       ∙ and_from _ _ (h i (omega arith) (omega arith)) (all_allowed (i + 1) n (λ k l g. h k (omega arith) (omega arith)))
 
-  -- what is done was allowed
+  -- the completed transfers were allowed
   done_allowed : (i cut n : ℕ) → are_allowed access m (transfers each i (stop_index access m each i cut n - i)) ≡ true
   done_allowed i cut n = all_allowed i _ (λ k a b. allowed_done i cut n k a (omega (arith, a, b)))
 
   rest_of : (i stop later n : ℕ) → i ≤ stop → stop < n → stop ≤ later → min n later - i ≡ (stop - i) + (min n later - stop)
   rest_of i stop later n a b c = omega arith
 
-  -- transfers that go past what is done stop where those from there do
+  -- transfers beyond the completed ones stop at the same index as those that start after the completed ones
   stop_again : (i stop later n : ℕ) → i ≤ stop → stop < n → stop ≤ later → AllAllowed access m each i stop
       → stop_index access m each i later n ≡ stop_index access m each stop later n
   stop_again i stop later n l below within ok =
@@ -127,7 +127,7 @@ module _ (access : Access) (m : Memory) (each : Plan) where
       ∙ ap (λ (j : ℕ). first_bad access m each j (min n later - stop) (min n later)) at
       ∙ sym (stop_is access m each stop later n)
 
--- the transfers up to a later index are those that are done and those from there
+-- the transfers up to a later index are the completed ones followed by those from there on
 transfers_split : (each : Plan) (i stop again : ℕ) → i ≤ stop → stop ≤ again → transfers each i (again - i) ≡ transfers each i (stop - i) ++ transfers each stop (again - stop)
 transfers_split each i stop again a b =
     let count : again - i ≡ (stop - i) + (again - stop) = omega arith in
@@ -137,7 +137,7 @@ transfers_split each i stop again a b =
 
 -- ---- the transfers of a plan, from an index on
 
--- what they leave, the index that they get to, and how they end there
+-- the result of transfers, the index where they stop, and their end
 pub record Progress (X : Type 0) : Type 0 where
   pub left : X
   pub stop : ℕ
@@ -148,11 +148,11 @@ moves access m each left start cut n =
     let stop = stop_index access m each start cut n in
     record { left = left (transfers each start (stop - start)); stop = stop; end = end_at access m each cut n stop }
 
--- those of a load leave registers; `place` says where an element begins
+-- the transfers of a load, whose result is the register file; `place` gives the start of an element
 abbrev pub load_moves : Memory → (Transfer → ℕ) → Plan → List ℕ → ℕ → ℕ → ℕ → Progress (List ℕ)
 load_moves m place each file start cut n = moves Load m each (registers_loaded m place file) start cut n
 
--- those of a store leave a memory
+-- the transfers of a store, whose result is a memory
 abbrev pub store_moves : Memory → (Transfer → ℕ) → Plan → List ℕ → ℕ → ℕ → ℕ → Progress Memory
 store_moves m place each file start cut n = moves Store m each (memory_stored m place file) start cut n
 
@@ -161,8 +161,8 @@ progress_equal r s a b c = λ i. record { left = a i; stop = b i; end = c i }
 
 -- ---- loads
 
--- a load that stops and goes on from there, in a memory that has grown, ends as if that memory had been there from the start, where
--- the transfers that are left are the same
+-- a load that stops and continues in a grown memory ends like a load that found the grown memory from the start, if the remaining
+-- transfers are equal
 pub load_moves_resume : (m more : Memory) (place : Transfer → ℕ) (each rest : Plan) (file : List ℕ) (i cut later n : ℕ)
     → Extends m more
     → i ≤ cut
@@ -193,7 +193,7 @@ load_moves_resume m more place each rest file i cut later n grown begins below w
 
 -- ---- stores
 
--- a store that does ends as if what is new had been there from the start
+-- a store that does so ends like a store that found the new addresses mapped from the start
 pub store_moves_resume : (m more : Memory) (place : Transfer → ℕ) (each : Plan) (file : List ℕ) (i cut later n : ℕ)
     → Extends (store_moves m place each file i cut n).left more
     → i ≤ cut

@@ -1,4 +1,4 @@
--- What each vector load or store is made of, where its run stops, and what it leaves.
+-- The parts of each vector load or store, the index where its run stops, and the result.
 use Rattle.std.proofs.Common.{◌≡◌, ◌≢◌, ℕ, ◌+◌, ◌-◌, ◌<◌, ◌≤◌, Bool, true, false, ◌&&◌, List, max, ◌⊎◌, inl, inr, Option, Some, None, refl, sym, ◌∙◌, ap, subst, arith}
 use Rattle.std.specs.Option.{option_map}
 use Rattle.std.specs.Prelude.{IfSome, nat_le, nat_lt, ⊤}
@@ -27,7 +27,7 @@ use Rattle.rv_model.proofs.Choices.{of_option, of_test}
 
 -- ---- each access
 
--- it begins with vstart, and one that may shorten the length has as many indices
+-- it starts at vstart; one that may reduce the vector length has vl indices
 pub record Made (v : VState) (a : VectorAccess) : Type 0 where
   pub begins : a.body.start ≡ v.vstart
   pub shortens : a.first_only ≡ true → a.body.end ≡ v.conf.vl
@@ -45,17 +45,17 @@ each_made _ v x = typed_made v.conf.vtype _ (Made v) (λ t. record { begins = re
 pub made_of : (i : AccessInstr) (v : VState) (x : Scalar) (a : VectorAccess) → access_of i v x ≡ Some a → Made v a
 made_of i v x a e = subst (λ (o : Option VectorAccess). IfSome o (Made v)) e (each_made i v x)
 
--- ---- the same access from another index on, with the mask and the addresses as they are then
+-- ---- the same access from another index on, with the mask and the addresses at that time
 
 abbrev pub access_again : VectorAccess → List ℕ → ℕ → (ℕ → ℕ) → VectorAccess
 access_again a mask start address = record a { body = record a.body { mask = mask; start = start }; address = address }
 
--- an instruction that is made again has it
+-- an instruction that is executed again has this access
 pub record IsAgain (i : AccessInstr) (v : VState) (x : Scalar) (a : VectorAccess) (file : List ℕ) (start : ℕ) : Type 0 where
   pub address : ℕ → ℕ
   pub is : access_of i (record v { file = file; vstart = start }) x ≡ Some (access_again a (register_of file 0) start address)
 
--- where it needs a vector type
+-- the same for an instruction that needs a vector type
 typed_again : (i : AccessInstr) (v : VState) (x : Scalar) (a : VectorAccess) (file : List ℕ) (start : ℕ) (make : VType → VectorAccess) (address : VType → ℕ → ℕ)
     → access_of i (record v { file = file; vstart = start }) x ≡ option_map (λ t. access_again (make t) (register_of file 0) start (address t)) v.conf.vtype
     → option_map make v.conf.vtype ≡ Some a → IsAgain i v x a file start
@@ -80,9 +80,9 @@ again_of (MaskAccess d vd rs1) v x a file start =
     typed_again (MaskAccess d vd rs1) v x a file start _ (λ t. (unmasked_access d (mask_length v.conf.vl) 1 1 vd rs1 v x).address) refl
 again_of _ v x a file start = λ e. record { address = a.address; is = ap (option_map (λ b. access_again b (register_of file 0) start b.address)) e }
 
--- ---- where transfers stop
+-- ---- the index where transfers stop
 
--- a fact of the index where transfers are cut, and one of that where they fault
+-- a fact about the index where transfers are cut, and one about the index where they fault
 abbrev pub AtStop : MemEnd → (ℕ → Type 0) → (ℕ → Type 0) → Type 0
 AtStop Done C F = ⊤
 AtStop (Cut index) C F = C index
@@ -94,7 +94,7 @@ stop_means Done C F D G h cut fault = tt
 stop_means (Cut index) C F D G h cut fault = cut index h
 stop_means (Fault index addr) C F D G h cut fault = fault index h
 
--- of at most `limit` of `count` indices from one on
+-- the end of at most `limit` indices from `start` on, of `count` in all
 abbrev EndIs : ℕ → ℕ → ℕ → MemEnd → Type 0
 EndIs limit start count Done = count ≤ start + limit
 EndIs limit start count (Cut index) = (index ≡ start + limit) × (index < count)
@@ -113,9 +113,9 @@ end_is kind m each limit start count =
     (λ f. let last : start + limit ≤ stop = leb-true (start + limit) stop f in (omega (arith, more, last, most), more))
     (λ f. (stop_from kind m each start (start + limit) count (omega arith) more, grind (arith, nat_tests, f), more)))
 
--- ---- what a run leaves
+-- ---- the result of a run
 
--- of one that stops short: vstart is the index where it stops, and the vector type and length are as they were
+-- a run that stops early: vstart is the index where it stops, and the vector type and length are unchanged
 pub record StoppedAt (start count : ℕ) (v : VState) (run : AccessRun) (index : ℕ) : Type 0 where
   pub from : start ≤ index
   pub below : index < count
@@ -132,13 +132,13 @@ pub record FaultAt (limit start count : ℕ) (v : VState) (run : AccessRun) (ind
   pub before : index < start + limit
   pub reached : run.reached ≡ index + 1
 
--- one that is done came to all of its indices; or it shortened the length to the last one that it came to
+-- a complete run reached all of its indices, or it reduced the vector length to the last index that it reached
 abbrev pub AllOrShorter : ℕ → ℕ → Bool → VState → AccessRun → Type 0
 AllOrShorter start count first_only v run =
     ((run.vector.conf.vl ≡ v.conf.vl) × (run.reached ≡ max (start + 1) count))
     ⊎ ((first_only ≡ true) × ((start ≤ run.vector.conf.vl) × ((run.vector.conf.vl < v.conf.vl) × (run.reached ≡ run.vector.conf.vl + 1))))
 
--- a fact where transfers are done
+-- a fact about complete transfers
 abbrev pub AtEnd : MemEnd → Type 0 → Type 0
 AtEnd Done P = P
 AtEnd _ P = ⊤
@@ -166,7 +166,7 @@ module _ (limit start count : ℕ) (d : Direction) (known : Bool) (v : VState) (
       Of : AccessRun → Type 0
       Of run = Facts limit start count d known v m run
 
-      -- of a run that leaves all but the length and vstart of the configuration
+      -- a run that changes only vl and vstart of the configuration
       left : (end : MemEnd) (reached vl vstart : ℕ) → vl ≤ v.conf.vl → start ≤ reached
           → (1 ≤ limit → (start < reached) × (reached ≤ start + limit))
           → (let run : AccessRun = runs_to end reached (record v { file = file; conf = record v.conf { vl = vl }; vstart = vstart }) after in
@@ -240,7 +240,7 @@ pub run_is : (limit : ℕ) (fill : Bool) (i : AccessInstr) (v : VState) (x : Sca
 unfolding access_run
 run_is limit fill i v x m a e = ap (λ (o : Option VectorAccess). run_or_nothing limit fill o v m) e
 
--- what holds of that of each access, and where nothing is done, holds of it
+-- a property of the run of each access, and of the empty run, holds for the run of an instruction
 pub of_access : (limit : ℕ) (fill : Bool) (i : AccessInstr) (v : VState) (x : Scalar) (m : Memory) (P : Option VectorAccess → AccessRun → Type 0)
     → P None (runs_to Done (v.vstart + 1) v m)
     → ((a : VectorAccess) → access_of i v x ≡ Some a → P (Some a) (directed_run a.direction limit fill a v m))
@@ -248,7 +248,7 @@ pub of_access : (limit : ℕ) (fill : Bool) (i : AccessInstr) (v : VState) (x : 
 unfolding access_run
 of_access limit fill i v x m P nothing each = of_option (access_of i v x) (λ o. P o (run_or_nothing limit fill o v m)) (λ e. nothing) each
 
--- ---- where it leaves off
+-- ---- the index where it stops
 
 leaves_off : (limit count : ℕ) (d : Direction) (first_only : Bool) (v : VState) (m : Memory) (run : AccessRun) → Facts limit v.vstart count d first_only v m run → LeavesOff limit v run
 leaves_off limit count d first_only v m run f = record {
@@ -268,7 +268,7 @@ access_leaves_off i limit fill v x m =
     (record { cut = λ index e. absurd (cc); fault = λ index addr e. absurd (cc) })
     (λ a e. leaves_off limit a.body.end a.direction a.first_only v m _ (run_facts limit fill i v x m a e))
 
--- ---- what it leaves where it stops
+-- ---- the state where it stops
 
 stops_at : (end : MemEnd) (P : ℕ → Type 0) → AtStop end P P → end ≢ Done → (index : ℕ) × P index
 stops_at Done P h ended = absurd (ended refl)
@@ -292,6 +292,6 @@ is_stopped limit a v m run f ended =
       registers = f.registers;
     }
 
--- a state that it leaves differs by its registers and by vstart
+-- the state where it stops differs only in the registers and vstart
 pub stopped_state : (a : VectorAccess) (v w : VState) → IsStopped a v w → w ≡ record v { file = w.file; vstart = w.vstart }
 stopped_state a v w h = λ j. record w { conf = h.conf j; vxrm = h.rounding j; vxsat = h.saturation j }

@@ -21,13 +21,13 @@ use Rattle.rv_model.proofs.access_lemmas.Runs.{AtStop, CutAt, FaultAt, of_access
 use Rattle.rv_model.proofs.access_lemmas.Stops.{first_bad, stop_is, stop_past}
 use Rattle.rv_model.proofs.Choices.{of_option}
 
--- ---- a larger limit, where the smaller cuts nothing
+-- ---- a larger limit than one without a cut
 
 abbrev pub IsUncut : MemEnd → Type 0
 IsUncut end = (index : ℕ) → end ≢ Cut index
 
 module _ (access : Access) (m : Memory) (each : Plan) where
-  -- indices past one that may not be done change nothing
+  -- indices past one that isn't allowed change nothing
   first_bad_more : (i c d none other : ℕ) → i + c ≤ none → first_bad access m each i c none < i + c
       → first_bad access m each i (c + d) other ≡ first_bad access m each i c none
   unfolding first_bad
@@ -113,7 +113,7 @@ ends_uncut first_only count v m (Fault at addr) h = λ index e. absurd (cc)
 ends_uncut first_only count v m _ h = h
 
 module _ (limit larger : ℕ) (fill : Bool) (v : VState) (m : Memory) (more : limit ≤ larger) where
-  -- the larger limit changes nothing
+  -- the larger limit gives the same result if the smaller one doesn't cut
   abbrev IsSame : (ℕ → AccessRun) → Type 0
   IsSame run = IsUncut (run limit).end → run larger ≡ run limit
 
@@ -142,7 +142,7 @@ module _ (limit larger : ℕ) (fill : Bool) (v : VState) (m : Memory) (more : li
 pub larger_limit_is_same : (fill : Bool) (i : AccessInstr) (x : Scalar) (v : VState) → LargerLimitIsSame (access_from fill i x v)
 larger_limit_is_same fill i x v limit larger m more uncut = limit_same limit larger fill v m more i x uncut
 
--- a limit of all indices cuts none
+-- a limit of all indices cuts no run
 pub whole_uncut : (i : AccessInstr) (whole : ℕ) (fill : Bool) (v : VState) (x : Scalar) (m : Memory) → index_count (access_of i v x) ≤ whole
     → IsUncut (access_run whole fill i v x m).end
 whole_uncut i whole fill v x m =
@@ -157,7 +157,7 @@ whole_uncut i whole fill v x m =
 -- ---- any number of runs
 
 module _ (R : Type 0) (k : Restartable R) (on : (limit : ℕ) (m : Memory) → GoesOn k m (k.whole limit m)) where
-  -- the last run is one with all that is new there from the start
+  -- the last run equals a single run in the memory with all new addresses mapped from the start
   last_is_one : (limit : ℕ) (m : Memory) (nexts : List NextRun) → AreResumed k m (k.whole limit m) nexts
       → (total : ℕ) × (last_run k (k.whole limit m) nexts ≡ k.whole total (with_new m nexts))
   last_is_one limit m [] resumed = (limit, refl)
@@ -168,7 +168,7 @@ module _ (R : Type 0) (k : Restartable R) (on : (limit : ℕ) (m : Memory) → G
       let others = last_is_one done all rest (subst (λ (r : R). AreResumed k all r rest) same resumed.1) in
       (others.0, ap (λ (r : R). last_run k r rest) same ∙ others.1)
 
-  -- all limits that cut nothing give the same
+  -- all limits without a cut give the same result
   agree : LargerLimitIsSame k → (limit other : ℕ) (m : Memory) → k.IsUncut (k.whole limit m) → k.IsUncut (k.whole other m)
       → k.whole limit m ≡ k.whole other m
   agree larger limit other m uncut too = elim (cases_lt limit other) [

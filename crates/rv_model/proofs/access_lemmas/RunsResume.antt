@@ -1,4 +1,4 @@
--- A legal vector load or store that stops and is run again ends and leaves what the whole one does.
+-- A legal vector load or store that stops and is executed again has the end and the result of the uninterrupted one.
 use Rattle.std.proofs.Common.{◌≡◌, ◌≢◌, ℕ, ◌+◌, ◌-◌, ◌<◌, ◌≤◌, Bool, false, ◌&&◌, max, List, refl, sym, ◌∙◌, ap, subst, arith}
 use Rattle.std.specs.Prelude.{nat_le, nat_lt}
 use Rattle.std.proofs.lemmas.Bool.Decides.{nat_tests}
@@ -16,12 +16,13 @@ use Rattle.rv_model.proofs.access_lemmas.Runs.{access_again}
 use Rattle.rv_model.proofs.Choices.{of_either, of_test}
 use Rattle.rv_model.proofs.access_lemmas.Resumes.{Progress, load_moves, load_moves_resume, stop_from, store_moves, store_moves_resume}
 
--- ---- runs that may be stopped, by a limit, the vector state and the memory
+-- ---- runs that may stop, as functions of a limit, the vector state and the memory
 
 abbrev pub Run : Type 0
 Run = ℕ → VState → Memory → AccessRun
 
--- one that is stopped and left this leaves the vector type and length as they are, and it is the whole one once it is run again
+-- a run that stopped with the result `left` preserves the vector type and length, and equals the uninterrupted run once it is executed
+-- again
 pub record IsResumed (run : Run) (later : ℕ) (v : VState) (m more : Memory) (left : AccessRun) : Type 0 where
   pub conf : left.vector.conf ≡ v.conf
   pub same : run later left.vector more ≡ run (left.vector.vstart - v.vstart + later) v (overlay m more)
@@ -34,11 +35,11 @@ Resumes run limit later v m more = ResumesFrom run later v m more (run limit v m
 
 -- ---- loads
 
--- the transfers of a load of at most so many indices
+-- the transfers of a load of at most `limit` indices
 abbrev pub load_transfers : ℕ → Bool → VectorAccess → List ℕ → Memory → Progress (List ℕ)
 load_transfers limit fill a file m = load_moves m (element_start a) (plan a fill) file a.body.start (a.body.start + limit) a.body.end
 
--- what they make of a state
+-- the run of a load in a state, after these transfers
 abbrev after_load : VectorAccess → VState → Memory → Progress (List ℕ) → AccessRun
 after_load a v m moved = access_ends a.first_only a.body.end (record v { file = moved.left }) m moved.end
 
@@ -47,7 +48,7 @@ load_is : (limit : ℕ) (fill : Bool) (a : VectorAccess) (v : VState) (m : Memor
 unfolding load_run
 load_is limit fill a v m = refl
 
--- wherever an instruction begins, if that is one of its indices, it sets vstart
+-- the end of an instruction sets vstart, so it doesn't depend on the start if that is one of the indices
 begins_alike : (first_only : Bool) (count : ℕ) (v : VState) (m : Memory) (end : MemEnd) (file : List ℕ) (start : ℕ) → v.vstart < count → start < count
     → access_ends first_only count (record v { file = file; vstart = start }) m end ≡ access_ends first_only count (record v { file = file }) m end
 begins_alike first_only count v m Done file start h g =
@@ -55,7 +56,7 @@ begins_alike first_only count v m Done file start h g =
     ap (λ (n : ℕ). runs_to Done n (record v { file = file; vstart = 0 }) m) reached
 begins_alike first_only count v m _ file start h g = refl
 
--- a load that is stopped
+-- a load that stops
 record LoadStopped (run : AccessRun) (v : VState) (m : Memory) (moved : Progress (List ℕ)) (n : ℕ) : Type 0 where
   below : moved.stop < n
   vector : run.vector ≡ record v { file = moved.left; vstart = moved.stop }
@@ -95,7 +96,7 @@ load_again limit later fill a mask address v m more grown begins below stays =
     ∙ ap (λ (n : ℕ). after_load a v more (load_moves more (element_start a) (plan a fill) v.file a.body.start n a.body.end)) last
     ∙ sym (load_is (stop - a.body.start + later) fill a v more)
 
--- an access that is made from the state: what it is once registers have changed and vstart has moved on
+-- an access as a function of the state, and the same access after changes of the registers and of vstart
 pub record IsMade (make : VState → VectorAccess) (v : VState) (mask : List ℕ → List ℕ) (address : List ℕ → ℕ → ℕ) : Type 0 where
   pub begins : (make v).body.start ≡ v.vstart
   pub again : (file : List ℕ) (start : ℕ) → make (record v { file = file; vstart = start }) ≡ access_again (make v) (mask file) start (address file)

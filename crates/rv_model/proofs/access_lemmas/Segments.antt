@@ -17,7 +17,7 @@ use Rattle.rv_model.proofs.element_lemmas.Ranges.{range_more}
 abbrev pub field_transfer : ℕ → ℕ → ℕ → ℕ → Transfer
 field_transfer i address size f = record { index = i; field = f; size = size; kind = Moved ((address + f * size) % 2 ^ 64) }
 
--- one field of an index that becomes all ones
+-- one field of an index, filled with ones
 abbrev pub filled_transfer : ℕ → ℕ → ℕ → Transfer
 filled_transfer i size f = record { index = i; field = f; size = size; kind = Ones }
 
@@ -31,7 +31,7 @@ segment_more i address size n = mapped_more (field_transfer i address size) n
 pub filled_more : (i size n : ℕ) → filled_segment i size (n + 1) ≡ filled_segment i size n ++ filled_transfer i size n ∷ []
 filled_more i size n = mapped_more (filled_transfer i size) n
 
--- the fields from one on
+-- the fields from `a` on, split at one of them
 mapped_split : (of : ℕ → Transfer) (a f k n : ℕ) → n ≡ f + suc k → map of (range_with_len a n) ≡ map of (range_with_len a f) ++ of (a + f) ∷ map of (range_with_len (a + f + 1) k)
 mapped_split of a zero k n e =
     let count : n ≡ suc k = omega (arith, e) in
@@ -43,7 +43,7 @@ mapped_split of a (suc f) k n e =
     ∙ ap (λ ts. of a ∷ ts) (mapped_split of (a + 1) f k (f + suc k) refl)
     ∙ ap (λ x. of a ∷ (map of (range_with_len (a + 1) f) ++ of x ∷ map of (range_with_len (x + 1) k))) same
 
--- the fields after one
+-- the fields after field f
 abbrev fields_after : ℕ → ℕ → ℕ → ℕ → ℕ → List Transfer
 fields_after i address size f n = map (field_transfer i address size) (range_with_len (f + 1) (n - (f + 1)))
 
@@ -65,7 +65,7 @@ module _ (access : Access) (m : Memory) (i address size : ℕ) where
       ∙ are_allowed-append access m (moved_segment i address size f) (field_transfer i address size f ∷ [])
       ∙ ap (λ b. b && are_allowed access m (field_transfer i address size f ∷ [])) before ∙ ap (λ b. b && true) here
 
-  -- one that may not be is the first that may not be, if those before it may
+  -- if the fields before field f are allowed and f isn't, the index isn't allowed
   pub allowed_not : (f n : ℕ) → f < n → are_allowed access m (moved_segment i address size f) ≡ true → can_transfer access m (field_transfer i address size f) ≡ false
       → are_allowed access m (moved_segment i address size n) ≡ false
   unfolding are_allowed
@@ -88,7 +88,7 @@ module _ (access : Access) (m : Memory) (i address size : ℕ) where
       ap (bad_address access m) (segment_split i address size f n h)
       ∙ bad_after (moved_segment i address size f) (fields_after i address size f n) (field_transfer i address size f) before here
 
-  -- each of those that may be
+  -- each field of an allowed index is allowed
   pub allowed_field : (f n : ℕ) → f < n → are_allowed access m (moved_segment i address size n) ≡ true → can_transfer access m (field_transfer i address size f) ≡ true
   unfolding are_allowed
   allowed_field f n h all =
@@ -98,7 +98,7 @@ module _ (access : Access) (m : Memory) (i address size : ℕ) where
       let rest = and_parts (are_allowed access m (moved_segment i address size f)) (are_allowed access m (field_transfer i address size f ∷ fields_after i address size f n)) split in
       (and_parts (can_transfer access m (field_transfer i address size f)) (are_allowed access m (fields_after i address size f n)) rest.1).0
 
--- those that are only filled may be
+-- fields that are only filled are always allowed
 filled_from : (access : Access) (m : Memory) (i size a n : ℕ) → are_allowed access m (map (filled_transfer i size) (range_with_len a n)) ≡ true
 unfolding are_allowed
 filled_from access m i size a zero = refl
@@ -107,10 +107,10 @@ filled_from access m i size a (suc n) = filled_from access m i size (a + 1) n
 pub filled_allowed : (access : Access) (m : Memory) (i size n : ℕ) → are_allowed access m (filled_segment i size n) ≡ true
 filled_allowed access m i size n = filled_from access m i size 0 n
 
--- ---- what the fields leave
+-- ---- the results of the fields
 
 module _ (m : Memory) (place : Transfer → ℕ) (file : List ℕ) where
-  -- no field yet
+  -- before the first field
   pub loaded_start : (i address size : ℕ) → file ≡ registers_loaded m place file (moved_segment i address size 0)
   unfolding registers_loaded
   loaded_start i address size = refl

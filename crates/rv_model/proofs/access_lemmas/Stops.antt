@@ -1,4 +1,4 @@
--- Where a vector load or store stops, as one index more comes, and how it ends there.
+-- The index where a vector load or store stops, by induction on the indices, and its end there.
 use Rattle.std.proofs.Common.{◌≡◌, ℕ, zero, suc, ◌+◌, ◌-◌, ◌<◌, ◌≤◌, Bool, true, false, cond, List, [], ◌++◌, min, Option, Some, refl, sym, ◌∙◌, ap, inl, inr, arith, append_assoc}
 use Rattle.std.specs.List.{find, range_with_len}
 use Rattle.std.specs.Option.{unwrap_or}
@@ -25,17 +25,17 @@ transfers-add plan i (suc a) b =
     ∙ sym (append_assoc (plan i) (transfers plan (i + 1) a) (transfers plan ((i + 1) + a) b))
     ∙ ap (λ (j : ℕ). (plan i ++ transfers plan (i + 1) a) ++ transfers plan j b) at
 
--- those of no index
+-- the transfers of no index
 pub transfers_none : (plan : Plan) (i j : ℕ) → j ≤ i → transfers plan i (j - i) ≡ []
 unfolding transfers
 transfers_none plan i j h = let none : j - i ≡ 0 = omega arith in ap (λ (n : ℕ). transfers plan i n) none
 
--- those of one index
+-- the transfers of one index
 transfers_one : (plan : Plan) (i : ℕ) → transfers plan i 1 ≡ plan i
 unfolding transfers
 transfers_one plan i = append-nil (plan i)
 
--- one index more
+-- one more index
 pub transfers_more : (plan : Plan) (i j : ℕ) → i ≤ j → transfers plan i ((j + 1) - i) ≡ transfers plan i (j - i) ++ plan j
 transfers_more plan i j h =
     let count : (j + 1) - i ≡ (j - i) + 1 = omega arith in
@@ -44,9 +44,9 @@ transfers_more plan i j h =
     ∙ ap (λ (k : ℕ). transfers plan i (j - i) ++ transfers plan k 1) at
     ∙ ap (λ (ts : List Transfer). transfers plan i (j - i) ++ ts) (transfers_one plan j)
 
--- ---- the first index that isn't done
+-- ---- the first incomplete index
 
--- it is found index by index
+-- search for the first index that isn't allowed
 unfoldable pub first_bad : Access → Memory → Plan → ℕ → ℕ → ℕ → ℕ
 first_bad access m plan i zero none = none
 first_bad access m plan i (suc n) none = cond (are_allowed access m (plan i)) (first_bad access m plan (i + 1) n none) i
@@ -66,18 +66,18 @@ module _ (access : Access) (m : Memory) (plan : Plan) where
   unfolding stop_index
   stop_is i cut n = found_is access m plan i (min n cut - i) (min n cut)
 
-  -- from an index past the end on
+  -- a start past the end
   pub stop_past : (i cut n : ℕ) → min n cut < i → stop_index access m plan i cut n ≡ min n cut
   unfolding first_bad
   stop_past i cut n h =
       let none : min n cut - i ≡ 0 = omega (arith, h) in
       stop_is i cut n ∙ ap (λ (k : ℕ). first_bad access m plan i k (min n cut)) none
 
-  -- each index from one up to another may be done
+  -- each index from i up to but not including j is allowed
   abbrev pub AllAllowed : ℕ → ℕ → Type 0
   AllAllowed i j = (k : ℕ) → i ≤ k → k < j → are_allowed access m (plan k) ≡ true
 
-  -- one index more
+  -- one more index
   pub allowed_more : (i j : ℕ) → AllAllowed i j → are_allowed access m (plan j) ≡ true → AllAllowed i (j + 1)
   allowed_more i j before here k low high = elim (cases_eq k j) [
     | inl same ↦ ap (λ (n : ℕ). are_allowed access m (plan n)) same ∙ here
@@ -96,7 +96,7 @@ module _ (access : Access) (m : Memory) (plan : Plan) where
       ∙ first_bad_skip (i + 1) a b none (λ k l g. h k (omega arith) (omega arith))
       ∙ ap (λ (j : ℕ). first_bad access m plan j b none) at
 
-  -- an index that may not be done
+  -- an index that isn't allowed
   stop_found : (i cut n j : ℕ) → i ≤ j → j < n → j < cut → AllAllowed i j → are_allowed access m (plan j) ≡ false
       → stop_index access m plan i cut n ≡ j
   unfolding first_bad
@@ -110,7 +110,7 @@ module _ (access : Access) (m : Memory) (plan : Plan) where
       ∙ ap (λ (k : ℕ). first_bad access m plan k (suc (none - (j + 1))) none) at
       ∙ ap (λ (t : Bool). cond t (first_bad access m plan (j + 1) (none - (j + 1)) none) j) bad
 
-  -- there is none
+  -- no such index
   stop_none : (i cut n : ℕ) → AllAllowed i (min n cut) → stop_index access m plan i cut n ≡ min n cut
   unfolding first_bad
   stop_none i cut n before =
@@ -119,7 +119,7 @@ module _ (access : Access) (m : Memory) (plan : Plan) where
       ∙ ap (λ (e : ℕ). first_bad access m plan i e (min n cut)) rest
       ∙ first_bad_skip i (min n cut - i) 0 (min n cut) (λ k l g. before k l (omega arith))
 
-  -- ---- how an instruction ends
+  -- ---- the end of an instruction
 
   end_done : (cut n j : ℕ) → n ≤ j → end_at access m plan cut n j ≡ Done
   unfolding end_at
@@ -133,12 +133,12 @@ module _ (access : Access) (m : Memory) (plan : Plan) where
   unfolding end_at
   end_fault cut n j h g = let more = lt-leb n j h in let left = lt-leb cut j g in cc
 
-  -- what is done, and how it ends
+  -- the completed transfers, and the end
   pub record Stopped (i cut n stop : ℕ) (how : MemEnd) : Type 0 where
     pub done : transfers plan i (stop_index access m plan i cut n - i) ≡ transfers plan i (stop - i)
     pub end : end_at access m plan cut n (stop_index access m plan i cut n) ≡ how
 
-  -- at an index that may not be done
+  -- the end at an index that isn't allowed
   pub stops_bad : (i cut n j : ℕ) → i ≤ j → j < n → j < cut → AllAllowed i j → are_allowed access m (plan j) ≡ false
       → Stopped i cut n j (Fault j (bad_address access m (plan j)))
   stops_bad i cut n j low less within before bad =
@@ -148,7 +148,7 @@ module _ (access : Access) (m : Memory) (plan : Plan) where
         end = ap (end_at access m plan cut n) stop ∙ end_fault cut n j less within;
       }
 
-  -- at its end
+  -- the end after the last index
   pub stops_done : (i cut n : ℕ) → n ≤ cut → AllAllowed i n → Stopped i cut n n Done
   stops_done i cut n most before =
       let stop : stop_index access m plan i cut n ≡ n =
@@ -158,7 +158,7 @@ module _ (access : Access) (m : Memory) (plan : Plan) where
         end = ap (end_at access m plan cut n) stop ∙ end_done cut n n (omega arith);
       }
 
-  -- where it is cut
+  -- the end at a cut
   pub stops_cut : (i cut n : ℕ) → i ≤ cut → cut < n → AllAllowed i cut → Stopped i cut n cut (Cut cut)
   stops_cut i cut n low less before =
       let stop : stop_index access m plan i cut n ≡ cut =

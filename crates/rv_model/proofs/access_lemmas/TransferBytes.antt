@@ -1,4 +1,4 @@
--- What lists of transfers leave, byte by byte: the last transfer that covers a byte says what it is.
+-- The result of lists of transfers for each byte: its value comes from the last transfer that covers it.
 use Rattle.std.proofs.Common.{◌≡◌, ℕ, zero, suc, ◌+◌, ◌-◌, ◌<◌, ◌≤◌, ◌⊎◌, inl, inr, Bool, true, false, ◌&&◌, cond, List, [], ◌∷◌, length, get_or, Option, Some, None, refl, sym, ◌∙◌, ap, arith}
 use Rattle.std.specs.Prelude.{All, reverse, slice_index}
 use Rattle.std.specs.List.{find}
@@ -17,9 +17,9 @@ use Rattle.rv_model.proofs.access_lemmas.Kept.{length-bytes_loaded, put_beside}
 use Rattle.rv_model.proofs.access_lemmas.Moves.{element_allows}
 use Rattle.rv_model.proofs.memory_lemmas.Memory.{is_within_false, is_within_true, places, writes_bytes}
 
--- ---- what is found last
+-- ---- the last match
 
--- of a list with an element before it: what is found last in the list, or else the element
+-- in a list with an element in front: the last match in the rest, or else the element
 module _ (p : Transfer → Bool) (f : Transfer → ℕ) (t : Transfer) (d : ℕ) where
   found_or : (o : Option Transfer) (b : Bool) → option_map_or f (option_or o (cond b (Some t) None)) d ≡ option_map_or f o (cond b (f t) d)
   found_or None true = refl
@@ -32,7 +32,7 @@ module _ (p : Transfer → Bool) (f : Transfer → ℕ) (t : Transfer) (d : ℕ)
       ∙ ap (λ (o : Option Transfer). option_map_or f o d) (find-append p (reverse ts) (t ∷ []))
       ∙ found_or (find p (reverse ts)) (p t)
 
--- ---- a load
+-- ---- loads
 
 put_at : (i : ℕ) (xs ys : List ℕ) (j k : ℕ) → k ≡ i + j → j < length ys → k < length xs → get_or (put_chunk i xs ys) k 0 ≡ get_or ys j 0
 put_at i [] ys j k e short inside = absurd (omega arith)
@@ -79,7 +79,7 @@ module _ (m : Memory) (place : Transfer → ℕ) (k : ℕ) where
 pub loads_by_transfer : LoadsByTransfer
 loads_by_transfer m place file ts k inside = byte_of_load m place k ts file inside
 
--- ---- a store
+-- ---- stores
 
 module _ (place : Transfer → ℕ) (file : List ℕ) (x : ℕ) where
   abbrev IsMoved : ℕ → ℕ → TransferKind → Type 0

@@ -48,7 +48,7 @@ no_newline_in_hex_digits (suc k) n = is_line-append (hex_digits k (n / 16)) _ (n
 register_name_is_line : ControlRegister → Bool
 register_name_is_line register = is_line (register_name register)
 
--- its name, or its number in digits
+-- the name of a control register, or its number in digits
 abbrev csr_text_of : ℕ → Option ControlRegister → List ℕ
 csr_text_of n register = option_map_or register_name register (decimal n)
 
@@ -125,7 +125,7 @@ each_name_is_line : (row : ℕ) → row < ROW_COUNT → name_is_line row ≡ tru
 unfolding name_is_line name_at row_at
 each_name_is_line row lt = agree_below_at name_is_line (λ _. true) ROW_COUNT row refl lt
 
--- past the table there is no name
+-- rows past the end of the table have no name
 no_newline_past_table : (row : ℕ) → ROW_COUNT ≤ row → IsLine (name_at row)
 unfolding name_at row_at
 no_newline_past_table row le =
@@ -145,7 +145,7 @@ no_newline_in_named w text named =
     let row = named.0 in
     subst IsLine (sym named.4) (is_line-append (name_at row) (operands_text (slots_at row) w) (no_newline_in_name row) (no_newline_in_operands_text (slots_at row) w))
 
--- the canonical text of a word is in one line
+-- the canonical text of a word is one line
 pub canonical_line : (word : ℕ) → IsLine (canonical word)
 unfolding canonical
 canonical_line word = elim (cases_named word) [

@@ -1,4 +1,4 @@
--- The slots of a row of the code's table are those of the instruction that a word with its bits is.
+-- The slots of a row of the code's table are those of each instruction whose word has the bits of the row.
 use Rattle.std.proofs.Common.{◌≡◌, ℕ, ◌<◌, Bool, false, List, [], ◌∷◌, map, take, get_or, Option, Some, None, refl, sym, ap, subst, ◌∙◌}
 use Rattle.std.specs.Option.{IsSomeAnd, option_map}
 use Rattle.std.specs.Int.Bits.{bit_and}
@@ -29,7 +29,7 @@ use Rattle.rv_model.proofs.instruction_lemmas.Words.{form_source_of}
 use Rattle.rv_model.proofs.assembler_lemmas.Naming.{none}
 use Rattle.rv_model.proofs.assembler_lemmas.NamedOperations.{of_name, same_flag, told, told_by_operation}
 
--- ---- words of one row that agree in what the name tells have the same slots
+-- ---- words of one row that agree in the bits of the name have the same slots
 
 arith_same : (op : VectorOp) (f : Form) (w v : ℕ) → bit_and w (told_by_operation op) ≡ bit_and v (told_by_operation op) → arith_slots op f (flag w) ≡ arith_slots op f (flag v)
 arith_same (vector_op.CarryOut op) f w v told_same = ap (λ (vm : Bool). carry_out_slots vm f) (same_flag w v told_same)
@@ -75,7 +75,7 @@ its_slots row lt =
     ∙ ap (λ (all : List (Option (List Slot))). get_or all row None) slots_agree
     ∙ get_or-map own_slots (take NAME_COUNT MNEMONICS) row none None lt)
 
--- the slots of a row are those of the instruction that a word with its bits is
+-- the slots of a row are those of the instruction of each word with the row's bits
 pub has_slots : (row word : ℕ) → row < NAME_COUNT → HasBitsOf row word → IsSomeAnd (scan table word) (λ i. slots i ≡ slots_at row)
 unfolding slots_at bits_at
 has_slots row word lt is =

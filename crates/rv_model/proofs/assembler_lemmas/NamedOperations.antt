@@ -1,4 +1,4 @@
--- A name is that of the operation of every word with its bits.
+-- Every word with the bits of a name encodes the operation with that name.
 use Rattle.std.proofs.Common.{◌≡◌, ℕ, ◌*◌, ◌^◌, ◌<◌, Bool, true, false, nat_eq, ◌&&◌, List, [], ◌++◌, take, get_or, Option, Some, None, refl, sym, ap, subst, ◌∙◌, arith}
 use Rattle.std.specs.List.{list_all}
 use Rattle.std.specs.Option.{IsSomeAnd}
@@ -34,14 +34,14 @@ use Rattle.rv_model.proofs.assembler_lemmas.Naming.{all_at, bits_of_name, covers
 use Rattle.rv_model.specs.lending.NameTable.{fixed_mask, HasBitsOf, bits_at, name_at, row_at, slots_at, slots_of, unpadded}
 use Rattle.rv_model.proofs.assembler_lemmas.ListedTexts.{NamesOperation}
 
--- ---- the bits that a name tells besides the operation
+-- ---- the bits that determine a name in addition to the operation
 
--- bit 25 of vmadc and vmsbc, which says whether a carry or a borrow comes in
+-- bit 25 of vmadc and vmsbc, which selects a carry or borrow input
 abbrev pub told_by_operation : VectorOp → ℕ
 told_by_operation (vector_op.CarryOut op) = 2 ^ 25
 told_by_operation op = 0
 
--- and the number of fields
+-- that bit, and the number of fields of a segment
 abbrev pub told : Instr → ℕ
 told (instr.Vector (Arith arith vd vs2 vm)) = told_by_operation arith.0
 told (instr.Access (UnitStride op width nf vd rs1 vm)) = 7 * 2 ^ 29
@@ -64,7 +64,7 @@ vector_same : (op : VectorOp) (f : Form) (w v : ℕ) → bit_and w (told_by_oper
 vector_same (vector_op.CarryOut op) f w v h = ap (λ (vm : Bool). vector_name (vector_op.CarryOut op) f vm) (same_flag w v h)
 vector_same op f w v h = refl
 
--- words that agree in those bits have one name
+-- words that agree in those bits have the same name
 same_name : (t : Instr) (w v : ℕ) → bit_and w (told (filled t v)) ≡ bit_and v (told (filled t v)) → mnemonic (filled t w) ≡ mnemonic (filled t v)
 same_name (instr.Vector (Arith arith vd vs2 vm)) w v h =
     let f = form_of arith.1 in
@@ -88,7 +88,7 @@ same_name _ w v h = refl
 
 -- ---- each row of the table of names
 
--- the name is that of an instruction's operation, and fixes the bits that it tells
+-- the name is that of an instruction's operation, and fixes the bits that determine it
 abbrev named_by : Mnemonic → Option Instr → Bool
 named_by m None = false
 named_by m (Some i) = bytes_eq (mnemonic i) (unpadded m.0) && nat_eq (bit_and (told i) (fixed_mask (slots_of m.1))) (told i)
@@ -109,23 +109,24 @@ own_name row lt =
     let P : Mnemonic → Type 0 = λ m. names_its_own m ≡ true in
     subst P (get_or-take NAME_COUNT MNEMONICS row none lt) (all_at names_its_own (take NAME_COUNT MNEMONICS) row none each_names_its_own lt)
 
--- a word that agrees with the bits of a row of the instruction table in those that the name tells has the name
+-- words that match a row of the instruction table and agree in the bits that determine the name have the same name
 same_in_row : (r : Row) → In r table → (w v : ℕ) → bit_and w (told (r.instr v)) ≡ bit_and v (told (r.instr v)) → mnemonic (r.instr w) ≡ mnemonic (r.instr v)
 same_in_row r here w v =
     let t = template_of r here in
     let P : Row → Type 0 = λ s. bit_and w (told (s.instr v)) ≡ bit_and v (told (s.instr v)) → mnemonic (s.instr w) ≡ mnemonic (s.instr v) in
     subst P t.1 (same_name t.0 w v)
 
--- what is outside a mask may differ
+-- bits outside a mask may differ
 within_mask : (w v mask some : ℕ) → bit_and some mask ≡ some → bit_and w mask ≡ v → bit_and w some ≡ bit_and v some
 within_mask w v mask some inside is =
     ap (bit_and w) (sym inside ∙ and_comm some mask) ∙ sym (and_assoc some w mask) ∙ ap (λ (x : ℕ). bit_and x some) is
 
--- the bits of a name are among those that it fixes
+-- the set bits of a name are among the bits that it fixes
 own_bits : (w mask bits : ℕ) → bit_and w mask ≡ bits → bit_and bits mask ≡ bits
 own_bits w mask bits is = sym (within_mask w bits mask mask (and_self mask) is) ∙ is
 
--- a word with the bits of a name is of the same row of the instruction table as the bits themselves, and agrees with them in what the name tells
+-- a word with the bits of a name matches the same row of the instruction table as these bits; both agree in the bits that determine the
+-- name
 pub record OfName (row word : ℕ) : Type 0 where
   pub r : Row
   pub of_table : In r table

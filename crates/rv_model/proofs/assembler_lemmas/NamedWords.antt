@@ -1,4 +1,4 @@
--- By the code's table, the text of an instruction has its name, that of any other word is `.word` and digits
+-- By the code's table, the text of an instruction has its name, and the text of any other word is `.word` and digits
 use Rattle.std.proofs.Common.{◌≡◌, ◌≢◌, ◌⊎◌, ℕ, ◌^◌, ◌<◌, Bool, true, false, cond, nat_eq, nat_lt, length, get_or, position, unwrap_or, Option, Some, None, refl, sym, ap, subst, ◌∙◌, arith, inl, inr, lit<}
 use Rattle.std.specs.Prelude.{IsSome, IsNone}
 use Rattle.std.specs.List.{position_or_len}
@@ -27,7 +27,7 @@ cases_fence w =
       | inr n ↦ inr n.1
     ]
 
--- the first row that a word matches is not above any that it matches
+-- the first row that a word matches is at or before any other that it matches
 matching_word_is_named : (w n : ℕ) → n < NAME_COUNT → has_bits w (get_or MNEMONICS n none) ≡ true → row_of_word w < NAME_COUNT
 unfolding row_of_word
 matching_word_is_named w n lt h =
@@ -41,7 +41,7 @@ matching_word_is_named w n lt h =
           subst P (sym is) (omega arith)
     ]
 
--- a word with the bits of a name is named by it or by an earlier one
+-- a word with the bits of a name has this name or an earlier one
 word_with_bits_is_named : (w : ℕ) → HasNameOf names w → row_of_word w < NAME_COUNT
 word_with_bits_is_named w h =
     let lt : h.0 < NAME_COUNT = let P : ℕ → Type 0 = λ k. h.0 < k in subst P named_count h.1 in
@@ -49,7 +49,7 @@ word_with_bits_is_named w h =
     let is : bit_and w (fixed_mask (slots_of (get_or MNEMONICS h.0 none).1)) ≡ (get_or MNEMONICS h.0 none).2 = subst P (name_at_row h.0 lt) h.2 in
     matching_word_is_named w h.0 lt (eq-eqb (bit_and w (fixed_mask (slots_of (get_or MNEMONICS h.0 none).1))) (get_or MNEMONICS h.0 none).2 is)
 
--- the row of a word's name is a name of the list
+-- the row of a word's name is the row of a name in the list
 has_name_of : (w : ℕ) → row_of_word w < NAME_COUNT → HasNameOf names w
 has_name_of w lt = (row_of_word w, in_names (row_of_word w) lt, bits_of_name (row_of_word w) w lt (row_matches w).bits)
 
@@ -65,12 +65,12 @@ none_from_is_none : (o : Option Instr) → IsNone o → o ≡ None
 none_from_is_none None h = refl
 none_from_is_none (Some i) h = cc
 
--- of the fences that of all memory and devices alone has a name
+-- only the fence of all memory and device accesses has a name
 fence_with_name : (fence full : Bool) (w : ℕ) → nat_eq (bit_and w 0x707f) 0x0f ≡ fence → nat_eq w 0x0ff0000f ≡ full → cond fence full true ≡ true → IsFence w → w ≡ 0x0ff0000f
 fence_with_name false full w f e h is = absurd (let t = eq-eqb (bit_and w 0x707f) 0x0f is in cc)
 fence_with_name true full w f e h is = eqb-true w 0x0ff0000f (e ∙ h)
 
--- and every other instruction has one
+-- a word without a name is another fence, so every other instruction has a name
 fence_without_name : (fence full : Bool) (w : ℕ) → nat_eq (bit_and w 0x707f) 0x0f ≡ fence → nat_eq w 0x0ff0000f ≡ full → cond fence full true ≡ false → IsFence w × (w ≢ 0x0ff0000f)
 fence_without_name false full w f e h = absurd cc
 fence_without_name true true w f e h = absurd cc
@@ -93,7 +93,7 @@ is_named w h =
     let is = (row_matches w).bits in
     (row_of_word w, lt, is, names_operation (row_of_word w) w lt is, refl)
 
--- the word is no instruction, or another fence
+-- the word isn't an instruction, or it is another fence
 abbrev HasNoName : ℕ → Type 0
 HasNoName word = IsNone (scan table word) ⊎ (IsFence word × (word ≢ 0x0ff0000f))
 

@@ -1,4 +1,4 @@
--- Names and rows of the instruction table: each name is of one row, and each row but that of fences has names for all its words
+-- Names and rows of the instruction table: each name belongs to one row, and each row except that of fences has names for all its words
 use Rattle.std.proofs.Common.{◌≡◌, ◌⊎◌, ℕ, zero, suc, ◌+◌, ◌-◌, ◌*◌, ◌/◌, ◌%◌, ◌^◌, ◌<◌, Bool, true, false, not, nat_eq, ◌&&◌, ◌||◌, List, [], ◌∷◌, map, take, length, get_or, refl, sym, ap, subst, ◌∙◌, arith, inl, inr, add-zero}
 use Rattle.std.specs.List.{list_any, list_all}
 use Rattle.std.specs.Int.Bits.{bit_and, and_comm}
@@ -16,7 +16,7 @@ use Rattle.rv_model.proofs.instruction_lemmas.Scans.{In, all_in}
 use Rattle.rv_model.specs.lending.NameTable.{fixed_mask, slots_of, row_at, slots_at, bits_at, HasBitsOf}
 use Rattle.rv_model.proofs.assembler_lemmas.ListedTexts.{IsFence}
 
--- a mask, and what the bits in it are
+-- a mask, and the values of the bits in the mask
 abbrev pub Pattern : Type 0
 Pattern = ℕ × ℕ
 
@@ -26,7 +26,7 @@ pattern_of m = (fixed_mask (slots_of m.1), m.2)
 abbrev pub pattern_of_row : Row → Pattern
 pattern_of_row r = (r.mask, r.bits)
 
--- whatever has the bits of q has those of p, which fixes some
+-- each word with the bits of q also has the bits of p, which fixes a subset of them
 abbrev pub covers : Pattern → Pattern → Bool
 covers p q = nat_eq (bit_and p.0 q.0) p.0 && nat_eq (bit_and q.1 p.0) p.1
 
@@ -40,7 +40,7 @@ named_count = refl
 pub in_names : (row : ℕ) → row < NAME_COUNT → row < length names
 in_names row lt = let P : ℕ → Type 0 = λ k. row < k in subst P (sym named_count) lt
 
--- past the table of names there is no row
+-- the row for an index past the end of the table of names
 abbrev pub none : Mnemonic
 none = record { 0 = []; 1 = form.Plain; 2 = 0 }
 
@@ -49,7 +49,7 @@ pub name_at_row : (n : ℕ) → n < NAME_COUNT → get_or names n (0, 0) ≡ pat
 unfolding names
 name_at_row n lt = get_or-map pattern_of (take NAME_COUNT MNEMONICS) n none (0, 0) lt ∙ ap pattern_of (get_or-take NAME_COUNT MNEMONICS n none lt)
 
--- what has the bits of a row of the table of names has those of its pattern
+-- a word with the bits of a row of the table of names matches the row's pattern
 pub bits_of_name : (row w : ℕ) → row < NAME_COUNT → HasBitsOf row w → bit_and w (get_or names row (0, 0)).0 ≡ (get_or names row (0, 0)).1
 unfolding slots_at bits_at row_at
 bits_of_name row w lt is = let P : Pattern → Type 0 = λ p. bit_and w p.0 ≡ p.1 in subst P (sym (name_at_row row lt)) is
@@ -57,12 +57,12 @@ bits_of_name row w lt is = let P : Pattern → Type 0 = λ p. bit_and w p.0 ≡ 
 abbrev of_row : Pattern → Row → Bool
 of_row name r = covers (pattern_of_row r) name
 
--- each name is of a row of the table
+-- each name belongs to a row of the table
 each_has_row : list_all (λ name. list_any (of_row name) table) names ≡ true
 unfolding names table fixed_mask
 each_has_row = refl
 
--- no fence but the one with a name has the bits of a name
+-- no fence except the one with a name has the bits of a name
 abbrev spares_fences : Pattern → Bool
 spares_fences name = (nat_eq name.0 (2 ^ 32 - 1) && nat_eq name.1 0x0ff0000f) || not (nat_eq (bit_and name.1 0x707f) (bit_and 0x0f name.0))
 
@@ -70,7 +70,7 @@ each_spares_fences : list_all spares_fences names ≡ true
 unfolding names fixed_mask
 each_spares_fences = refl
 
--- a name covers the pattern, or both halves of a bit that it leaves open are covered
+-- a name covers the pattern, or names cover both values of an open bit
 abbrev covered : List Pattern → List ℕ → Pattern → Bool
 covered ns [] q = list_any (λ name. covers name q) ns
 covered ns (b ∷ bs) q =
@@ -80,7 +80,7 @@ covered ns (b ∷ bs) q =
 abbrev is_fence : Pattern → Bool
 is_fence p = nat_eq p.0 0x707f && nat_eq p.1 0x0f
 
--- where names leave fewer bits open than rows: the mask of vmadc and vmsbc, and the number of fields
+-- open bits of rows that names fix: the mask bit of vmadc and vmsbc, and the number of fields
 abbrev splits : Bool → Bool → List ℕ
 splits true fields = 2 ^ 25 ∷ []
 splits false true = 2 ^ 29 ∷ 2 ^ 30 ∷ 2 ^ 31 ∷ []
@@ -99,7 +99,7 @@ each_is_covered : list_all row_covered table ≡ true
 unfolding names table fixed_mask
 each_is_covered = refl
 
--- ---- what these tests tell
+-- ---- consequences of these tests
 
 other_of_or : (a b : Bool) → (a || b) ≡ true → a ≡ false → b ≡ true
 other_of_or true b h k = absurd cc
@@ -194,7 +194,7 @@ covered_all ns (b ∷ bs) q w bits h is =
           ]
     ]
 
--- a word of a row but fences has the bits of a name
+-- a word that matches a row other than that of fences has the bits of a name
 pub word_of_row_has_name : (r : Row) (w : ℕ) → In r table → Matches r w → (IsFence w → ⊥) → HasNameOf names w
 word_of_row_has_name r w here is no_fence =
     let p = pattern_of_row r in
@@ -207,11 +207,11 @@ word_of_row_has_name r w here is no_fence =
       | inr n ↦ covered_all names bs p w (are_bits (has_mask p) (has_fields p)) (other_of_or (is_fence p) (covered names bs p) h n) is
     ]
 
--- a name is of a row
+-- each name belongs to a row
 pub row_of_name : (n : ℕ) → n < length names → (r : Row) × In r table × (covers (pattern_of_row r) (get_or names n (0, 0)) ≡ true)
 row_of_name n lt = any_in (of_row (get_or names n (0, 0))) table (all_at (λ name. list_any (of_row name) table) names n (0, 0) each_has_row lt)
 
--- a word with the bits of a name is of a row
+-- a word with the bits of a name matches a row
 pub name_of_row : (n w : ℕ) → n < length names → bit_and w (get_or names n (0, 0)).0 ≡ (get_or names n (0, 0)).1 → (r : Row) × In r table × Matches r w
 name_of_row n w lt is =
     let r = row_of_name n lt in

@@ -13,7 +13,7 @@ use Rattle.rv_model.specs.assembler.Fields.{lowest, value_of}
 pub field_below : (low len w : ℕ) → field low len w < 2 ^ len
 field_below low len w = mod_below (w / 2 ^ low) (2 ^ len) (pow_pos len)
 
--- a word's operand is one that its slot has
+-- the value of a word's operand is below the number of values of its slot
 pub value_below : (s : Slot) (w : ℕ) → value_of s w < value_count s
 value_below (Scalar p) w = field_below (lowest p) 5 w
 value_below (Vector p) w = field_below (lowest p) 5 w

@@ -1,4 +1,4 @@
--- The names, slots and bits of the instruction table are those of the code's table: a text spells the same word by both, and a word has
+-- The instruction table and the code's table have the same names, slots and bits. So a text gives the same word by both, and a word has
 -- the same text.
 use Rattle.std.proofs.Common.{◌≡◌, ◌⊎◌, ℕ, zero, suc, ◌-◌, ◌+◌, ◌/◌, ◌%◌, ◌^◌, ◌<◌, Bool, true, false, not, cond, eqb, nat_eq, nat_lt, ◌&&◌, List, [], ◌∷◌, ◌++◌, length, map, replicate, get_or, Option, Some, None, Result, Err, refl, sym, ap, ap₂, subst, ◌∙◌, arith, inl, inr}
 use Rattle.std.specs.Prelude.{find, position, codes, IsSome}
@@ -28,7 +28,7 @@ use Rattle.rv_model.proofs.assembler_lemmas.RowOfWord.{row_matches}
 
 -- ---- the two tables have the same names, with the same slots and bits
 
--- the bits and the slots of the first spelling with the name of a row of the code's table, and the row's own
+-- the bits and the slots of the first spelling with the name of a row of the code's table, and those of the row
 abbrev pub spelled_slots : Option Spelling → Option (ℕ × List Slot)
 spelled_slots s = option_map (λ s. (s.bits, s.slots)) s
 
@@ -49,7 +49,7 @@ is_some (Some n) = true
 abbrev has_row : Spelling → Bool
 has_row s = is_some (row_named s.name)
 
--- each spelling's name is that of a row of the code's table
+-- the name of each spelling is the name of a row of the code's table
 each_has_row : list_all has_row spellings ≡ true
 unfolding spellings table row_named
 each_has_row = refl
@@ -91,7 +91,7 @@ unpadded_again (c ∷ cs) k h =
     kept true c cs us h e = absurd cc
     kept false c cs us h e = ap (λ (x : List ℕ). c ∷ x) e
 
--- ---- a name is looked up in both with the same outcome
+-- ---- a search for a name has the same result in both tables
 
 abbrev pub with_row : ℕ → ℕ → List Token → Option ℕ → Result ℕ ℕ
 with_row end column ts row = option_map_or (λ r. read_operands end (bits_at r) (slots_at r) ts) row (Err column)
@@ -151,7 +151,7 @@ spelled_is_listed_by : (end : ℕ) (ts : List Token) → clear ts ≡ true → s
 spelled_is_listed_by end [] h = refl
 spelled_is_listed_by end (t ∷ ts) h = by_row end t.column ts t.text (row_named t.text) (and_parts (no_spaces t.text) (clear ts) h).0 refl
 
--- a text spells the same word by both
+-- a text gives the same word by both tables
 pub spelled_is_listed : (text : List ℕ) → spelled text ≡ listed text
 unfolding spelled listed
 spelled_is_listed text = spelled_is_listed_by (length text + 1) (tokens 1 text) (tokens_clear 1 text)
@@ -202,7 +202,7 @@ by_its_name w has named =
 pub canonical_named : (w : ℕ) → HasName w → IsNamed w (canonical w)
 canonical_named w has = subst (IsNamed w) (sym (by_its_name w has (is_named w has))) (is_named w has)
 
--- a word has the same text by both
+-- a word has the same text by both tables
 pub canonical_is_listed : (w : ℕ) → w < 2 ^ 32 → canonical w ≡ listed_canonical w
 canonical_is_listed w small = elim (cases_named w) [
   | inl has ↦ by_its_name w has (is_named w has)

@@ -43,7 +43,7 @@ multiply_add_held : (f : Form) (w : ℕ)
     → operands_in w (layout.multiply_add_slots (form_of (source_of f (field 15 5 w)))) ≡ multiply_add_operands (source_of f (field 15 5 w)) (field 7 5 w) (field 20 5 w) (flag w)
 multiply_add_held f w = ap (λ (os : List TextOperand). V (field 7 5 w) ∷ (os ++ (V (field 20 5 w) ∷ Mask (flag w) ∷ []))) (second_held false f w)
 
--- with v0 and without
+-- the operands of vmadc and vmsbc, with v0 and without
 carry_held : (vm : Bool) (f : Form) (w : ℕ)
     → operands_in w (layout.carry_out_slots vm (form_of (source_of f (field 15 5 w)))) ≡ carry_operands (source_of f (field 15 5 w)) (field 7 5 w) (field 20 5 w)
 carry_held true f w = ap (λ (os : List TextOperand). V (field 7 5 w) ∷ V (field 20 5 w) ∷ (os ++ [])) (second_held false f w)

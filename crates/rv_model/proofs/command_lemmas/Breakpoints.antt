@@ -1,4 +1,4 @@
--- What commands on breakpoints print has no newline.
+-- The lines that breakpoint commands print contain no newline.
 use Rattle.std.proofs.Common.{ℕ, List, refl}
 use Rattle.std.specs.Prelude.{codes, flat_map}
 use Rattle.rv_model.specs.commands.Breakpoints.{breaks_line}

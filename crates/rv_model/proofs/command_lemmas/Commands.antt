@@ -1,6 +1,5 @@
--- What any command comes to: it is refused, and leaves the user's machine and the vector unit; or it prints lines, none of which is
--- a refusal.
--- Only `leave` makes a user absent, and none leaves a vector length that isn't one of the vector type.
+-- The outcome of any command. A refused command leaves the user's machine and the vector unit unchanged; any other prints lines that
+-- aren't refusals. Only `leave` makes a user absent, and each command leaves a vector length that the vector type allows.
 use Rattle.std.proofs.Common.{◌≡◌, ◌⊎◌, inl, inr, ℕ, zero, suc, ◌+◌, ◌*◌, List, [], ◌∷◌, length, Bool, true, false, ◌&&◌, Option, Some, None, Result, Ok, Err, refl, subst, sym, ap}
 use Rattle.std.specs.Prelude.{⊤, map, nat_le, nat_lt}
 use Rattle.std.specs.List.{range_with_len}
@@ -56,7 +55,7 @@ use Rattle.rv_model.proofs.command_lemmas.Refusals.{are_plain, asm_plain, dis_pl
 use Rattle.rv_model.proofs.command_lemmas.Registers.{no_newline_in_vcsr_line, no_newline_in_vreg_line, regs_lines_are_lines}
 use Rattle.rv_model.proofs.command_lemmas.Running.{no_newline_in_out_line, no_newline_in_running_line, no_newline_in_state_line, no_newline_in_step_line, no_newline_in_stopped_line, no_newline_in_trace_line}
 
--- ---- what a command comes to
+-- ---- the outcome of a command
 
 abbrev pub Printed : List (List ℕ) → Type 0
 Printed lines = AreLines lines × (are_plain lines ≡ true)
@@ -65,7 +64,7 @@ Printed lines = AreLines lines × (are_plain lines ≡ true)
 pub prints : (line : List ℕ) → IsLine line → is_plain line ≡ true → Printed (line ∷ [])
 prints line h plain = (one_line line h, plain_line line plain)
 
--- refused; or lines, and a fact of what is left
+-- a refusal; or lines, and a fact about the machine after the command
 abbrev Answers : (Private → Type 0) → Private → Outcome → Type 0
 Answers Left p o = ((reason : Refusal) × (o ≡ refuses p reason)) ⊎ (Printed o.lines × Left o.next)
 
@@ -76,9 +75,9 @@ answered : (Left : Private → Type 0) (p : Private) (o : Outcome) → Answers L
 answered Left p o (inl refused) = inl refused
 answered Left p o (inr lines) = inr (lines.0, tt)
 
--- ---- each group of commands, of a user who has entered
+-- ---- each group of commands, for a user who has entered
 
--- but for one who leaves
+-- the machine stays, except after `leave`
 abbrev Stays : Present → Cmd → Private → Type 0
 Stays p (Entering Leave) next = ⊤
 Stays p _ next = StaysAs p next
@@ -87,7 +86,7 @@ module _ (images : List Image) (p : Present) where
   abbrev CommandAnswers : Cmd → Type 0
   CommandAnswers c = Answers (Stays p c) (Some p) (of_present images c p)
 
-  -- of those after which the user is there
+  -- the outcome of commands that don't make the user absent
   abbrev Here : Outcome → Type 0
   Here o = Answers (StaysAs p) (Some p) o
 
@@ -204,7 +203,7 @@ module _ (images : List Image) (p : Present) where
   stays_there (Entering Leave) = tt
   stays_there c = still_there (of_present images c p) (present_answers c)
 
--- ---- of any user
+-- ---- any user
 
 absent_answers : (c : Cmd) → Answered None (of_absent c)
 unfolding of_absent entering_absent
@@ -222,7 +221,7 @@ commanded_answers : (images : List Image) (p : Private) (r : Parsed) → Answere
 commanded_answers images p (Err reason) = inl (reason, refl)
 commanded_answers images p (Ok c) = carried_out_answers images c p
 
--- the machine stays, and the vector unit isn't used; or none of the lines is a refusal
+-- the machine is unchanged and the vector unit isn't used, or none of the lines is a refusal
 abbrev pub Settles : Private → Outcome → Type 0
 Settles p o = ((o.next ≡ p) × (o.uses ≡ [])) ⊎ (are_plain o.lines ≡ true)
 

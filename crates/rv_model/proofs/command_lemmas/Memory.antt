@@ -1,4 +1,4 @@
--- What commands on memory print has no newline.
+-- The lines that memory commands print contain no newline.
 use Rattle.std.proofs.Common.{ℕ, List, refl}
 use Rattle.std.specs.Prelude.{codes}
 use Rattle.rv_model.specs.commands.Memory.{peek_line}

@@ -1,4 +1,4 @@
--- A line of the operator names a user, if any, by one of the users' numbers.
+-- If a line of the operator names a user, its number is the number of a user.
 use Rattle.std.proofs.Common.{ℕ, ◌≤◌, List, [], ◌∷◌, Option, Some, None, Ok, Err}
 use Rattle.std.specs.Prelude.{nat_le, ◌&&◌, codes, option_map}
 use Rattle.std.specs.Str.{bytes_eq}
@@ -28,7 +28,7 @@ done_names : (c : OperatorCommand) (ws : List (List ℕ)) → NamesUser c → Na
 done_names c [] h = h
 done_names c (w ∷ ws) h = tt
 
--- a number that was read, with the words after it
+-- a parsed number, with the arguments after it
 abbrev read : List (List ℕ) → Option ℕ → Option (ℕ × List (List ℕ))
 read ws o = option_map (λ n. (n, ws)) o
 

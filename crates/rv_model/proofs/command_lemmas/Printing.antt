@@ -1,4 +1,4 @@
--- What more than one command prints has no newline.
+-- Lines that several commands print contain no newline.
 use Rattle.std.proofs.Common.{ℕ, List, [], ◌∷◌, true, refl}
 use Rattle.std.specs.Prelude.{codes, map}
 use Rattle.std.proofs.lemmas.Bool.{and_from}
@@ -47,11 +47,11 @@ no_newline_in_stop_line pc (stop.Fault cause value) =
     (word ▸ number (cause_number cause) ▸ place ▸ hexadecimal pc ▸ what ▸ hexadecimal value).1
 no_newline_in_stop_line pc stop.OutputFull = let word : Piece = (codes "outfull pc=", refl) in (word ▸ hexadecimal pc).1
 
--- what an outcome prints are lines
+-- an outcome prints lines without a newline
 abbrev pub PrintsLines : Outcome → Type 0
 PrintsLines o = AreLines o.lines
 
--- one line
+-- a single line
 pub one_line : (line : List ℕ) → IsLine line → AreLines (line ∷ [])
 one_line line h = and_from (is_line line) true h refl
 
@@ -59,7 +59,7 @@ one_line line h = and_from (is_line line) true h refl
 pub refusal_prints : (p : Private) (reason : Refusal) → PrintsLines (refuses p reason)
 refusal_prints p reason = one_line (refused reason) (no_newline_in_refusal reason)
 
--- the lines of some items
+-- one line for each item of a list
 pub mapped_lines : {A : Type 0} (f : A → List ℕ) (xs : List A) → ((x : A) → IsLine (f x)) → AreLines (map f xs)
 mapped_lines f [] h = refl
 mapped_lines f (x ∷ xs) h = and_from (is_line (f x)) (are_lines (map f xs)) (h x) (mapped_lines f xs h)

@@ -1,4 +1,4 @@
--- What commands on programs print has no newline.
+-- The lines that program commands print contain no newline.
 use Rattle.std.proofs.Common.{ℕ, ◌+◌, ◌*◌, List, refl}
 use Rattle.std.specs.Prelude.{codes}
 use Rattle.std.specs.List.{range_with_len}

@@ -1,4 +1,4 @@
--- Answers that are no refusals, by their first letter.
+-- Replies that aren't refusals, by their first letter.
 use Rattle.std.proofs.Common.{◌≡◌, ℕ, zero, suc, ◌/◌, List, [], ◌∷◌, ◌++◌, get_or, Bool, true, ◌&&◌, eqb, refl}
 use Rattle.std.specs.Prelude.{not, codes}
 use Rattle.std.specs.Int.{to_be_bytes, w64}
@@ -13,9 +13,9 @@ use Rattle.rv_model.specs.commands.Programs.{asm_line, dis_line}
 use Rattle.rv_model.specs.machine.Refusals.{ReasonsAreRefusals}
 use Rattle.rv_model.specs.machine.UserMachine.{replies}
 
--- ---- answers that are no refusals
+-- ---- replies that aren't refusals
 
--- an answer doesn't begin with the letter of refusals
+-- the reply doesn't start with the letter of refusals
 abbrev pub is_plain : List ℕ → Bool
 is_plain answer = not (eqb (get_or answer 0 0) 69)
 
@@ -33,7 +33,7 @@ reasons_are_refusals _ = refl
 
 -- ---- hexadecimal digits are in lower case
 
--- the digits of a list are no such letters
+-- no digit of the list is the letter of refusals
 abbrev are_plain_digits : List ℕ → Bool
 are_plain_digits [] = true
 are_plain_digits (c ∷ t) = not (eqb c 69) && are_plain_digits t
@@ -52,7 +52,7 @@ hex16_plain : (n : ℕ) → is_plain (hex16 n) ≡ true
 unfolding hex16
 hex16_plain n = encoded_plain lower_digits (to_be_bytes w64 n) refl
 
--- what follows a space doesn't matter
+-- text after a space doesn't matter
 spaced_plain : (a rest : List ℕ) → is_plain a ≡ true → is_plain (a ++ codes " " ++ rest) ≡ true
 spaced_plain [] rest h = refl
 spaced_plain (c ∷ a) rest h = h

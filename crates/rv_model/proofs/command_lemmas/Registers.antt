@@ -1,4 +1,4 @@
--- What commands on registers print has no newline.
+-- The lines that register commands print contain no newline.
 use Rattle.std.proofs.Common.{ℕ, zero, suc, ◌+◌, ◌*◌, ◌/◌, List, refl}
 use Rattle.std.specs.Prelude.{codes, flat_map, reverse, slice_index, slice_range}
 use Rattle.std.specs.List.{range_with_len}

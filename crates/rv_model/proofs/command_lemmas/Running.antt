@@ -1,4 +1,4 @@
--- What commands that run instructions print has no newline.
+-- The lines that commands for execution print contain no newline.
 use Rattle.std.proofs.Common.{ℕ, List, [], Bool, true, false, Option, Some, None, refl}
 use Rattle.std.specs.Prelude.{◌++◌, codes, flat_map, if◌then◌else◌, length, nat_lt}
 use Rattle.hex.specs.Hex.{encode_lower}
@@ -38,7 +38,7 @@ no_newline_in_trace_line addresses =
     let addresses : Piece = (flat_map listed addresses, flat_map_line listed addresses no_newline_in_listed) in
     (word ▸ addresses).1
 
--- bytes after a space; nothing where there are none
+-- a space and the bytes in hexadecimal; nothing for an empty list
 abbrev spaced_bytes : List ℕ → List ℕ
 spaced_bytes all = if nat_lt 0 (length all) then codes " " ++ encode_lower all else []
 

@@ -1,11 +1,11 @@
--- Whether a test holds for some active element, as a loop over the body learns it.
+-- A loop over the body that determines whether a test holds for some active element.
 use Rattle.std.proofs.Common.{ℕ, zero, suc, ◌+◌, ◌-◌, ◌<◌, ◌≤◌, ◌≡◌, Bool, true, false, ◌&&◌, ◌||◌, refl, sym, ap, ◌∙◌, arith, add-one}
 use Rattle.std.specs.List.{list_any, range_with_len}
 use Rattle.rv_model.specs.elements.Elements.{Body, in_body, is_active, is_enabled, some_active}
 use Rattle.rv_model.proofs.element_lemmas.Sets.{from_start, inside_range, to_end}
 use Rattle.rv_model.proofs.Choices.{of_bool}
 
--- ---- tests of the first numbers
+-- ---- tests of ranges of numbers
 
 or_joined : (a b c : Bool) → (a || (b || c)) ≡ ((a || b) || c)
 or_joined true b c = refl
@@ -15,7 +15,7 @@ or_last : (a : Bool) → (a || false) ≡ a
 or_last true = refl
 or_last false = refl
 
--- one more
+-- one more number
 any_more : (test : ℕ → Bool) (a n : ℕ) → list_any test (range_with_len a (suc n)) ≡ (list_any test (range_with_len a n) || test (a + n))
 any_more test a zero = let e : a + 0 ≡ a = omega arith in or_last (test a) ∙ ap test (sym e)
 any_more test a (suc n) =
@@ -30,7 +30,7 @@ module _ (body : Body) (test : ℕ → Bool) where
   abbrev pub some_before : ℕ → Bool
   some_before i = list_any (λ e. is_active body e && test e) (range_with_len 0 i)
 
-  -- one element more
+  -- one more element
   some_more : (i : ℕ) → some_before (i + 1) ≡ (some_before i || (is_active body i && test i))
   some_more i =
       ap (λ m. list_any (λ e. is_active body e && test e) (range_with_len 0 m)) (add-one i) ∙ any_more (λ e. is_active body e && test e) 0 i
@@ -71,7 +71,7 @@ module _ (body : Body) (test : ℕ → Bool) where
   pub some_ends : (i : ℕ) → body.end ≤ i → some_before i ≡ some_active body test
   some_ends i h = let e : i ≡ body.end + (i - body.end) = omega arith in ap some_before e ∙ past_end (i - body.end)
 
--- Tests that say the same of each element of the body are one.
+-- Tests that agree on each element of the body have the same result.
 pub some_same : (body : Body) (told test : ℕ → Bool) → ((i : ℕ) → i < body.end → told i ≡ test i) → some_active body told ≡ some_active body test
 some_same body told test same = upto body.end (λ i h. same i h)
   where

@@ -1,4 +1,4 @@
--- What an instruction's results leave in the vector registers.
+-- The vector registers after an instruction's results.
 use Rattle.std.proofs.Common.{ℕ, ◌<◌, ◌≡◌, List, Bool, ap}
 use Rattle.rv_model.specs.elements.Elements.{Body, is_active, is_changed, result_or_ones}
 use Rattle.rv_model.specs.lending.Writes.{Writes, WritesBits}
@@ -10,7 +10,7 @@ use Rattle.rv_model.proofs.element_lemmas.Sets.{active_end, same_results}
 use Rattle.rv_model.proofs.element_lemmas.Widths.{bytes_positive}
 use Rattle.rv_model.proofs.element_lemmas.Writes.{writes_are, written_are}
 
--- results, told another way, written to the destination
+-- results of another function that agrees in the body, written to the destination
 pub results_are : (g : GroupType) (vd : ℕ) (body : Body) (fill_masked_off fill_tail : Bool) (told result : ℕ → ℕ) (file new : List ℕ)
     → ((i : ℕ) → i < body.end → told i ≡ result i)
     → Writes (width_bytes g.width) (is_changed body fill_masked_off fill_tail) (result_or_ones body told (ones g.width)) (group_of file vd g.emul) new
@@ -33,7 +33,7 @@ mask_results_are vd body told bit file new same was =
     ap (λ bytes. with_group file vd bytes)
     (writes_bits_are (is_active body) bit (group_of file vd 8) new (same_bits (is_active body) told bit (group_of file vd 8) new (λ i active. same i (active_end body i active)) was))
 
--- results that are told another way leave the same
+-- results of two functions that agree in the body leave the same registers
 pub results_same : (g : GroupType) (vd : ℕ) (body : Body) (fill_masked_off fill_tail : Bool) (told result : ℕ → ℕ) (file : List ℕ)
     → ((i : ℕ) → i < body.end → told i ≡ result i)
     → with_results g vd body fill_masked_off fill_tail told file ≡ with_results g vd body fill_masked_off fill_tail result file

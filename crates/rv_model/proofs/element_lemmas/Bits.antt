@@ -1,4 +1,4 @@
--- Laws of lists of bytes of which some bits are replaced, byte after byte.
+-- Laws about replacing some bits in a list of bytes, one byte after another.
 use Rattle.std.proofs.Common.{ℕ, zero, suc, ◌+◌, ◌*◌, ◌/◌, ◌%◌, ◌^◌, ◌<◌, ◌≤◌, ◌≡◌, List, length, get_or, set, Bool, true, cond, ◌==◌, nat_lt, refl, sym, ap, ◌∙◌, arith, inl, inr, lt-ltb, le-ltb, get_or-set_other, length-set, lit<, zero-add}
 use Rattle.std.specs.Int.{from_bool}
 use Rattle.std.proofs.lemmas.Bool.{cases_order}
@@ -19,7 +19,7 @@ one_bit n = by (n % 2) (omega arith)
     by (suc zero) h = refl
     by (suc (suc r)) h = absurd (omega (arith, h))
 
--- a byte has its own bits
+-- the byte with the bits of a byte is that byte
 byte_of_own : (x : ℕ) → x < 256 → byte_of_bits (λ j. x / 2 ^ j % 2 == 1) ≡ x
 byte_of_own x h =
     rw (one_bit (x / 1), one_bit (x / 2), one_bit (x / 4), one_bit (x / 8), one_bit (x / 16), one_bit (x / 32), one_bit (x / 64), one_bit (x / 128))
@@ -38,12 +38,12 @@ same_byte f g same =
 -- ---- one byte after another
 
 module _ (changed bit : ℕ → Bool) where
-  -- the bytes before the index q are rebuilt, all others are as they were
+  -- the bytes before the index q are replaced, and all others are unchanged
   pub record RebuiltTo (q : ℕ) (old new : List ℕ) : Type 0 where
     pub same_length : length new ≡ length old
     pub bytes : (x : ℕ) → x < length old → get_or new x 0 ≡ cond (nat_lt x q) (byte_with_bits changed bit old x) (get_or old x 0)
 
-  -- a byte that isn't rebuilt yet gives the same bits
+  -- a byte that isn't replaced yet has the same new bits
   byte_same : (q : ℕ) (old mid : List ℕ) → q < length old → RebuiltTo q old mid → byte_with_bits changed bit mid q ≡ byte_with_bits changed bit old q
   byte_same q old mid h was =
       let here : get_or mid q 0 ≡ get_or old q 0 = was.bytes q h ∙ ap (λ t. cond t (byte_with_bits changed bit old q) (get_or old q 0)) (le-ltb q q (omega arith)) in
@@ -64,7 +64,7 @@ module _ (changed bit : ℕ → Bool) where
     ];
   }
 
-  -- a byte past the last bit that changes is rebuilt as it is
+  -- the replacement of a byte past the last changed bit is the byte itself
   pub byte_kept : (q end : ℕ) (old : List ℕ) → get_or old q 0 < 256 → ((i : ℕ) → changed i ≡ true → i < end) → end ≤ 8 * q
       → get_or old q 0 ≡ byte_with_bits changed bit old q
   byte_kept q end old byte past h =
@@ -73,7 +73,7 @@ module _ (changed bit : ℕ → Bool) where
       of_bool (changed (8 * q + j)) (λ c. cond c (bit (8 * q + j)) (mask_bit old (8 * q + j)) ≡ (get_or old q 0 / 2 ^ j % 2 == 1))
       (λ e. absurd (omega (arith, past (8 * q + j) e, h))) (λ e. mask_bit_in old q j l)))
 
-  -- ---- the bytes that are left
+  -- ---- the resulting bytes
 
   pub writes_bits_are : (old new : List ℕ) → WritesBits changed bit old new → new ≡ written_bits changed bit old
   unfolding written_bits
@@ -84,7 +84,7 @@ module _ (changed bit : ℕ → Bool) where
       let l : j < length old = omega (arith, w.same_length, h) in
       w.bytes j l ∙ sym (get_or-map-range_with_len f 0 (length old) j j 0 l (zero-add j)))
 
--- the bits may be told another way, where they tell the same of those that change
+-- two functions that agree on the changed bits write the same bits
 pub same_bits : (changed told bit : ℕ → Bool) (old new : List ℕ) → ((i : ℕ) → changed i ≡ true → told i ≡ bit i) → WritesBits changed told old new → WritesBits changed bit old new
 same_bits changed told bit old new same was = record {
   same_length = was.same_length;

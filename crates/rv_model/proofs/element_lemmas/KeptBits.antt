@@ -28,7 +28,7 @@ group_length file vd emul long =
     (omega (arith, whole), omega (arith, whole, rest))
 
 module _ (file bytes : List ℕ) (vd emul : ℕ) (long : length file ≡ 1024) (size : length bytes ≡ length (group_of file vd emul)) where
-  -- a property of the byte at a place holds after the write if it holds before, and the write keeps it in the group
+  -- a property of the byte at an index holds after the write if it holds before and the write preserves it in the group
   by_place : (P : ℕ → Type 0) (byte : ℕ) → P (get_or file byte 0)
       → (32 * vd ≤ byte → byte - 32 * vd < length (group_of file vd emul) → P (get_or (group_of file vd emul) (byte - 32 * vd) 0) → P (get_or bytes (byte - 32 * vd) 0))
       → P (get_or (with_group file vd bytes) byte 0)

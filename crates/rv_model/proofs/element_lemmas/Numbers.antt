@@ -1,4 +1,4 @@
--- Whole numbers modulo 2 to a width, by way of a wider number.
+-- Integers modulo a power of 2, computed in a wider type.
 use Rattle.std.proofs.Common.{ℕ, suc, ◌+◌, ◌-◌, ◌*◌, ◌/◌, ◌%◌, ◌^◌, ◌<◌, ◌≤◌, ◌≡◌, ℤ, pos, negsuc, ◌+ℤ◌, inl, inr, refl, sym, ap, ◌∙◌, arith, mod-eq_of_lt, Bool, true, false, cond, nat_lt, lit≤}
 use Rattle.std.specs.Int.{Width, cast_signed, cast_unsigned, w8, w16, w32, w64, w128}
 use Rattle.std.specs.Int.Signed.{mag}
@@ -14,7 +14,7 @@ use Rattle.rv_model.specs.instructions.Immediates.{sign_extended}
 use Rattle.rv_model.specs.vector.Groups.{sew_bits, sew_width}
 use Rattle.rv_model.proofs.element_lemmas.Widths.{power_positive}
 
--- what is left of a number below a multiple
+-- the remainder of a number counted down from a multiple
 pub below_multiple : (m q n : ℕ) → 0 < m → n < m * q → (m * q - suc n) % m ≡ m - suc (n % m)
 below_multiple m q n p h =
     let a : ℕ = n / m in
@@ -26,7 +26,7 @@ below_multiple m q n p h =
     let split : m * q - suc n ≡ m * k + (m - suc (n % m)) = omega (arith, up, mul-suc m a, div-add-mod n m, small) in
     ap (λ x. x % m) split ∙ mul-add-mod_self_left m k (m - suc (n % m)) ∙ mod-eq_of_lt (omega (arith, small))
 
--- the low bits of a signed number of a wider type are what is left of it
+-- the low bits of a signed number in a wider type are its remainder modulo the power of 2
 pub low_bits_of : (v w : Width) → bits w ≤ bits v → (z : ℤ) → mag z < 2 ^ bits v → cast_unsigned v z % 2 ^ bits w ≡ wrap w z
 low_bits_of v w narrow (pos n) h = refl
 low_bits_of v w narrow (negsuc n) h =
@@ -36,23 +36,23 @@ low_bits_of v w narrow (negsuc n) h =
 
 -- ---- a signed number in 64 bits
 
--- a number below `whole`, read as it is or in two's complement
+-- a number below `whole`, read as unsigned or in two's complement
 extended : (n whole : ℕ) → n < whole → whole ≤ 2 ^ 64 → (b : Bool) → wrap w64 (cond b (pos n) (negsuc (whole - suc n))) ≡ cond b n (n + (2 ^ 64 - whole))
 extended n whole h most true = mod-eq_of_lt (omega (arith, h, most))
 extended n whole h most false =
     let less : whole - suc n < 2 ^ 64 = omega (arith, h, most) in
     ap (λ k. 2 ^ 64 - suc k) (mod-eq_of_lt less) ∙ omega (arith, h, most)
 
--- the number of an element in the 64 bits of a scalar register
+-- the value of an element, sign-extended to the 64 bits of a scalar register
 pub extends_sign : (s : Sew) (n : ℕ) → n < 2 ^ sew_bits s → wrap w64 (cast_signed (sew_width s) n) ≡ sign_extended (sew_bits s) n
 extends_sign E8 n h = extended n (2 ^ 8) h (lit≤ tt) (nat_lt n (2 ^ 7))
 extends_sign E16 n h = extended n (2 ^ 16) h (lit≤ tt) (nat_lt n (2 ^ 15))
 extends_sign E32 n h = extended n (2 ^ 32) h (lit≤ tt) (nat_lt n (2 ^ 31))
 extends_sign E64 n h = extended n (2 ^ 64) h (lit≤ tt) (nat_lt n (2 ^ 63))
 
--- ---- the two halves of what a width holds
+-- ---- the two halves of the numbers of a width
 
--- twice the positive half is the whole
+-- the number of values is twice the number of nonnegative values
 pub half : (w : Width) → 2 ^ hbits w + 2 ^ hbits w ≡ 2 ^ bits w
 half w8 = refl
 half _ = refl
@@ -66,14 +66,14 @@ narrowed : (w : Width) → bits w ≤ 64 → (x : ℕ) → x % 2 ^ 64 % 2 ^ bits
 narrowed w128 h x = absurd (omega (arith, h))
 narrowed _ h x = omega arith
 
--- the low bits of the low half of a signed number are what is left of it
+-- the low bits of the low half of a signed number are its remainder modulo the power of 2
 pub low_bits_of_half : (w : Width) → bits w ≤ 64 → (z : ℤ) → mag z < 2 ^ 127 → cast_unsigned w128 z % 2 ^ 64 % 2 ^ bits w ≡ wrap w z
 low_bits_of_half w narrow z h =
     narrowed w narrow (cast_unsigned w128 z) ∙ low_bits_of w128 w (omega (arith, narrow)) z (omega (arith, h))
 
--- ---- sums with what is left of a number
+-- ---- sums with a remainder
 
--- what is left of a number is what is left of any natural number that differs from it by a multiple
+-- a negative number has the same remainder as any natural number that differs from it by a multiple of the modulus
 pub left_of : (w : Width) (n k m : ℕ) → m + suc n ≡ k * 2 ^ bits w → wrap w (negsuc n) ≡ m % 2 ^ bits w
 left_of w n k m e =
     let p : ℕ = 2 ^ bits w in
@@ -84,7 +84,7 @@ left_of w n k m e =
 pub mod_sum : (n d p : ℕ) → (n % p + d) % p ≡ (n + d) % p
 mod_sum n d p = add-mod (n % p) d p ∙ ap (λ x. (x + d % p) % p) (mod-mod n p) ∙ sym (add-mod n d p)
 
--- a sum with a natural number
+-- the sum of a remainder and a natural number
 pub wrap-add : (w : Width) (z : ℤ) (d : ℕ) → (wrap w z + d) % 2 ^ bits w ≡ wrap w (z +ℤ pos d)
 wrap-add w (pos n) d = mod_sum n d (2 ^ bits w)
 wrap-add w (negsuc n) d =

@@ -1,4 +1,4 @@
--- How a loop packs the elements whose bit is set, and what fills the tail after it.
+-- A loop that packs the elements with a set mask bit, and then fills the tail.
 use Rattle.std.proofs.Common.{ℕ, ◌+◌, ◌*◌, ◌<◌, ◌≤◌, ◌≡◌, List, [], ◌∷◌, ◌++◌, length, map, slice_index, Bool, true, false, cond, not, ◌&&◌, ◌||◌, nat_lt, nat_le, refl, sym, ap, subst, ◌∙◌, arith, inl, inr, append-nil, lt-ltb}
 use Rattle.std.proofs.lemmas.Bool.{cases_lt}
 use Rattle.std.proofs.lemmas.Bool.Decides.{nat_tests}
@@ -22,7 +22,7 @@ use Rattle.rv_model.proofs.element_lemmas.Writes.{ends, step_written, writes_are
 
 -- ---- one element after another
 
--- whether an element of the destination takes one of so many that are packed
+-- whether element j of the destination takes a packed element
 abbrev is_packed : List ℕ → ℕ → Bool
 is_packed numbers j = nat_lt j (length numbers)
 
@@ -41,20 +41,20 @@ module _ (select : List ℕ) (element : ℕ → ℕ) where
       ∙ map-append element (filter test (range_with_len 0 n)) (filter test (n ∷ []))
       ∙ ap (λ t. packed select element n ++ map element (cond t (n ∷ []) [])) h
 
-  -- no more are packed than there are
+  -- at most n of n elements are packed
   pub packed_few : (n : ℕ) → length (packed select element n) ≤ n
   packed_few n =
       let indices = range_with_len 0 n in
       let test = mask_bit select in
       omega (arith, length-map (filter test indices) element, length-filter_both test (λ i. not (test i)) (λ i. refl) indices, length-range_with_len 0 n)
 
-  -- the elements before the index i are packed, count of them; all others are as they were
+  -- `count` elements before the index i are packed, and all others are unchanged
   pub record PackedTo (k i count : ℕ) (old new : List ℕ) : Type 0 where
     pub many : count ≡ length (packed select element i)
     pub few : count ≤ i
     pub writes : Writes k (is_packed (packed select element i)) (slice_index (packed select element i)) old new
 
-  -- the element i isn't taken
+  -- element i isn't packed
   pub pack_passed : (k i count : ℕ) (old mid : List ℕ) → mask_bit select i ≡ false → PackedTo k i count old mid → PackedTo k (i + 1) count old mid
   pack_passed k i count old mid h was =
       let same : packed select element i ≡ packed select element (i + 1) = sym (packed_next i false h ∙ append-nil (packed select element i)) in
@@ -64,7 +64,7 @@ module _ (select : List ℕ) (element : ℕ → ℕ) where
         writes = subst (λ (l : List ℕ). Writes k (is_packed l) (slice_index l) old mid) same was.writes;
       }
 
-  -- the element i is taken, and stands after those that were before
+  -- element i is packed after the earlier ones
   pub pack_taken : (k i count : ℕ) (old mid new : List ℕ) → mask_bit select i ≡ true → k * count + k ≤ length old → PackedTo k i count old mid
       → new ≡ put_chunk (k * count) mid (bytes_low_first 0 k (element i)) → PackedTo k (i + 1) (count + 1) old new
   pack_taken k i count old mid new h fits was e =
@@ -88,7 +88,7 @@ module _ (select : List ℕ) (element : ℕ → ℕ) where
         writes = subst (λ (l : List ℕ). Writes k (is_packed l) (slice_index l) old new) is all;
       }
 
--- ---- then the tail, up to the last of n elements
+-- ---- the tail, up to the last of n elements
 
 module _ (k end n : ℕ) (numbers : List ℕ) (ones : ℕ) where
   joined : (p l t : Bool) → t ≡ true → (p || (true && l)) ≡ (p || (l && t))
@@ -122,7 +122,7 @@ module _ (k end n : ℕ) (numbers : List ℕ) (ones : ℕ) where
         | inr high ↦ (let up : k * n ≤ k * e = mul-le-mul_left k high in absurd (omega arith))
       ]
 
--- and so are the registers
+-- the registers after packing and filling
 pub packed_are : (g : GroupType) (vd end : ℕ) (fill_tail : Bool) (numbers file new : List ℕ)
     → Writes (width_bytes g.width) (is_packed_or_filled numbers end fill_tail) (packed_or_ones numbers (ones g.width)) (group_of file vd g.emul) new
     → with_group file vd new ≡ with_packed g vd end fill_tail numbers file

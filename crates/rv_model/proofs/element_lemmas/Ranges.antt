@@ -1,4 +1,4 @@
--- Laws of the numbers below another that pass a test, as one more comes.
+-- Laws about the numbers below n that pass a test, by induction on n.
 use Rattle.std.proofs.Common.{ℕ, zero, suc, ◌+◌, ◌≤◌, ◌≡◌, List, [], ◌∷◌, ◌++◌, length, map, Bool, true, false, cond, refl, sym, ap, ◌∙◌, arith, length-append}
 use Rattle.std.specs.Int.{from_bool}
 use Rattle.std.specs.List.{filter, fold, range_with_len}
@@ -8,7 +8,7 @@ use Rattle.std.proofs.lemmas.List.FromFn.{map-range_with_len_more}
 use Rattle.std.proofs.lemmas.List.Sums.{fold-append}
 use Rattle.rv_model.proofs.Choices.{of_bool, of_either}
 
--- one number more
+-- one more number
 pub range_more : (n : ℕ) → range_with_len 0 (n + 1) ≡ range_with_len 0 n ++ n ∷ []
 range_more n =
     sym (map-id (range_with_len 0 (n + 1))) ∙ map-range_with_len_more (λ x. x) 0 n n (omega arith)
@@ -18,14 +18,14 @@ module _ (test : ℕ → Bool) where
   passed_more : (n : ℕ) → filter test (range_with_len 0 (n + 1)) ≡ filter test (range_with_len 0 n) ++ cond (test n) (n ∷ []) []
   passed_more n = ap (filter test) (range_more n) ∙ filter-append test (range_with_len 0 n) (n ∷ [])
 
-  -- how many there are
+  -- the count of these numbers
   pub count_more : (n : ℕ) → length (filter test (range_with_len 0 (n + 1))) ≡ length (filter test (range_with_len 0 n)) + from_bool (test n)
   count_more n =
       ap length (passed_more n) ∙ length-append (filter test (range_with_len 0 n)) (cond (test n) (n ∷ []) [])
       ∙ ap (λ x. length (filter test (range_with_len 0 n)) + x)
       (of_bool (test n) (λ b. length (cond b (n ∷ []) []) ≡ from_bool b) (λ e. refl) (λ e. refl))
 
-  -- no more than there are numbers
+  -- the count is at most n
   pub count_most : (n : ℕ) → length (filter test (range_with_len 0 n)) ≤ n
   count_most n = most 0 n
     where
@@ -34,7 +34,7 @@ module _ (test : ℕ → Bool) where
       most a (suc n) =
           let less = most (a + 1) n in of_either (λ xs. length xs ≤ suc n) (test a) _ _ (omega (arith, less)) (omega (arith, less))
 
-  -- what they are combined to
+  -- a fold over these numbers
   module _ (combined : ℕ → ℕ → ℕ) (first : ℕ) (number : ℕ → ℕ) where
     abbrev combination : ℕ → ℕ
     combination n = fold combined first (map number (filter test (range_with_len 0 n)))

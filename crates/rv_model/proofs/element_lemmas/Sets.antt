@@ -1,4 +1,4 @@
--- How loops over the body write the elements that an instruction changes.
+-- Loops over the body that write the elements that an instruction changes.
 use Rattle.std.proofs.Common.{ℕ, suc, ◌+◌, ◌*◌, ◌<◌, ◌≤◌, ◌≡◌, List, length, Bool, true, false, cond, ◌&&◌, ◌||◌, nat_lt, nat_le, refl, sym, arith, inl, inr, le-leb, lt-ltb}
 use Rattle.std.specs.Prelude.{not}
 use Rattle.std.proofs.lemmas.Bool.{cases_lt}
@@ -11,7 +11,7 @@ use Rattle.rv_model.specs.lending.Writes.{Writes}
 use Rattle.rv_model.proofs.element_lemmas.Writes.{begins, ends, step_written, step_kept, writes_same, writes_then}
 use Rattle.rv_model.proofs.Choices.{of_bool}
 
--- an index of a range is between its ends
+-- the start of a range is at most each index of the range
 pub from_start : (s v e : ℕ) → in_range s v e ≡ true → s ≤ e
 from_start s v e h = grind (arith, nat_tests)
 
@@ -27,7 +27,7 @@ changed_inside true l o t h = refl
 changed_inside false l true t h = h
 changed_inside false l false t h = h
 
--- A loop's step at the index i of the body: the mask is enabled there, or it is masked off and filled, or kept.
+-- A loop's step at the index i of the body: the element is enabled, or it is masked off and filled, or masked off and unchanged.
 module _ (k : ℕ) (body : Body) (fill_masked_off : Bool) (i : ℕ) (result : ℕ → ℕ) (ones : ℕ) (old mid new : List ℕ)
     (from : body.start ≤ i) (to : i < body.end) where
   abbrev changed : ℕ → Bool
@@ -64,7 +64,7 @@ module _ (k : ℕ) (body : Body) (fill_masked_off : Bool) (i : ℕ) (result : �
       let does : changed i ≡ false = rw (inside, h, off) refl in
       step_kept k changed number old mid new i was does e
 
--- Before and after the loop.
+-- The state before and after the loop.
 module _ (k : ℕ) (body : Body) (fill_masked_off : Bool) (number : ℕ → ℕ) where
   in_it : (e : ℕ) → is_changed body fill_masked_off false e ≡ true → in_body body e ≡ true
   in_it e h = changed_inside (in_body body e) (is_enabled body e) fill_masked_off (nat_le body.end e) h
@@ -82,13 +82,13 @@ module _ (k start end : ℕ) (number : ℕ → ℕ) where
       → new ≡ put_chunk (k * i) mid (bytes_low_first 0 k (number i)) → Writes k (λ e. in_range start end e && nat_lt e (i + 1)) number old new
   range_step old mid new i from to was fits e = step_written k (in_range start end) number old mid new i was (inside_range start end i from to) fits e
 
--- there is room for each element of so many
+-- a slice with room for `end` elements has room for each of them
 pub room_for : (k i end long : ℕ) → i < end → k * end ≤ long → k * i + k ≤ long
 room_for k i end long h room =
     let up : k * suc i ≤ k * end = mul-le-mul_left k h in
     omega (arith, mul-suc k i)
 
--- Results in the body, and then ones in the tail up to the last of n elements.
+-- Results in the body, and ones in the tail up to the last of n elements.
 module _ (k : ℕ) (body : Body) (fill_masked_off : Bool) (n : ℕ) (result : ℕ → ℕ) (ones : ℕ) where
   joined : (a o t l : Bool) → l ≡ true → (a || (o || (true && t))) ≡ ((a || (o || (false && t))) || (t && l))
   joined true o t l h = refl
@@ -118,7 +118,7 @@ module _ (k : ℕ) (body : Body) (fill_masked_off : Bool) (n : ℕ) (result : �
         | inr high ↦ (let up : k * n ≤ k * e = mul-le-mul_left k high in absurd (omega arith))
       ]
 
--- The results may be told another way, where they tell the same in the body.
+-- Two functions that agree in the body write the same results.
 pub same_results : (k : ℕ) (body : Body) (fill_masked_off fill_tail : Bool) (result other : ℕ → ℕ) (ones : ℕ) (old new : List ℕ)
     → ((e : ℕ) → e < body.end → result e ≡ other e)
     → Writes k (is_changed body fill_masked_off fill_tail) (result_or_ones body result ones) old new

@@ -1,4 +1,4 @@
--- How the tails of the fields of a load become all ones, and what an instruction with one result leaves.
+-- Tails of a load's fields that become all ones, and instructions with one result.
 use Rattle.std.specs.Int.{Width, from_bool}
 use Rattle.std.proofs.Common.{ℕ, ◌+◌, ◌*◌, ◌<◌, ◌≤◌, suc, ◌≡◌, List, length, Bool, true, false, cond, ◌&&◌, ◌||◌, eqb, nat_le, nat_lt, refl, sym, ap, arith, inl, inr, lt-ltb}
 use Rattle.std.proofs.Math.Nat.{mul-le-mul_left}
@@ -16,7 +16,7 @@ use Rattle.rv_model.proofs.element_lemmas.Widths.{bytes_positive}
 use Rattle.rv_model.proofs.element_lemmas.Writes.{writes_are, writes_same, written_are}
 use Rattle.rv_model.proofs.Choices.{of_bool}
 
--- the elements of a group of n are filled from one on
+-- the elements of a group of n are filled from vl on
 pub tail_is_filled : (g : GroupType) (vd vl n : ℕ) (file new : List ℕ) → length (group_of file vd g.emul) ≡ width_bytes g.width * n
     → Writes (width_bytes g.width) (in_range vl n) (λ e. ones g.width) (group_of file vd g.emul) new
     → with_group file vd new ≡ tail_filled g vd vl file
@@ -34,12 +34,12 @@ tail_is_filled g vd vl n file new long filled =
       | inr high ↦ (let up : width_bytes g.width * n ≤ width_bytes g.width * e = mul-le-mul_left (width_bytes g.width) high in absurd (omega arith))
     ]
 
--- whether element e of a body changes that has the first element alone, or none
+-- whether element e changes, in a body with the first element alone or with no element
 abbrev one_changes : (p a some : Bool) → ℕ → Bool
 one_changes p a some e =
     (in_range 0 (from_bool some) e && true) || ((false && (in_range 0 (from_bool some) e && false)) || ((p && (a && some)) && nat_le (from_bool some) e))
 
--- An instruction with one result writes it as one of a body of one element or of none.
+-- An instruction with one result writes it like an instruction whose body has the first element alone or no element.
 pub first_result_is : (width : Width) (vd : ℕ) (policy : Policy) (t : VType) (body : Body) (result : ℕ) (file : List ℕ)
     → with_results (single_type width) vd (first_alone body) false (fills_tail policy t body) (λ i. result) file
     ≡ with_first_result width vd body (fills_tail policy t body) result file

@@ -13,17 +13,17 @@ pub bytes_positive : (w : Width) → 0 < width_bytes w
 bytes_positive w8 = lit< tt
 bytes_positive _ = lit< tt
 
--- it has whole bytes
+-- an element has a whole number of bytes
 pub whole_bytes : (w : Width) → bits w ≡ 8 * width_bytes w
 whole_bytes w8 = refl
 whole_bytes _ = refl
 
--- 2 to it is at least one
+-- 2 to the power of the width is positive
 pub power_positive : (w : Width) → 0 < 2 ^ bits w
 power_positive w8 = lit< tt
 power_positive _ = lit< tt
 
--- as many elements, by the bytes of a register
+-- the number of elements from the bytes of a register equals that from its bits
 elements_by_bytes : (s : Sew) (n : ℕ) → n * VLENB / sew_bits s ≡ n * VLEN / (8 * sew_bits s)
 elements_by_bytes E8 n = omega arith
 elements_by_bytes _ n = omega arith

@@ -1,4 +1,4 @@
--- Laws of lists of bytes of which some elements are replaced, one after another or all at once.
+-- Laws about replacing some elements in a list of bytes, one after another or all at once.
 use Rattle.std.proofs.Common.{ℕ, zero, suc, ◌+◌, ◌-◌, ◌*◌, ◌/◌, ◌%◌, ◌^◌, ◌<◌, ◌≤◌, ◌≡◌, List, [], ◌∷◌, ◌++◌, length, get_or, drop, set, Bool, true, false, cond, ◌&&◌, ◌||◌, nat_lt, refl, sym, ap, ◌∙◌, arith, inl, inr, lt-ltb, le-ltb, append-nil, length-drop, zero-add}
 use Rattle.std.proofs.lemmas.Bool.{cases_order}
 use Rattle.std.proofs.lemmas.Bool.Decides.{nat_tests}
@@ -45,7 +45,7 @@ number_bytes i (suc k) n =
 
 -- ---- writes one after another
 
--- one byte is written
+-- a write of one byte
 pub set_is_put : (xs : List ℕ) (i y : ℕ) → set xs i y ≡ put_chunk i xs (y ∷ [])
 set_is_put [] i y = refl
 set_is_put (x ∷ xs) zero y = ap (λ l. y ∷ l) (sym (none xs))
@@ -55,17 +55,17 @@ set_is_put (x ∷ xs) zero y = ap (λ l. y ∷ l) (sym (none xs))
     none (z ∷ zs) = refl
 set_is_put (x ∷ xs) (suc i) y = ap (λ l. x ∷ l) (set_is_put xs i y)
 
--- a write to the rest of a slice that writes its first bytes
+-- a write of the first bytes of the rest of a slice
 pub rest_is_put : (at : ℕ) (xs ys buf : List ℕ) → at + length ys ≤ length xs → buf ≡ ys ++ drop (length ys) (drop at xs) → put_mid at (length xs - at) xs buf ≡ put_chunk at xs ys
 rest_is_put at xs ys buf h e =
     let over : length (drop at xs) ≤ length xs - at = omega (arith, length-drop at xs) in
     rw (drop_all (length xs - at) (drop at xs) over, append-nil buf, e, put_chunk_is at xs ys h) refl
 
--- nothing is written yet
+-- no write
 pub writes_none : (k : ℕ) (W : ℕ → Bool) (F : ℕ → ℕ) (xs : List ℕ) → ((e : ℕ) → W e ≡ false) → Writes k W F xs xs
 writes_none k W F xs none = record { same_length = refl; bytes = λ e m h l. rw (none e) refl }
 
--- what the tests tell of the elements that there are is all that counts, and the numbers of those that change
+-- writes depend only on the test for the existing elements and on the values of the changed ones
 pub writes_same : (k : ℕ) (W V : ℕ → Bool) (F G : ℕ → ℕ) (old new : List ℕ) → Writes k W F old new
     → ((e : ℕ) → k * e < length old → V e ≡ W e) → ((e : ℕ) → W e ≡ true → G e ≡ F e) → Writes k V G old new
 writes_same k W V F G old new was same numbers = record {
@@ -75,7 +75,7 @@ writes_same k W V F G old new was same numbers = record {
       (λ is. ap (byte_at m) (sym (numbers e is))) (λ is. refl));
 }
 
--- the element i is written
+-- a write of element i
 writes_more : (k : ℕ) (W V : ℕ → Bool) (F : ℕ → ℕ) (old mid : List ℕ) (i : ℕ) → k * i + k ≤ length old → Writes k W F old mid → V i ≡ true → ((e : ℕ) → (e ≡ i → ⊥) → V e ≡ W e)
     → Writes k V F old (put_chunk (k * i) mid (bytes_low_first 0 k (F i)))
 writes_more k W V F old mid i fits was here others =
@@ -100,7 +100,7 @@ writes_more k W V F old mid i fits was here others =
       ];
     }
 
--- A loop's step at the index i, where the element changes, and where it doesn't.
+-- A loop's step at the index i, for an element that changes and for one that doesn't.
 module _ (k : ℕ) (W : ℕ → Bool) (F : ℕ → ℕ) (old mid new : List ℕ) (i : ℕ) where
   others : (e : ℕ) → (e ≡ i → ⊥) → (W e && nat_lt e (i + 1)) ≡ (W e && nat_lt e i)
   others e ne =
@@ -121,17 +121,17 @@ module _ (k : ℕ) (W : ℕ → Bool) (F : ℕ → ℕ) (old mid new : List ℕ)
         | inr (inr high) ↦ others x (λ q. omega (arith, q))
       ]) (λ x q. refl))
 
--- before a loop from i on
+-- the state before a loop from i on
 pub begins : (k : ℕ) (W : ℕ → Bool) (F : ℕ → ℕ) (xs : List ℕ) (i : ℕ) → ((e : ℕ) → W e ≡ true → i ≤ e) → Writes k (λ e. W e && nat_lt e i) F xs xs
 begins k W F xs i from = writes_none k (λ e. W e && nat_lt e i) F xs
     (λ e. of_bool (W e) (λ w. (w && nat_lt e i) ≡ false) (λ is. le-ltb e i (from e is)) (λ is. refl))
 
--- after a loop up to i
+-- the state after a loop up to i
 pub ends : (k : ℕ) (W : ℕ → Bool) (F : ℕ → ℕ) (old new : List ℕ) (i : ℕ) → Writes k (λ e. W e && nat_lt e i) F old new → ((e : ℕ) → W e ≡ true → e < i) → Writes k W F old new
 ends k W F old new i was to = writes_same k (λ e. W e && nat_lt e i) W F F old new was
     (λ e l. of_bool (W e) (λ w. w ≡ (w && nat_lt e i)) (λ is. sym (lt-ltb e i (to e is))) (λ is. refl)) (λ e q. refl)
 
--- what two writes leave, where the second counts
+-- two writes; the second takes precedence
 pub writes_then : (k : ℕ) (V W : ℕ → Bool) (F G : ℕ → ℕ) (old mid new : List ℕ) → Writes k V F old mid → Writes k W G mid new
     → Writes k (λ e. V e || W e) (λ e. cond (W e) (G e) (F e)) old new
 writes_then k V W F G old mid new first second = record {
@@ -146,9 +146,9 @@ writes_then k V W F G old mid new first second = record {
     either false true m x y z = refl
     either false false m x y z = refl
 
--- ---- the bytes that are left
+-- ---- the resulting bytes
 
--- they are told by the writes
+-- the writes determine the bytes
 pub writes_are : (k : ℕ) (W : ℕ → Bool) (F : ℕ → ℕ) (old new : List ℕ) → 0 < k → Writes k W F old new → new ≡ written k W F old
 unfolding written
 writes_are k W F old new positive w =
@@ -160,7 +160,7 @@ writes_are k W F old new positive w =
     sym (ap (λ x. get_or new x 0) e) ∙ w.bytes (j / k) (j % k) (mod-lt j positive) (rw e l)
     ∙ sym (get_or-map-range_with_len f 0 (length old) j j 0 l (zero-add j)))
 
--- and they are those writes
+-- the written bytes satisfy the writes
 pub written_are : (k : ℕ) (W : ℕ → Bool) (F : ℕ → ℕ) (old : List ℕ) → 0 < k → Writes k W F old (written k W F old)
 unfolding written
 written_are k W F old positive =
@@ -172,7 +172,7 @@ written_are k W F old positive =
           get_or-map-range_with_len f 0 (length old) (k * e + m) (k * e + m) 0 l (zero-add (k * e + m)) ∙ rw (whole, rest) refl);
     }
 
--- an element that was written
+-- an element after its write
 pub written_element : (k : ℕ) (W : ℕ → Bool) (F : ℕ → ℕ) (old new : List ℕ) (e : ℕ) → Writes k W F old new → W e ≡ true → k * e + k ≤ length old
     → element k new e ≡ F e % 256 ^ k
 written_element k W F old new e w here fits =

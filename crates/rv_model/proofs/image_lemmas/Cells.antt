@@ -1,4 +1,4 @@
--- Memories that are given address by address, as that of an image is.
+-- Memories that a function from addresses to cells defines, such as the memory of an image.
 use Rattle.std.proofs.Common.{◌≡◌, ◌≢◌, ℕ, zero, suc, ◌*◌, ◌<◌, ◌≤◌, true, false, Option, Some, None, refl, sym, ◌∙◌, subst, inl, inr, arith}
 use Rattle.std.specs.Prelude.{nat_lt}
 use Rattle.std.specs.Ordering.{nat_cmp}
@@ -34,14 +34,14 @@ get-memory_below cells (suc n) x l = elim (cases_eq x n) [
   | inr other ↦ get-with_cell_other (memory_below cells n) n x (cells n) other ∙ get-memory_below cells n x (omega arith)
 ]
 
--- a memory that holds these cells is that one
+-- a memory with these cells is the memory that the function defines
 pub is_memory_below : (m : Memory) (cells : ℕ → Option Cell) (n : ℕ) → ((x : ℕ) → x < n → get m x ≡ cells x) → ((x : ℕ) → n ≤ x → get m x ≡ None) → m ≡ memory_below cells n
 is_memory_below m cells n within outside = same_memory m (memory_below cells n) (λ x. elim (cases_lt x n) [
   | inl l ↦ within x l ∙ sym (get-memory_below cells n x l)
   | inr g ↦ outside x g ∙ sym (get-memory_below_outside cells n x g)
 ])
 
--- ---- an image's
+-- ---- the memory of an image
 
 pub all_pages_is_page_limit : all_pages ≡ page_limit
 unfolding all_pages

@@ -1,4 +1,4 @@
--- Words as sums of parts that share no bits
+-- Words as sums of parts without common bits
 use Rattle.std.proofs.Common.{◌≡◌, refl, ap, ap₂, ◌∙◌, sym, ℕ, ◌+◌, ◌-◌, ◌*◌, ◌/◌, ◌%◌, ◌^◌, ◌<◌, List, [], ◌∷◌, Bool, true, nat_eq, ◌&&◌, min, max, arith, add-zero, zero-add}
 use Rattle.std.specs.Int.Bits.{bit_and, bit_or, and_comm, and_zero_r, or_disjoint, and_high, and_zero_l}
 use Rattle.std.specs.Int.{bit_at}
@@ -9,25 +9,25 @@ use Rattle.std.proofs.Math.Nat.{mul-div_cancel, mod-eq_of_lt}
 use Rattle.rv_model.specs.instructions.FixedBits.{Part, part, sum_of, mask_of}
 use Rattle.rv_model.specs.lending.ListedBits.{AllFit}
 
--- ones at a part's place
+-- a mask of the bits of a part
 abbrev pub part_mask : Part → ℕ
 part_mask p = 2 ^ (p.len + p.low) - 2 ^ p.low
 
 abbrev pub put : Part → ℕ
 put p = p.value * 2 ^ p.low
 
--- no part has a bit of f
+-- no part has a bit in f
 abbrev pub clear : ℕ → List Part → Bool
 clear f [] = true
 clear f (p ∷ ps) = nat_eq (bit_and f (part_mask p)) 0 && clear f ps
 
--- no two parts share a bit, and none has one of m
+-- no two parts share a bit, and no part has a bit in m
 abbrev pub share_none : ℕ → List Part → Bool
 share_none m [] = true
 share_none m (p ∷ ps) =
     nat_eq (bit_and (mask_of m ps) (part_mask p)) 0 && (nat_eq (bit_and (part_mask p) m) 0 && (clear (part_mask p) ps && share_none m ps))
 
--- each part of the word is the part's value
+-- each part's bits of the word are the part's value
 abbrev pub Reads : ℕ → List Part → Type 0
 Reads word [] = Unit {0}
 Reads word (p ∷ ps) = (word / 2 ^ p.low % 2 ^ p.len ≡ p.value) × Reads word ps
@@ -58,7 +58,7 @@ and_sum n a b h =
 sum_and : (a b n : ℕ) → bit_and a b ≡ 0 → bit_and (a + b) n ≡ bit_and a n + bit_and b n
 sum_and a b n h = and_comm (a + b) n ∙ and_sum n a b h ∙ ap₂ (λ (x y : ℕ). x + y) (and_comm n a) (and_comm n b)
 
--- y lies in f, and f and k share no bit
+-- a number within f shares no bit with k if f doesn't
 off : (y f k : ℕ) → bit_and y f ≡ y → bit_and f k ≡ 0 → bit_and y k ≡ 0
 off y f k inside h = ap (λ z. bit_and z k) (sym inside) ∙ and_assoc k y f ∙ ap (bit_and y) h ∙ and_zero_r y
 
@@ -72,7 +72,7 @@ put_inside p room =
     ∙ ap (λ x. x % 2 ^ p.len * 2 ^ p.low) (mul-div_cancel p.value (pow_pos p.low))
     ∙ ap (λ x. x * 2 ^ p.low) (mod-eq_of_lt room)
 
--- the facts that the test tells
+-- the facts that the test `share_none` implies
 record Step (m : ℕ) (p : Part) (ps : List Part) : Type 0 where
   new : bit_and (mask_of m ps) (part_mask p) ≡ 0
   fixed : bit_and (part_mask p) m ≡ 0
@@ -101,7 +101,7 @@ inside_mask code m within (p ∷ ps) h fit =
     (sum_and x y (mask_of m ps) xy ∙ ap₂ (λ (a b : ℕ). a + b) ih (off y (part_mask p) (mask_of m ps) iy (and_comm (part_mask p) (mask_of m ps) ∙ s.new)) ∙ add-zero x)
     (sum_and x y (part_mask p) xy ∙ ap₂ (λ (a b : ℕ). a + b) (off x (mask_of m ps) (part_mask p) ih s.new) iy ∙ zero-add y)
 
--- what a further part leaves alone
+-- a further part leaves the other bits unchanged
 leaves : (code m : ℕ) → bit_and code m ≡ code → (p : Part) (ps : List Part) → Step m p ps → p.value < 2 ^ p.len
     → AllFit ps → (k : ℕ) → bit_and (part_mask p) k ≡ 0 → bit_and (sum_of code ps + put p) k ≡ bit_and (sum_of code ps) k
 leaves code m within p ps s room fit k h =
@@ -136,7 +136,7 @@ keep_reads w u (q ∷ qs) r f same h all =
     let a : (nat_eq (bit_and f (part_mask q)) 0 ≡ true) × (clear f qs ≡ true) = and_parts (nat_eq (bit_and f (part_mask q)) 0) (clear f qs) h in
     (same_field w u q.low q.len (same (part_mask q) (eqb-true (bit_and f (part_mask q)) 0 a.0)) ∙ all.0, keep_reads w u qs r f same a.1 all.1)
 
--- each part of a sum is its value
+-- each part's bits of a sum are the part's value
 pub reads : (code m : ℕ) → bit_and code m ≡ code → (ps : List Part) → share_none m ps ≡ true → clear m ps ≡ true
     → AllFit ps → Reads (sum_of code ps) ps
 reads code m within [] h c fit = tt
@@ -153,7 +153,7 @@ reads code m within (p ∷ ps) h c fit =
       keep_reads (x + y) x ps (λ k. refl) (part_mask p) (leaves code m within p ps s fit.0 fit.1) s.others (reads code m within ps s.rest cs.1 fit.1),
     )
 
--- the same parts, of a word
+-- the same parts, with their values in a word
 abbrev pub of_word : ℕ → List Part → List Part
 of_word word [] = []
 of_word word (p ∷ ps) = part p.low p.len (word / 2 ^ p.low % 2 ^ p.len) ∷ of_word word ps

@@ -1,4 +1,4 @@
--- Word and instruction tell each other
+-- Encoding and decoding are inverse to each other
 use Rattle.std.proofs.Common.{◌≡◌, ap, ap₂, ◌∙◌, sym, subst, ℕ, ◌+◌, ◌-◌, ◌*◌, ◌^◌, ◌<◌, ◌≤◌, List, [], ◌∷◌, ◌++◌, map, Option, Some, None, true, inl, inr, ◌⊎◌, arith, add-zero, add_assoc}
 use Rattle.std.specs.Prelude.{IfSome, flat_map}
 use Rattle.std.specs.Int.Bits.{bit_and, and_le_r}
@@ -19,7 +19,7 @@ sum_small code m within ps h all fit =
     let b : bit_and (sum_of code ps) (2 ^ 32 - 1) ≤ 2 ^ 32 - 1 = and_le_r (sum_of code ps) (2 ^ 32 - 1) in
     omega arith
 
--- the word of an instruction is that instruction
+-- the word of an instruction decodes to this instruction
 pub back : (i : Instr) → AllFit (parts i) → Allowed i → scan table (word_of i) ≡ Some i
 back i fit ok =
     let l : Laid (parts i) = laid i in
@@ -31,7 +31,7 @@ sum-split code [] = sym (add-zero code)
 sum-split code (p ∷ ps) =
     ap (λ s. s + p.value * 2 ^ p.low) (sum-split code ps) ∙ add_assoc code (sum_of 0 ps) (p.value * 2 ^ p.low)
 
--- a word is the fixed bits and the operands
+-- the word of an instruction is the sum of its fixed bits and operands
 pub word_sum : (i : Instr) → word_of i ≡ bits i + sum_of 0 (parts i)
 word_sum i = sum-split (bits i) (parts i)
 
@@ -59,7 +59,7 @@ template_joined : (gs : List (List Instr)) (r : Row) → In r (flat_map (map row
 template_joined [] r h = absurd h
 template_joined (g ∷ gs) r h = elim (split_in (map row_of g) (flat_map (map row_of) gs) r h) [ inl a ↦ template_in g r a | inr b ↦ template_joined gs r b ]
 
--- a row is that of some instruction
+-- each row of the table is the row of some instruction
 pub template_of : (r : Row) → In r table → (t : Instr) × (row_of t ≡ r)
 template_of r h = template_joined groups r (subst (In r) table_groups h)
 
@@ -68,7 +68,7 @@ row_word r w small h is =
     let t : (t : Instr) × (row_of t ≡ r) = template_of r h in
     subst (λ s. Matches s w → word_of (s.instr w) ≡ w) t.1 (word_again t.0 w small) is
 
--- the instruction of a word has that word
+-- the instruction that a word decodes to has this word
 pub decoded : (w : ℕ) (o : Option Instr) → o ≡ scan table w → w < 2 ^ 32 → IfSome o (λ i. word_of i ≡ w)
 decoded w None is small = tt
 decoded w (Some i) is small =

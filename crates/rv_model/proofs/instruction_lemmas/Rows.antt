@@ -1,4 +1,4 @@
--- Each instruction has its row in the table
+-- Each instruction has a row in the table
 use Rattle.std.proofs.Common.{◌≡◌, refl, ap, sym, subst, ℕ, zero, suc, List, [], ◌∷◌, ◌++◌, map, Some, None, Bool, true, false, nat_eq, cond, inl, inr, arith}
 use Rattle.std.specs.Int.Bits.{bit_and}
 use Rattle.std.proofs.lemmas.Bool.{eqb-true}
@@ -106,7 +106,7 @@ in_flat [] k r h = absurd h
 in_flat (g ∷ gs) zero r h = in_left r (map row_of g) (flat_map (map row_of) gs) h
 in_flat (g ∷ gs) (suc k) r h = in_right r (map row_of g) (flat_map (map row_of) gs) (in_flat gs k r h)
 
--- ---- each operation is found by its bits
+-- ---- a search by its bits finds each operation
 
 known_mask_unary : (op : MaskUnaryOp) → find mask_unary_bits mask_unary_ops (mask_unary_bits op) ≡ Some op
 unfolding find
@@ -142,7 +142,7 @@ known_indexed _ order.Unordered width.E8 = refl
 known_indexed _ _ width.E8 = refl
 known_indexed _ _ _ = refl
 
--- an operation with this line is found by the line's bits, in each form that it has
+-- a search by a row's bits finds the operation with this row, in each form that it has
 abbrev IsKnown : VectorOp → Line → Form → Type 0
 IsKnown op l f =
     cond (has_form l.forms f) (find (λ o. line_bits (line o) f) (filter (λ o. has_form (line o).forms f) vector_ops) (line_bits l f)) None
@@ -198,7 +198,7 @@ listed_at : {A : Type 0} (k : ℕ) (code : A → ℕ) (t : A → Instr) (ops : L
 listed_at k code t ops op known same =
     in_table k (row_of (t op)) (subst (λ g. In (row_of (t op)) (map row_of g)) (sym same) (in_rows code t ops op (code op) known))
 
--- in the list of one form
+-- a search in the list of operations with one form
 in_form : {A : Type 0} (line_of : A → Line) (t : Form → A → Instr) (all : List A) (f : Form) (k : ℕ) (op : A)
     → cond (has_form (line_of op).forms f) (find (λ o. line_bits (line_of o) f) (filter (λ o. has_form (line_of o).forms f) all) (line_bits (line_of op) f)) None
     ≡ cond (has_form (line_of op).forms f) (Some op) None

@@ -1,4 +1,4 @@
--- What a scan of the instruction table finds
+-- Results of a scan of the instruction table
 use Rattle.std.proofs.Common.{◌≡◌, ◌≢◌, refl, ap, ◌∙◌, sym, subst, ℕ, zero, suc, List, [], ◌∷◌, ◌++◌, Option, Some, None, Bool, true, false, nat_eq, cond, not, ◌&&◌, ◌||◌, inl, inr, ◌⊎◌, arith}
 use Rattle.std.specs.Prelude.{IfSome, IfNone}
 use Rattle.std.specs.List.{Contains, list_any, list_all}
@@ -30,21 +30,21 @@ contains_of (s ∷ ss) r (inr h) = let q : Contains ss r = contains_of ss r h in
 abbrev pub apart : Row → Row → Bool
 apart r s = not (nat_eq (bit_and r.bits s.mask) (bit_and s.bits r.mask))
 
--- no word can match the row and one of these
+-- no word can match the row and one of these rows
 abbrev pub apart_from : Row → List Row → Bool
 apart_from r [] = true
 apart_from r (s ∷ ss) = apart r s && apart_from r ss
 
--- no word can match two of these
+-- no word can match two of these rows
 abbrev pub all_apart : List Row → Bool
 all_apart [] = true
 all_apart (r ∷ rs) = apart_from r rs && all_apart rs
 
--- the row's bits are among those that it fixes
+-- the set bits of a row are among the bits that it fixes
 abbrev pub is_inside : Row → Bool
 is_inside r = nat_eq (bit_and r.bits r.mask) r.bits
 
--- what an `or` of two answers gives
+-- a scan of two lists, one after the other
 pub scan_append : (xs ys : List Row) (word : ℕ) → scan (xs ++ ys) word ≡ option_or (scan xs word) (scan ys word)
 unfolding scan
 scan_append [] ys word = refl
@@ -91,7 +91,7 @@ pub same_narrow : (m v word : ℕ) → bit_and word m ≡ v → (t s : List Row)
     → scan t word ≡ scan s word
 same_narrow m v word is t s e = scan_narrow m v word is t ∙ ap (λ x. scan x word) e ∙ sym (scan_narrow m v word is s)
 
--- each row fixes the bits of m, to one of vs
+-- a row fixes the bits of m to one of vs
 abbrev pub one_of : ℕ → List ℕ → Row → Bool
 one_of m vs r = nat_eq (bit_and r.mask m) m && list_any (λ v. nat_eq (bit_and r.bits m) v) vs
 
@@ -123,7 +123,7 @@ none_cons a v vs ne rest =
       | inr n ↦ ap (λ b. b || list_any (λ x. nat_eq a x) vs) n.0 ∙ rest
     ]
 
--- a number differs from each of these
+-- a number differs from each number of a list
 abbrev pub DiffersFrom : List ℕ → ℕ → Type 0
 DiffersFrom [] a = Unit {0}
 DiffersFrom (v ∷ vs) a = (a ≢ v) × DiffersFrom vs a
@@ -154,7 +154,7 @@ misses s r word h is =
       | inr n ↦ n.0
     ]
 
--- a row of the table that matches is the one that the scan finds
+-- a scan finds the row of the table that matches
 pub found : (t : List Row) → all_apart t ≡ true → (r : Row) → In r t → (word : ℕ) → bit_and word r.mask ≡ r.bits
     → scan t word ≡ Some (r.instr word)
 unfolding scan

@@ -1,4 +1,4 @@
--- The operands of each instruction in its word
+-- The operands of each instruction, in its word
 use Rattle.std.proofs.Common.{◌≡◌, refl, ℕ, suc, ◌+◌, ◌-◌, ◌*◌, ◌/◌, ◌%◌, ◌^◌, ◌<◌, List, Bool, true, false, nat_eq, arith}
 use Rattle.std.proofs.lemmas.Nat.{mod_below}
 use Rattle.rv_model.specs.declared.instructions.source.Source.{Source}
@@ -95,7 +95,7 @@ jump_of w =
 jump-join : (n : ℕ) → n % 2 ^ 10 + n / 2 ^ 10 % 2 ^ 1 * 2 ^ 10 + n / 2 ^ 11 % 2 ^ 8 * 2 ^ 11 + n / 2 ^ 19 * 2 ^ 19 ≡ n
 jump-join n = omega arith
 
--- what the word's parts are
+-- the parts of the instruction that a word decodes to
 pub filled_parts : (t : Instr) (w : ℕ) → parts (filled t w) ≡ of_word w (parts t)
 filled_parts (instr.Scalar (Upper op rd imm)) w = refl
 filled_parts (instr.Scalar (Jump rd imm)) w = let j : JumpPieces (field 21 10 w) (field 20 1 w) (field 12 8 w) (field 31 1 w) = jump_of w in rw (j.bit20, j.bits10_1, j.bit11, j.bits19_12) refl
@@ -114,7 +114,7 @@ filled_parts (instr.Access (Strided direction width nf vd rs1 rs2 vm)) w = rw (f
 filled_parts (instr.Access (Indexed direction order width nf vd rs1 vs2 vm)) w = rw (flag_back w) refl
 filled_parts _ w = refl
 
--- and its other bits
+-- the other bits of that instruction
 pub filled_bits : (t : Instr) (w : ℕ) → bits (filled t w) ≡ bits t
 filled_bits (instr.Scalar (Upper op rd imm)) w = refl
 filled_bits (instr.Csr (Register op rd rs1 csr)) w = refl
@@ -125,7 +125,7 @@ filled_bits (instr.Vector (Move source vd)) w = rw (form_source_of (form_of sour
 filled_bits (instr.Access (UnitStride op width nf vd rs1 vm)) w = refl
 filled_bits _ w = refl
 
--- an instruction is what a word with its parts gives
+-- a word with the parts of an instruction decodes to this instruction
 pub refilled : (i : Instr) (w : ℕ) → Reads w (parts i) → filled i w ≡ i
 refilled (instr.Scalar (Upper op rd imm)) w r = rw (r.0, r.1.0) refl
 refilled (instr.Scalar (Jump rd imm)) w r = rw (r.0, r.1.0, r.1.1.0, r.1.1.1.0, r.1.1.1.1.0, jump-join imm) refl
@@ -159,7 +159,7 @@ pub record Laid (ps : List Part) : Type 0 where
   pub clear : clear (fixed ps) ps ≡ true
   pub whole : mask_of (fixed ps) ps ≡ 2 ^ 32 - 1
 
--- each instruction does
+-- the same for each instruction
 pub laid : (i : Instr) → Laid (parts i)
 laid (instr.Scalar (Upper op rd imm)) = record { apart = refl; clear = refl; whole = refl }
 laid (instr.Csr (Register op rd rs1 csr)) = record { apart = refl; clear = refl; whole = refl }

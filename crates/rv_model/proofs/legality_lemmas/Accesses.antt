@@ -1,4 +1,4 @@
--- What legality tells of the registers of a vector load or store.
+-- Consequences of legality for the registers of a vector load or store.
 use Rattle.std.specs.Prelude.{Option, Some, nat_le}
 use Rattle.std.specs.List.{list_all}
 use Rattle.std.proofs.Common.{◌≡◌, ◌∷◌, ℕ, ◌+◌, ◌*◌, ◌/◌, ◌≤◌, Bool, true, refl, subst, arith, lit<}
@@ -29,9 +29,9 @@ use Rattle.rv_model.proofs.assembler_lemmas.Naming.{all_at}
 use Rattle.rv_model.proofs.legality_lemmas.Bounds.{emul-sew, fewer, first_of, inside, length_below, second_of, whole_elements}
 use Rattle.rv_model.proofs.legality_lemmas.Meaning.{IsGroup, legal_groups}
 
--- ---- groups of elements of another width than SEW
+-- ---- groups of elements with a width other than SEW
 
--- what a test says of all widths it says of each, and so for multipliers
+-- a test of all widths holds for each width, and a test of all multipliers for each multiplier
 pub of_sews : (p : Sew → Bool) → list_all p sews ≡ true → (s : Sew) → p s ≡ true
 of_sews p h E8 = all_at p sews 0 E8 h (lit< tt)
 of_sews p h E16 = all_at p sews 1 E8 h (lit< tt)
@@ -47,7 +47,7 @@ of_lmuls p h M2 = all_at p lmuls 4 M1 h (lit< tt)
 of_lmuls p h M4 = all_at p lmuls 5 M1 h (lit< tt)
 of_lmuls p h M8 = all_at p lmuls 6 M1 h (lit< tt)
 
--- groups with as many elements of one width as a type with another SEW has: they have room for all of them
+-- a group with VLMAX elements of one width, under a type with another SEW, has room for all of them
 abbrev has_room : Sew → Sew → Lmul → Bool
 has_room s sew l =
     nat_le (width_bytes (sew_width s) * (lmul_eighths l * VLEN / (8 * sew_bits sew))) (VLENB * registers (sew_bits s * lmul_eighths l / sew_bits sew))
@@ -67,13 +67,13 @@ elements_fit s t vl h =
     told : {a b : ℕ} → nat_le a b ≡ true → a ≤ b
     told h = grind (arith, nat_tests, h)
 
--- groups of elements of a width, as many as the vector type has
+-- the type of a group of elements of a width, with the VLMAX of the vector type
 abbrev pub sew_groups : Sew → VType → GroupType
 sew_groups s t = record { width = sew_width s; emul = emul (sew_bits s) t }
 
 -- ---- the registers of a segment
 
--- the group of a field
+-- the register group of a field is inside the file
 pub field_inside : (g : GroupType) (vd nf vl : ℕ) → SegmentsInside g vd nf vl → (f : ℕ) → f ≤ nf → IsInside (vd + f * registers g.emul) g.emul
 field_inside g vd nf vl s f h =
     let up : (f + 1) * registers g.emul ≤ (nf + 1) * registers g.emul = mul-le-mul_right (registers g.emul) (omega (arith, h)) in
@@ -140,7 +140,7 @@ indexed_inside direction order w nf vd rs1 vs2 vm t vstart vl legal h =
 
 -- ---- whole registers and masks
 
--- so many registers are a group of so many registers
+-- `count` registers form a group of `count` registers
 whole_registers : (count : RegisterCount) → 1 * registers (8 * register_count count) ≡ register_count count
 whole_registers One = refl
 whole_registers _ = refl

@@ -1,4 +1,4 @@
--- What legality tells of the registers of an instruction: its groups end inside the file, and have room for each element.
+-- Consequences of legality for the registers of an instruction: its groups end inside the file, and have room for each element.
 use Rattle.std.specs.Prelude.{Some, nat_le, nat_lt, ⊤}
 use Rattle.std.proofs.Common.{◌≡◌, ℕ, ◌+◌, ◌*◌, ◌/◌, ◌<◌, ◌≤◌, suc, List, ◌∷◌, length, Bool, true, false, ◌||◌, refl, subst, arith, lit≤, lit<, All}
 use Rattle.std.proofs.Math.Nat.{mul-le-mul_left}
@@ -54,7 +54,7 @@ pub emul-sew : (s : Sew) (e : ℕ) → sew_bits s * e / sew_bits s ≡ e
 emul-sew E8 e = omega arith
 emul-sew _ e = omega arith
 
--- a group that legality finds, with a multiplier said in another way
+-- a legal group, with the multiplier in another form
 pub inside : (r e f : ℕ) → e ≡ f → r + 1 * registers e ≤ VECTOR_REGISTERS → IsInside r f
 inside r e f same h = let one : 1 * registers e ≡ registers e = omega arith in rw (← same, ← one) h
 
@@ -76,7 +76,7 @@ second_of a b rest all = all 1 a (before_end1 a b rest)
 pub sew_group : (r : ℕ) (t : VType) → r + 1 * registers (lmul_eighths t.lmul) ≤ VECTOR_REGISTERS → IsInside r (lmul_eighths t.lmul)
 sew_group r t h = inside r (lmul_eighths t.lmul) (lmul_eighths t.lmul) refl h
 
--- ---- what groups hold
+-- ---- the elements of groups
 
 -- no multiplier is above 8
 pub multiplier_fits : (l : Lmul) → lmul_eighths l ≤ 64
@@ -90,7 +90,7 @@ all_hold E8 Mf8 = record { most = lit≤ tt; room = lit≤ tt; least = lit≤ tt
 all_hold _ Mf8 = record { most = lit≤ tt; room = lit≤ tt; least = lit≤ tt; whole = refl; size = lit≤ tt }
 all_hold _ _ = record { most = lit≤ tt; room = lit≤ tt; least = lit≤ tt; whole = refl; size = lit≤ tt }
 
--- and so fewer
+-- the same for fewer elements
 fewer_held : {width : Width} {emul count most : ℕ} (end : ℕ) → HoldsBody width emul count most → end ≤ most → HoldsBody width emul count end
 fewer_held {width} {emul} {count} {most} end holds h =
     let up : width_bytes width * end ≤ width_bytes width * most = mul-le-mul_left (width_bytes width) h in
@@ -107,24 +107,24 @@ length_fits t vl h = (groups_hold_body t vl h).room
 pub length_below : (t : VType) (vl : ℕ) → vl ≤ vlmax t → vl ≤ GROUP_BYTES
 length_below t vl h = (groups_hold_body t vl h).least
 
--- whichever its type is, or with none
+-- the same for a configuration with any vector type or with vill
 pub configuration_below : (c : Configuration) → IsConfiguration c → c.vl ≤ GROUP_BYTES
 configuration_below c =
     of_option c.vtype (λ t. IsLength t c.vl → c.vl ≤ GROUP_BYTES) (λ e h. omega (arith, h)) (λ t e h. length_below t c.vl h.1)
 
--- so many registers hold whole elements
+-- n registers hold a whole number of elements
 pub whole_elements : (s : Sew) (n : ℕ) → VLENB * n ≡ width_bytes (sew_width s) * (VLENB * n / width_bytes (sew_width s))
 whole_elements E8 n = omega arith
 whole_elements _ n = omega arith
 
--- and no more elements than bytes
+-- n bytes hold at most n elements
 pub fewer : (s : Sew) (n : ℕ) → n / width_bytes (sew_width s) ≤ n
 fewer E8 n = omega arith
 fewer _ n = omega arith
 
 -- ---- operands of two widths
 
--- the groups of twice the width and the multiplier hold the body
+-- groups with twice the width and twice the multiplier hold the body
 wide_hold : (s : Sew) (l : Lmul) → sew_bits s ≤ 32 → 2 * lmul_eighths l ≤ 64
     → HoldsBody (doubled (sew_width s)) (2 * lmul_eighths l) (VLENB * registers (2 * lmul_eighths l) / width_bytes (doubled (sew_width s)))
     (lmul_eighths l * VLEN / (8 * sew_bits s))
@@ -138,7 +138,7 @@ pub wide_groups_hold_body : (t : VType) (vl : ℕ) → vl ≤ vlmax t → sew_bi
     (VLENB * registers (2 * lmul_eighths t.lmul) / width_bytes (doubled (sew_width t.sew))) vl
 wide_groups_hold_body t vl h narrow most = fewer_held vl (wide_hold t.sew t.lmul narrow most) h
 
--- the groups of the vector type have room for the body, and those of twice the width
+-- groups that hold the body have room for it
 room_of : {width : Width} {emul count end : ℕ} → HoldsBody width emul count end → HasRoom width emul end
 room_of holds = record { most = holds.most; room = holds.room }
 
@@ -161,7 +161,7 @@ wide_fits : (s : Sew) → bits (doubled (sew_width s)) ≤ 64 → sew_bits s ≤
 wide_fits E8 h = omega (arith, h)
 wide_fits _ h = omega (arith, h)
 
--- there are elements of twice SEW, in groups of twice the multiplier
+-- elements of twice SEW exist, in groups of twice the multiplier
 pub record HasDouble (t : VType) : Type 0 where
   pub narrow : sew_bits t.sew ≤ 32
   pub most : 2 * lmul_eighths t.lmul ≤ 64
@@ -171,7 +171,7 @@ has_double role r t g = record { narrow = wide_fits t.sew g.width.1; most = subs
 
 -- ---- operations on two operands
 
--- the operands of a shape
+-- the second source of a shape is a valid group, if it comes from vector registers
 abbrev SecondIsGroup : Shape → Source → VType → Type 0
 SecondIsGroup shape (source.V vs1) t = IsGroup (vector_source shape vs1 t)
 SecondIsGroup shape _ t = ⊤
@@ -189,7 +189,7 @@ shape_groups shape vd vs2 (source.V vs1) _ t g = record { target = g 0 (mask Rea
 shape_groups shape vd vs2 _ true t g = record { target = g 0 (mask Read 0) (lit< tt); first = g 1 (mask Read 0) (lit< tt); second = tt }
 shape_groups shape vd vs2 _ _ t g = record { target = g 0 (mask Read 0) (lit< tt); first = g 1 (mask Read 0) (lit< tt); second = tt }
 
--- their multipliers
+-- the multiplier of the destination
 abbrev target_emul : Shape → VType → ℕ
 target_emul Widening t = 2 * lmul_eighths t.lmul
 target_emul WideSource t = 2 * lmul_eighths t.lmul
@@ -226,11 +226,11 @@ module _ (vd vs2 : ℕ) (t : VType) where
       → ArithInside (target_emul shape t) (first_emul shape t) (vector_source shape 0 t).emul vd vs2 from
   shape_inside shape from g = record { destination = target_inside shape g.target; first = first_inside shape g.first; second = second_inside shape from g.second }
 
--- all of them with the vector type's
+-- the operands of an operation with the vector type's multiplier for each
 abbrev pub SingleInside : ℕ → ℕ → Source → VType → Type 0
 SingleInside vd vs2 from t = ArithInside (lmul_eighths t.lmul) (lmul_eighths t.lmul) (lmul_eighths t.lmul) vd vs2 from
 
--- and some with twice as much
+-- the operands of an operation with twice the multiplier for some
 pub record DoubleInside (target first_source vd vs2 : ℕ) (from : Source) (t : VType) : Type 0 where
   pub double : HasDouble t
   pub groups : ArithInside target first_source (lmul_eighths t.lmul) vd vs2 from
@@ -271,13 +271,13 @@ module _ (from : Source) (vd vs2 : ℕ) (vm : Bool) (t : VType) (vstart : ℕ) w
   widen_multiply_add_inside op h =
       record { double = has_double Write vd t (arith_groups (vector_op.WidenMultiplyAdd op) h).target; groups = arith_inside (vector_op.WidenMultiplyAdd op) h }
 
-  -- and the first source too
+  -- the result and the first source have twice the width
   pub wide_source_inside : (op : WideSourceOp) → Legal (vector_op.WideSource op)
       → DoubleInside (2 * lmul_eighths t.lmul) (2 * lmul_eighths t.lmul) vd vs2 from t
   wide_source_inside op h =
       record { double = has_double Write vd t (arith_groups (vector_op.WideSource op) h).target; groups = arith_inside (vector_op.WideSource op) h }
 
-  -- the first source alone
+  -- only the first source has twice the width
   pub narrow_shift_inside : (op : NarrowShiftOp) → Legal (vector_op.NarrowShift op) → DoubleInside (lmul_eighths t.lmul) (2 * lmul_eighths t.lmul) vd vs2 from t
   narrow_shift_inside op h =
       record { double = has_double Read vs2 t (arith_groups (vector_op.NarrowShift op) h).first; groups = arith_inside (vector_op.NarrowShift op) h }
@@ -285,7 +285,7 @@ module _ (from : Source) (vd vs2 : ℕ) (vm : Bool) (t : VType) (vstart : ℕ) w
   pub clip_inside : (op : ClipOp) → Legal (vector_op.Clip op) → DoubleInside (lmul_eighths t.lmul) (2 * lmul_eighths t.lmul) vd vs2 from t
   clip_inside op h = record { double = has_double Read vs2 t (arith_groups (vector_op.Clip op) h).first; groups = arith_inside (vector_op.Clip op) h }
 
-  -- the first number of a reduction stands in one register, as its result does
+  -- the initial value of a reduction is in one register, and so is its result
   pub reduce_inside : (op : ReduceOp) → Legal (vector_op.Reduce op) → ArithInside 8 (lmul_eighths t.lmul) 8 vd vs2 from
   reduce_inside op h = arith_inside (vector_op.Reduce op) h
 
@@ -328,7 +328,7 @@ permute_inside op from vd vs2 vm t vstart h = record {
     indices _ (source.V vs1) g vl h = (sew_group vs1 t g.inside, groups_have_room t vl h)
     indices _ _ g vl h = tt
 
--- ---- operations without a line of their own in the manual's table
+-- ---- operations without their own row in the manual's table
 
 pub carry_inside : (op : CarryOp) (from : Source) (vd vs2 : ℕ) (t : VType) (vstart : ℕ)
     → is_legal (instr.Vector (Carry (op, from) vd vs2)) (Some t) vstart ≡ true → SingleInside vd vs2 from t
@@ -361,16 +361,16 @@ pub index_inside : (vd : ℕ) (vm : Bool) (t : VType) (vstart : ℕ)
 unfolding operands
 index_inside vd vm t vstart h = sew_group vd t (first_of (group Write vd (group_type t)) (v0 vm) (legal_groups _ _ _ h)).inside
 
--- ---- sources of a part of SEW
+-- ---- sources with a fraction of SEW
 
--- elements of a part of SEW have that part of the vector type's multiplier
+-- elements of a fraction of SEW have that fraction of the vector type's multiplier
 emul-part : (o : ExtendOp) (s : Sew) (e : ℕ) → 8 ≤ sew_bits s / extension_divisor o
     → bits (part_width o (sew_width s)) * e / sew_bits s ≡ e / extension_divisor o
 emul-part VzextVf8 E8 e wide = omega (arith, wide)
 emul-part _ E8 e wide = omega (arith, wide)
 emul-part _ _ e wide = omega (arith, wide)
 
--- at a part of the width and of the multiplier there is room for all elements of the vector type
+-- with the same fraction of the width and of the multiplier, a group has room for VLMAX elements
 part_fits : (o : ExtendOp) (s : Sew) (l : Lmul)
     → (nat_lt (sew_bits s / extension_divisor o) 8 || (nat_lt (lmul_eighths l / extension_divisor o) 1
     || nat_le (width_bytes (part_width o (sew_width s)) * (lmul_eighths l * VLEN / (8 * sew_bits s))) (VLENB * registers (lmul_eighths l / extension_divisor o)))) ≡ true
@@ -383,7 +383,7 @@ fewer_part : (o : ExtendOp) (n : ℕ) → n / extension_divisor o ≤ n
 fewer_part VzextVf8 n = omega arith
 fewer_part _ n = omega arith
 
--- the groups of a part of the width and the multiplier have room for the body
+-- groups with the same fraction of the width and of the multiplier have room for the body
 pub part_groups_have_room : (o : ExtendOp) (t : VType) (vl : ℕ) → vl ≤ vlmax t → 8 ≤ sew_bits t.sew / extension_divisor o
     → 1 ≤ lmul_eighths t.lmul / extension_divisor o
     → HasRoom (part_width o (sew_width t.sew)) (lmul_eighths t.lmul / extension_divisor o) vl

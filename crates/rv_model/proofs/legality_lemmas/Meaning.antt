@@ -1,4 +1,4 @@
--- The tests of legality say what legality is.
+-- The tests of legality are equivalent to its definition.
 use Rattle.std.proofs.Common.{◌≡◌, ℕ, ◌*◌, ◌≤◌, Bool, true, false, ◌||◌, not, List, max, min, refl, arith, ◌↔◌}
 use Rattle.std.specs.Prelude.{Option, Some, None, IsSomeAnd, ◌≢◌, ◌⊎◌, ◌<◌}
 use Rattle.std.specs.Option.{option_map_or}
@@ -26,7 +26,7 @@ always = (λ _. tt, λ _. refl)
 never : Decides false ⊥
 never = (λ h. absurd (cc), λ h. absurd h)
 
--- under a premise
+-- a test under a premise
 decides_when : {P Q : Type 0} (p q : Bool) → Decides p P → Decides q Q → Decides (not p || q) (P → Q)
 decides_when true q d e = (λ h _. e.0 h, λ f. e.1 (f (d.0 refl)))
 decides_when false q d e = (λ _ p. absurd (both_ways false refl (d.1 p)), λ _. refl)
@@ -39,7 +39,7 @@ abbrev IsWidth : Content → Type 0
 IsWidth Mask = ⊤
 IsWidth (Elements w) = (8 ≤ w) × (w ≤ 64)
 
--- what the test of a group asks for
+-- the conditions that the test of a group checks
 pub record IsGroup (o : Operand) : Type 0 where
   pub width : IsWidth o.content
   pub least : 1 ≤ o.emul
@@ -100,7 +100,7 @@ are_legal_decides xs =
     (all_means (λ d. list_all (allows d) xs) (λ d. All (λ s. Overlap d s → IsTrue (may_share d.role s.role d s)) xs)
     (λ d. all_means (allows d) (λ s. Overlap d s → IsTrue (may_share d.role s.role d s)) (allows_means d) xs) xs))
 
--- legal operands are groups
+-- legal operands are valid groups
 pub groups_are : {xs : List Operand} → AreLegal xs → All IsGroup xs
 groups_are legal = λ i d l. (group_means _).0 (legal.groups i d l)
 
@@ -115,7 +115,7 @@ narrow_decides : (t : Option VType) → Decides (option_map_or (λ t. not (sew_b
 narrow_decides None = never
 narrow_decides (Some t) = Decides-not (sew_bits t.sew == 64) (Decides-eqb (sew_bits t.sew) 64)
 
--- the test is true exactly of the legal instructions
+-- the test is true exactly for the legal instructions
 pub is_legal_means : (i : Instr) (t : Option VType) (vstart : ℕ) → (is_legal i t vstart ≡ true) ↔ IsLegal i t vstart
 unfolding is_legal
 is_legal_means i t vstart =
@@ -125,7 +125,7 @@ is_legal_means i t vstart =
     (decides_when (starts_at_zero i) (vstart == 0) (itself (starts_at_zero i)) (Decides-eqb vstart 0))
     (decides_when (is_below_64 i) _ (itself (is_below_64 i)) (narrow_decides t))))
 
--- and so the operands of a legal instruction are groups
+-- the operands of a legal instruction are valid groups
 some_groups : (o : Option (List Operand)) → IsSomeAnd o AreLegal → IsSomeAnd o (All IsGroup)
 some_groups None h = h
 some_groups (Some xs) h = groups_are h

@@ -1,4 +1,4 @@
--- What legality tells of the registers of a compression and of moves of whole registers.
+-- Consequences of legality for the registers of a compression and of whole-register moves.
 use Rattle.std.specs.Prelude.{Some}
 use Rattle.std.proofs.Common.{◌≡◌, ℕ, ◌*◌, ◌/◌, true, refl, lit≤, lit<}
 use Rattle.rv_model.specs.declared.instructions.instruction.Instr.TheVariants as instr
@@ -31,7 +31,7 @@ compress_inside vd vs1 vs2 t vstart h =
 
 -- ---- moves of whole registers
 
--- the registers that are moved, and those that take them
+-- the destination and the source of a whole-register move
 pub record WholeMoveInside (count : RegisterCount) (vd vs2 : ℕ) : Type 0 where
   pub destination : IsInside vd (8 * register_count count)
   pub source : IsInside vs2 (8 * register_count count)

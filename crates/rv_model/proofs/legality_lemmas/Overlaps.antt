@@ -1,4 +1,4 @@
--- What legality tells of the overlaps of a vector load: its mask stays, and of its indices those that are still to be used.
+-- Consequences of legality for the overlaps of a vector load: it changes neither its mask nor the indices that it still needs.
 use Rattle.std.specs.Prelude.{IsTrue, Some, nat_le, nat_lt, ◌==◌}
 use Rattle.std.proofs.Common.{◌≡◌, ◌∷◌, ◌⊎◌, inl, inr, ℕ, ◌+◌, ◌-◌, ◌*◌, ◌/◌, ◌%◌, ◌<◌, ◌≤◌, Bool, true, false, ◌&&◌, ◌||◌, cond, refl, sym, ap, ◌∙◌, subst, arith, lit<}
 use Rattle.std.proofs.Math.Nat.{add-mul, mod-add-div', mul_comm}
@@ -29,9 +29,9 @@ use Rattle.rv_model.proofs.legality_lemmas.Meaning.{IsGroup, MayOverlap, groups_
 use Rattle.rv_model.proofs.legality_lemmas.Bounds.{before_end0, before_end1, emul-sew, first_of, second_of}
 use Rattle.rv_model.specs.lending.GroupBounds.{emul}
 
--- ---- groups with as many elements of a width as the vector type has
+-- ---- groups of VLMAX elements
 
--- those of whole registers are filled by them, and where the elements aren't wider than SEW, groups of SEW have whole registers
+-- VLMAX elements fill a group of whole registers; if the elements aren't wider than SEW, groups of SEW have whole registers
 abbrev fills : Sew → Sew → Lmul → Bool
 fills s sew l =
     (nat_lt (sew_bits s * lmul_eighths l / sew_bits sew) 8
@@ -69,7 +69,7 @@ group_fits s t = omega (arith, elements_fit s t (vlmax t) (omega arith), mul_com
 
 -- ---- two groups
 
--- aligned groups of one size that overlap begin together
+-- aligned groups of the same size that overlap start at the same register
 aligned_same : (z a b : ℕ) → a % z ≡ 0 → b % z ≡ 0 → a < b + z → b < a + z → a ≡ b
 aligned_same z a b p q h g =
     let x = mod-add-div' a z in
@@ -82,7 +82,7 @@ aligned_same z a b p q h g =
       ]
     ]
 
--- a byte of an element of a field is in one of its registers
+-- a byte of an element of a field is in one of the registers of the fields
 byte_register : (first n f z k v i b : ℕ) → f < n → i < v → v * k ≤ VLENB * z → IsByteOf (first + f * z) k i b
     → (first ≤ b / 32) × (b / 32 < first + n * z)
 byte_register first n f z k v i b hf hi room h =
@@ -144,7 +144,7 @@ may : (b : Bool) (d s : Operand) → (Overlap d s → IsTrue (may_share (cond b 
 may true d s h o = (refl, (may_overlap_means d s).0 (h o))
 may false d s h o = absurd (both_ways false refl (h o))
 
--- they are groups, and overlap as destinations and sources may, where there is one field
+-- the data and the indices are valid groups; they overlap only if there is one field, and then as a destination and a source may
 record IndexedOperands (w : Eew) (nf vd vs2 : ℕ) (t : VType) : Type 0 where
   fields : IsGroup (loaded_fields nf vd t)
   indices : IsGroup (index_group w vs2 t)

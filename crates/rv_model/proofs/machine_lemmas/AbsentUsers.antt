@@ -1,5 +1,5 @@
--- An absent user owns no vector unit and has nothing saved: what happens to one user moves the unit for that user, and saves the
--- state of its owner alone.
+-- An absent user doesn't own the vector unit and has no saved state. Events of one user move the unit to this user, and save only the
+-- owner's state.
 use Rattle.std.proofs.Common.{◌≡◌, ◌≢◌, inl, inr, ℕ, zero, suc, ◌-◌, ◌≤◌, List, [], ◌∷◌, get_or, length, set, Bool, true, false, ◌&&◌, cond, eqb, Option, Some, None, Ok, Err, refl, ap, sym, ◌∙◌, subst, arith}
 use Rattle.std.specs.Prelude.{IfSome, if◌then◌else◌}
 use Rattle.std.proofs.lemmas.Bool.{cases_eq, false≢true}
@@ -28,19 +28,19 @@ use Rattle.rv_model.proofs.Choices.{of_either, of_test}
 
 -- ---- marks and owners
 
--- a mark that was taken away isn't there
+-- a cleared mark is clear
 unmarked : (saved : List Bool) (i : ℕ) → get_or (set saved i false) i false ≡ false
 unmarked [] i = refl
 unmarked (b ∷ saved) zero = refl
 unmarked (b ∷ saved) (suc i) = unmarked saved i
 
--- another user's mark stays
+-- the mark of another user is unchanged
 other_mark : (user u : ℕ) (mark : Bool) (saved : List Bool) → 1 ≤ user → 1 ≤ u → u ≢ user
     → is_marked (with_mark user mark saved) u ≡ is_marked saved u
 other_mark user u mark saved low here other =
     get_or-set_other saved (user - 1) (u - 1) mark false (λ e. other (omega (arith, e, low, here)))
 
--- who isn't the owner is another than the owner
+-- a user who isn't the owner differs from the owner
 not_owner : (owner u : ℕ) → is_owned_by (Some owner) u ≡ false → u ≢ owner
 not_owner owner u h e = false≢true (sym h ∙ ap (λ n. eqb owner n) e ∙ (let same : eqb owner owner ≡ true = grind (arith, nat_tests) in same))
 
@@ -51,9 +51,9 @@ another_owns owner u h = grind (arith, nat_tests)
 abbrev OwnerIsUser : Option ℕ → Type 0
 OwnerIsUser o = IfSome o (λ owner. (1 ≤ owner) × (owner ≤ 8))
 
--- ---- what moves the unit
+-- ---- transitions of the unit
 
--- by what a user does, the owner stays a user, and others who have nothing of the unit get nothing
+-- after an event of one user, the owner is still a user, and others without ownership or saved state still have neither
 record Moves (user : ℕ) (before after : VectorUnit) : Type 0 where
   owner : OwnerIsUser before.owner → OwnerIsUser after.owner
   others : (u : ℕ) → 1 ≤ u → u ≢ user → OwnerIsUser before.owner → HasNothing u before → HasNothing u after
@@ -120,14 +120,14 @@ module _ (user : ℕ) (low : 1 ≤ user) (high : user ≤ 8) where
     );
   }
 
-  -- who drops a vector state has nothing of the unit
+  -- a user whose vector state is discarded neither owns the unit nor has a saved state
   nothing_left : (unit : VectorUnit) → HasNothing user (unit_discarded user unit)
   nothing_left unit = (
     of_test (λ (owner : Option ℕ). is_owned_by owner user ≡ false) (is_owned_by unit.owner user) None unit.owner (λ is. refl) (λ is. is),
     unmarked unit.saved (user - 1),
   )
 
-  -- who has nothing drops nothing
+  -- discarding the vector state of a user without one changes nothing
   nothing_dropped : (unit : VectorUnit) → HasNothing user unit → unit_discarded user unit ≡ unit
   nothing_dropped unit nothing =
       let marks : with_mark user false unit.saved ≡ unit.saved =
@@ -149,7 +149,7 @@ module _ (user : ℕ) (low : 1 ≤ user) (high : user ≤ 8) where
   all_used (first ∷ others) unit =
       and_then user unit (unit_after_use user first unit) _ (used first unit) (all_used others (unit_after_use user first unit))
 
-  -- ---- a user who is absent
+  -- ---- absent users
 
   absent_command : (c : Cmd) (unit : VectorUnit) → HasNothing user unit → unit_after_uses user (of_absent c).uses unit ≡ unit
   unfolding of_absent entering_absent
@@ -167,7 +167,7 @@ module _ (user : ℕ) (low : 1 ≤ user) (high : user ≤ 8) where
       parsed (Ok c) = absent_command c unit nothing
   absent_event s Slice unit nothing = refl
 
-  -- ---- a user who becomes absent
+  -- ---- users who become absent
 
   abbrev LeavesNothing : Outcome → VectorUnit → Type 0
   LeavesNothing o unit = o.next ≡ None → HasNothing user (unit_after_uses user o.uses unit)
@@ -183,7 +183,7 @@ module _ (user : ℕ) (low : 1 ≤ user) (high : user ≤ 8) where
       of_either (λ (o : Outcome). LeavesNothing o unit) (p.running && needs_stopped c) (refuses (Some p) refusal.Running) (of_present images c p)
       (λ none. absurd (not_gone p (Some p) (λ is. is) none)) (left images p c unit)
 
-  -- who is absent after an event has nothing of the unit, if who was absent had nothing
+  -- a user who is absent after an event has no vector state, if an absent user had none before it
   absent_after : (s : Setup) (p : Private) (e : Event) (unit : VectorUnit) → (p ≡ None → HasNothing user unit)
       → LeavesNothing (event s p e) unit
   unfolding event

@@ -1,4 +1,4 @@
--- Whatever is carried out of a user's instructions, the user stays, and the vector length stays one of the vector type.
+-- After any number of a user's instructions, the user is still present, and the vector type still allows the vector length.
 use Rattle.std.proofs.Common.{◌≡◌, ℕ, zero, suc, ◌-◌, Bool, false, Some, None, refl, sym, subst}
 use Rattle.std.specs.Prelude.{◌&&◌, not, is_none}
 use Rattle.rv_model.specs.declared.step.step_end.StepEnd.{StepEnd}
@@ -14,7 +14,7 @@ use Rattle.rv_model.proofs.step_lemmas.Configurations.{step_keeps_configuration}
 abbrev pub HasLength : Present → Type 0
 HasLength p = IsConfiguration p.hart.vector.conf
 
--- the user is there after this, and the vector length is one of the type, if it was before
+-- the user is present afterwards, and the vector type allows the vector length if it did before
 abbrev pub StaysAs : Present → Private → Type 0
 StaysAs p None = ⊥
 StaysAs p (Some q) = HasLength p → HasLength q

@@ -1,4 +1,4 @@
--- Each user's machine has a vector length of its vector type, whatever happens.
+-- The vector type of each user's machine allows its vector length, after any events.
 use Rattle.std.proofs.Common.{ℕ, zero, suc, ◌-◌, List, [], ◌∷◌, get_or, set, Some, None, Ok, Err, refl, sym, subst}
 use Rattle.std.specs.Prelude.{◌&&◌, replicate}
 use Rattle.rv_model.specs.declared.commands.command.Cmd.{Cmd}
@@ -20,7 +20,7 @@ use Rattle.rv_model.proofs.machine_lemmas.Configurations.{stays_configured}
 use Rattle.rv_model.proofs.machine_lemmas.Cuts.{slice_keeps_configuration, slices_add_up}
 use Rattle.rv_model.proofs.machine_lemmas.Headline.{part_after_one}
 
--- ---- what happens to one user
+-- ---- events of one user
 
 absent_command : (c : Cmd) → IsConfigured (of_absent c).next
 unfolding of_absent entering_absent initial_vector
@@ -44,9 +44,9 @@ unfolding event
 event_keeps s p (Command line) is = line_keeps s.images p (parse line) is
 event_keeps s p Slice is = slice_keeps_configuration s.quantum p is
 
--- ---- what happens to all
+-- ---- events of all users
 
--- what holds of one element and of all others holds of each
+-- a property of the replaced element and of all others holds for each element
 of_element : {X : Type 0} (P : X → Type 0) (xs : List X) (i j : ℕ) (x d : X) → P x → P (get_or xs j d) → P (get_or (set xs i x) j d)
 of_element P [] i j x d one other = other
 of_element P (y ∷ ys) zero zero x d one other = one

@@ -1,4 +1,4 @@
--- A slice of m ticks and then one of n are one of m + n.
+-- A slice of m ticks followed by a slice of n ticks equals a slice of m + n ticks.
 use Rattle.std.proofs.Common.{◌≡◌, ◌≢◌, ℕ, zero, suc, ◌+◌, ◌*◌, ◌-◌, ◌≤◌, Bool, true, false, List, [], ◌∷◌, ◌++◌, Option, Some, None, refl, sym, ◌∙◌, ap, subst, ◌⊎◌, inl, inr, arith}
 use Rattle.std.specs.Prelude.{All, is_none, not, ◌&&◌, if◌then◌else◌}
 use Rattle.std.proofs.lemmas.Bool.{cases_Bool}
@@ -36,7 +36,7 @@ All-right P (x ∷ xs) ys h = All-right P xs ys (All-tail P x (xs ++ ys) h)
 
 -- ---- one instruction
 
--- one that is cut, and goes on in the memory that it left, is the whole one
+-- an instruction that is cut and continues in the resulting state equals the uninterrupted one
 resumed : (limit later : ℕ) (s : HartState) → IsConfiguration s.vector.conf → (step limit s).end ≡ Cut
     → KeepsOwnWord (s.vector.vstart + limit) (fetched s.memory s.scalar.pc) s
     → step (limit + later) s ≡ after_ticks limit (step later (step limit s).state)
@@ -51,7 +51,7 @@ resumed limit later s is cut keeps =
     (fetched_step_resumes limit later s left.memory is (subst IsUndone (sym cut) tt)
     (subst (λ (n : ℕ). KeepsOwnWord n (fetched s.memory s.scalar.pc) s) (sym off) keeps) (λ x c e. e))
 
--- an instruction ran, was cut, or stops the program
+-- an instruction retires, is cut, or stops the program
 ended : (e : StepEnd)
     → ((e ≡ Ran) × (e ≢ Cut)) ⊎ ((e ≡ Cut) ⊎ ((reason : Stop) × ((stop_of e ≡ Some reason) × (e ≢ Cut))))
 ended Ran = inl (refl, λ q. cc)
@@ -61,7 +61,7 @@ ended (Fault cause pc value) = inr (inr (stop.Fault cause value, (refl, λ q. cc
 ended OutputFull = inr (inr (stop.OutputFull, (refl, λ q. cc)))
 ended Cut = inr (inl refl)
 
--- what an instruction that goes on leaves is what it would leave uncut
+-- an instruction that continues after a cut leaves the same machine as the uncut one
 after_resumed : (e : StepEnd) (state half : HartState) (p : Present) → half.scalar ≡ p.hart.scalar
     → after e state (after Cut half p) ≡ after e state p
 after_resumed Ran state half p h = ap (λ x. record p { hart = state; trace = recorded p.trace x.pc; fresh = false }) h
@@ -73,7 +73,7 @@ running_after _ state p = refl
 
 -- ---- a run of instructions
 
--- what a run comes to, but for its uses of the vector unit
+-- the result of a run, without its uses of the vector unit
 abbrev bare : Halted → Halted
 bare run = record run { uses = [] }
 
@@ -92,7 +92,7 @@ uses_either false x y = refl
 abbrev is_held : Present → Bool
 is_held p = not p.fresh && at_breakpoint p
 
--- what follows an instruction
+-- the run after an instruction
 follows : ℕ → ℕ → Present → Stepped → Halted
 follows n left p one =
     if is_none (stop_of one.end) then comes_to n (left - one.ticks) (after one.end one.state p)
@@ -116,7 +116,7 @@ steps_tried n (suc left) p h l =
     let next : Present = after one.end one.state p in
     rw h (bare_either (is_none (stop_of one.end)) (slice_steps n (suc left - one.ticks) next) (halted next (stop_of one.end)))
 
--- the uses after an instruction
+-- the uses of the vector unit after an instruction
 uses_after : ℕ → ℕ → Present → Stepped → List Use
 uses_after n left p one =
     if is_none (stop_of one.end) then (slice_steps n (left - one.ticks) (after one.end one.state p)).uses else []
@@ -146,7 +146,7 @@ uses_on : (n left : ℕ) (p : Present) (one : Stepped) → one.end ≡ Ran
 unfolding uses_after
 uses_on n left p one h = rw h refl
 
--- what follows an instruction that was cut and goes on is what follows it uncut
+-- the run after an instruction that continues after a cut equals the run after the uncut one
 follows_resumed : (b c left more : ℕ) (p : Present) (half : HartState) (two : Stepped) → half.scalar ≡ p.hart.scalar
     → left + more ≤ suc b → more ≤ suc c → 1 ≤ left → 1 ≤ two.ticks
     → follows b (left + more) p (after_ticks left two) ≡ follows c more (after Cut half p) two
@@ -161,7 +161,7 @@ follows_resumed b c left more p half two h lb lc some least =
     ∙ ap (λ (q : Present). if is_none reason then comes_to c (more - two.ticks) q else halted q reason)
     (sym (after_resumed two.end two.state half p h))
 
--- a run, and then another from where it ends, unless it stopped
+-- a run, and another run from its final state unless the first stopped the program
 abbrev goes_on : Halted → (Present → Halted) → Halted
 goes_on first more = if is_none first.stop then more first.state else first
 
@@ -232,7 +232,7 @@ adds (suc a) (suc b) (suc c) (suc left) more p la lb lc some is keeps =
           ]
     ]
 
--- a run ends in a machine that runs as before
+-- a run doesn't change whether the program is running
 steps_run : (a left : ℕ) (p : Present) → (slice_steps a left p).state.running ≡ p.running
 steps_run zero left p = refl
 steps_run (suc a) zero p = refl
@@ -246,7 +246,7 @@ steps_run (suc a) (suc left) p =
 
 -- ---- a slice
 
--- what is seen of an outcome: the machine and the lines
+-- the visible part of an outcome: the machine and the lines
 abbrev seen : Outcome → Outcome
 seen o = record o { uses = [] }
 
@@ -274,7 +274,7 @@ uses_running : (quantum : ℕ) (p : Present) → p.running ≡ true → (sliced 
 uses_running quantum p h =
     ap (λ (o : Outcome). o.uses) (sliced_running quantum p h) ∙ ends_uses (ticked quantum p) (ticked quantum p).stop
 
--- of a run's end its uses aren't seen
+-- the visible part of an ended slice doesn't depend on the uses
 ends_bare : (run : Halted) (reason : Option Stop) → seen (slice_ends run reason) ≡ seen (slice_ends (bare run) reason)
 ends_bare run None = refl
 ends_bare run (Some reason) = refl
@@ -299,7 +299,7 @@ unfolding sliced
 slice_keeps_configuration quantum None is = tt
 slice_keeps_configuration quantum (Some p) is = stays_configured p (sliced quantum (Some p)).next (sliced_stays quantum p) is
 
--- no ticks change nothing
+-- a slice of 0 ticks changes nothing
 sliced_nothing : (p : Private) → sliced 0 p ≡ record { next = p; lines = []; uses = [] }
 sliced_nothing None = sliced_absent 0
 sliced_nothing (Some p) = elim (cases_Bool p.running) [
@@ -307,7 +307,7 @@ sliced_nothing (Some p) = elim (cases_Bool p.running) [
   | inr h ↦ sliced_stopped 0 p h
 ]
 
--- nothing comes after
+-- an outcome followed by a slice of 0 ticks is unchanged
 joined_nothing : (first : Outcome) → seen (joined first (sliced 0 first.next)) ≡ seen first
 joined_nothing first =
     ap (λ (o : Outcome). seen (joined first o)) (sliced_nothing first.next)

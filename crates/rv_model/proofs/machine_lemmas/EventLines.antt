@@ -1,4 +1,4 @@
--- What a private machine prints are lines: no printed byte is a newline.
+-- Lines that a private machine prints contain no newline.
 use Rattle.std.proofs.Common.{ℕ, Option, Some, None, refl}
 use Rattle.rv_model.specs.declared.step.step_end.Stop.{Stop}
 use Rattle.rv_model.specs.commands.Commands.{parse}
@@ -17,7 +17,7 @@ slice_ends_printed run None = (refl, refl)
 slice_ends_printed run (Some reason) =
     let pc = run.state.hart.scalar.pc in prints (stop_line pc reason) (no_newline_in_stop_line pc reason) (stop_line_plain pc reason)
 
--- and nothing in it is a refusal
+-- a slice prints lines without a newline, and no refusal
 pub sliced_printed : (quantum : ℕ) (p : Private) → Printed (sliced quantum p).lines
 unfolding sliced
 sliced_printed quantum None = (refl, refl)
@@ -25,7 +25,7 @@ sliced_printed quantum (Some p) =
     let run : Halted = ticked quantum p in
     of_either (λ (o : Outcome). Printed o.lines) p.running _ _ (slice_ends_printed run run.stop) (refl, refl)
 
--- whatever happens to a private machine, what it prints are lines
+-- the lines that a private machine prints for any event contain no newline
 pub event_lines : (s : Setup) (p : Private) (e : Event) → AreLines (event s p e).lines
 unfolding event
 event_lines s p (Command line) = commanded_prints s.images p (parse line)

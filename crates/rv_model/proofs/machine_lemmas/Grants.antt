@@ -1,4 +1,4 @@
--- What the operator grants goes to users, and what the operator is told are lines.
+-- The operator grants slices to users only, and the replies to the operator contain no newline.
 use Rattle.std.proofs.Common.{ℕ, zero, suc, ◌-◌, ◌≤◌, List, [], ◌∷◌, ◌++◌, length, Bool, true, false, Option, Some, None, Ok, Err, refl, arith}
 use Rattle.std.specs.Prelude.{drop, take, find, map, codes, flat_map, slice_index_or, unwrap_or}
 use Rattle.std.specs.Option.{option_map_or}
@@ -17,7 +17,7 @@ use Rattle.rv_model.proofs.command_lemmas.Printing.{no_newline_in_refusal}
 use Rattle.rv_model.proofs.Choices.{of_either, of_option}
 use Rattle.rv_model.proofs.text_lemmas.Pieces.{Piece, ◌▸◌, number, flat_map_line}
 
--- one of the users
+-- the number of a user
 abbrev pub IsUser : ℕ → Type 0
 IsUser u = (1 ≤ u) × (u ≤ 8)
 
@@ -52,14 +52,14 @@ found : (p : ℕ → Bool) (xs : List ℕ) → All xs → IsUserIfAny (find p xs
 found p [] h = tt
 found p (x ∷ xs) h = of_either IsUserIfAny (p x) (Some x) (find p xs) h.0 (found p xs h.1)
 
--- whose turn it is, if anybody's, is a user
+-- the next turn, if any, is that of a user
 pub next_is_user : (cursor : ℕ) (flags : List Bool) → IsUserIfAny (next_user cursor flags)
 unfolding next_user
 next_is_user cursor flags =
     found (λ u. slice_index_or flags (u - 1) false) (turns_after cursor)
     (all-append (drop cursor users) (take cursor users) (all-drop cursor users all_users) (all-take cursor users all_users))
 
--- all happens to users
+-- all events are those of users
 abbrev pub AreUsers : List Happening → Type 0
 AreUsers [] = Unit {0}
 AreUsers (h ∷ hs) = (1 ≤ h.user) × (h.user ≤ 8) × AreUsers hs
@@ -77,7 +77,7 @@ grants_to_users s w (Ok (Slices n)) named = granted_to_users s n w
 grants_to_users s w (Ok (Run u)) named = of_either AreUsers (runs (user_machine u w)) _ _ (named.0, named.1, tt) tt
 grants_to_users s w _ named = tt
 
--- ---- what the operator is told
+-- ---- replies to the operator
 
 no_newline_in_granted_line : (n : ℕ) → IsLine (granted_line n)
 unfolding granted_line

@@ -1,4 +1,4 @@
--- Each user's lines are those of a run alone.
+-- Each user's lines are those of the user's machine run alone.
 use Rattle.std.proofs.Common.{◌≡◌, ◌≢◌, inl, inr, ℕ, ◌+◌, ◌-◌, ◌≤◌, List, [], ◌∷◌, ◌++◌, length, length-set, get_or, get_or-set_same, get_or-set_other, Bool, true, false, refl, ap, ◌∙◌, sym, subst, append_assoc, arith, eqb, cond, None}
 use Rattle.std.proofs.lemmas.List.{get_or-replicate}
 use Rattle.std.specs.Prelude.{if◌then◌else◌, ◌==◌, ◌&&◌, nat_le, nat_lt}
@@ -51,7 +51,7 @@ length-after_one s w h =
     ap length (parts_after_turn h.turn h.user (with_unit (unit_after s w h) (with_user_machine h.user (outcome_of s w h).next w)))
     ∙ length-set w.parts (h.user - 1) (outcome_of s w h).next
 
--- one event's lines before those of the others
+-- the lines of one event, before those of the other events
 abbrev Splits : Setup → ℕ → List (List ℕ) → World → Event → List Happening → ℕ → Type 0
 Splits s u others w e es v = cond (eqb v u) (event s (user_machine v w) e).lines [] ++ (solo_from s (user_machine u (with_user_machine v (event s (user_machine v w) e).next w)) (mine u es) ++ others) ≡ solo_from s (user_machine u w) (cond (eqb v u) (e ∷ mine u es) (mine u es)) ++ others
 
@@ -73,7 +73,7 @@ splits s u others w e es v low high low' =
       | inr ne ↦ splits_other s u others w e es v low low' ne
     ]
 
--- what events tell a user
+-- the lines that events print for a user
 pub lines_told_by : (s : Setup) (u : ℕ) (w : World) (es : List Happening) (rest : List ℕ) → 1 ≤ u → u ≤ 8 → length w.parts ≡ 8 → AreUsers es → lines u (told_by s w es ++ rest) ≡ solo_from s (user_machine u w) (mine u es) ++ lines u rest
 lines_told_by s u w [] rest low high eight users = refl
 lines_told_by s u w (h ∷ es) rest low high eight users =
@@ -88,7 +88,7 @@ lines_told_by s u w (h ∷ es) rest low high eight users =
     ∙ ap (λ (q : Private). cond (eqb v u) (event s (user_machine v w) e).lines [] ++ (solo_from s q (mine u es) ++ lines u rest)) (part_after_one s u w h)
     ∙ splits s u (lines u rest) w e es v low (omega (arith, high, eight)) users.0
 
--- where events leave a user
+-- the user's machine after events
 abbrev Ends : Setup → ℕ → World → Event → List Happening → ℕ → Type 0
 Ends s u w e es v = end_of s (user_machine u (with_user_machine v (event s (user_machine v w) e).next w)) (mine u es) ≡ end_of s (user_machine u w) (cond (eqb v u) (e ∷ mine u es) (mine u es))
 
@@ -116,7 +116,7 @@ pub length-after_events : (s : Setup) (w : World) (es : List Happening) → leng
 length-after_events s w [] = refl
 length-after_events s w (h ∷ hs) = length-after_events s (after_one s w h) hs ∙ length-after_one s w h
 
--- a line's events are those of one of the eight
+-- the events of a line are those of one of the eight users
 users_prefixed : (s : Setup) (w : World) (line : List ℕ) → AreUsers (events_of s w (prefixed line))
 users_prefixed s w (d ∷ c ∷ rest) = spaced (c == 32) (d == 42) (nat_le 49 d && nat_le d 56) refl
   where
@@ -133,7 +133,7 @@ pub users_of : (s : Setup) (w : World) (line : List ℕ) → AreUsers (events_of
 unfolding kind_of
 users_of s w line = of_either (λ k. AreUsers (events_of s w k)) (nat_lt 1024 (length line)) Long (prefixed line) tt (users_prefixed s w line)
 
--- what is told under no user's digit is shown to no user
+-- replies without a user's digit appear in no user's lines
 common_lines : (s : Setup) (w : World) (k : Kind) → AreLines (common s w k)
 unfolding common
 common_lines s w (Operator line) = one_line (operator_line s w (operator_parse line)) (no_newline_in_operator_line s w (operator_parse line))
@@ -176,7 +176,7 @@ lines_none u =
     let other : eqb 0 (48 + u) ≡ false = grind (arith, nat_tests) in
     rw other refl
 
--- Over all lines: what a user is shown is that user's run alone.
+-- For all lines of a script: the user's lines are those of the user's machine run alone.
 pub lines_told_all : (s : Setup) (u : ℕ) (w : World) (ls : List (List ℕ)) → 1 ≤ u → u ≤ 8 → length w.parts ≡ 8 → lines u (told_all s w ls) ≡ solo_from s (user_machine u w) (mine u (schedule s w ls))
 lines_told_all s u w [] low high eight = lines_none u
 lines_told_all s u w (l ∷ ls) low high eight =
@@ -199,7 +199,7 @@ end_of-append : (s : Setup) (p : Private) (a b : List Event) → end_of s p (a +
 end_of-append s p [] b = refl
 end_of-append s p (e ∷ a) b = end_of-append s (event s p e).next a b
 
--- where all lines leave a user
+-- the user's machine after all lines
 part_after_all : (s : Setup) (u : ℕ) (w : World) (ls : List (List ℕ)) → 1 ≤ u → u ≤ 8 → length w.parts ≡ 8 → user_machine u (after_all s w ls) ≡ end_of s (user_machine u w) (mine u (schedule s w ls))
 part_after_all s u w [] low high eight = refl
 part_after_all s u w (l ∷ ls) low high eight =

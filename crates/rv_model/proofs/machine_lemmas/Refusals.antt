@@ -1,4 +1,4 @@
--- What is answered by a refusal changes nothing.
+-- A refused command changes nothing.
 use Rattle.std.proofs.Common.{◌≡◌, inl, inr, ℕ, zero, suc, ◌+◌, ◌-◌, ◌<◌, List, [], ◌∷◌, ◌++◌, get_or, length, drop, map, Bool, true, false, eqb, None, Ok, Err, refl, ap, sym, ◌∙◌, subst, append_assoc, arith}
 use Rattle.std.specs.Prelude.{not, if◌then◌else◌}
 use Rattle.std.specs.List.{Any}
@@ -27,9 +27,9 @@ use Rattle.rv_model.proofs.machine_lemmas.Headline.{no_newline}
 use Rattle.rv_model.proofs.text_lemmas.Lines.{pieces_at}
 use Rattle.rv_model.proofs.Choices.{of_bool, of_option, of_either}
 
--- ---- the answers of an output
+-- ---- the replies in an output
 
--- each without the digit or the star, and without the space
+-- each reply without the digit or star and the space before it
 abbrev answers_in : List ℕ → List (List ℕ)
 answers_in output = map (λ line. drop 2 line) (pieces output)
 
@@ -40,7 +40,7 @@ plain_at (a ∷ rest) zero d plain below = (and_parts (is_plain a) (are_plain re
 plain_at (a ∷ rest) (suc k) d plain below =
     plain_at rest k d (and_parts (is_plain a) (are_plain rest) plain).1 (omega (arith, below))
 
--- among plain answers is no refusal
+-- none of the plain replies is a refusal
 none_refused : (answers : List (List ℕ)) → are_plain answers ≡ true → Any IsRefusal answers → ⊥
 none_refused answers plain any =
     let here : is_plain any.1 ≡ true = sym (ap is_plain any.3) ∙ plain_at answers any.0 any.1 plain any.2 in
@@ -54,7 +54,7 @@ answers_tagged tag line rest plain h =
     ap (λ (l : List ℕ). answers_in (tag ∷ 32 ∷ l)) (append_assoc line (10 ∷ []) rest)
     ∙ ap (map (λ (l : List ℕ). drop 2 l)) (pieces_at (tag ∷ 32 ∷ line) rest all)
 
--- where lines are plain and what follows them, the whole is
+-- a text is plain if its lines and the rest after them are plain
 plain_text : (tag : ℕ) (ls : List (List ℕ)) (rest : List ℕ) → is_newline tag ≡ false → AreLines ls → are_plain ls ≡ true
     → are_plain (answers_in rest) ≡ true → are_plain (answers_in (text tag ls ++ rest)) ≡ true
 plain_text tag [] rest plain lines h k = k
@@ -70,7 +70,7 @@ plain_all : (tag : ℕ) (ls : List (List ℕ)) → is_newline tag ≡ false → 
 plain_all tag ls plain lines h =
     ap (λ (t : List ℕ). are_plain (answers_in t)) (sym (append-nil (text tag ls))) ∙ plain_text tag ls [] plain lines h refl
 
--- ---- what happens to a user
+-- ---- events of a user
 
 slice_plain : (s : Setup) (p : Private) (e : Event) → e ≡ Slice → are_plain (event s p e).lines ≡ true
 unfolding event
@@ -82,7 +82,7 @@ unfolding event
 event_settles s p (Command line) = commanded_settles s.images p (parse line)
 event_settles s p Slice = inr (sliced_printed s.quantum p).1
 
--- where a user's machine doesn't move, the unit isn't used and it's nobody's turn, the world stays
+-- the world is unchanged if the user's machine is unchanged, the vector unit isn't used, and the event isn't a turn
 same_world : (s : Setup) (w : World) (h : Happening) → h.turn ≡ false → (outcome_of s w h).next ≡ user_machine h.user w
     → (outcome_of s w h).uses ≡ [] → after_one s w h ≡ w
 same_world s w h turn same unused =
@@ -101,7 +101,7 @@ refused_happenings_change_nothing s w h slices refused =
       | inr plain ↦ absurd (none_refused (outcome_of s w h).lines plain refused)
     ])
 
--- ---- what the operator grants
+-- ---- grants of the operator
 
 abbrev AreSlices : List Happening → Type 0
 AreSlices [] = Unit {0}
@@ -136,7 +136,7 @@ operator_line_plain s w _ = refl
 
 -- ---- a line of a script
 
--- what a user's line prints
+-- the lines that a user's line prints
 user_line : (s : Setup) (w : World) (u : ℕ) (line : List ℕ)
     → Any IsRefusal (answers_in (told_by s w (commands u line ∷ []) ++ [])) → after_one s w (commands u line) ≡ w
 user_line s w u line refused =

@@ -1,4 +1,4 @@
--- Turns go round: no user whose program runs waits for ever.
+-- Turns rotate: no user with a running program waits for ever.
 use Rattle.std.proofs.Common.{◌≡◌, ◌≢◌, inl, inr, ℕ, zero, suc, ◌+◌, ◌-◌, ◌*◌, ◌/◌, ◌%◌, ◌<◌, ◌≤◌, List, [], ◌∷◌, ◌++◌, length, get_or, Bool, true, false, Some, None, Ok, cond, eqb, refl, ap, ◌∙◌, sym, subst, append_assoc, arith}
 use Rattle.std.specs.Prelude.{find, filter, map, if◌then◌else◌, ◌==◌, ◌&&◌, slice_index_or}
 use Rattle.std.proofs.lemmas.Bool.{agree_below_at, cases_Bool, cases_eq, eqb-true, false≢true}
@@ -18,7 +18,7 @@ use Rattle.rv_model.proofs.Choices.{of_bool, of_either, of_option}
 
 -- ---- the order of turns
 
--- the user of a turn, by numbers: 8 times the last user, and the turn
+-- a test of the user of a turn, for the number 8 times the last user plus the turn
 abbrev turn_is : ℕ → Bool
 turn_is n = eqb (slice_index_or (turns_after (n / 8)) (n % 8) 0) ((n / 8 + n % 8) % 8 + 1)
 
@@ -31,19 +31,19 @@ turn_at last turns low small =
     sym (ap (λ q. (q + n % 8) % 8 + 1) quotient ∙ ap (λ r. (last + r) % 8 + 1) remainder) ∙ sym is
     ∙ ap (λ q. slice_index_or (turns_after q) (n % 8) 0) quotient ∙ ap (λ r. slice_index_or (turns_after last) r 0) remainder
 
--- there are eight turns after each cursor
+-- a round after any cursor has eight turns
 long_is : (last : ℕ) → last ≤ 8 → length (turns_after last) ≡ 8
 long_is last low =
     eqb-true _ _ (agree_below_at (λ n. eqb (length (turns_after n)) 8) (λ _. true) 9 last refl (omega (arith, low)))
 
--- how many users come before a user, of those after the cursor and so on around
+-- the number of users between the cursor and user u, in rotating order
 abbrev ahead : ℕ → ℕ → ℕ
 ahead cursor u = (u + 7 - cursor) % 8
 
 picked : (p : ℕ → Bool) (y : ℕ) (ys : List ℕ) (b : Bool) → p y ≡ b → find p (y ∷ ys) ≡ cond b (Some y) (find p ys)
 picked p y ys b is = ap (λ (b : Bool). cond b (Some y) (find p ys)) is
 
--- the first number that passes stands no later than any that passes
+-- the first number that passes a test is at or before every other that passes
 found_first : (p : ℕ → Bool) (xs : List ℕ) (j x : ℕ) → j < length xs → p (get_or xs j 0) ≡ true → find p xs ≡ Some x
     → (i : ℕ) × (i ≤ j) × (get_or xs i 0 ≡ x)
 found_first p [] j x within passes found = absurd (omega (arith, within))
@@ -56,7 +56,7 @@ found_first p (y ∷ ys) (suc j) x within passes found =
       | inr h ↦ let i = later (sym (picked p y ys false h) ∙ found) in (suc i.0, omega (arith, i.1), i.2)
     ]
 
--- the user whose turn it is comes no later than any whose flag is set
+-- the user with the next turn is at or before every user whose flag is set
 pub next_comes_first : (cursor u x : ℕ) (flags : List Bool) → cursor ≤ 8 → IsUser u → slice_index_or flags (u - 1) false ≡ true
     → next_user cursor flags ≡ Some x → ahead cursor x ≤ ahead cursor u
 unfolding next_user
@@ -68,30 +68,30 @@ next_comes_first cursor u x flags low user set found =
     let i = found_first p (turns_after cursor) j x (rw (long_is cursor low) small) (ap p here ∙ set) found in
     omega (arith, low, user.0, user.1, i.1, i.2, turn_at cursor i.0 low (omega (arith, i.1, small)))
 
--- a flag of a user is whether the user's program runs
+-- the flag of a user is set if the user's program is running
 flag_of : (parts : List Private) (i : ℕ) → get_or (map runs parts) i false ≡ runs (get_or parts i None)
 flag_of [] i = refl
 flag_of (p ∷ ps) zero = refl
 flag_of (p ∷ ps) (suc i) = flag_of ps i
 
--- ---- who has the turns, one after another
+-- ---- the users of consecutive turns
 
--- the users whose turns they are
+-- the users of the turns among events, in order
 abbrev takers : List Happening → List ℕ
 takers [] = []
 takers (h ∷ hs) = if h.turn then h.user ∷ takers hs else takers hs
 
--- how often a number is there
+-- the number of occurrences of a number
 abbrev count : ℕ → List ℕ → ℕ
 count u [] = 0
 count u (x ∷ xs) = (if x == u then 1 else 0) + count u xs
 
--- each is a user who comes no later than user u, of those after the one before
+-- each is a user who comes no later than user u, in rotating order after the previous one
 abbrev NoneIsLater : ℕ → ℕ → List ℕ → Type 0
 NoneIsLater u cursor [] = Unit {0}
 NoneIsLater u cursor (x ∷ xs) = IsUser x × (cursor ≤ 8 → ahead cursor x ≤ ahead cursor u) × NoneIsLater u x xs
 
--- how many turns there are
+-- the number of turns
 abbrev turns : List Happening → ℕ
 turns hs = length (filter (λ h. h.turn) hs)
 
@@ -119,7 +119,7 @@ others_count : (u x : ℕ) (xs : List ℕ) → x ≢ u → count u (x ∷ xs) �
 others_count u x xs other =
     ap (λ (b : Bool). (if b then 1 else 0) + count u xs) (other_number u x other) ∙ omega arith
 
--- a number that doesn't come is neither the first nor among the rest
+-- a number that doesn't occur is neither the first nor in the rest
 absent : (u x : ℕ) (xs : List ℕ) → count u (x ∷ xs) ≡ 0 → (x ≢ u) × (count u xs ≡ 0)
 absent u x xs none =
     elim (cases_eq x u) [
@@ -127,7 +127,7 @@ absent u x xs none =
       | inr other ↦ (other, omega (arith, none, others_count u x xs other))
     ]
 
--- as long as user u has no turn, a user who comes later than u has none
+-- while user u has no turn, a user who comes after u has none
 none_later : (u v cursor : ℕ) (xs : List ℕ) → IsUser u → IsUser v → cursor ≤ 8 → ahead cursor u < ahead cursor v
     → NoneIsLater u cursor xs → count u xs ≡ 0 → count v xs ≡ 0
 none_later u v cursor [] is_u is_v low later turns none = refl
@@ -140,7 +140,7 @@ none_later u v cursor (x ∷ xs) is_u is_v low later turns none =
     others_count v x xs (λ same. omega (arith, later, sooner, ap (ahead cursor) same))
     ∙ none_later u v x xs is_u is_v is_x.1 still turns.2 rest.1
 
--- as long as user u has no turn, nobody has two
+-- while user u has no turn, no user has two
 one_at_most : (u v cursor : ℕ) (xs : List ℕ) → IsUser u → NoneIsLater u cursor xs → count u xs ≡ 0 → count v xs ≤ 1
 one_at_most u v cursor [] is_u turns none = omega arith
 one_at_most u v cursor (x ∷ xs) is_u turns none =
@@ -154,7 +154,7 @@ one_at_most u v cursor (x ∷ xs) is_u turns none =
       | inr other ↦ omega (arith, all, others_count v x xs other)
     ]
 
--- as long as user u has no turn, there are no more turns than users before u
+-- while user u has no turn, the number of turns is at most the number of users before u
 few : (u cursor : ℕ) (xs : List ℕ) → IsUser u → cursor ≤ 8 → NoneIsLater u cursor xs → count u xs ≡ 0 → length xs ≤ ahead cursor u
 few u cursor [] is_u low turns none = omega arith
 few u cursor (x ∷ xs) is_u low turns none =
@@ -171,7 +171,7 @@ below_eight u cursor (x ∷ xs) is_u turns none =
     let fewer = few u x xs is_u is_x.1 turns.2 rest.1 in
     omega (arith, fewer, rest.0, is_u.0, is_u.1, is_x.0, is_x.1)
 
--- ---- the turns of happenings
+-- ---- the turns of events
 
 -- a slice of the user whose turn it is
 abbrev IsTurn : World → Happening → Type 0
@@ -189,7 +189,7 @@ cursor_after s w h b turn =
     cursor_after_turn h.turn h.user (with_unit (unit_after s w h) (with_user_machine h.user (outcome_of s w h).next w))
     ∙ ap (λ (b : Bool). if b then h.user else w.cursor) turn
 
--- where user u runs at each turn, no turn goes past u
+-- if user u's program is running at each turn, no turn skips u
 none_is_later : (s : Setup) (w : World) (hs : List Happening) (u : ℕ) → IsUser u → AreInTurn s w hs → RunsAtEachTurn u s w hs
     → NoneIsLater u w.cursor (takers hs)
 none_is_later s w [] u is_u in_turn running = tt
@@ -204,7 +204,7 @@ none_is_later s w (h ∷ hs) u is_u in_turn running =
     (is_user, first, subst (λ c. NoneIsLater u c (takers hs)) (cursor_after s w h true is) rest))
     (λ is. subst (λ c. NoneIsLater u c (takers hs)) (cursor_after s w h false is) rest)
 
--- ---- what is in turn
+-- ---- events in turn
 
 at_each-append : (P : World → Happening → Type 0) (s : Setup) (w : World) (one two : List Happening)
     → AtEachTurn P s w one → AtEachTurn P s (after_events s w one) two → AtEachTurn P s w (one ++ two)

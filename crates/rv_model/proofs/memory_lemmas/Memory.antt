@@ -1,4 +1,4 @@
--- What the definitions of a memory give at one address
+-- The definitions of a memory at one address
 use Rattle.std.proofs.Common.{◌≡◌, ◌≢◌, ℕ, zero, suc, ◌+◌, ◌-◌, ◌*◌, ◌<◌, ◌≤◌, Bool, true, false, cond, ◌&&◌, List, [], ◌∷◌, ◌++◌, length, get_or, Option, Some, None, refl, sym, ◌∙◌, ap, subst, ◌⊎◌, inl, inr, arith, ne_eqb, eq-eqb, add-zero, ◌||◌, rules}
 use Rattle.std.specs.Prelude.{is_some, nat_lt, ◌↔◌}
 use Rattle.std.specs.Ordering.{nat_cmp}
@@ -17,7 +17,7 @@ use Rattle.rv_model.specs.declared.memory.MapRefusal.TheVariants.{Quota, Already
 use Rattle.rv_model.specs.memory.Sizes.{page_size, page_quota}
 use Rattle.rv_model.proofs.Choices.{of_bool, of_option}
 
--- two memories that answer alike are equal
+-- two memories with the same cell at each address are equal
 pub same_memory : (m n : Memory) → ((x : ℕ) → get m x ≡ get n x) → m ≡ n
 same_memory m n h = same_map nat_cmp_total nat_cmp-IsAntisymmetric m n h
 
@@ -54,7 +54,7 @@ pub get-put_byte_other : (m : Memory) (a b x : ℕ) → x ≢ a → get (put_byt
 unfolding put_byte put_at
 get-put_byte_other m a b x h = put_at_other m a b x (get m a) h
 
--- no byte written
+-- a write of no bytes
 pub put_no_bytes : (m : Memory) (a : ℕ) → put_bytes m a [] ≡ m
 unfolding put_bytes
 put_no_bytes m a = refl
@@ -94,7 +94,7 @@ is_allowed-put_byte access m a b x = elim (cases_eq x a) [
   | inr n ↦ ap (allowed_by access) (get-put_byte_other m a b x n)
 ]
 
--- permissions stay where bytes are written
+-- a write of bytes leaves the permissions unchanged
 pub is_allowed-put_bytes : (access : Access) (m : Memory) (a : ℕ) (bs : List ℕ) (x : ℕ) → can_access_byte access (put_bytes m a bs) x ≡ can_access_byte access m x
 unfolding put_bytes
 is_allowed-put_bytes access m a [] x = refl
@@ -128,7 +128,7 @@ get-add_cells_within m a (suc n) f k x h e = elim (cases_eq k n) [
       get-insert_other (add_cells m a n f) (a + n) (f n) x (λ q. other (omega arith)) ∙ get-add_cells_within m a n f k x less e
 ]
 
--- where none of the addresses was mapped
+-- new cells at unmapped addresses increase the number of cells
 pub len-add_cells : (m : Memory) (a n : ℕ) (f : ℕ → Cell) → ((k : ℕ) → k < n → get m (a + k) ≡ None) → len (add_cells m a n f) ≡ len m + n
 unfolding add_cells
 len-add_cells m a zero f h = omega arith
@@ -174,7 +174,7 @@ is_allowed_monitor access m x =
     (λ o. option_map_or (λ c. permits access c.permissions) o false ≡ true → option_map_or (λ c. permits Monitor c.permissions) o false ≡ true)
     (λ e h. h) (λ c e h. refl)
 
--- the monitor may access whatever a program may
+-- the monitor may access all addresses that a program may access
 pub can_access_monitor : (access : Access) (m : Memory) (a n : ℕ) → can_access access m a n ≡ true → can_access Monitor m a n ≡ true
 can_access_monitor access m a n ok =
     can_access_from Monitor m a n (λ k l. is_allowed_monitor access m (a + k) (can_access-at access m a n k (a + k) ok l refl))
@@ -189,7 +189,7 @@ bytes_read m a n bs e h =
 
 -- ---- pages
 
--- cells after cells
+-- new cells directly after other new cells
 pub add_cells_more : (m : Memory) (a n k t b : ℕ) (c : Cell) → t ≡ n + k → b ≡ a + n → add_cells (add_cells m a n (λ _. c)) b k (λ _. c) ≡ add_cells m a t (λ _. c)
 unfolding add_cells
 add_cells_more m a n zero t b c e q = let same : n ≡ t = omega arith in ap (λ (j : ℕ). add_cells m a j (λ _. c)) same
@@ -208,7 +208,7 @@ pub with_pages_none : (m : Memory) (page : ℕ) (permissions : Permissions) → 
 unfolding with_pages add_cells
 with_pages_none m page permissions = refl
 
--- ---- which pages are mapped, and why pages can't be
+-- ---- mapped pages, and refusals of new pages
 
 pub any_page_mapped_at : (m : Memory) (page count k : ℕ) → k < count → contains_key m (page_size * (page + k)) ≡ true → any_page_mapped m page count ≡ true
 unfolding any_page_mapped
@@ -247,7 +247,7 @@ pub map_refusal_none : (m : Memory) (page count : ℕ) → page_count m + count 
 unfolding map_refusal
 map_refusal_none m page count room h = cond-false (nat_lt page_quota (page_count m + count)) _ _ (search rules) ∙ cond-false (any_page_mapped m page count) _ _ h
 
--- when each refusal comes
+-- the condition for each refusal
 pub map_refusal-Quota : (m : Memory) (page count : ℕ) → (map_refusal m page count ≡ Some Quota) ↔ (page_quota < page_count m + count)
 map_refusal-Quota m page count = (λ h. over h (cases_lt page_quota (page_count m + count)), map_refusal_quota m page count)
   where
@@ -265,7 +265,7 @@ map_refusal-AlreadyMapped m page count = (λ h. within h (cases_lt page_quota (p
     within h (inr room) =
         (room, of_bool (any_page_mapped m page count) (λ b. b ≡ true) (λ e. refl) (λ e. let other = map_refusal_none m page count room e in absurd (cc)))
 
--- ---- by address
+-- ---- addresses in ranges
 
 byte_by : Option Cell → ℕ
 byte_by o = option_map_or (λ c. c.byte) o 0
@@ -282,7 +282,7 @@ pub is_within_false : (a n x : ℕ) → ((x < a) ⊎ (a + n ≤ x)) → is_withi
 is_within_false a n x (inl l) = grind (arith, nat_tests)
 is_within_false a n x (inr g) = grind (arith, nat_tests)
 
--- an address is one of n from a on, the k-th, or lies beside them
+-- an address is either in the range of n addresses from a on or outside it
 pub places : (a n x : ℕ) → ((a ≤ x) × (x < a + n)) ⊎ ((x < a) ⊎ (a + n ≤ x))
 places a n x = elim (cases_lt x a) [
   | inl below ↦ inr (inl below)

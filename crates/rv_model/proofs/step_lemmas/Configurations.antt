@@ -1,4 +1,4 @@
--- Whichever the instruction is, the vector length stays one of the vector type, and what is allowed at an address stays.
+-- After any instruction, the vector type still allows the vector length, and the permissions are unchanged.
 use Rattle.std.proofs.Common.{◌≡◌, ℕ, ◌*◌, ◌^◌, ◌≤◌, Bool, true, false, ◌==◌, Option, Some, None, refl, sym, ap, subst, arith}
 use Rattle.std.specs.Prelude.{nat_le, nat_lt, ⊤}
 use Rattle.std.specs.Option.{option_map_or}
@@ -34,7 +34,7 @@ use Rattle.rv_model.proofs.step_lemmas.Cuts.{RunFacts, accessed_facts}
 use Rattle.rv_model.proofs.step_lemmas.StepCases.{of_step, operation_is}
 use Rattle.rv_model.proofs.Choices.{of_either, of_test}
 
--- ---- a length that is requested
+-- ---- requested lengths
 
 abbrev Supports : Option VType → Type 0
 Supports None = ⊤
@@ -46,13 +46,13 @@ supported_parts (Some sew) None tail mask = tt
 supported_parts (Some sew) (Some lmul) tail mask =
     of_test Supports (nat_le (sew_bits sew) (lmul_eighths lmul * 8)) _ _ (leb-true (sew_bits sew) (lmul_eighths lmul * 8)) (λ e. tt)
 
--- a number means no type but a supported one
+-- a number encodes a supported type or none
 number_supports : (n : ℕ) → Supports (vector_type n)
 number_supports n =
     of_either Supports (nat_lt n (2 ^ 8)) _ None
     (supported_parts (sew_with_number (field 3 3 n)) (lmul_with_number (field 0 3 n)) (field 6 1 n == 1) (field 7 1 n == 1)) tt
 
--- whether there can be just as many elements of the old type, if there is one, as of the new one
+-- whether the old type, if there is one, has the same VLMAX as the new one
 abbrev same_vlmax : Option VType → VType → Bool
 same_vlmax o t = option_map_or (λ u. vlmax u == vlmax t) o false
 
@@ -71,7 +71,7 @@ type_configures : (old : Configuration) (o : Option VType) (length : RequestedLe
 type_configures old None length is supported = refl
 type_configures old (Some t) length is supported = length_configures old t length is supported
 
--- ---- a length that is shortened
+-- ---- shortened lengths
 
 record Shortens (old new : Configuration) : Type 0 where
   vtype : new.vtype ≡ old.vtype
@@ -85,17 +85,17 @@ shorter : (old new : Configuration) → Shortens old new → IsConfiguration old
 shorter old new h is =
     subst (λ (o : Option VType). IsLength o new.vl) (sym h.vtype) (below_length old.vtype new.vl old.vl h.length is)
 
--- the same is allowed
+-- the same accesses are allowed
 abbrev AllowsAsBefore : Memory → Memory → Type 0
 AllowsAsBefore old new = (access : Access) (x : ℕ) → can_access_byte access new x ≡ can_access_byte access old x
 
--- ---- what an instruction leaves of a state
+-- ---- invariants of a state
 
 record Stays (s after : HartState) : Type 0 where
   configured : IsConfiguration s.vector.conf → IsConfiguration after.vector.conf
   allowed : AllowsAsBefore s.memory after.memory
 
--- the vector length and type, and the memory, are as they were
+-- the vector length and type, and the memory, are unchanged
 still : (s after : HartState) → after.vector.conf ≡ s.vector.conf → after.memory ≡ s.memory → Stays s after
 still s after conf memory = record {
   configured = λ is. subst (λ (c : Configuration). IsConfiguration c) (sym conf) is;

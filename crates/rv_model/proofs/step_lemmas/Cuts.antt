@@ -1,5 +1,5 @@
--- Where a vector instruction is cut: after as many indices as there are ticks, and never where those are as many as a vector
--- has elements at most.
+-- The index of a cut: the number of ticks after vstart. A vector instruction is never cut if this number is at least the largest number
+-- of elements.
 use Rattle.std.proofs.Common.{◌≡◌, ◌≢◌, ℕ, ◌+◌, ◌-◌, ◌*◌, ◌<◌, ◌≤◌, Option, Some, None, refl, sym, ◌∙◌, subst, ap, lit≤, arith}
 use Rattle.std.specs.Option.{option_map, option_map_or}
 use Rattle.std.specs.Prelude.{⊤}
@@ -34,7 +34,7 @@ use Rattle.rv_model.proofs.access_lemmas.Runs.{AtStop, CutAt, FaultAt, Facts, ru
 use Rattle.rv_model.proofs.step_lemmas.StepCases.{operation_is}
 use Rattle.rv_model.proofs.Choices.{of_either}
 
--- ---- no operation on registers is cut, and none faults
+-- ---- operations on registers are never cut and never fault
 
 abbrev pub AtOnce : VEnd → Type 0
 AtOnce (vector_end.Fault store addr) = ⊥
@@ -59,21 +59,21 @@ operation_whole i s = once_whole (operation_step i s).end (operation_once i s)
 pub cut_short : (end : VEnd) (index : ℕ) → end ≡ vector_end.Cut index → StopsShort end
 cut_short end index e = record { undone = λ q. cc; legal = λ q. cc }
 
--- a step that is cut is one whose instruction is
+-- if a step is cut, its instruction is cut
 pub cut_index : (ticks : ℕ) (end : VEnd) (word : ℕ) (s : HartState) → (after_vector ticks end word s).end ≡ step_end.Cut → (index : ℕ) × (end ≡ vector_end.Cut index)
 cut_index ticks (vector_end.Cut index) word s e = (index, refl)
 cut_index ticks _ word s e = absurd (cc)
 
 -- ---- loads and stores
 
--- one that is cut has come to as many indices as there are ticks, and to no more than it has; there vstart is left
+-- the index of a cut is vstart plus the number of ticks, and below the number of indices; vstart becomes this index
 pub record IsCutAt (limit : ℕ) (i : Instr) (s after : HartState) (index : ℕ) : Type 0 where
   pub at : index ≡ s.vector.vstart + limit
   pub more : index < index_count (vector_access i s.vector s.scalar)
   pub left : after.vector.vstart ≡ index
   pub ticks : vector_ticks limit i s ≡ limit
 
--- a fact of the index where a vector instruction is cut
+-- a fact about the index where a vector instruction is cut
 abbrev VectorCut : VEnd → (ℕ → Type 0) → Type 0
 VectorCut (vector_end.Cut index) P = P index
 VectorCut _ P = ⊤
@@ -89,7 +89,7 @@ access_end_cut : (d : Direction) (end : MemEnd) (P : ℕ → Type 0) → AtStop 
 access_end_cut d (memory_end.Cut index) P h = h
 access_end_cut d _ P h = tt
 
--- the facts of the run that is made in a state
+-- the facts about the run of an access in a state
 abbrev pub RunFacts : ℕ → VectorAccess → HartState → Type 0
 RunFacts limit a s = Facts limit s.vector.vstart a.body.end a.direction a.first_only s.vector s.memory (accessed limit a s)
 
@@ -128,13 +128,13 @@ executed_cut : (limit : ℕ) (i : Instr) (s : HartState) → Cuts limit i s (vec
 unfolding vector_executed
 executed_cut limit i s = of_either (Cuts limit i s) (is_legal i s.vector.conf.vtype s.vector.vstart) _ _ (performed_cut limit i s) tt
 
--- a vector instruction is cut after as many indices as there are ticks, and before its last
+-- a vector instruction is cut after `limit` indices, and before its last one
 pub cut_at : (limit : ℕ) (i : Instr) (s : HartState) (index : ℕ) → (vector_executed limit i s).end ≡ vector_end.Cut index
     → IsCutAt limit i s (vector_executed limit i s).state index
 cut_at limit i s index e =
     subst (λ (end : VEnd). VectorCut end (IsCutAt limit i s (vector_executed limit i s).state)) e (executed_cut limit i s)
 
--- ---- nothing is cut where there are as many ticks as a vector has elements at most
+-- ---- no cut with enough ticks for the largest number of elements
 
 whole_length_below : (count : RegisterCount) (w : Eew) → whole_length count w ≤ GROUP_BYTES
 whole_length_below One width.E8 = lit≤ tt
@@ -159,7 +159,7 @@ index_count_below (instr.Access (WholeStore count vd rs1)) v x h = whole_bytes_b
 index_count_below (instr.Access (MaskAccess direction vd rs1)) v x h = typed_below v.conf.vtype _ (λ t. omega (arith, h))
 index_count_below _ v x h = omega arith
 
--- so many ticks are enough for any vector instruction
+-- `GROUP_BYTES` ticks are enough for any vector instruction
 pub uncut : (limit : ℕ) (i : Instr) (s : HartState) (index : ℕ) → s.vector.conf.vl ≤ GROUP_BYTES → GROUP_BYTES ≤ limit
     → (vector_executed limit i s).end ≢ vector_end.Cut index
 uncut limit i s index few enough e =

@@ -1,4 +1,4 @@
--- A fault writes no scalar register, x0 stays, and the output buffer only grows, whatever the instruction is.
+-- For any instruction: a fault writes no scalar register, x0 is unchanged, and the output buffer only grows.
 use Rattle.std.proofs.Common.{◌≡◌, ℕ, List, [], refl, sym, subst, append-nil, arith, Option, Some, None}
 use Rattle.rv_model.specs.declared.instructions.instruction.Instr.{Instr}
 use Rattle.rv_model.specs.declared.instructions.instruction.Instr.TheVariants as instr
@@ -24,27 +24,27 @@ use Rattle.rv_model.proofs.step_lemmas.StepCases.{SameFirst, first-with_register
 use Rattle.rv_model.specs.step.Targets.{target_at, target_of_vector}
 use Rattle.rv_model.proofs.Choices.{of_either}
 
--- a fact where an instruction faults
+-- a fact about an instruction that faults
 abbrev OnFault : StepEnd → Type 0 → Type 0
 OnFault (Fault cause pc value) P = P
 OnFault _ P = Unit {0}
 
--- the three laws, of one step from a state
+-- the three laws for one step from a state
 record Keeps (s : HartState) (r : Stepped) : Type 0 where
   fault : OnFault r.end (r.state.scalar ≡ s.scalar)
   first : SameFirst s.scalar r.state.scalar
   output : PutsOut s.output r.state.output
 
--- nothing is put out
+-- no output
 nothing : (output : List ℕ) → PutsOut output output
 nothing output = record { more = []; added = sym (append-nil output); fits = omega arith }
 
--- a vector instruction that is not done wrote no scalar register
+-- a fact about a vector instruction that doesn't complete
 abbrev pub UnlessDone : VEnd → Type 0 → Type 0
 UnlessDone vector_end.Done P = Unit {0}
 UnlessDone _ P = P
 
--- a fact of an illegal vector instruction
+-- a fact about an illegal vector instruction
 abbrev pub IfIllegal : VEnd → Type 0 → Type 0
 IfIllegal vector_end.Illegal P = P
 IfIllegal _ P = Unit {0}
@@ -60,7 +60,7 @@ same_unless : (end : VEnd) (x : Scalar) → UnlessDone end (x ≡ x)
 same_unless vector_end.Done x = tt
 same_unless _ x = refl
 
--- none is illegal where it is carried out
+-- the end of an executed load or store is never `Illegal`
 access_is_legal : (d : Direction) (end : MemEnd) (P : Type 0) → IfIllegal (access_end d end) P
 access_is_legal d memory_end.Done P = tt
 access_is_legal d _ P = tt
@@ -94,7 +94,7 @@ unfolding vector_executed
 vector_keeps limit i s =
     of_either (VectorKeeps s) (is_legal i s.vector.conf.vtype s.vector.vstart) _ _ (performed_keeps limit i s) (record { refused = refl; first = refl; output = refl; illegal = refl })
 
--- an output buffer that is as it was
+-- an unchanged output buffer
 as_before : {old new : List ℕ} → new ≡ old → PutsOut old new
 as_before {old} same = subst (λ (output : List ℕ). PutsOut old output) (sym same) (nothing old)
 

@@ -1,4 +1,4 @@
--- A step that is cut or faults and is made again, with the fetch of its word.
+-- A step that is cut or faults and is executed again, with the fetch of its word.
 use Rattle.std.proofs.Common.{◌≡◌, ◌≢◌, ◌⊎◌, inl, inr, ℕ, zero, suc, ◌+◌, ◌-◌, ◌<◌, ◌≤◌, true, Option, Some, refl, sym, ◌∙◌, ap, subst, arith}
 use Rattle.std.specs.FinMap.{get}
 use Rattle.std.specs.Int.{from_le_bytes, w32}
@@ -27,7 +27,7 @@ use Rattle.rv_model.specs.step.Ticks.{is_scalar}
 use Rattle.rv_model.proofs.step_lemmas.StepCases.{Fetches, IsScalarStep, IsVector, IsVectorStep, step_of, told}
 use Rattle.rv_model.proofs.step_lemmas.StoredWords.{SameWord}
 
--- ---- what isn't a vector instruction isn't cut, and changes nothing where it faults
+-- ---- an instruction other than a vector instruction is never cut, and changes nothing if it faults
 
 abbrev AllOrNothing : HartState → Stepped → Type 0
 AllOrNothing s r = IsUndone r.end → (r.state ≡ s) × (r.end ≢ Cut)
@@ -44,7 +44,7 @@ whole s = told s (AllOrNothing s) (record {
   full = λ u. absurd u;
 })
 
--- ---- the word that is fetched
+-- ---- the fetched word
 
 bytes_kept : (m other : Memory) (a n : ℕ) → ((x : ℕ) → a ≤ x → x < a + n → get other x ≡ get m x) → bytes_at other a n ≡ bytes_at m a n
 unfolding bytes_at
@@ -76,9 +76,9 @@ fetch_kept word s left scalar same f = record {
       ∙ ap (λ bs. from_le_bytes w32 bs) (bytes_kept s.memory left.memory s.scalar.pc 4 same) ∙ f.reads;
 }
 
--- ---- a step that changes nothing
+-- ---- steps without effect
 
--- a state that a step left goes on as the whole step
+-- a step from the state that an earlier part left equals the uninterrupted step
 abbrev pub ResumesFrom : (ℕ → HartState → Stepped) → ℕ → HartState → Memory → HartState → Type 0
 ResumesFrom make later s more left =
     make (left.vector.vstart - s.vector.vstart + later) (finds (overlay s.memory more) s)
@@ -99,7 +99,7 @@ unchanged_resumes make later s more left same grown =
 
 -- ---- a vector instruction
 
--- a step that is undone is one whose instruction stops, or leaves all
+-- if a step is incomplete, its instruction stops early or changes nothing
 short_or_same : (ticks word : ℕ) (d : VectorStepped) (s : HartState) → IfIllegal d.end (d.state ≡ s) → IsUndone (after_vector ticks d.end word d.state).end
     → StopsShort d.end ⊎ ((after_vector ticks d.end word d.state).state ≡ s)
 short_or_same ticks word d s = named d.end
@@ -111,7 +111,7 @@ short_or_same ticks word d s = named d.end
     named _ h u = inl (record { undone = λ e. cc; legal = λ e. cc })
 
 module _ (limit later : ℕ) (s : HartState) (more : Memory) (is : IsConfiguration s.vector.conf) where
-  -- one that stops, and whose word is fetched again
+  -- an instruction that stops early, and whose word is fetched again
   short_resumes : (word : ℕ) (f : Fetches word s) (v : IsVectorStep (scan table word) word) → StopsShort (vector_executed limit v.instr s).end
       → KeepsOwnWord (vector_step limit v.instr word s).state.vector.vstart (Some v.instr) s
       → Extends (vector_step limit v.instr word s).state.memory more
@@ -146,7 +146,7 @@ module _ (limit later : ℕ) (s : HartState) (more : Memory) (is : IsConfigurati
         | inr same ↦ unchanged_resumes step later s more (vector_step limit v.instr word s).state same grown
       ]
 
--- with no fetch
+-- the same without the fetch
 pub vector_step_resumes : (limit later : ℕ) (i : Instr) (word : ℕ) (s : HartState) (more : Memory) → IsConfiguration s.vector.conf
     → IsUndone (vector_step limit i word s).end → Extends (vector_step limit i word s).state.memory more
     → ResumesFrom (λ n. vector_step n i word) later s more (vector_step limit i word s).state
@@ -162,7 +162,8 @@ vector_step_resumes limit later i word s more is undone grown =
 cut_is_undone : (e : StepEnd) → e ≡ Cut → IsUndone e
 cut_is_undone e is = subst IsUndone (sym is) tt
 
--- one that is undone finds a length of the vector type, if each that touches the vector unit does; or it leaves all
+-- an incomplete step resumes if the vector type allows the vector length, which is needed only for instructions that touch the vector
+-- unit
 pub fetched_resumes : (limit later : ℕ) (s : HartState) (more : Memory)
     → (touches (fetched s.memory s.scalar.pc) ≡ true → IsConfiguration s.vector.conf)
     → IsUndone (step limit s).end
@@ -188,7 +189,7 @@ pub fetched_step_resumes : (limit later : ℕ) (s : HartState) (more : Memory) �
     → Extends (step limit s).state.memory more → ResumesFrom step later s more (step limit s).state
 fetched_step_resumes limit later s more is undone keeps grown = fetched_resumes limit later s more (λ t. is) undone keeps grown
 
--- a step that is cut is that of a vector instruction which is
+-- if a step is cut, its instruction is a vector instruction that is cut
 record CutIndex (limit : ℕ) (s : HartState) : Type 0 where
   vector : IsVector s
   index : ℕ
@@ -204,7 +205,7 @@ cut_step limit s cut = elim (whole s) [
       record { vector = t; index = at.0; end = at.1 }
 ]
 
--- the part of a vector instruction that is cut
+-- the progress of a vector instruction that is cut
 vector_leaves_off : (limit : ℕ) (i : Instr) (word index : ℕ) (s : HartState) → (vector_executed limit i s).end ≡ vector_end.Cut index
     → (vector_step limit i word s).state.vector.vstart ≡ s.vector.vstart + limit
 vector_leaves_off limit i word index s end =
@@ -225,7 +226,7 @@ cut_step_leaves_off limit s cut =
     ap (λ (r : Stepped). r.state.vector.vstart) (c.vector.same limit)
     ∙ vector_leaves_off limit c.vector.vector.instr (word_at s.memory s.scalar.pc) c.index s c.end
 
--- so many ticks are enough for any step
+-- `GROUP_BYTES` ticks are enough for any step
 pub step_uncut : (limit : ℕ) (s : HartState) → IsConfiguration s.vector.conf → GROUP_BYTES ≤ limit → (step limit s).end ≢ Cut
 step_uncut limit s is enough cut =
     let c : CutIndex limit s = cut_step limit s cut in

@@ -1,4 +1,4 @@
--- A vector instruction that stops goes on where it stopped, and so does a step that is cut or faults.
+-- A vector instruction that stops continues where it stopped, and so does a step that is cut or faults.
 use Rattle.std.proofs.Common.{◌≡◌, ℕ, ◌≤◌, None, refl, sym, subst, true, arith}
 use Rattle.rv_model.specs.declared.instructions.instruction.Instr.{Instr}
 use Rattle.rv_model.specs.declared.vector.sizes.TheConstants.{GROUP_BYTES}
@@ -57,7 +57,7 @@ vector_steps_go_on i word limit s is = record {
     on : (limit : ℕ) (m : Memory) → GoesOn (step_from (λ limit. vector_step limit i word) (λ m pc. None) s) m (vector_step limit i word (finds m s))
     on limit m later more follows = sym (vector_step_resumes limit later i word (finds m s) more is follows.0 follows.2)
 
--- a vector length is known to be one of the vector type where the instruction touches the vector unit
+-- the vector type allows the vector length if the instruction touches the vector unit
 pub step_goes_on : (limit : ℕ) (s : HartState) (r : Stepped) → (touches (fetched s.memory s.scalar.pc) ≡ true → IsConfiguration s.vector.conf)
     → step limit s ≡ r → StepGoesOn step fetched limit s r
 step_goes_on limit s r conf is =

@@ -33,7 +33,7 @@ use Rattle.rv_model.proofs.step_lemmas.KeptSteps.{vector_step_is}
 
 -- ---- lists
 
--- a place that isn't within a range is beside it
+-- an index that isn't within a range is outside it
 beside_range : (a n x : ℕ) → is_within a n x ≡ false → Beside x a n
 beside_range a n x h = elim (places a n x) [
   | inl within ↦ absurd (let no : true ≡ false = sym (is_within_true a n x within.0 within.1) ∙ h in cc)
@@ -44,7 +44,7 @@ all_first : (P : Transfer → Type 0) (xs ys : List Transfer) → AllByRecursion
 all_first P [] ys h = tt
 all_first P (x ∷ xs) ys h = (h.0, all_first P xs ys h.1)
 
--- what holds of the transfers of a body holds of those of a run that stops before its end
+-- a property of all transfers of a body holds for those of a run that stops before the end
 all_before : (P : Transfer → Type 0) (each : Plan) (start stop end : ℕ) → stop ≤ end → All P (transfers each start (end - start)) → AllByRecursion P (transfers each start (stop - start))
 all_before P each start stop end before h =
     let rest : ℕ = (end - start) - (stop - start) in
@@ -102,7 +102,7 @@ tailed (Some g) a _ file long = record { size = refl; bytes = λ k h. refl }
 
 -- ---- runs
 
--- how a run ends says nothing of the registers and the memory
+-- the end of a run doesn't affect the registers and the memory
 record Leaves (file : List ℕ) (m : Memory) (r : AccessRun) : Type 0 where
   registers : r.vector.file ≡ file
   memory : r.memory ≡ m
@@ -114,7 +114,7 @@ ends_leave first_only count v m (Fault index addr) =
     of_either (Leaves v.file m) (first_only && nat_lt 0 index) _ _ (record { registers = refl; memory = refl }) (record { registers = refl; memory = refl })
 
 module _ (limit : ℕ) (i : AccessInstr) (a : VectorAccess) (s : HartState) (long : length s.vector.file ≡ 1024) where
-  -- of the state after a run
+  -- a property of the state after a run and its tails
   abbrev Keeps : (List ℕ → Memory → Type 0) → AccessRun → Type 0
   Keeps P r = P (with_tails (filled_type i a s) a r.end r.vector.file) r.memory
 
@@ -180,7 +180,7 @@ pub access_keeps : (limit : ℕ) (i : AccessInstr) (o : Option VectorAccess) (s 
 access_keeps limit i None s long = record { registers = refl; memory = refl }
 access_keeps limit i (Some a) s long = direction_keeps limit i a s long a.direction refl
 
--- nothing is changed
+-- an unchanged state
 still : (i : AccessInstr) (o : Option VectorAccess) (s : HartState) → AccessKeeps i o s s.vector.file s.memory
 still i None s = record { registers = refl; memory = refl }
 still i (Some a) s = still_by a.direction

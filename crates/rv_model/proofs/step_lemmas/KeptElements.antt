@@ -1,4 +1,4 @@
--- A vector operation changes no bit of the registers but those of the elements that `changes` selects.
+-- A vector operation changes only register bits of the elements that `changes` selects.
 use Rattle.std.proofs.Common.{◌⊎◌, get_or, ◌≡◌, refl, ℕ, ◌+◌, ◌-◌, ◌*◌, ◌/◌, ◌==◌, ◌<◌, ◌≤◌, ◌&&◌, ◌||◌, Bool, true, false, List, length, max, Option, Some, None, arith}
 use Rattle.std.specs.Prelude.{nat_le, nat_lt, not}
 use Rattle.std.specs.Int.{Width}
@@ -44,12 +44,12 @@ pub second_of : (inside picks : Bool) → (inside && picks) ≡ false → inside
 second_of true picks h e = h
 second_of false picks h e = absurd (cc)
 
--- a bit of the group of an element that isn't selected
+-- a bit of the group that belongs to an element that isn't selected
 unchanged : (vd count eew : ℕ) (changed : ℕ → Bool) (n : ℕ) → (in_range (256 * vd) (256 * (vd + count)) n && changed ((n - 256 * vd) / eew)) ≡ false → Unchanged vd count eew changed n
 unchanged vd count eew changed n h from to =
     second_of (in_range (256 * vd) (256 * (vd + count)) n) (changed ((n - 256 * vd) / eew)) h (inside_range (256 * vd) (256 * (vd + count)) n from to)
 
--- ---- permutations that leave some elements of the body as they were
+-- ---- permutations that leave some elements of the body unchanged
 
 less : (x y on off tail : Bool) → (x ≡ true → y ≡ true) → ((y && on) || ((off && (y && not on)) || tail)) ≡ false → ((x && on) || ((off && (x && not on)) || tail)) ≡ false
 less true true on off tail h e = e
@@ -80,7 +80,7 @@ module _ (s : HartState) (long : length s.vector.file ≡ 1024) where
       (length file ≡ length s.vector.file) × (((k : ℕ) → (k < 32 * vd) ⊎ (32 * (vd + count) ≤ k) → get_or file k 0 ≡ get_or s.vector.file k 0)
       × ((n : ℕ) → (in_range (256 * vd) (256 * (vd + count)) n && changed ((n - 256 * vd) / eew)) ≡ false → mask_bit file n ≡ mask_bit s.vector.file n))
 
-  -- each element that is written is a named one
+  -- each written element is selected by `named`
   elements_wrote : (g : GroupType) (vd count : ℕ) (changed named : ℕ → Bool) (number : ℕ → ℕ) → registers g.emul ≤ count → ((e : ℕ) → named e ≡ false → changed e ≡ false)
       → Wrote vd count (bits g.width) named (with_group s.vector.file vd (written (width_bytes g.width) changed number (group_of s.vector.file vd g.emul)))
   elements_wrote g vd count changed named number fits less =

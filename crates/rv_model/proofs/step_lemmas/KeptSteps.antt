@@ -1,4 +1,4 @@
--- A step whose instruction is a vector operation changes no element outside `changes`; first, the step of any vector instruction.
+-- A step of a vector operation changes no element outside `changes`. The first part covers the step of any vector instruction.
 use Rattle.std.proofs.Common.{◌≡◌, ◌∙◌, refl, sym, subst, ap, ℕ, Bool, cond, false, List, length, Option, Some, None}
 use Rattle.std.specs.Option.{option_map_or}
 use Rattle.rv_model.specs.declared.instructions.instruction.Instr.{Instr}
@@ -23,7 +23,7 @@ use Rattle.rv_model.proofs.step_lemmas.KeptElements.{typed_keeps}
 
 -- ---- the step of a vector instruction
 
--- the step of an instruction that is fetched
+-- the step of a fetched instruction
 fetched_step : (limit : ℕ) (i : Instr) (s : HartState) → fetched s.memory s.scalar.pc ≡ Some i → step limit s ≡ executed limit (Some i) (word_at s.memory s.scalar.pc) s
 unfolding step
 fetched_step limit i s =
@@ -32,8 +32,8 @@ fetched_step limit i s =
     (λ b. cond b (scan table word) None ≡ Some i → cond b (executed limit (scan table word) word s) (faults FetchAccess s.scalar.pc s) ≡ executed limit (Some i) word s)
     (λ e is. ap (λ (o : Option Instr). executed limit o word s) is) (λ e is. absurd (cc))
 
--- a property of the vector registers and the memory holds after the step of a vector instruction if it holds before, and after the instruction
--- where that is legal
+-- a property of the vector registers and the memory holds after the step of a vector instruction, if it holds before the step and after
+-- each legal instruction
 module _ (P : List ℕ → Memory → Type 0) where
   abbrev Of : HartState → Type 0
   Of w = P w.vector.file w.memory

@@ -1,4 +1,4 @@
--- The ways in which a step ends that isn't a vector instruction's: what a law says of each of them, it says of all such steps.
+-- The ends of a step without a vector instruction: a law that holds for each of them holds for all such steps.
 use Rattle.std.proofs.Common.{◌≡◌, ◌≢◌, ◌-◌, ◌⊎◌, inl, inr, ℕ, ◌%◌, ◌^◌, Bool, true, false, ◌&&◌, ◌||◌, ◌==◌, cond, List, ◌++◌, Option, Some, None, refl, sym, ◌∙◌, ap, subst, arith}
 use Rattle.std.specs.Prelude.{not, slice_set}
 use Rattle.std.specs.Int.{byte_len, w64, to_le_bytes}
@@ -47,7 +47,7 @@ use Rattle.rv_model.specs.vector.Control.{control_value, csr_form, is_write, wit
 use Rattle.rv_model.specs.vector.ControlRegisters.{control_register, is_read_only}
 use Rattle.rv_model.proofs.Choices.{of_bool, of_either, of_test}
 
--- x0 reads the same
+-- x0 has the same value
 abbrev pub SameFirst : Scalar → Scalar → Type 0
 SameFirst old new = read_register new 0 ≡ read_register old 0
 
@@ -60,7 +60,7 @@ first-with_register rd value s =
 pub wrote : (rd value pc : ℕ) (x : Scalar) → Wrote rd x (record (with_register rd value x) { pc = pc })
 wrote rd value pc x = record { value = value; pc = pc; is = refl }
 
--- the same where the program counter is unchanged
+-- the same with an unchanged program counter
 pub wrote_alone : (rd value : ℕ) (x : Scalar) → Wrote rd x (with_register rd value x)
 wrote_alone rd value x = record {
   value = value;
@@ -141,9 +141,9 @@ module _ (s : HartState) (P : Stepped → Type 0) where
   controls_is (Register op rd rs1 csr) word = csr_is (control_register csr) op rd rs1 (read_register s.scalar rs1) word
   controls_is (Immediate op rd imm csr) word = csr_is (control_register csr) (csr_form op) rd imm imm word
 
--- ---- with what is fetched
+-- ---- steps with the fetched instruction
 
--- what is a vector instruction, whatever the ticks and the state are
+-- the fetched instruction is a vector instruction, and its step is a vector step for any ticks and any state
 pub record IsVectorStep (o : Option Instr) (word : ℕ) : Type 0 where
   pub instr : Instr
   pub is : o ≡ Some instr
@@ -151,7 +151,7 @@ pub record IsVectorStep (o : Option Instr) (word : ℕ) : Type 0 where
   pub vector : is_scalar o ≡ false
   pub same : (n : ℕ) (w : HartState) → executed n o word w ≡ vector_step n instr word w
 
--- what isn't makes the same step, however many ticks are left
+-- an instruction other than a vector instruction has the same step for any number of remaining ticks
 pub record IsScalarStep (P : Stepped → Type 0) (told_scalar : Bool) (of : ℕ → Stepped) : Type 0 where
   pub result : Stepped
   pub same : (n : ℕ) → of n ≡ result
@@ -166,7 +166,7 @@ executed_is s P (Some (instr.Scalar i)) word c = inl (record { result = _; same 
 executed_is s P (Some (instr.Csr i)) word c = inl (record { result = _; same = λ n. refl; holds = controls_is s P i word c; scalar = refl })
 executed_is s P (Some i) word c = inr (record { instr = i; is = refl; touching = refl; vector = refl; same = λ n w. refl })
 
--- a state from which this word is fetched makes the step of its instruction
+-- a state from which this word is fetched executes the word's instruction
 pub record Fetches (word : ℕ) (s : HartState) : Type 0 where
   pub allowed : can_access access.Fetch s.memory s.scalar.pc 4 ≡ true
   pub reads : word_at s.memory s.scalar.pc ≡ word
@@ -183,7 +183,7 @@ pub record IsVector (s : HartState) : Type 0 where
   pub is_fetched : fetched s.memory s.scalar.pc ≡ Some vector.instr
   pub same : (n : ℕ) → step n s ≡ vector_step n vector.instr (word_at s.memory s.scalar.pc) s
 
--- a step is as its case says, or that of a vector instruction
+-- a step is one of the cases, or the step of a vector instruction
 pub told : (s : HartState) (P : Stepped → Type 0) → Cases s (target_at s) P
     → IsScalarStep P (is_scalar (fetched s.memory s.scalar.pc)) (λ n. step n s) ⊎ IsVector s
 unfolding step
@@ -209,7 +209,7 @@ of_step limit s P c vector = elim (told s P c) [
 
 -- ---- vector instructions that neither load nor store
 
--- one sets the vector length, leaves registers and whether something saturated, or is illegal
+-- an operation sets the vector length, leaves registers and a saturation flag, or is illegal
 pub record Operations (s : HartState) (rd : ℕ) (P : VectorStepped → Type 0) : Type 0 where
   pub sets : (vtype : ℕ) (length : RequestedLength) → P (vset_step rd vtype length s)
   pub leaves : (scalar : Scalar) → Wrote rd s.scalar scalar → (file : List ℕ) (saturated : Bool)

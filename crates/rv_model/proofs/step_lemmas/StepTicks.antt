@@ -8,7 +8,7 @@ use Rattle.rv_model.specs.step.Ticks.{ScalarStepsTakeOneTick, TakesTicks, is_sca
 use Rattle.rv_model.proofs.step_lemmas.StepCases.{IsScalarStep, IsVector, told}
 use Rattle.rv_model.proofs.step_lemmas.Ticks.{vector_steps_take_ticks}
 
--- ---- what isn't a vector instruction takes one tick, and isn't cut
+-- ---- an instruction other than a vector instruction takes one tick and is never cut
 
 record AtOnce (r : Stepped) : Type 0 where
   ticks : r.ticks ≡ 1
@@ -26,7 +26,7 @@ timed s = told s AtOnce (record {
   full = record { ticks = refl; uncut = λ e. cc };
 })
 
--- ---- steps of either kind, by the ticks that are left
+-- ---- steps of either kind, by the remaining ticks
 
 pub steps_take_ticks : TakesTicks step
 steps_take_ticks = record {

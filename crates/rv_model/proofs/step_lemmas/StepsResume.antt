@@ -1,4 +1,4 @@
--- Each vector instruction that is cut or faults, run again.
+-- Each vector instruction that is cut or faults, executed again.
 use Rattle.std.proofs.Common.{◌≡◌, ◌≢◌, ℕ, ◌+◌, ◌-◌, ◌≤◌, Bool, true, ◌&&◌, cond, List, Option, Some, None, refl, sym, ◌∙◌, ap, subst, arith}
 use Rattle.std.specs.Option.{option_and_then, option_map_or}
 use Rattle.std.specs.Prelude.{IfSome, IsSomeAnd, nat_lt}
@@ -31,7 +31,7 @@ use Rattle.rv_model.proofs.step_lemmas.Cuts.{accessed_facts, cut_at, operation_w
 use Rattle.rv_model.proofs.Choices.{of_option, of_test}
 use Rattle.rv_model.proofs.step_lemmas.StoredWords.{SameWord, run_keeps_word}
 
--- ---- an access that stops leaves its tail
+-- ---- an access that stops leaves its tail unchanged
 
 kept_file : (g : Option GroupType) (a : VectorAccess) (end : MemEnd) (file : List ℕ) → end ≢ memory_end.Done → with_tails g a end file ≡ file
 kept_file None a end file h = refl
@@ -51,21 +51,21 @@ not_illegal : (d : Direction) (end : MemEnd) → access_end d end ≢ vector_end
 not_illegal d memory_end.Done e = absurd (cc)
 not_illegal d _ e = absurd (cc)
 
--- ---- an instruction that does something, by the ticks that are left and the state
+-- ---- the effect of an instruction, by the remaining ticks and the state
 
 abbrev Does : Type 0
 Does = ℕ → HartState → VectorStepped
 
--- it is legal with any vstart, if it is with one
+-- whether the instruction is legal doesn't depend on vstart
 abbrev IsLegalAnywhere : Instr → Type 0
 IsLegalAnywhere i = (t : Option VType) (from to : ℕ) → is_legal i t from ≡ is_legal i t to
 
 module _ (limit later : ℕ) (s : HartState) (more : Memory) where
-  -- as many indices as a state says are done, and so many more
+  -- the number of completed indices in a state, plus `later`
   abbrev in_all : HartState → ℕ
   in_all part = part.vector.vstart - s.vector.vstart + later
 
-  -- it stops, leaves this, and is run again
+  -- an instruction that stops with this result and is executed again
   record IsPart (i : Instr) (does : Does) (d : VectorStepped) : Type 0 where
     left : LeavesPart i s d.state
     conf : d.state.vector.conf ≡ s.vector.conf
@@ -93,7 +93,7 @@ module _ (limit later : ℕ) (s : HartState) (more : Memory) where
     abbrev part : HartState
     part = (access_step limit i (Some a) s).state
 
-    -- the vector state at which it stopped, and the whole of it
+    -- the vector state at the stop
     abbrev stopped_at : VState
     stopped_at = record s.vector { file = run.vector.file; vstart = run.vector.vstart }
 
@@ -122,7 +122,7 @@ module _ (limit later : ℕ) (s : HartState) (more : Memory) where
       abbrev next : VectorAccess
       next = access_again a (register_of run.vector.file 0) run.vector.vstart again.address
 
-      -- the run that goes on is the whole one
+      -- the continued run equals the uninterrupted one
       resumed : accessed later next (record s { vector = stopped_at; memory = more }) ≡ accessed (in_all part) a found
       resumed =
           let x = s.scalar in
@@ -138,7 +138,7 @@ module _ (limit later : ℕ) (s : HartState) (more : Memory) where
           ∙ ap (λ (r : AccessRun). access_run (r.vector.vstart - s.vector.vstart + later) fill i s.vector x (overlay s.memory more)) whole
           ∙ run_is (in_all part) fill i s.vector x (overlay s.memory more) a e
 
-      -- the tails are the same ones
+      -- the tails are the same
       tails : filled_type i next s ≡ filled_type i a s
       tails =
           let some_left : nat_lt run.vector.vstart a.body.end ≡ true = lt-ltb run.vector.vstart a.body.end stopped.below in
@@ -150,7 +150,7 @@ module _ (limit later : ℕ) (s : HartState) (more : Memory) where
           begins : a.body.start ≡ s.vector.vstart
           begins = (made_of i s.vector s.scalar a e).begins
 
-      -- what a load or store leaves, by its run
+      -- the result of a load or store, by its run
       abbrev ending : Option GroupType → AccessRun → VectorStepped
       ending g r = vector_ends (access_end a.direction r.end) (after_access g a r s)
 
@@ -271,7 +271,7 @@ after_more : (ticks more : ℕ) (end : VEnd) (word : ℕ) (s : HartState) → en
 after_more ticks more vector_end.Illegal word s legal = absurd (legal refl)
 after_more ticks more _ word s legal = refl
 
--- a step that is cut or faults leaves the state that its instruction does
+-- a step that is cut or faults leaves the state that its instruction leaves
 pub after_short : (ticks : ℕ) (end : VEnd) (word : ℕ) (s : HartState) → StopsShort end → (after_vector ticks end word s).state ≡ s
 after_short ticks vector_end.Done word s stops = absurd (stops.undone refl)
 after_short ticks vector_end.Illegal word s stops = absurd (stops.legal refl)
@@ -306,7 +306,8 @@ pub instruction_leaves_off : (limit : ℕ) (i : Instr) (s : HartState) (index : 
     → (index ≡ s.vector.vstart + limit) × ((vector_executed limit i s).state.vector.vstart ≡ index)
 instruction_leaves_off limit i s index e = let cut = cut_at limit i s index e in (cut.at, cut.left)
 
--- an instruction that is cut or faults leaves the word at the program counter, if what it did before stored no byte of that
+-- an instruction that is cut or faults leaves the word at the program counter unchanged, if its completed part stored no byte of this
+-- word
 pub part_keeps_word : (limit : ℕ) (i : Instr) (s : HartState) → IsConfiguration s.vector.conf → StopsShort (vector_executed limit i s).end
     → KeepsOwnWord (vector_executed limit i s).state.vector.vstart (Some i) s
     → SameWord s.scalar.pc s.memory (vector_executed limit i s).state.memory

@@ -1,4 +1,4 @@
--- A vector store with no byte in its own word leaves that word; no load changes any.
+-- A vector store without a byte in its own word leaves this word unchanged; no load changes a word.
 use Rattle.std.proofs.Common.{◌≡◌, ◌≢◌, ℕ, zero, suc, ◌+◌, ◌-◌, ◌<◌, ◌≤◌, ◌⊎◌, inl, inr, Bool, false, ◌&&◌, List, [], ◌∷◌, length, drop, refl, ◌∙◌, ap, arith, length-take}
 use Rattle.std.specs.Prelude.{All, nat_le, nat_lt}
 use Rattle.std.specs.FinMap.{get}
@@ -19,7 +19,7 @@ use Rattle.rv_model.proofs.access_lemmas.Moves.{stored-append}
 use Rattle.rv_model.proofs.memory_lemmas.Memory.{get-put_bytes_outside}
 use Rattle.rv_model.proofs.Choices.{of_either}
 
--- the word at an address is the same in both
+-- the word at an address is the same in both memories
 abbrev pub SameWord : ℕ → Memory → Memory → Type 0
 SameWord pc m other = (x : ℕ) → pc ≤ x → x < pc + 4 → get other x ≡ get m x
 
@@ -30,7 +30,7 @@ element_kept m size bs (Moved address) pc x short h a b =
     get-put_bytes_outside m address bs x apart
 element_kept m size bs Ones pc x short h a b = refl
 
--- a transfer leaves the word at an address
+-- a transfer leaves the word at an address unchanged
 abbrev pub Leaves : ℕ → Transfer → Type 0
 Leaves pc t = IsApart pc t.size t.kind
 
@@ -52,7 +52,7 @@ transfers_kept m place file each i (suc n) pc h x a b =
     ∙ transfers_kept (memory_stored m place file (each i)) place file each (i + 1) n pc (λ k l g. h k (omega (arith, l)) (omega (arith, g))) x a b
     ∙ stored_kept m place file (each i) pc (h i (omega arith) (omega arith)) x a b
 
--- a store that stops has stored no byte at its own word, if no transfer before the index where it stopped has one there
+-- no transfer before the index `stop` has a byte in the store's own word
 abbrev TransfersApart : ℕ → ℕ → VectorAccess → Type 0
 TransfersApart pc stop a = (i : ℕ) → a.body.start ≤ i → i < stop → All (Leaves pc) (plan a false i)
 

@@ -21,7 +21,7 @@ set_same [] i = refl
 set_same (x ∷ xs) zero = refl
 set_same (x ∷ xs) (suc i) = ap (λ (ys : List ℕ). x ∷ ys) (set_same xs i)
 
--- registers that no instruction has written
+-- registers without a write
 kept : (rd pc : ℕ) (x : Scalar) → Wrote rd x (record x { pc = pc })
 kept rd pc x = record {
   value = read_register x rd;

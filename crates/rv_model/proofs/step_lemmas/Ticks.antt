@@ -1,4 +1,5 @@
--- The ticks of vector instructions: at least one and no more than are left; a cut takes all, and more than enough change nothing.
+-- The ticks of vector instructions: at least one, and at most those that are left. A cut takes all of them, and ticks beyond the needed
+-- ones change nothing.
 use Rattle.std.proofs.Common.{◌≡◌, ◌≢◌, ℕ, ◌-◌, ◌≤◌, Bool, true, false, cond, Option, Some, None, refl, sym, ap, subst, arith}
 use Rattle.std.specs.Option.{option_map_or}
 use Rattle.rv_model.specs.declared.instructions.instruction.Instr.{Instr}
@@ -22,7 +23,7 @@ use Rattle.rv_model.proofs.step_lemmas.Cuts.{accessed_facts, cut_at, cut_index}
 use Rattle.rv_model.proofs.step_lemmas.Effects.{UnlessDone, vector_keeps}
 use Rattle.rv_model.proofs.Choices.{of_option}
 
--- ---- at least one, and no more than are left
+-- ---- at least one, and at most those that are left
 
 ticks_within : (limit : ℕ) (i : Instr) (s : HartState) → 1 ≤ limit → (1 ≤ vector_ticks limit i s) × (vector_ticks limit i s ≤ limit)
 ticks_within limit (instr.Access i) s some =
@@ -66,7 +67,7 @@ uncut_access d (memory_end.Cut at) h = absurd (h at refl)
 uncut_access d _ h = λ index e. absurd (cc)
 
 module _ (limit larger : ℕ) (more : limit ≤ larger) (s : HartState) where
-  -- more ticks change nothing
+  -- more ticks give the same result if there is no cut
   abbrev IsSame : (ℕ → VectorStepped) → Type 0
   IsSame done = IsWhole (done limit).end → done larger ≡ done limit
 
@@ -75,7 +76,7 @@ module _ (limit larger : ℕ) (more : limit ≤ larger) (s : HartState) where
       directed_same limit larger (load_fills_masked_off a s) s.vector s.memory more
       a.direction a (uncut_access a.direction (accessed limit a s).end whole)
 
-  -- what a load or store ends with, by its run
+  -- the end of a load or store, by its run
   abbrev ended : AccessInstr → VectorAccess → AccessRun → VectorStepped
   ended i a run = vector_ends (access_end a.direction run.end) (after_access (filled_type i a s) a run s)
 
@@ -92,7 +93,7 @@ module _ (limit larger : ℕ) (more : limit ≤ larger) (s : HartState) where
       named true _ = λ whole. refl
       named false _ = λ whole. refl
 
-  -- the same of the step
+  -- the same for the step
   abbrev IsSameStep : ℕ → (ℕ → VectorStepped) → (ℕ → ℕ) → Type 0
   IsSameStep word done ticks =
       (after_vector (ticks limit) (done limit).end word (done limit).state).end ≢ step_end.Cut

@@ -1,5 +1,4 @@
--- The ticks of a load or store, as they show in the vector states that it finds and leaves: for what carries one out and counts them
--- from there.
+-- The ticks of a load or store, computed from the vector states before and after it, for code that counts ticks from these states.
 use Rattle.std.proofs.Common.{◌≡◌, ℕ, ◌+◌, ◌-◌, Bool, true, false, ◌&&◌, cond, max, Option, Some, inl, inr, refl, sym, ◌∙◌, ap, arith}
 use Rattle.std.specs.Option.{option_map_or}
 use Rattle.std.specs.Prelude.{nat_lt}
@@ -21,8 +20,7 @@ use Rattle.rv_model.proofs.access_lemmas.Runs.{AllOrShorter, AtEnd, AtStop, CutA
 use Rattle.rv_model.proofs.step_lemmas.Cuts.{RunFacts, accessed_facts}
 use Rattle.rv_model.proofs.Choices.{of_bool}
 
--- one for each index from vstart on, or up to the length to which it was shortened, or to vstart where it faults; one that is cut
--- takes all that are left
+-- one tick for each index from vstart on, up to the reduced length, or up to vstart after a fault; a cut takes all ticks that are left
 abbrev pub access_ticks : ℕ → VectorAccess → VState → VState → VEnd → ℕ
 access_ticks limit a before after vector_end.Illegal = 1
 access_ticks limit a before after vector_end.Done =
@@ -49,7 +47,7 @@ module _ (limit : ℕ) (a : VectorAccess) (s : HartState) (f : RunFacts limit a 
   taken (memory_end.Cut index) done stop = omega (arith, stop.reached, stop.at)
   taken (memory_end.Fault index addr) done stop = omega (arith, stop.reached, stop.stopped.vstart, stop.stopped.from)
 
--- those of a legal one
+-- the ticks of a legal load or store
 pub ticks_show : (limit : ℕ) (i : AccessInstr) (a : VectorAccess) (s : HartState) → access_of i s.vector s.scalar ≡ Some a
     → is_legal (instr.Access i) s.vector.conf.vtype s.vector.vstart ≡ true
     → vector_ticks limit (instr.Access i) s
@@ -66,7 +64,7 @@ ticks_show limit i a s e legal =
     ∙ same run.end
     ∙ ap (λ (d : VectorStepped). access_ticks limit a s.vector d.state.vector d.end) (sym executed)
   where
-    -- the tails have no part in it
+    -- the tails don't affect the ticks
     same : (end : MemEnd) → access_ticks limit a s.vector (accessed limit a s).vector (access_end a.direction end)
         ≡ access_ticks limit a s.vector (access_step limit i (Some a) s).state.vector (access_end a.direction end)
     same memory_end.Done = refl

@@ -1,4 +1,4 @@
--- Digits that are read from the left, in a number that stops at a cap.
+-- Digits read from the left, with a value limited to a cap.
 use Rattle.rv_model.specs.text.Digits.{digit, digits_after}
 use Rattle.rv_model.specs.lending.Text.{capped}
 use Rattle.std.proofs.Common.{◌≡◌, ℕ, ◌+◌, ◌*◌, ◌<◌, ◌≤◌, Bool, true, false, cond, ltb, List, [], ◌∷◌, length, get_or, drop, Option, Some, None, refl, sym, ap, ◌∙◌, arith, inl, inr, min}
@@ -6,7 +6,7 @@ use Rattle.std.proofs.Math.Nat.{mul-le-mul_left}
 use Rattle.std.proofs.lemmas.Bool.{cases_lt, lt-ltb, le-ltb, cond-true, cond-false}
 use Rattle.std.proofs.lemmas.List.{at_drop_more, at_drop_all}
 
--- two numbers that are equal up to a limit stay so with a further digit
+-- two numbers that are equal up to the cap are still so after a further digit
 min_step : (cap r d m n : ℕ) → 1 ≤ r → min m cap ≡ min n cap → min (m * r + d) cap ≡ min (n * r + d) cap
 min_step cap r d m n h e =
     elim (cases_lt m cap) [
@@ -14,12 +14,12 @@ min_step cap r d m n h e =
       | inr le ↦ let n_le : cap ≤ n = omega arith in omega (arith, mul-le-mul_left m h, mul-le-mul_left n h)
     ]
 
--- capped numbers that are equal stay so under a test
+-- equal capped numbers are still equal under a test
 cond_capped : (cap : ℕ) (b : Bool) (x y : Option ℕ) → capped cap x ≡ capped cap y → capped cap (cond b x None) ≡ capped cap (cond b y None)
 cond_capped cap true x y e = e
 cond_capped cap false x y e = refl
 
--- further digits make the same capped number of numbers that are equal up to the cap
+-- numbers that are equal up to the cap give the same capped number after further digits
 capped_same : (cap r : ℕ) (cs : List ℕ) (m n : ℕ) → 1 ≤ r → min m cap ≡ min n cap → capped cap (digits_after r m cs) ≡ capped cap (digits_after r n cs)
 unfolding digits_after
 capped_same cap r [] m n h e = ap Some e
@@ -35,7 +35,7 @@ digit_more cap r v i new text total h lt d new_is so_far =
     let here : digits_after r v (drop i text) ≡ digits_after r (v * r + digit c) cs = at_drop_more (digits_after r v) text i 0 lt ∙ cond-true (ltb (digit c) r) (digits_after r (v * r + digit c) cs) None (lt-ltb (digit c) r d) in
     capped_same cap r cs new (v * r + digit c) h (omega arith) ∙ sym (ap (capped cap) here) ∙ so_far
 
--- a byte that is no digit of the radix spells no number
+-- a byte that isn't a digit of the radix gives no number
 pub digit_stops : (cap r v i : ℕ) (text : List ℕ) (total : Option ℕ) → i < length text → r ≤ digit (get_or text i 0) → capped cap (digits_after r v (drop i text)) ≡ total → None ≡ total
 unfolding digits_after
 digit_stops cap r v i text total lt d so_far =

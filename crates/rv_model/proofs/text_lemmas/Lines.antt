@@ -1,4 +1,4 @@
--- How an output falls into lines.
+-- The lines of an output.
 use Rattle.std.proofs.Common.{◌≡◌, ℕ, ◌+◌, List, [], ◌∷◌, ◌++◌, Bool, true, false, refl, ap, ◌∙◌, append_assoc, eqb, cond, get_or, drop}
 use Rattle.std.specs.Prelude.{not, if◌then◌else◌, filter, map}
 use Rattle.std.proofs.lemmas.Bool.{and_parts, and_from, not-true}
@@ -6,7 +6,7 @@ use Rattle.rv_model.specs.text.Lines.{is_newline, pieces, tagged, text}
 use Rattle.rv_model.proofs.text_lemmas.Newlines.{is_line, IsLine, are_lines, AreLines}
 use Rattle.rv_model.specs.machine.Script.{lines}
 
--- a line that ends is the first piece
+-- a line with a newline after it is the first piece
 pub pieces_at : (line rest : List ℕ) → IsLine line → pieces (line ++ 10 ∷ rest) ≡ line ∷ pieces rest
 pieces_at [] rest h = refl
 pieces_at (b ∷ bs) rest h =
@@ -14,7 +14,7 @@ pieces_at (b ∷ bs) rest h =
     let other : eqb b 10 ≡ false = not-true (is_newline b) two.0 in
     rw (other, pieces_at bs rest two.1) refl
 
--- a line that doesn't end is the one piece
+-- a line without a newline after it is the only piece
 pub pieces_of_line : (line : List ℕ) → IsLine line → pieces line ≡ line ∷ []
 pieces_of_line [] h = refl
 pieces_of_line (b ∷ bs) h =
@@ -33,7 +33,7 @@ joined false l ls all rest h = h
 abbrev of_user : ℕ → List (List ℕ) → List (List ℕ)
 of_user u all = map (λ line. drop 2 line) (filter (λ line. eqb (get_or line 0 0) (48 + u)) all)
 
--- the first line is shown to its user alone
+-- the first line appears only in the lines of its user
 pub lines_tagged : (u tag : ℕ) (line rest : List ℕ) → is_newline tag ≡ false → IsLine line → lines u (tagged tag line ++ rest) ≡ (if eqb tag (48 + u) then line ∷ lines u rest else lines u rest)
 unfolding lines
 lines_tagged u tag line rest plain h =

@@ -1,4 +1,4 @@
--- Texts without a newline: numbers, and what is made of such texts.
+-- Texts without a newline: numbers, and concatenations of such texts.
 use Rattle.std.proofs.Common.{◌≡◌, ℕ, zero, suc, ◌+◌, ◌/◌, ◌%◌, List, [], ◌∷◌, ◌++◌, get_or, true, false, refl, ap, arith, eqb}
 use Rattle.std.specs.Prelude.{not, decimal, codes, ◌==◌, nat_lt, flat_map}
 use Rattle.std.specs.Int.{to_be_bytes, w32, w64}
@@ -11,7 +11,7 @@ use Rattle.rv_model.specs.text.Lines.{is_newline}
 use Rattle.rv_model.proofs.Choices.{of_either}
 use Rattle.rv_model.proofs.text_lemmas.Newlines.{is_line, IsLine}
 
--- no newline in two parts, no newline in the whole
+-- the concatenation of two texts without a newline has no newline
 pub is_line-append : (a b : List ℕ) → IsLine a → IsLine b → IsLine (a ++ b)
 is_line-append [] b h k = k
 is_line-append (c ∷ a) b h k =
@@ -56,7 +56,7 @@ pub decimal_line : (n : ℕ) → IsLine (decimal n)
 unfolding digits
 decimal_line n = digits_line 64 n [] refl
 
--- ---- a text without a newline, made of such texts
+-- ---- concatenations of texts without a newline
 
 abbrev pub Piece : Type 0
 Piece = (text : List ℕ) × IsLine text

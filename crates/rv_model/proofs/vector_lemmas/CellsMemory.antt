@@ -1,4 +1,4 @@
--- A `Cells` in memory is its bytes side by side, and back.
+-- A `Cells` in memory is equivalent to its contiguous bytes.
 use mathlib.Core.Path.{◌≡◌, refl, sym}
 use Prim.Native.Nat.{ℕ, zero, ◌+◌}
 use mathlib.Core.List.{List, [], ◌∷◌}
@@ -44,7 +44,7 @@ module _ (n : ℕ) where
   abbrev pub array_ty : Ty
   array_ty = ty_array (layout u8) n
 
-  -- where the array begins, in a struct at the offset o
+  -- the start of the array in a struct at the offset o
   abbrev pub start : ℕ → ℕ
   start o = o + up (align array_ty) zero
 
@@ -62,7 +62,7 @@ module _ (n : ℕ) where
   module _ {M : Type 1} {𝓤 : Ura M} (𝓛 : Logic 𝓤) (b o : ℕ) where
     open 𝓛 use {H}
 
-    -- what is left of the struct while its field is out
+    -- the rest of the struct without its field
     abbrev pub Left : SProp 𝓤
     Left = H.left full_share (ty_struct [] (raw_tys fields)) (raw_tys fields) b o
 

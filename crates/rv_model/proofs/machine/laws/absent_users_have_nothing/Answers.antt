@@ -1,4 +1,4 @@
--- Absent users have nothing of the vector unit.
+-- An absent user doesn't own the vector unit and has no saved state.
 use Rattle.rv_model.proofs.machine_lemmas.AbsentUsers as law
 use Rattle.rv_model.proofs.machine.laws.absent_users_have_nothing.Goals as goal
 

@@ -1,4 +1,4 @@
--- What every instruction leaves of the vector length and of the permissions.
+-- Each instruction preserves a valid vector length and the permissions.
 use Rattle.rv_model.proofs.step_lemmas.Configurations as law
 use Rattle.rv_model.proofs.machine.laws.configurations_that_stay.Goals as goal
 

@@ -1,4 +1,4 @@
--- What one instruction puts out.
+-- The output of one instruction.
 use Rattle.rv_model.proofs.step_lemmas.Effects as law
 use Rattle.rv_model.proofs.machine.laws.output_that_grows.Goals as goal
 

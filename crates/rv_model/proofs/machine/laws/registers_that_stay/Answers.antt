@@ -1,4 +1,4 @@
--- Both laws of one instruction.
+-- Both laws about one instruction.
 use Rattle.rv_model.proofs.step_lemmas.Effects as law
 use Rattle.rv_model.proofs.machine.laws.registers_that_stay.Goals as goal
 

@@ -1,4 +1,4 @@
--- The laws of slices, one after another.
+-- The laws about consecutive slices.
 use Rattle.rv_model.proofs.machine_lemmas.ConfiguredUsers as users
 use Rattle.rv_model.proofs.machine_lemmas.Cuts as law
 use Rattle.rv_model.proofs.machine.laws.slices_add_up.Goals as goal

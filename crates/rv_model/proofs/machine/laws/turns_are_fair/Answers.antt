@@ -1,4 +1,4 @@
--- Turns go round.
+-- Turns rotate among the users with running programs.
 use Rattle.rv_model.proofs.machine_lemmas.Turns as law
 use Rattle.rv_model.proofs.machine.laws.turns_are_fair.Goals as goal
 

@@ -1,4 +1,4 @@
--- What transfers leave, byte by byte.
+-- Results of transfers for each byte.
 use Rattle.rv_model.proofs.access_lemmas.InFile.{transfers_lie_in_file}
 use Rattle.rv_model.proofs.access_lemmas.TransferBytes as law
 use Rattle.rv_model.proofs.step.byte_laws.bytes_of_transfers.Goals as goal

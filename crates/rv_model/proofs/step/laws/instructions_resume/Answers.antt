@@ -1,4 +1,4 @@
--- The laws of vector instructions and steps that stop and are run again.
+-- The laws about vector instructions and steps that stop and are executed again.
 use Rattle.rv_model.proofs.step_lemmas.GoesOn as on
 use Rattle.rv_model.proofs.step.laws.instructions_resume.Goals as goal
 

@@ -1,4 +1,4 @@
--- The laws of loads and stores that stop.
+-- The laws about loads and stores that stop and are executed again.
 use Rattle.rv_model.proofs.access_lemmas.GoesOn as on
 use Rattle.rv_model.proofs.access_lemmas.Growth as growth
 use Rattle.rv_model.proofs.access_lemmas.Runs as off

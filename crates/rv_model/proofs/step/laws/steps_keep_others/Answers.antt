@@ -1,4 +1,4 @@
--- The laws of what steps of vector instructions leave as it was.
+-- The laws about registers and memory that steps of vector instructions leave unchanged.
 use Rattle.rv_model.proofs.step.laws.steps_keep_others.Goals as goal
 use Rattle.rv_model.proofs.step_lemmas.KeptAccesses.{accesses_keep_others}
 use Rattle.rv_model.proofs.step_lemmas.KeptSteps.{steps_keep_others}

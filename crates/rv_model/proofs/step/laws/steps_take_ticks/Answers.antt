@@ -1,4 +1,4 @@
--- The laws of the ticks of steps.
+-- The laws about the ticks of steps.
 use Rattle.rv_model.proofs.step_lemmas.StepTicks as law
 use Rattle.rv_model.proofs.step.laws.steps_take_ticks.Goals as goal
 

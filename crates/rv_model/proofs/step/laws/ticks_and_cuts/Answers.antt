@@ -1,4 +1,4 @@
--- The laws of the ticks of vector instructions.
+-- The laws about the ticks of vector instructions.
 use Rattle.rv_model.proofs.step_lemmas.Ticks as law
 use Rattle.rv_model.proofs.step.laws.ticks_and_cuts.Goals as goal
 

@@ -1,5 +1,5 @@
--- `part_mut` lends a range of the array as a slice. The borrow checker shows no write-back clause
--- for a part of a `[u8; N]`, so this proof walks the code by hand.
+-- `part_mut` borrows a range of the array as a slice. The borrow checker has no write-back clause for a part of a `[u8; N]`, so this
+-- proof follows the code step by step.
 use mathlib.Core.Path.{◌≡◌, refl, sym, ap, ◌∙◌}
 use Prim.Native.Nat.{ℕ, ◌+◌, ◌-◌, ◌^◌, ◌<◌, ◌≤◌}
 use native.Mathlib.Nat.{mul-one}
@@ -138,7 +138,7 @@ module _ (n : ℕ) {M : Type 1} {𝓤 : Ura M} (𝓛 : Logic 𝓤) where
         rewrite ! 0 (λ (l : List ℕ). ‵ (elements l (past p (length front)))) (sym (take-append-drop count (drop_list from d.bytes))) refl $
         use1 𝓛 (‵ (elements part (past p (length front))) ⊛ ‵ (elements back (past (past p (length front)) (length part)))) (cut_app 𝓛 (mem u8) part back b (past p (length front))) $
         split ! $
-        -- [the part; what lies after; what lies before; the struct's rest; the open borrow, in three]
+        -- [the part; the bytes after it; the bytes before it; the rest of the struct; the open borrow, in three parts]
         move ! (1 ∷ 3 ∷ []) $ join ! $ move ! (2 ∷ 0 ∷ []) $ join ! $ move ! (2 ∷ 3 ∷ 4 ∷ 1 ∷ 0 ∷ []) $ group ! 5 $
         use1 𝓛 (later (some (lent (past p (length front)) (length part))))
         (lends_Elements 𝓛 (S n) u8 after (named 0) κ q b o b (past p (length front)) γ part room Rest (put order within long) ((S n).coded.code d) ((S n).coded.code d)) $
