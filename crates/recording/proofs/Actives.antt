@@ -1,4 +1,4 @@
--- How many elements of a body are active.
+-- The number of active elements of a body.
 use Rattle.std.proofs.Common.{◌≡◌, ◌≤◌, ◌<◌, ◌+◌, ◌-◌, ◌&&◌, refl, ℕ, zero, suc, Bool, true, false, List, length, ap, ◌∙◌, sym, arith}
 use Rattle.std.proofs.Math.Path.{fun_ext}
 use Rattle.std.proofs.lemmas.Bool.Decides.{nat_tests}
@@ -11,14 +11,14 @@ use Rattle.recording.specs.Classes.{active_count}
 use Rattle.recording.specs.Runs.{carried_out}
 use Rattle.recording.specs.Sums.{Sums}
 
--- ---- under the mask
+-- ---- with a mask
 
 once : (here bit : Bool) → ((here && bit) && bit) ≡ (here && bit)
 once true true = refl
 once true false = refl
 once false bit = refl
 
--- those whose bit of the mask is set
+-- the active elements are those with a set mask bit
 pub set_are_active : (mask : List ℕ) (start end : ℕ)
     → set_count (record { unmasked = false; mask = mask; start = start; end = end }) mask end ≡ active_count (record { unmasked = false; mask = mask; start = start; end = end })
 set_are_active mask start end =
@@ -44,7 +44,7 @@ below_active mask start end (suc n) within =
     ∙ one_more mask start end n (omega (arith, within))
     ∙ ap (λ (k : ℕ). k - start) (sym next)
 
--- all from the start on
+-- all elements from the start on are active
 pub all_are_active : (mask : List ℕ) (start end : ℕ) → active_count (whole mask start end) ≡ end - start
 all_are_active mask start end = below_active mask start end end (let here : end ≤ end = omega arith in here)
 

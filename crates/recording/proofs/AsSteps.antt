@@ -1,4 +1,4 @@
--- A run beside the monitor's steps.
+-- A run compared with the monitor's steps.
 use Rattle.std.proofs.Common.{◌≡◌, ◌≤◌, ◌-◌, refl, ℕ, suc, zero, Bool, true, false, List, [], ◌∷◌, ◌++◌, Option, Some, is_none, length, if◌then◌else◌, ap, ◌∙◌, sym, subst, append-nil, append_assoc, flat_map, length-append, arith}
 use Rattle.std.specs.Prelude.{not, ◌&&◌}
 use Rattle.rv_model.specs.declared.step.step_end.StepEnd.{StepEnd}
@@ -30,18 +30,18 @@ never_held : (exempt held : Bool) → held ≡ false → (not exempt && held) �
 never_held true held e = refl
 never_held false held e = e
 
--- what an instruction comes to, after it was tried
+-- the outcome of an instruction, with its attempt added to the uses of the vector unit
 abbrev tried : Present → Halted → Halted
 tried p rest = record rest { uses = Tries 256 p.hart ∷ rest.uses }
 
--- what one instruction that ended so comes to, before which a breakpoint holds or not, and then the others
+-- the outcome of one instruction with this end, after a test for a breakpoint, and of the instructions after it
 abbrev runs_by : Bool → Present → (Present → Halted) → Stepped → Halted
 runs_by held p others one =
     let next : Present = after one.end one.state p in
     if held then halted p (Some stop.Breakpoint)
     else tried p (if is_none (stop_of one.end) then others next else halted next (stop_of one.end))
 
--- one instruction with what it comes to, by whether it is held and whether the program goes on
+-- the state after one instruction and those after it, by whether a breakpoint stops it and whether the program continues
 abbrev hart_by : Bool → Bool → Halted → HartState → HartState → HartState
 hart_by held goes others here next = if held then here else if goes then others.state.hart else next
 
@@ -51,7 +51,7 @@ by_choice true goes p next others why = refl
 by_choice false true p next others why = refl
 by_choice false false p next others why = refl
 
--- a run's first instruction, where the others are as steps
+-- the first instruction of a run, if the others equal steps
 module _ (x : HartState) (o : List ℕ) (exempt : Bool) (p : Present) (rest : Run) (none : p.breakpoints ≡ []) (at : p.hart ≡ with_output o x) where
   first_is : (m : ℕ) (goes : Bool) → length o ≤ 768 → is_none (stop_of (step 256 (taken x)).end) ≡ goes
       → (steps (suc m) exempt p).state.hart

@@ -1,4 +1,4 @@
--- The body of a vector instruction, beside that of its class.
+-- The body of a vector instruction, compared with that of its class.
 use Rattle.std.proofs.Common.{◌≡◌, refl, sym, ap, ◌∙◌, true, Option, Some, None}
 use Rattle.std.specs.Option.{option_map, option_map_or}
 use Rattle.rv_model.specs.accesses.VectorAccess.{VectorAccess}
@@ -10,13 +10,13 @@ use Rattle.rv_model.specs.elements.Elements.{Body}
 use Rattle.rv_model.specs.vector.Groups.{element_count, whole_type}
 use Rattle.recording.specs.Laws.{AccessBody, OperationBody}
 
--- ---- of a load or store
+-- ---- loads and stores
 
--- the body of an access that is this one
+-- the body of an access that equals another one
 same_body : (made a : VectorAccess) → Some made ≡ Some a → a.body ≡ made.body
 same_body made a is = let e : made ≡ a = cc in ap (λ (b : VectorAccess). b.body) (sym e)
 
--- whatever the vector type is
+-- the same for any vector type
 by_type : (made : VType → VectorAccess) (b : Body) (c : Option VType) (a : VectorAccess) → ((t : VType) → (made t).body ≡ b) → option_map made c ≡ Some a → a.body ≡ b
 by_type made b None a same is = cc
 by_type made b (Some t) a same is = same_body (made t) a is ∙ same t
@@ -29,7 +29,7 @@ access_body (WholeLoad count width vd rs1) v x a is = same_body _ a is
 access_body (WholeStore count vd rs1) v x a is = same_body _ a is
 access_body (MaskAccess direction vd rs1) v x a is = by_type _ _ v.conf.vtype a (λ t. refl) is
 
--- ---- of an operation
+-- ---- operations
 
 pub operation_body : OperationBody
 operation_body (SetVli rd rs1 vtype) t v is has_elements = absurd (cc)

@@ -1,4 +1,4 @@
--- What the rows have more after one instruction.
+-- The additions of one instruction to the rows.
 use Rattle.std.proofs.Common.{◌≡◌, ◌+◌, ◌-◌, refl, ℕ, Bool, true, false, List, Option, None, if◌then◌else◌, ap, ◌∙◌, sym, subst, zero-add}
 use Rattle.rv_model.specs.declared.memory.Access.TheVariants.{Fetch}
 use Rattle.rv_model.specs.declared.step.step_end.Cause.TheVariants.{FetchAccess}
@@ -18,9 +18,9 @@ use Rattle.recording.specs.Sums.{HasMore, IsRowOf, Key, Row, Sums, more_of, no_m
 use Rattle.recording.proofs.Actives.{all_are_active, no_elements}
 use Rattle.recording.specs.CountLaws.{composed, none_more}
 
--- ---- in its row, and beside it
+-- ---- the row of the word, and the row of the second key
 
--- the same, by whether it is counted
+-- the counts of an instruction, by whether it is counted
 abbrev counted_if : Bool → Key → Sums → Option Key → (Sums → ℕ) → (Key → Bool) → ℕ
 counted_if counts key sums beside number asked = if counts then more_of key sums number asked + once_more beside number asked else 0
 
@@ -37,7 +37,7 @@ plain_is Link is = absurd (cc)
 plain_is (Length unmasked) is = absurd (cc)
 plain_is (Other extent) is = absurd (cc)
 
--- a plain instruction is counted in its row alone, whatever it found
+-- a plain instruction is counted only in the row of its word, independent of the state before it
 plain_counted : (k : Class) (mask : List ℕ) (start ticks : ℕ) (c d : Configuration) (pc target : ℕ) (end : StepEnd) (key : Key) (made : Sums) (old new : List Row)
     → is_plain k ≡ true → is_counted end ≡ true → made ≡ plain ticks → HasMore (more_of key made) old new
     → HasMore (counted end key (carried_out ticks (body k mask start c) (tail_end k start c)) (key_beside k d pc target)) old new
@@ -45,13 +45,13 @@ plain_counted k mask start ticks c d pc target end key made old new is counts e 
     subst (λ (j : Class). HasMore (counted end key (carried_out ticks (body j mask start c) (tail_end j start c)) (key_beside j d pc target)) old new) (sym (plain_is k is))
     (both_counted end key made (carried_out ticks (body Plain mask start c) (tail_end Plain start c)) None old new new counts (e ∙ sym (no_elements mask start ticks)) one (none_more new))
 
--- a key is counted in its row, which may be a new one
+-- a key is counted in its row, which may be new
 pub counted_in : (more : (Sums → ℕ) → (Key → Bool) → ℕ) (old mid new : List Row) → HasMore no_more old mid → HasMore more mid new → HasMore more old new
 counted_in more old mid new = composed no_more more more old mid new (λ number asked. zero-add (more number asked))
 
--- ---- by what the code sees
+-- ---- counts from the values in the code
 
--- the mask only counts where the instruction is masked
+-- the mask affects the counts only if the instruction is masked
 same_active : (unmasked : Bool) (mask other : List ℕ) (start end : ℕ) → (unmasked ≡ false → mask ≡ other)
     → active_count (record { unmasked = unmasked; mask = mask; start = start; end = end }) ≡ active_count (record { unmasked = unmasked; mask = other; start = start; end = end })
 same_active true mask other start end same = all_are_active mask start end ∙ sym (all_are_active other start end)
@@ -64,7 +64,7 @@ same_sums k mask other start ticks c same =
     ap (λ (n : ℕ). let made : Sums = record { times = 1; ticks = ticks; active = n; masked = end - start_of k start - n; tail = tail_end k start c - end } in made)
     (same_active (is_unmasked k) mask other (start_of k start) end same)
 
--- an instruction that is counted was fetched
+-- a counted instruction was fetched
 pub was_fetched : (s next : HartState) (ticks : ℕ) (end : StepEnd) → step 256 s ≡ ends_after ticks end next → is_counted end ≡ true
     → can_access Fetch s.memory s.scalar.pc 4 ≡ true
 unfolding step
@@ -76,13 +76,13 @@ was_fetched s next ticks end made counts =
     by true one h = refl
     by false one h = h
 
--- what an instruction is counted by that comes to this
+-- the counts of an instruction with this outcome
 abbrev share_of : HartState → Stepped → Bool → ℕ → Class → List ℕ → ℕ → (Sums → ℕ) → (Key → Bool) → ℕ
 share_of s one counts word k mask start =
     let c = one.state.vector.conf in
     counted_if counts (Word s.scalar.pc word) (carried_out one.ticks (body k mask start c) (tail_end k start c)) (key_beside k s.vector.conf s.scalar.pc one.state.scalar.pc)
 
--- the code's word, class and mask are those of the state, where they count
+-- the code's word, class and mask equal those of the state if they affect the counts
 module _ (s : HartState) (word : ℕ) (k : Class) (mask : List ℕ) (start : ℕ) (old new : List Row)
     (class_is : k ≡ class_of (scan table word)) (mask_is : is_unmasked k ≡ false → mask ≡ register_of s.vector.file 0) (start_is : start ≡ s.vector.vstart) where
   by_state : (one : Stepped) (counts : Bool) → (counts ≡ true → word ≡ word_of s) → HasMore (share_of s one counts word k mask start) old new
@@ -107,7 +107,7 @@ module _ (s : HartState) (word : ℕ) (k : Class) (mask : List ℕ) (start : ℕ
       (subst (λ (d : Configuration). HasMore (counted end (Word s.scalar.pc word) sums (key_beside k d s.scalar.pc next.scalar.pc)) old new) conf_is
       (subst (λ (p : ℕ). HasMore (counted end (Word s.scalar.pc word) sums (key_beside k c p next.scalar.pc)) old new) pc_is more)))
 
--- ---- by what was noted
+-- ---- counts from the saved state
 
 pub row_for : (s : HartState) (word index : ℕ) (found : Found) (k : Class) (rows : List Row) → (can_access Fetch s.memory s.scalar.pc 4 ≡ true → word ≡ word_of s)
     → IsRowOf (Word s.scalar.pc word) index rows → (is_plain k ≡ false → Finds k s.scalar.pc s.vector found) → k ≡ class_of (scan table word) → IsRowFor s index found rows
@@ -124,7 +124,7 @@ share_not_counted s next ticks end rows made isnt =
     let by : Stepped → Bool → Type 0 = λ one counts. HasMore (share_of s one counts (word_of s) (class_of (scan table (word_of s))) (register_of s.vector.file 0) s.vector.vstart) rows rows in
     subst (λ (one : Stepped). by one (is_counted one.end)) (sym made) (subst (by (ends_after ticks end next)) (sym isnt) (none_more rows))
 
--- of an instruction of this class, whose row has the index
+-- the counts of an instruction of this class, whose row has the index
 module _ (s next : HartState) (k : Class) (index : ℕ) (found : Found) (ticks : ℕ) (end : StepEnd) (sums : Sums) (old new : List Row) (noted : IsRowFor s index found old)
     (class : k ≡ class_of (scan table noted.word)) (made : step 256 s ≡ ends_after ticks end next) (counts : is_counted end ≡ true) where
   pub share_plain : is_plain k ≡ true → sums ≡ plain ticks → HasMore (more_of (Word s.scalar.pc noted.word) sums) old new → HasMore (share s) old new

@@ -1,4 +1,4 @@
--- How many elements whole registers have
+-- Numbers of elements of whole registers
 use Rattle.std.proofs.Common.{◌≤◌, lit≤}
 use Rattle.std.specs.Prelude.{⊤}
 use Rattle.rv_model.specs.declared.instructions.operations.RegisterCount.{RegisterCount}

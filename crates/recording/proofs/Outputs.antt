@@ -1,4 +1,4 @@
--- A step with something in the output buffer, beside the same step with nothing in it.
+-- A step with bytes in the output buffer, compared with the same step with an empty buffer.
 use Rattle.std.proofs.Common.{◌≡◌, ◌≤◌, ◌-◌, ◌==◌, ◌||◌, refl, ℕ, Bool, true, false, List, [], ◌++◌, Option, Some, None, cond, length, min, ap, ◌∙◌, sym, append-nil, arith, ◌%◌}
 use Rattle.std.specs.Prelude.{not, ◌&&◌}
 use Rattle.std.specs.Int.{byte_len, w64}
@@ -44,20 +44,20 @@ use Rattle.rv_model.specs.vector.Control.{csr_form, is_write}
 use Rattle.rv_model.specs.vector.ControlRegisters.{control_register, is_read_only}
 use Rattle.recording.specs.Machines.{taken}
 
--- this in the output buffer, whatever was there
+-- a state with these bytes in the output buffer instead of its own
 abbrev pub with_output : List ℕ → HartState → HartState
 with_output o s = record s { output = o }
 
--- this before what a step leaves there
+-- a step's result with these bytes before its output
 abbrev pub joined : List ℕ → Stepped → Stepped
 joined o one = record one { state = with_output (o ++ one.state.output) one.state }
 
--- what is so of both, by whichever a test chooses
+-- a property of both branches holds for the branch that a test selects
 either_by : {A : Type 0} (f : A → A) (b : Bool) (x y x' y' : A) → x' ≡ f x → y' ≡ f y → cond b x' y' ≡ f (cond b x y)
 either_by f true x y x' y' h k = h
 either_by f false x y x' y' h k = k
 
--- ---- vector instructions look at no output, and leave it
+-- ---- vector instructions neither read nor change the output buffer
 
 abbrev vector_with : List ℕ → VectorStepped → VectorStepped
 vector_with o done = record done { state = with_output o done.state }
@@ -110,7 +110,7 @@ vector_keeps o limit i word s =
     (either_by (vector_with o) (is_legal i s.vector.conf.vtype s.vector.vstart) _ _ _ _ (performed_keeps o s limit i) refl)
     ∙ after_keeps o (vector_ticks limit i s) word done.end done.state
 
--- ---- scalar instructions but for calls don't either
+-- ---- scalar instructions except calls don't either
 
 module _ (o : List ℕ) (s : HartState) where
   jumps_keep : (target : ℕ) (x : Scalar) → jumps target x (with_output o s) ≡ step_with o (jumps target x s)
@@ -126,7 +126,7 @@ module _ (o : List ℕ) (s : HartState) where
   control_keeps (Register op rd rs1 csr) word = csr_keeps (control_register csr) op rd rs1 (read_register s.scalar rs1) word
   control_keeps (Immediate op rd imm csr) word = csr_keeps (control_register csr) (csr_form op) rd imm imm word
 
--- what is so for each buffer, joins
+-- a function that leaves every output buffer unchanged commutes with joining
 still : (o : List ℕ) (s : HartState) (f : HartState → Stepped) → ((l : List ℕ) → f (with_output l s) ≡ step_with l (f s)) → f (with_output o s) ≡ joined o (f (taken s))
 still o s f keeps = keeps o ∙ ap (λ (l : List ℕ). step_with l (f s)) (sym (append-nil o)) ∙ ap (λ (one : Stepped). joined o one) (sym (keeps []))
 

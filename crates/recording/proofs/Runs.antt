@@ -9,7 +9,7 @@ use Rattle.rv_model.specs.step.Step.{step}
 use Rattle.recording.specs.Machines.{Advances, taken}
 use Rattle.recording.specs.Runs.{Run, TakesFirst, begins, put_out, run, stays}
 
--- ---- no instruction is carried out, without fuel or ticks
+-- ---- no instruction is executed without fuel or ticks
 
 pub without_fuel : (k left : ℕ) (s : HartState) → k ≡ 0 → run k left s ≡ stays s
 unfolding run
@@ -22,7 +22,7 @@ without_ticks zero left s none = refl
 without_ticks (suc k) zero s none = refl
 without_ticks (suc k) (suc left) s none = absurd (omega (arith, none))
 
--- ---- an instruction is carried out, with fuel and ticks left
+-- ---- an instruction is executed if fuel and ticks are left
 
 first : (n m : ℕ) (s : HartState)
     → run (suc n) (suc m) s ≡ begins s (is_none (stop_of (step 256 s).end)) (step 256 s).end (taken (step 256 s).state) (run n (suc m - (step 256 s).ticks) (taken (step 256 s).state))
@@ -40,7 +40,7 @@ run_is k n left m ticks s next end goes fuel some made whether =
     ∙ ap (λ (b : Bool). begins s b end x (run n (left - ticks) x)) whether
     ∙ ap (λ (y : HartState). begins s goes end y (run n (left - ticks) y)) (sym made.state)
 
--- whatever it ends by, it is the first that is found
+-- for any end, the state before the instruction is the first of the run
 begins_with : (s : HartState) (goes : Bool) (end : StepEnd) (next : HartState) (others : Run) → (rest : List HartState) × ((begins s goes end next others).found ≡ s ∷ rest)
 begins_with s true end next others = (others.found, refl)
 begins_with s false end next others = ([], refl)
@@ -51,9 +51,9 @@ run_begins k left n m s fuel some =
     let begun = begins_with s (is_none (stop_of (step 256 s).end)) (step 256 s).end x (run n (suc m - (step 256 s).ticks) x) in
     (begun.0, ap (λ (f : ℕ). (run f left s).found) fuel ∙ ap (λ (l : ℕ). (run (suc n) l s).found) some ∙ ap (λ (r : Run). r.found) (first n m s) ∙ begun.1)
 
--- ---- the states so far
+-- ---- the states before the instructions so far
 
--- what the loop has seen of a run, what is still to come, and that what it has seen was recorded
+-- the part of a run before the loop's present state, the rest of the run, and the fact that the first part is recorded
 pub record SoFar {R : Type 0} (Recorded : R → List HartState → R → Type 0) (all rest : Run) (seen : List HartState) (old new : R) : Type 0 where
   pub found : seen ++ rest.found ≡ all.found
   pub state : rest.state ≡ all.state
@@ -70,7 +70,7 @@ nothing_yet Recorded k n s old same none =
       recorded = none;
     }
 
--- one instruction more
+-- one more instruction
 pub one_more : {R : Type 0} (Recorded : R → List HartState → R → Type 0) → ((a b c : R) (xs ys : List HartState) → Recorded a xs b → Recorded b ys c → Recorded a (xs ++ ys) c)
     → (all now rest : Run) (seen : List HartState) (s : HartState) (old mid new : R) → now ≡ record { found = s ∷ rest.found; state = rest.state; end = rest.end }
     → Recorded mid (s ∷ []) new → SoFar Recorded all now seen old mid → SoFar Recorded all rest (seen ++ s ∷ []) old new
@@ -82,7 +82,7 @@ one_more Recorded recorded_more all now rest seen s old mid new is more so_far =
       recorded = recorded_more old mid new seen (s ∷ []) so_far.recorded more;
     }
 
--- nothing is still to come
+-- the end of a run, without a rest
 module _ {R : Type 0} (Recorded : R → List HartState → R → Type 0) (all rest : Run) (seen : List HartState) (old new : R) (so_far : SoFar Recorded all rest seen old new) (none : rest.found ≡ []) where
   all_seen : seen ≡ all.found
   all_seen = sym (append-nil seen) ∙ ap (λ (l : List HartState). seen ++ l) (sym none) ∙ so_far.found
@@ -93,12 +93,13 @@ module _ {R : Type 0} (Recorded : R → List HartState → R → Type 0) (all re
   pub all_put_out : flat_map put_out seen ≡ flat_map put_out all.found
   all_put_out = ap (λ (l : List HartState). flat_map put_out l) all_seen
 
--- what was put out, with one instruction more
+-- the output with one more instruction
 pub more_put_out : (seen : List HartState) (s : HartState) → flat_map put_out seen ++ put_out s ≡ flat_map put_out (seen ++ s ∷ [])
 more_put_out seen s =
     ap (λ (l : List ℕ). flat_map put_out seen ++ l) (sym (append-nil (put_out s))) ∙ sym (flat_map-append put_out seen (s ∷ []))
 
--- the run can't go on where these were seen and that was found, of which a part was put out
+-- a sink that took the output of the instructions so far and a first part of the next one's output took a first part of the run's
+-- output
 pub first_put_out : {D : Type 0} (Took : D → List ℕ → D → Type 0) → ((a b c : D) (xs ys : List ℕ) → Took a xs b → Took b ys c → Took a (xs ++ ys) c)
     → (seen rest all : List HartState) (s : HartState) (a b c : D) → seen ++ s ∷ rest ≡ all → Took a (flat_map put_out seen) b → TakesFirst Took b (put_out s) c
     → TakesFirst Took a (flat_map put_out all) c
@@ -115,7 +116,7 @@ first_put_out Took took_more seen rest all s a b c is before part =
       took = took_more a b c xs part.first before part.took;
     }
 
--- nothing of it
+-- no byte of the output
 pub none_put_out : {D : Type 0} (Took : D → List ℕ → D → Type 0) (a : D) (bytes : List ℕ) → Took a [] a → TakesFirst Took a bytes a
 none_put_out Took a bytes none =
     record {
@@ -125,7 +126,7 @@ none_put_out Took a bytes none =
       took = none;
     }
 
--- so many of it
+-- the first n bytes of the output
 pub part_put_out : {D : Type 0} (Took : D → List ℕ → D → Type 0) (a b : D) (n : ℕ) (bytes : List ℕ) → Took a (take n bytes) b → TakesFirst Took a bytes b
 part_put_out Took a b n bytes is =
     record {
@@ -135,11 +136,11 @@ part_put_out Took a b n bytes is =
       took = is;
     }
 
--- the same bytes, written otherwise
+-- the same bytes, as an equal list
 pub same_put_out : {D : Type 0} (Took : D → List ℕ → D → Type 0) (a b : D) (xs ys : List ℕ) → xs ≡ ys → TakesFirst Took a xs b → TakesFirst Took a ys b
 same_put_out Took a b xs ys is part = subst (λ (l : List ℕ). TakesFirst Took a l b) is part
 
--- an instruction that was carried out, and whose output was taken
+-- an executed instruction whose output was taken
 pub advanced : (s mid new : HartState) (end : StepEnd) (ticks : ℕ) → step 256 s ≡ ends_after ticks end mid → new ≡ taken mid → Advances s new end ticks
 advanced s mid new end ticks made is =
     record {

@@ -1,17 +1,17 @@
--- What the rows have in all, where one of them becomes another.
+-- The totals of the rows after the replacement of one row.
 use Rattle.std.proofs.Common.{◌≡◌, ◌<◌, ◌+◌, ◌%◌, ◌^◌, ◌++◌, refl, ℕ, Bool, true, false, List, [], ◌∷◌, length, get_or, set, if◌then◌else◌, ap, ◌∙◌, sym, subst, arith}
 use Rattle.std.proofs.lemmas.List.Sums.{sum_by-set, sum_by_push}
 use Rattle.recording.specs.Sums.{HasMore, Key, Row, Sums, added, more_of, no_more, no_sums, part_of, total}
 
--- a number, if it is asked for
+-- a number if it is selected, otherwise 0
 abbrev pub if_asked : Bool → ℕ → ℕ
 if_asked asked n = if asked then n else 0
 
--- a row of a key
+-- the part of a row with a key
 part_at : (number : Sums → ℕ) (asked : Key → Bool) (key : Key) (row : Row) → row.key ≡ key → part_of number asked row ≡ if_asked (asked key) (number row.sums)
 part_at number asked key row here = ap (λ (k : Key). if_asked (asked k) (number row.sums)) here
 
--- one more of a row, and of all
+-- an addition to one row is an addition to the total
 wrapped_total : (asked : Bool) (old more total_new total_old : ℕ) → total_new + if_asked asked old ≡ total_old + if_asked asked ((old + more) % 2 ^ 64)
     → total_new % 2 ^ 64 ≡ (total_old + if_asked asked more) % 2 ^ 64
 wrapped_total true old more total_new total_old e = omega (arith, e)
@@ -19,7 +19,7 @@ wrapped_total false old more total_new total_old e =
     let same : total_new ≡ total_old + 0 = omega (arith, e) in
     ap (λ (t : ℕ). t % 2 ^ 64) same
 
--- the row with an index is of a key, and counts this more
+-- the row with an index is replaced by one with added counts
 module _ (rows : List Row) (i : ℕ) (old new : Row) (there : i < length rows) (is : old ≡ get_or rows i old) where
   exchanged : (number : Sums → ℕ) (asked : Key → Bool) → total number asked (set rows i new) + part_of number asked old ≡ total number asked rows + part_of number asked new
   exchanged number asked =
@@ -46,7 +46,7 @@ module _ (rows : List Row) (i : ℕ) (old new : Row) (there : i < length rows) (
           ∙ ap (λ (n : ℕ). total number asked rows + n)
           (part_at number asked key new now ∙ ap (λ (n : ℕ). if_asked (asked key) n) (ap number more ∙ adds)))
 
--- ---- a row more, of which nothing was counted yet
+-- ---- a new row with zero counts
 
 pub row_added : (rows : List Row) (row : Row) (key : Key) → row.key ≡ key → row.sums ≡ no_sums → HasMore no_more rows (rows ++ row ∷ [])
 row_added rows row key is none asked =

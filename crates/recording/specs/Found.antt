@@ -1,4 +1,4 @@
--- What is noted of an instruction before it is carried out.
+-- The state that a recorder saves before an instruction.
 use Rattle.std.specs.Prelude.{ℕ, ◌≡◌, true, false, List}
 use Rattle.rv_model.specs.declared.memory.Access.TheVariants.{Fetch}
 use Rattle.rv_model.specs.declared.vector.state.VState.{VState}
@@ -12,15 +12,15 @@ use Rattle.recording.specs.declared.key.Key.TheVariants.{Word}
 use Rattle.recording.specs.Runs.{word_of}
 use Rattle.recording.specs.Sums.{IsRowOf, Row}
 
--- what an instruction of this class finds, if it isn't plain
+-- the saved fields of the state before an instruction of this class, if the class isn't plain
 pub record Finds (k : Class) (pc : ℕ) (v : VState) (found : Found) : Type 0 where
   pub pc_is : found.pc ≡ pc
   pub conf_is : found.conf ≡ v.conf
   pub start_is : found.start ≡ v.vstart
   pub mask_is : is_unmasked k ≡ false → found.mask ≡ register_of v.file 0
 
--- The row with an index is of the instruction that finds a state, of its word if one may be fetched, and what was noted is what it finds
--- unless it is plain.
+-- The row with an index is that of the instruction executed from a state: that of its word, if a fetch is allowed. The saved fields are
+-- those of this state, unless the class is plain.
 pub record IsRowFor (s : HartState) (index : ℕ) (found : Found) (rows : List Row) : Type 0 where
   pub word : ℕ
   pub word_is : can_access Fetch s.memory s.scalar.pc 4 ≡ true → word ≡ word_of s

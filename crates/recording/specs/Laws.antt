@@ -1,4 +1,4 @@
--- Laws of what is counted.
+-- Laws about the counts.
 use Rattle.std.specs.Prelude.{ℕ, ◌≡◌, ◌+◌, ◌≤◌, ◌++◌, Bool, false, [], Some, flat_map, length}
 use Rattle.rv_model.specs.accesses.VectorAccess.{VectorAccess, access_of}
 use Rattle.rv_model.specs.declared.instructions.access.AccessInstr.{AccessInstr}
@@ -14,21 +14,21 @@ use Rattle.recording.specs.Classes.{access_class, body, is_plain, operation_clas
 use Rattle.recording.specs.Machines.{taken}
 use Rattle.recording.specs.Runs.{put_out, ran}
 
--- A run leaves what as many steps of the monitor leave, where there is no breakpoint, with all that it put out in the buffer, while each
--- call that writes finds room there for the bytes that it may write.
+-- Without breakpoints, a run leaves the same state as the same number of steps of the monitor, with all its output in the buffer. The
+-- law assumes that the buffer has room for this output and one more write of the largest size.
 abbrev pub RunsAsSteps : Type 0
 RunsAsSteps = (ticks : ℕ) (exempt : Bool) (p : Present) → p.breakpoints ≡ []
     → length (p.hart.output ++ flat_map put_out (ran ticks (taken p.hart)).found) + write_size ≤ output_size
     → (steps (length (ran ticks (taken p.hart)).found) exempt p).state.hart
     ≡ record (ran ticks (taken p.hart)).state { output = p.hart.output ++ flat_map put_out (ran ticks (taken p.hart)).found }
 
--- The body that is counted of a load or store is that of its access, which says what it moves.
+-- The counted body of a load or store is the body of its access, which defines the elements that it moves.
 abbrev pub AccessBody : Type 0
 AccessBody = (i : AccessInstr) (v : VState) (x : Scalar) (a : VectorAccess) → access_of i v x ≡ Some a
     → a.body ≡ body (access_class i) (register_of v.file 0) v.vstart v.conf
 
--- The body that is counted of any other vector instruction is the definition's: that on which its step works, and of vmv.x.s and vmv.s.x
--- element 0, where the step reads or writes it.
+-- The counted body of any other vector instruction is the body on which the definition of its step operates. For vmv.x.s and vmv.s.x it
+-- is element 0, if the step reads or writes it.
 abbrev pub OperationBody : Type 0
 OperationBody = (i : VectorInstr) (t : VType) (v : VState) → v.conf.vtype ≡ Some t → is_plain (operation_class i) ≡ false
     → body (operation_class i) (register_of v.file 0) v.vstart v.conf ≡ counted_body i t v

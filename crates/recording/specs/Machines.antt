@@ -1,4 +1,4 @@
--- The state of a machine of one user, and one step of it.
+-- The state of a single-user machine, and one step of it.
 use Rattle.std.specs.Prelude.{ℕ, ◌≡◌, []}
 use Rattle.rv_model.specs.declared.step.step_end.StepEnd.{StepEnd}
 use Rattle.rv_model.specs.memory.Memory.{Memory}
@@ -6,19 +6,20 @@ use Rattle.rv_model.specs.step.Hart.{HartState, ends_after, hart_state}
 use Rattle.rv_model.specs.step.Step.{step}
 use Rattle.recording.specs.declared.alone.Alone.{Alone}
 
--- what a machine holds, by what its bytes hold
+-- the state of a machine, with the memory that its bytes represent
 abbrev pub state_of : {M : Type 0} → (M → Memory) → Alone M → HartState
 state_of memory alone = hart_state alone.scalar alone.vectors.seat.state (memory alone.memory) alone.policy alone.output.items
 
--- one instruction leads from the one machine to the other, with this end and these ticks; no memory instruction has more than 256 elements
+-- one instruction leads from the old machine to the new one, with this end and these ticks; no memory instruction has more than 256
+-- elements
 abbrev pub LeadsTo : {M : Type 0} → (M → Memory) → Alone M → Alone M → StepEnd → ℕ → Type 0
 LeadsTo memory old new end ticks = step 256 (state_of memory old) ≡ ends_after ticks end (state_of memory new)
 
--- a state whose output was taken
+-- a state with an emptied output buffer
 abbrev pub taken : HartState → HartState
 taken s = record s { output = [] }
 
--- One instruction leads from the one state to the other, which has no output any more, with this end and these ticks.
+-- One instruction leads from the old state to the new one, whose output buffer is emptied, with this end and these ticks.
 pub record Advances (old new : HartState) (end : StepEnd) (ticks : ℕ) : Type 0 where
   pub state : new ≡ taken (step 256 old).state
   pub end_is : (step 256 old).end ≡ end

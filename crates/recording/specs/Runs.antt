@@ -1,4 +1,4 @@
--- A run of a machine of one user, whose output is taken after each instruction, and what is counted of it.
+-- A run of a single-user machine, whose output is taken after each instruction, and the counts of the run.
 use Rattle.std.specs.Prelude.{ℕ, zero, suc, ◌≡◌, ◌+◌, ◌-◌, Bool, true, false, List, [], ◌∷◌, ◌++◌, Option, Some, None, is_none, if◌then◌else◌}
 use Rattle.std.specs.List.{sum_by}
 use Rattle.rv_model.specs.declared.step.step_end.StepEnd.{StepEnd}
@@ -18,24 +18,24 @@ use Rattle.recording.specs.Sums.{Key, Sums, more_of, once}
 
 -- ---- a run
 
--- the states that the instructions found, the state that the last one leaves, and how it ended if it stopped the program
+-- the states before the instructions, the state after the last one, and the end of the run if an instruction stops the program
 pub record Run : Type 0 where
   pub found : List HartState
   pub state : HartState
   pub end : Option StepEnd
 
--- no instruction
+-- a run without instructions
 abbrev pub stays : HartState → Run
 stays s = record { found = []; state = s; end = None }
 
--- one that found this, ended so and leaves that; and a run of others, if the program goes on
+-- an instruction with the state before it, its end and the state after it, followed by a run of others if the program continues
 abbrev pub begins : HartState → Bool → StepEnd → HartState → Run → Run
 begins s goes end next others =
     if goes then record others { found = s ∷ others.found }
     else record { found = s ∷ []; state = next; end = Some end }
 
--- at most n instructions, while ticks are left and up to the one that stops the program. No memory instruction has more than 256
--- elements, so none is cut.
+-- At most n instructions, until no ticks are left or one stops the program. No memory instruction has more than 256 elements, so none
+-- is cut.
 unfoldable pub run : ℕ → ℕ → HartState → Run
 run zero left s = stays s
 run (suc n) zero s = stays s
@@ -43,24 +43,24 @@ run (suc n) (suc left) s =
     let one = step 256 s in
     begins s (is_none (stop_of one.end)) one.end (taken one.state) (run n (suc left - one.ticks) (taken one.state))
 
--- a run of so many ticks; the last instruction may take more
+-- a run of a number of ticks; the last instruction may take more
 abbrev pub ran : ℕ → HartState → Run
 ran ticks s = run ticks ticks s
 
--- what the instruction put out that found this
+-- the output of the instruction executed from a state
 abbrev pub put_out : HartState → List ℕ
 put_out s = (step 256 s).state.output
 
--- The first of these bytes were taken, and no others.
+-- The sink took the first of these bytes, and no others.
 pub record TakesFirst {K : Type 0} (Took : K → List ℕ → K → Type 0) (old : K) (bytes : List ℕ) (new : K) : Type 0 where
   pub first : List ℕ
   pub rest : List ℕ
   pub are_first : first ++ rest ≡ bytes
   pub took : Took old first new
 
--- ---- what is counted of an instruction
+-- ---- the counts of an instruction
 
--- once more, of so many ticks, with these elements: those of its body that are active, the others, and those of its tail
+-- the counts of one execution: its ticks, the active elements of its body, the other elements of its body, and the elements of its tail
 abbrev pub carried_out : ℕ → Body → ℕ → Sums
 carried_out ticks b end =
     record {
@@ -71,34 +71,34 @@ carried_out ticks b end =
       tail = end - b.end;
     }
 
--- whether an instruction that ends so is counted: it ran, or it is the call that exits
+-- whether an instruction with this end is counted: it retired, or it is the exit call
 abbrev pub is_counted : StepEnd → Bool
 is_counted Ran = true
 is_counted (Exit status) = true
 is_counted _ = false
 
--- what it is counted as beside its word: an instruction with elements under the vector type and length that it found, a jump by where it
--- stood and where it leads
+-- the second key of an instruction, in addition to its word. Instructions with elements have the vector type and length before them,
+-- and jumps have their address and target
 abbrev pub key_beside : Class → Configuration → ℕ → ℕ → Option Key
 key_beside class.Plain c pc target = None
 key_beside class.Link c pc target = Some (Jump pc target)
 key_beside k c pc target = Some (Length (vtype_number c.vtype) c.vl)
 
--- once more of a key, if there is one
+-- a count of 1 for a key, if there is one
 abbrev pub once_more : Option Key → (Sums → ℕ) → (Key → Bool) → ℕ
 once_more None number asked = 0
 once_more (Some key) number asked = more_of key once number asked
 
--- an instruction that ended so is counted for its word, and once beside it
+-- an instruction with this end is counted for its word, and once for its second key
 abbrev pub counted : StepEnd → Key → Sums → Option Key → (Sums → ℕ) → (Key → Bool) → ℕ
 counted end key sums beside number asked =
     if is_counted end then more_of key sums number asked + once_more beside number asked else 0
 
--- the word that a state finds
+-- the word at a state's program counter
 abbrev pub word_of : HartState → ℕ
 word_of s = word_at s.memory s.scalar.pc
 
--- what is counted of the instruction that found this
+-- the counts of the instruction executed from a state
 abbrev pub share : HartState → (Sums → ℕ) → (Key → Bool) → ℕ
 share s =
     let one = step 256 s in
@@ -107,10 +107,10 @@ share s =
     counted one.end (Word s.scalar.pc (word_of s)) (carried_out one.ticks (body k (register_of s.vector.file 0) s.vector.vstart c) (tail_end k s.vector.vstart c))
     (key_beside k s.vector.conf s.scalar.pc one.state.scalar.pc)
 
--- so much of each that found one of these
+-- the sum of counts over the instructions executed from these states
 abbrev pub all_of : (HartState → (Sums → ℕ) → (Key → Bool) → ℕ) → List HartState → (Sums → ℕ) → (Key → Bool) → ℕ
 all_of counts states number asked = sum_by (λ s. counts s number asked) states
 
--- what is counted of all that found these
+-- the counts of all instructions executed from these states
 abbrev pub shares : List HartState → (Sums → ℕ) → (Key → Bool) → ℕ
 shares states = all_of share states

@@ -1,4 +1,4 @@
--- What is counted of instructions, and the table of it: a row for each key.
+-- Counts of instructions, and the table of counts, with a row for each key.
 use Rattle.std.specs.Prelude.{ℕ, ◌≡◌, ◌<◌, ◌+◌, ◌%◌, ◌^◌, Bool, true, false, List, length, get_or, if◌then◌else◌}
 use Rattle.std.specs.Int.{w64}
 use Rattle.std.specs.List.{sum_by}
@@ -8,19 +8,19 @@ use Rattle.recording.specs.declared.key.Key.TheVariants.{Word}
 pub use Rattle.recording.specs.declared.sums.Sums.{Sums}
 pub use Rattle.recording.specs.declared.row.Row.{Row}
 
--- nothing
+-- zeros
 abbrev pub no_sums : Sums
 no_sums = record { times = 0; ticks = 0; active = 0; masked = 0; tail = 0 }
 
--- once
+-- one execution
 abbrev pub once : Sums
 once = record { times = 1; ticks = 0; active = 0; masked = 0; tail = 0 }
 
--- once, in so many ticks, without elements
+-- one execution with these ticks, without elements
 abbrev pub plain : ℕ → Sums
 plain ticks = record { times = 1; ticks = ticks; active = 0; masked = 0; tail = 0 }
 
--- both together, as far as 64 bits tell
+-- the sum of both, modulo 2 ^ 64
 abbrev pub added : Sums → Sums → Sums
 added a b =
     record {
@@ -31,7 +31,7 @@ added a b =
       tail = sum w64 a.tail b.tail;
     }
 
--- something holds of each number that is counted
+-- a property holds for each counted number
 pub record OfEach (Holds : (Sums → ℕ) → Type 0) : Type 0 where
   pub times : Holds (λ s. s.times)
   pub ticks : Holds (λ s. s.ticks)
@@ -39,32 +39,32 @@ pub record OfEach (Holds : (Sums → ℕ) → Type 0) : Type 0 where
   pub masked : Holds (λ s. s.masked)
   pub tail : Holds (λ s. s.tail)
 
--- a number of a row, if its key is asked for
+-- a number of a row if its key is selected, otherwise 0
 abbrev pub part_of : (Sums → ℕ) → (Key → Bool) → Row → ℕ
 part_of number asked row = if asked row.key then number row.sums else 0
 
--- what the rows have whose keys are asked for
+-- the sum over the rows with a selected key
 abbrev pub total : (Sums → ℕ) → (Key → Bool) → List Row → ℕ
 total number asked rows = sum_by (part_of number asked) rows
 
--- These rows have what those have, and so much more, whichever keys are asked for, as far as 64 bits tell.
+-- The sums of the new rows are those of the old rows plus `more`, for any selection of keys, modulo 2 ^ 64.
 abbrev pub HasMore : ((Sums → ℕ) → (Key → Bool) → ℕ) → List Row → List Row → Type 0
 HasMore more old new = (asked : Key → Bool) → OfEach (λ number. total number asked new % 2 ^ 64 ≡ (total number asked old + more number asked) % 2 ^ 64)
 
--- whether a key is a word's
+-- whether a key is that of a word
 abbrev pub is_word : Key → Bool
 is_word (Word pc word) = true
 is_word _ = false
 
--- no more of any
+-- no addition to any key
 abbrev pub no_more : (Sums → ℕ) → (Key → Bool) → ℕ
 no_more number asked = 0
 
--- this more of one key
+-- an addition of sums to one key
 abbrev pub more_of : Key → Sums → (Sums → ℕ) → (Key → Bool) → ℕ
 more_of key sums number asked = if asked key then number sums else 0
 
--- The row with an index is of a key.
+-- The row with an index has a key.
 pub record IsRowOf (key : Key) (index : ℕ) (rows : List Row) : Type 0 where
   pub there : index < length rows
   pub of : (d : Row) → (get_or rows index d).key ≡ key

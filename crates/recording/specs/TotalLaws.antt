@@ -1,4 +1,4 @@
--- Laws of totals: of no instruction, and of some and then others.
+-- Laws about totals: of no instruction, of two consecutive lists of instructions, and of one instruction.
 use Rattle.std.proofs.Common.{◌≡◌, ◌+◌, ◌%◌, ◌^◌, ◌++◌, ◌∷◌, [], ℕ, List, ap, sym, arith}
 use Rattle.std.specs.List.{sum_by}
 use Rattle.std.proofs.lemmas.List.Sums.{sum_by-append}
@@ -15,6 +15,6 @@ pub more_added : (number : HartState → ℕ) (xs ys : List HartState) (a b c : 
 more_added number xs ys a b c one two =
     added_twice a b c (sum_by number xs) (sum_by number ys) (sum_by number (xs ++ ys)) (sym (sum_by-append number xs ys)) one two
 
--- of one instruction that adds this
+-- one instruction that adds n
 pub one_added : (number : HartState → ℕ) (s : HartState) (n a b : ℕ) → number s ≡ n → b ≡ (a + n) % 2 ^ 64 → AddsUp number a (s ∷ []) b
 one_added number s n a b is added = omega (arith, is, added)

@@ -1,4 +1,4 @@
-//! A machine of one user, which no other one shares its vector unit with.
+//! A machine of a single user, who owns its vector unit alone.
 ghost use Rattle.std.specs.Prelude.{◌≡◌};
 
 use arrayvec::ArrayVec;
@@ -6,7 +6,7 @@ use hart::{MAX_TICKS, OneSeat, View, step};
 use rv_model::{OUTPUT_SIZE, Policy, Scalar, StepEnd};
 use vector_memory::UserBytes;
 
-/// The registers, bytes, vector state and output buffer of one user, and what becomes of agnostic elements.
+/// The registers, memory, vector state and output buffer of a single user, and the policy for agnostic elements.
 #[derive(Drop)]
 pub struct Alone<M> {
     pub scalar: Scalar,
@@ -19,7 +19,7 @@ pub struct Alone<M> {
 impl<M: UserBytes> Alone<M> {
     ghost use Rattle.recording.specs.Machines.{LeadsTo};
 
-    /// Carries out one instruction: how it ended, and its ticks.
+    /// Execute one instruction. Return its end and its ticks, 1 to 256.
     #[inline(always)]
     pub fn step(&mut self) -> (StepEnd, usize)
         ensures model { LeadsTo M.memory self.old self.new result.0 result.1 }

@@ -5,7 +5,8 @@ use crate::recorder::Recorder;
 use rv_model::StepEnd;
 use vector_memory::UserBytes;
 
-/// Records a run twice, instruction by instruction, the first record before the second.
+/// A pair of recorders for one run. At each instruction the first records before the second; an error of the first
+/// skips the second.
 #[derive(Drop)]
 pub struct Both<A, B> {
     pub first: A,

@@ -1,4 +1,4 @@
-//! How many instructions a run carried out, in how many ticks.
+//! Numbers of the counted instructions of a run and of their ticks.
 ghost use Rattle.std.specs.Prelude.{◌≡◌};
 
 use crate::alone::Alone;
@@ -8,7 +8,7 @@ use crate::recorder::Recorder;
 use rv_model::StepEnd;
 use vector_memory::UserBytes;
 
-/// Counts all instructions that are counted, and their ticks; modulo 2^64.
+/// Numbers of counted instructions and of their ticks, modulo 2^64.
 #[derive(Drop)]
 pub struct Carried {
     pub times: u64,
@@ -16,7 +16,7 @@ pub struct Carried {
 }
 
 impl Carried {
-    /// None yet.
+    /// Return zero counts.
     pub fn none() -> Carried
         ensures times { result.times ≡ 0 }
         ensures ticks { result.ticks ≡ 0 }

@@ -1,4 +1,4 @@
-//! How an instruction is counted.
+//! Classes of instructions for the counts.
 ghost use Rattle.std.specs.Prelude.{◌≡◌};
 ghost use Rattle.rv_model.specs.instructions.Table.{scan, table};
 ghost use Rattle.rv_model.specs.elements.Bodies.{is_arith_unmasked};
@@ -10,42 +10,43 @@ use rv_model::instructions::operations::{RegisterCount, VectorOp};
 use rv_model::{AccessInstr, Arith, Instr, Reg, ScalarInstr, VLENB, VectorInstr};
 use vector_memory::whole_length;
 
-/// How an instruction is counted: by its elements, or as a jump.
+/// The class of an instruction, which selects its counts: by its elements, or as a jump.
 #[derive(Clone, Copy)]
 pub enum Class {
-    /// It has no elements: a scalar instruction, or one that sets the vector length and type.
+    /// No elements: a scalar instruction, or one that sets the vector length and type.
     Plain,
-    /// It is a jump that links, or that returns by a link.
+    /// A jump that links, or that returns through a link register.
     Link,
-    /// It has as many elements as vl says, of a group of VLMAX; all are active if it is unmasked.
+    /// Elements from vstart to vl, in a group of VLMAX elements; all are active if the instruction is unmasked.
     Length { unmasked: bool },
-    /// Its body isn't the elements from vstart to vl; all of it are active.
+    /// A body other than the elements from vstart to vl; all its elements are active.
     Other { extent: Extent },
 }
 
-/// The body of an instruction whose elements don't end at vl ("V" Vector Extension 1.0, sections 7.4, 7.9, 16.1 and 16.6).
+/// The body of an instruction whose elements don't end at vl ("V" Vector Extension 1.0, sections 7.4, 7.9, 16.1 and
+/// 16.6).
 #[derive(Clone, Copy)]
 pub enum Extent {
-    /// The bytes from vstart on that hold a bit for each of vl elements.
+    /// The bytes of a mask of vl bits, from byte vstart on.
     MaskBytes,
-    /// The elements from vstart to `count`, whatever vl is.
+    /// The elements from vstart to `count`, independent of vl.
     Elements { count: u16 },
-    /// The elements of SEW in `count` registers, from vstart on, whatever vl is.
+    /// The SEW elements in `count` registers, from vstart on, independent of vl.
     Registers { count: RegisterCount },
-    /// Element 0, whatever vl and vstart are (vmv.x.s).
+    /// Element 0, independent of vl and vstart (vmv.x.s).
     One,
-    /// Element 0 if vstart is less than vl, else none (vmv.s.x).
+    /// Element 0 if vstart is less than vl, otherwise no element (vmv.s.x).
     First,
 }
 
-/// Whether a register holds where a call returns to: x1 and x5 do (Unprivileged ISA 20191213, section 2.5).
+/// Return whether a register is a link register: x1 and x5 are (Unprivileged ISA 20191213, section 2.5).
 fn is_link(register: Reg) -> bool
     ensures { result ≡ is_link register }
 {
     register.number() == 1 || register.number() == 5
 }
 
-/// Whether an instruction is a jump that links, or that returns by a link.
+/// Return whether an instruction is a jump that links, or that returns through a link register.
 fn links(instr: &ScalarInstr) -> bool
     ensures { result ≡ links instr.now }
 {
@@ -56,7 +57,8 @@ fn links(instr: &ScalarInstr) -> bool
     }
 }
 
-/// Whether all body elements of an arithmetic operation are active. Those of a carry out are: vm selects v0 as an operand there.
+/// Return whether all body elements of an arithmetic operation are active. They always are for vmadc and vmsbc, whose
+/// vm selects v0 as an operand.
 fn is_arith_unmasked(arith: Arith, vm: bool) -> bool
     ensures { result ≡ is_arith_unmasked arith.0 vm }
 {
@@ -66,7 +68,7 @@ fn is_arith_unmasked(arith: Arith, vm: bool) -> bool
     }
 }
 
-/// Which elements an operation has that neither loads nor stores.
+/// Return the class of a vector operation that neither loads nor stores.
 fn operation_class(instr: &VectorInstr) -> Class
     ensures { result ≡ operation_class instr.now }
 {
@@ -97,7 +99,7 @@ fn operation_class(instr: &VectorInstr) -> Class
     }
 }
 
-/// Which segments a load or store has.
+/// Return the class of a vector load or store, whose elements are its segments.
 #[tactic(auto, using(crate::proofs::Lengths::whole_length_below))]
 fn access_class(instr: &AccessInstr) -> Class
     ensures { result ≡ access_class instr.now }
@@ -122,7 +124,7 @@ fn access_class(instr: &AccessInstr) -> Class
     }
 }
 
-/// The class of the instruction that a word is; plain, if it is none.
+/// Return the class of a word's instruction, or `Plain` if the word isn't an instruction.
 pub(crate) fn class_of(word: u32) -> Class
     ensures { result ≡ class_of (scan table word) }
 {

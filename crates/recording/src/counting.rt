@@ -1,4 +1,4 @@
-//! Which word an instruction is, whether it is counted, and as what beside its word.
+//! The word of an instruction, the condition for its count, and the counts in addition to that of its word.
 ghost use Rattle.std.specs.Prelude.{◌≡◌, true, OnOk};
 ghost use Rattle.rv_model.specs.declared.memory.Access.TheVariants.{Fetch};
 ghost use Rattle.rv_model.specs.memory.Memory.{can_access};
@@ -16,7 +16,7 @@ use std::alloc::Allocator;
 use vector_memory::UserBytes;
 use vtype_rules::vtype_number;
 
-/// The word at an address, if one may be fetched from there.
+/// Return the word at an address if a fetch from it is allowed; otherwise the value is unspecified.
 #[inline(always)]
 pub fn word_at<M: UserBytes>(memory: &M, pc: u64) -> u32
     ensures { can_access Fetch (M.memory memory.now) pc 4 ≡ true → result ≡ word_at_spec (M.memory memory.now) pc }
@@ -26,7 +26,7 @@ pub fn word_at<M: UserBytes>(memory: &M, pc: u64) -> u32
     word
 }
 
-/// Whether an instruction that ended so is counted: it ran, or it is the call that exits.
+/// Return whether an instruction with this end is counted: it retired, or it is the exit call.
 #[inline(always)]
 pub fn is_counted(end: StepEnd) -> bool
     ensures { result ≡ is_counted end }
@@ -34,7 +34,8 @@ pub fn is_counted(end: StepEnd) -> bool
     matches!(end, StepEnd::Ran | StepEnd::Exit(_))
 }
 
-/// Counts an instruction of a class beside its word, where the next one stands at `target`.
+/// Count an instruction in the row of its length or jump, if its class has one. `target` is the address of the next
+/// instruction. Fails if the table is full.
 #[inline(always)]
 pub(crate) fn count_beside<A: Allocator>(
     table: &mut Table<A>,

@@ -1,4 +1,4 @@
-//! The counts of a run.
+//! Counts of a run's instructions.
 ghost use Rattle.std.specs.Prelude.{◌≡◌, [], IfOk};
 
 use crate::alone::Alone;
@@ -13,7 +13,7 @@ use rv_model::StepEnd;
 use std::alloc::{AllocError, Allocator, Global};
 use vector_memory::UserBytes;
 
-/// Counts each instruction in the row of its word, and beside it.
+/// A recorder that counts each instruction in the row of its word, and in the row of its length or jump.
 #[derive(Drop)]
 pub struct Counts<A: Allocator = Global> {
     pub table: Table<A>,
@@ -22,7 +22,7 @@ pub struct Counts<A: Allocator = Global> {
 }
 
 impl<A: Allocator + Copy> Counts<A> {
-    /// Nothing was counted yet.
+    /// Return a recorder without counts, with memory for its table. Fails if the allocator has no room.
     pub fn new(alloc: A) -> Result<Self, AllocError>
         ensures { IfOk result (λ counts. counts.table.rows.items ≡ []) }
     {

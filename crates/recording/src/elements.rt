@@ -1,4 +1,4 @@
-//! How many elements an instruction has of each kind.
+//! Numbers of active, masked-off and tail elements of an instruction.
 ghost use Rattle.std.specs.Prelude.{◌≡◌, ◌≤◌, ◌-◌, ℕ, List, false, true};
 ghost use Rattle.recording.specs.Classes.{active_count, body, extent_end, extent_start, moved, most, tail_end};
 ghost use Rattle.recording.specs.Runs.{carried_out};
@@ -13,7 +13,7 @@ use reg_groups::register_count;
 use rv_model::instructions::operations::RegisterCount;
 use rv_model::{GROUP_BYTES, VConf, VLENB};
 
-/// VLMAX, where there is a vector type.
+/// Return VLMAX of a configuration, or 0 with `vill`.
 #[inline(always)]
 fn most(conf: VConf) -> usize
     ensures { result ≡ most conf }
@@ -24,7 +24,7 @@ fn most(conf: VConf) -> usize
     }
 }
 
-/// How many elements of SEW so many registers have, where there is a vector type.
+/// Return the number of SEW elements in `count` registers, or 0 with `vill`.
 fn moved(count: RegisterCount, conf: VConf) -> usize
     ensures { result ≡ moved count conf }
 {
@@ -35,7 +35,7 @@ fn moved(count: RegisterCount, conf: VConf) -> usize
     }
 }
 
-/// Where the body of an extent begins and ends, and where its tail ends. Only the bytes of a mask have a tail.
+/// Return the start and the end of an extent's body, and the end of its tail. Only the bytes of a mask have a tail.
 #[inline(always)]
 fn extent_bounds(extent: Extent, start: usize, conf: VConf) -> (usize, usize, usize)
     ensures { result ≡ (extent_start extent start, extent_end extent start conf conf.vl, extent_end extent start conf (most conf)) }
@@ -50,7 +50,7 @@ fn extent_bounds(extent: Extent, start: usize, conf: VConf) -> (usize, usize, us
     }
 }
 
-/// How many elements of a body are active under the mask.
+/// Return the number of active elements of a masked body.
 #[tactic(auto, using(crate::proofs::Actives::set_are_active))]
 fn active_under(found: &Found, end: usize) -> usize
     requires { end ≤ GROUP_BYTES }
@@ -63,7 +63,7 @@ fn active_under(found: &Found, end: usize) -> usize
     )
 }
 
-/// How many elements of a body are active without a mask.
+/// Return the number of active elements of an unmasked body.
 #[tactic(auto, using(crate::proofs::Actives::all_are_active))]
 fn active_of_all(start: usize, end: usize) -> usize
     ensures { (mask : List ℕ) → result ≡ active_count (record { unmasked = true; mask = mask; start = start; end = end }) }
@@ -71,7 +71,7 @@ fn active_of_all(start: usize, end: usize) -> usize
     end.saturating_sub(start)
 }
 
-/// How many elements of a body from vstart on are active.
+/// Return the number of active elements of a body from vstart on.
 #[inline(always)]
 fn active(unmasked: bool, found: &Found, end: usize) -> usize
     requires { end ≤ GROUP_BYTES }
@@ -85,8 +85,8 @@ fn active(unmasked: bool, found: &Found, end: usize) -> usize
     }
 }
 
-/// Counts an instruction once: its ticks, its body elements from `start` to `end`, of which `active` are active, and its tail elements up
-/// to `tail_end`.
+/// Return the counts of one execution: its ticks, its body elements from `start` to `end` with `active` active ones,
+/// and its tail elements from `end` to `tail_end`.
 #[inline(always)]
 fn counted_once(ticks: usize, start: usize, end: usize, active: usize, tail_end: usize) -> Sums
     ensures { result ≡ record { times = 1; ticks = ticks; active = active; masked = end - start - active; tail = tail_end - end } }
@@ -100,7 +100,7 @@ fn counted_once(ticks: usize, start: usize, end: usize, active: usize, tail_end:
     }
 }
 
-/// Counts an instruction whose body goes from vstart to vl.
+/// Return the counts of an instruction with a body from vstart to vl.
 #[inline(always)]
 fn with_length(unmasked: bool, found: &Found, conf: VConf, ticks: usize) -> Sums
     ensures { result ≡ carried_out ticks (body (Length unmasked) found.now.mask found.now.start conf) (most conf) }
@@ -110,7 +110,7 @@ fn with_length(unmasked: bool, found: &Found, conf: VConf, ticks: usize) -> Sums
     counted_once(ticks, found.start, end, active, most(conf))
 }
 
-/// Counts an instruction with another body.
+/// Return the counts of an instruction with another body.
 #[inline(always)]
 fn with_extent(extent: Extent, found: &Found, conf: VConf, ticks: usize) -> Sums
     ensures { result ≡ carried_out ticks (body (Other extent) found.now.mask found.now.start conf)
@@ -121,7 +121,7 @@ fn with_extent(extent: Extent, found: &Found, conf: VConf, ticks: usize) -> Sums
     counted_once(ticks, start, end, active, tail_end)
 }
 
-/// What is counted of an instruction of so many ticks that found this and left this length and type.
+/// Return the counts of an instruction from its class, the state before it, the configuration after it, and its ticks.
 #[inline(always)]
 #[tactic(auto, using(crate::proofs::Actives::no_elements))]
 pub(crate) fn with_elements(class: Class, found: &Found, conf: VConf, ticks: usize) -> Sums

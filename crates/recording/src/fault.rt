@@ -1,17 +1,17 @@
-//! Why a run can't be recorded.
+//! Errors of a recorder.
 
 /// The table of counts has no row left.
 #[derive(Debug, Drop)]
 pub(crate) struct TableFull;
 
-/// Why a run can't be recorded to its end.
+/// The reason why a recorder can't record a run to its end.
 #[derive(Debug, Drop)]
 pub enum RecordFault {
     /// The table of counts has no row left.
     TableFull,
     /// Bytes that a recorder reads aren't mapped.
     Unmapped,
-    /// The stream of this name can't be written.
+    /// A write to the stream with this name failed.
     Write(&'static str),
 }
 

@@ -1,4 +1,4 @@
-//! What an instruction finds, by which it is counted.
+//! The state before an instruction that its counts depend on.
 ghost use Rattle.std.specs.Prelude.{◌≡◌, false, true};
 ghost use Rattle.rv_model.specs.vector.Groups.{register_of};
 ghost use Rattle.recording.specs.Classes.{is_plain, is_unmasked};
@@ -8,7 +8,8 @@ use crate::class::Class;
 use reg_groups::mask_register;
 use rv_model::{VConf, VLENB, VState};
 
-/// What an instruction finds that isn't plain: where it stands, vl and the vector type, vstart, and v0 if it is masked.
+/// The state before an instruction that isn't plain: its address, vl and the vector type, vstart, and v0 if it is
+/// masked.
 #[derive(Clone, Copy)]
 pub(crate) struct Found {
     pub pc: u64,
@@ -17,7 +18,7 @@ pub(crate) struct Found {
     pub mask: [u8; VLENB],
 }
 
-/// Whether the instructions of a class neither have elements nor link.
+/// Return whether the instructions of a class have neither elements nor a link.
 #[inline(always)]
 pub(crate) fn is_plain(class: Class) -> bool
     ensures { result ≡ is_plain class }
@@ -25,7 +26,7 @@ pub(crate) fn is_plain(class: Class) -> bool
     matches!(class, Class::Plain)
 }
 
-/// Whether the instructions of a class are masked.
+/// Return whether the instructions of a class are masked.
 #[inline(always)]
 fn is_masked(class: Class) -> bool
     ensures { is_unmasked class ≡ false → result ≡ true }
@@ -33,7 +34,7 @@ fn is_masked(class: Class) -> bool
     matches!(class, Class::Length { unmasked: false })
 }
 
-/// Sets the mask to v0.
+/// Copy v0 to the mask.
 #[inline(never)]
 fn keep_mask(mask: &mut [u8; VLENB], state: &VState)
     ensures { mask.new ≡ register_of state.now.file 0 }
@@ -42,7 +43,7 @@ fn keep_mask(mask: &mut [u8; VLENB], state: &VState)
 }
 
 impl Found {
-    /// Nothing yet.
+    /// Return a placeholder for the time before the first instruction.
     #[inline(always)]
     pub(crate) fn none() -> Found {
         Found {
@@ -53,7 +54,7 @@ impl Found {
         }
     }
 
-    /// Notes what an instruction of a class finds, unless it is plain.
+    /// Save the state before an instruction, unless its class is plain.
     #[inline(always)]
     pub(crate) fn note(&mut self, class: Class, pc: u64, state: &VState)
         ensures { is_plain class ≡ false → Finds class pc state.now self.new }

@@ -1,13 +1,13 @@
-//! What a row counts.
+//! Keys of the rows of counts.
 
-/// What is counted: a word at an address, vector instructions under a vector type and length, or jumps that link or
-/// return from an address to another.
+/// The subject of a row's counts: a word at an address, vector instructions under a vector type and length, or jumps
+/// from one address to another that link or return.
 #[derive(Clone, Copy, PartialEq, Eq)]
 pub enum Key {
     /// A word at an address.
     Word { pc: u64, word: u32 },
-    /// The number that `vtype` reads, and `vl` in elements.
+    /// The value of `vtype`, and `vl` in elements.
     Length { vtype: u64, vl: u16 },
-    /// Where a jump stands, and where it leads.
+    /// The address of a jump, and its target.
     Jump { pc: u64, target: u64 },
 }

@@ -1,8 +1,9 @@
-//! Laws of what is counted.
+//! Laws about the counts.
 ghost use Rattle.recording.specs.Laws.{AccessBody, OperationBody, RunsAsSteps};
 
-/// A run is that of the monitor's steps. A load or store is counted by the elements that it moves, any other vector instruction by those
-/// that the definition of its step works on.
+/// Without breakpoints, a run equals the same number of the monitor's steps. The counted elements of a load or store
+/// are those that it moves. Those of any other vector instruction are the ones on which the definition of its step
+/// operates.
 pub fn recording_laws()
     ensures steps { RunsAsSteps }
     ensures accesses { AccessBody }

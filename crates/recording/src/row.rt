@@ -1,4 +1,4 @@
-//! What was counted of a key.
+//! Counts for one key.
 ghost use Rattle.std.specs.Prelude.{◌≡◌, ℕ};
 ghost use Rattle.rv_model.specs.instructions.Table.{scan, table};
 ghost use Rattle.recording.specs.Classes.{class_of};
@@ -8,7 +8,7 @@ use crate::class::Class;
 use crate::key::Key;
 use crate::sums::Sums;
 
-/// What was counted of a key. A row of a word has the class of its instruction.
+/// The counts for a key. The row of a word has the class of the word's instruction.
 #[derive(Clone, Copy)]
 pub struct Row {
     pub key: Key,

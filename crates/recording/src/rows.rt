@@ -1,4 +1,4 @@
-//! Rows that are summed up.
+//! Sums over rows.
 ghost use Rattle.std.specs.Prelude.{◌≡◌, ◌%◌, ◌^◌};
 ghost use Rattle.recording.specs.Sums.{OfEach, is_word, part_of, total};
 
@@ -6,14 +6,14 @@ use crate::key::Key;
 use crate::row::Row;
 use crate::sums::Sums;
 
-/// Whether a key is a word's.
+/// Return whether a key is that of a word.
 fn is_word(key: Key) -> bool
     ensures { result ≡ is_word key }
 {
     matches!(key, Key::Word { pc: _, word: _ })
 }
 
-/// What a row has of a word.
+/// Return the sums of a word's row, or zeros for any other row.
 fn word_sums(row: &Row) -> Sums
     ensures { OfEach (λ number. number result ≡ part_of number is_word row.now) }
 {
@@ -24,7 +24,7 @@ fn word_sums(row: &Row) -> Sums
     }
 }
 
-/// What all words have together: all that was carried out.
+/// Return the sums over the rows of words, modulo 2^64. They include each counted instruction once.
 pub fn totals(rows: &[Row]) -> Sums
     ensures { OfEach (λ number. number result ≡ total number is_word rows.now % 2 ^ 64) }
 {

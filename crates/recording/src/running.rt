@@ -11,7 +11,7 @@ use devices::{Sink, write_all};
 use rv_model::StepEnd;
 use vector_memory::UserBytes;
 
-/// Whether the program goes on after an instruction that ended so.
+/// Return whether the program continues after an instruction with this end.
 #[inline(always)]
 fn goes_on(end: StepEnd) -> bool
     ensures { result ≡ is_none (stop_of end) }
@@ -19,7 +19,7 @@ fn goes_on(end: StepEnd) -> bool
     matches!(end, StepEnd::Ran | StepEnd::Cut)
 }
 
-/// Puts out what the buffer holds, and empties it.
+/// Write the bytes of the output buffer to the sink, and empty the buffer.
 #[inline(always)]
 fn take_output<M: UserBytes, K: Sink>(alone: &mut Alone<M>, sink: &mut K) -> Result<(), RecordFault>
     ensures output { OnOk result (K.took sink.old alone.old.output.items sink.new) }
@@ -34,7 +34,7 @@ fn take_output<M: UserBytes, K: Sink>(alone: &mut Alone<M>, sink: &mut K) -> Res
     Ok(())
 }
 
-/// Carries out one instruction, records it, and puts out what it wrote: how it ended, and its ticks.
+/// Execute one instruction, record it, and write its output to the sink. Return its end and its ticks.
 #[inline(always)]
 fn advance<M: UserBytes, R: Recorder<M>, K: Sink>(
     recorder: &mut R,
@@ -55,9 +55,9 @@ fn advance<M: UserBytes, R: Recorder<M>, K: Sink>(
     Ok((end, ticks))
 }
 
-/// Carries out instructions for so many ticks, and records each; what they write goes to the sink after each. The last one
-/// may take more ticks than are left. Answers how the one ended that stops the program, if one does. Where the recorder or
-/// the sink fails, the run can't go on.
+/// Execute instructions for a number of ticks, record each, and write the output of each to the sink. The last one may
+/// take more ticks than are left. Return the end of the instruction that stops the program, or `None` if the ticks run
+/// out first. If the recorder or the sink fails, the run can't continue.
 #[inline(always)]
 pub fn run<M: UserBytes, R: Recorder<M>, K: Sink>(
     recorder: &mut R,
@@ -72,11 +72,11 @@ pub fn run<M: UserBytes, R: Recorder<M>, K: Sink>(
     ensures output { OnOk result (K.took sink.old
         (flat_map put_out (ran ticks (state_of M.memory alone.old)).found) sink.new) }
 
-    // Where it can't go on, the sink has the first bytes of what the whole run puts out.
+    // After an error, the sink has the first bytes of the whole run's output.
     ensures part { OnErr result (TakesFirst K.took sink.old
         (flat_map put_out (ran ticks (state_of M.memory alone.old)).found) sink.new) }
 
-    // All else that the user's bytes hold stays.
+    // All other contents of the user's bytes are unchanged.
     ensures memory { alone.new.memory ≡ M.with_memory alone.old.memory (M.memory alone.new.memory) }
 {
     let mut left = ticks;

@@ -1,4 +1,4 @@
-//! Calls that wrote less than they were asked to.
+//! Write calls that write fewer bytes than requested.
 ghost use Rattle.std.specs.Prelude.{◌≡◌};
 ghost use Rattle.recording.specs.Machines.{state_of};
 ghost use Rattle.recording.specs.Totals.{has_written_less};
@@ -9,10 +9,10 @@ use crate::recorder::Recorder;
 use rv_model::{Reg, StepEnd};
 use vector_memory::UserBytes;
 
-/// The register with the number of bytes that a call is to write, which a call leaves.
+/// The register with the number of bytes that a call requests to write (x12, a2). A call leaves it unchanged.
 const LENGTH_REGISTER: u32 = 12;
 
-/// Whether a call just put out some bytes, but less than it was asked to.
+/// Return whether a call just wrote some bytes, but fewer than requested.
 #[inline(always)]
 fn has_written_less<M: UserBytes>(alone: &Alone<M>) -> bool
     ensures { result ≡ has_written_less (state_of M.memory alone.now) }
@@ -21,14 +21,14 @@ fn has_written_less<M: UserBytes>(alone: &Alone<M>) -> bool
         && (alone.output.len() as u64) < alone.scalar.read(Reg::new(LENGTH_REGISTER))
 }
 
-/// Counts the calls that put out some bytes, but less than they were asked to; modulo 2^64.
+/// Number of calls that wrote some bytes, but fewer than requested, modulo 2^64.
 #[derive(Drop)]
 pub struct ShortWrites {
     pub count: u64,
 }
 
 impl ShortWrites {
-    /// None yet.
+    /// Return a count of zero.
     pub fn none() -> ShortWrites
         ensures { result.count ≡ 0 }
     {

@@ -1,9 +1,9 @@
-//! What is counted.
+//! Counts of instructions and elements.
 ghost use Rattle.std.specs.Prelude.{◌≡◌};
 ghost use Rattle.recording.specs.Sums.{added, no_sums, once, plain};
 
-/// How often instructions were carried out, in how many ticks, and how many of their elements were active, masked off
-/// and of the tail. Each is counted modulo 2^64.
+/// Numbers of executed instructions, of their ticks, and of their active, masked-off and tail elements. Each is counted
+/// modulo 2^64.
 #[derive(Clone, Copy)]
 pub struct Sums {
     pub times: u64,
@@ -14,7 +14,7 @@ pub struct Sums {
 }
 
 impl Sums {
-    /// Nothing.
+    /// Return zeros.
     pub fn none() -> Sums
         ensures { result ≡ no_sums }
     {
@@ -27,7 +27,7 @@ impl Sums {
         }
     }
 
-    /// Once, and nothing else.
+    /// Return the count of one execution, without ticks and elements.
     pub fn once() -> Sums
         ensures { result ≡ once }
     {
@@ -37,7 +37,7 @@ impl Sums {
         }
     }
 
-    /// Once, in so many ticks, without elements.
+    /// Return the count of one execution with these ticks, without elements.
     #[inline(always)]
     pub(crate) fn plain(ticks: usize) -> Sums
         ensures { result ≡ plain ticks }
@@ -49,7 +49,7 @@ impl Sums {
         }
     }
 
-    /// Both together.
+    /// Return the sum of both, modulo 2^64.
     #[inline(always)]
     pub fn added(self, other: Sums) -> Sums
         ensures { result ≡ added self other }

@@ -13,24 +13,24 @@ use crate::row::Row;
 use crate::sums::Sums;
 use std::alloc::{AllocError, Allocator, Global};
 
-/// How many bits a place has.
+/// Number of bits of an index into the hash table.
 const PLACE_BITS: u32 = 17;
 
-/// The most rows: those of a run of that many different words, lengths and jumps. They take some 10 MB.
+/// Largest number of rows, one for each distinct word, length or jump of a run. They take about 10 MB.
 pub const ROWS: usize = 1 << PLACE_BITS;
 
-/// So many places lead to rows.
+/// Number of slots of the hash table.
 const PLACES: usize = ROWS;
 
-/// What a place has that leads to no row.
+/// Value of an empty slot.
 const NO_ROW: u32 = u32::MAX;
 
-/// An odd number near 2^64 divided by the golden ratio, which scatters what it is multiplied with.
+/// An odd number near 2^64 divided by the golden ratio, the multiplier of the hash function.
 const SCATTER: u64 = 0x9e37_79b9_7f4a_7c15;
 
-/// The rows that are used, in the order of their first use, and places that lead to them, which only save a search.
+/// The used rows, in the order of their first use, and a hash table of their indices, which only speeds up the search.
 ///
-/// Only `new` takes memory, and what no run has used isn't touched.
+/// Only `new` allocates memory, and the memory of unused rows isn't touched.
 #[derive(Drop)]
 pub struct Table<A: Allocator = Global> {
     pub rows: Vec<Row, A>,
@@ -38,14 +38,15 @@ pub struct Table<A: Allocator = Global> {
     last_length: usize,
 }
 
-/// Where the search for the key of two numbers begins; any place is right.
+/// Return the first slot of the search for a key of two numbers. The result affects only the speed.
 #[inline(always)]
 fn start_of(first: u64, second: u64) -> usize {
     let mixed = first.wrapping_add(second << 32);
     (mixed.wrapping_mul(SCATTER) >> (64 - PLACE_BITS)) as usize
 }
 
-/// The place at a distance from the start, around the end of so many; quick where they are a power of two.
+/// Return the slot at a distance from `start`, wrapping around at the end; this reaches each slot if their number is a
+/// power of two.
 #[tactic(auto, using(std::proofs::lemmas::Nat::and_le_r))]
 #[inline(always)]
 fn place_at(start: usize, distance: usize, places: usize) -> usize
@@ -55,7 +56,7 @@ fn place_at(start: usize, distance: usize, places: usize) -> usize
     start.wrapping_add(distance) & (places - 1)
 }
 
-/// The class for a key's row: of a word that of its instruction.
+/// Return the class for the row of a key: that of the instruction for a word, otherwise `Plain`.
 fn class_for(key: Key) -> Class
     ensures { (pc word : ℕ) → key ≡ Word pc word → result ≡ class_of_instruction (scan table word) }
 {
@@ -65,7 +66,7 @@ fn class_for(key: Key) -> Class
     }
 }
 
-/// A row of a key, of which nothing was counted yet.
+/// Return a row for a key, with zero counts.
 fn new_row(key: Key) -> Row
     ensures key { result.key ≡ key }
     ensures sums { result.sums ≡ no_sums }
@@ -77,14 +78,14 @@ fn new_row(key: Key) -> Row
     }
 }
 
-/// Whether a row is of a key.
+/// Return whether a row has a key.
 fn is_of(row: &Row, key: Key) -> bool
     ensures { IsTrue result ↔ (row.now.key ≡ key) }
 {
     row.key == key
 }
 
-/// Whether a row is of a word at an address.
+/// Return whether a row is that of a word at an address.
 #[inline(always)]
 fn is_of_word(row: &Row, pc: u64, word: u32) -> bool
     ensures { result ≡ true → row.now.key ≡ Word pc word }
@@ -98,7 +99,7 @@ fn is_of_word(row: &Row, pc: u64, word: u32) -> bool
     }
 }
 
-/// Whether a row is of a vector type and length.
+/// Return whether a row is that of a vector type and length.
 #[inline(always)]
 fn is_of_length(row: &Row, vtype: u64, vl: u16) -> bool
     ensures { result ≡ true → row.now.key ≡ Length vtype vl }
@@ -112,7 +113,7 @@ fn is_of_length(row: &Row, vtype: u64, vl: u16) -> bool
     }
 }
 
-/// The index of a row, if there is one with this index and it is of the key.
+/// Return the index if a row with this index exists and has the key, otherwise `None`.
 fn row_at(rows: &[Row], index: u32, key: Key) -> Option<usize>
     ensures { IfSome result (λ i. IsRowOf key i rows.now) }
 {
@@ -124,7 +125,7 @@ fn row_at(rows: &[Row], index: u32, key: Key) -> Option<usize>
 }
 
 impl<A: Allocator + Copy> Table<A> {
-    /// A table without a row.
+    /// Return a table without rows. Fails if the allocator has no room for the largest number of rows.
     pub fn new(alloc: A) -> Result<Self, AllocError>
         ensures { IfOk result (λ table. table.rows.items ≡ []) }
     {
@@ -137,7 +138,8 @@ impl<A: Allocator + Copy> Table<A> {
 }
 
 impl<A: Allocator> Table<A> {
-    /// Adds a row of a key, to which a place leads from now on. Answers its index, which no row has where there is no room.
+    /// Add a row for a key, and put its index into a slot. Return its index, or an index past the last row if the table
+    /// is full.
     fn add_row(&mut self, key: Key, place: usize) -> usize
         requires { place < length self.old.places.items }
         ensures row { result < length self.new.rows.items → IsRowOf key result self.new.rows.items }
@@ -154,7 +156,7 @@ impl<A: Allocator> Table<A> {
         index
     }
 
-    /// The first place, from `start` on and around the end, that leads to the row of a key or to none.
+    /// Return the first slot, from `start` on and wrapping around, that is empty or has the row of a key.
     fn find(&self, key: Key, start: usize) -> Option<usize>
         ensures { IfSome result (λ place. place < length self.now.places.items) }
     {
@@ -168,8 +170,8 @@ impl<A: Allocator> Table<A> {
         None
     }
 
-    /// The index of the row of a key, for which the places from `start` on are searched; it is a new row where there is none
-    /// yet, and no row where there is no room.
+    /// Return the index of the row of a key after a search from the slot `start` on. Add a row if there is none yet.
+    /// The index is past the last row if the table is full.
     #[inline(never)]
     fn found_row(&mut self, key: Key, start: usize) -> usize
         ensures row { result < length self.new.rows.items → IsRowOf key result self.new.rows.items }
@@ -184,7 +186,7 @@ impl<A: Allocator> Table<A> {
         }
     }
 
-    /// The same, refused where there is no room.
+    /// Return the index of the row of a key; add a row if there is none yet. Fails if the table is full.
     #[inline(always)]
     fn row_of(&mut self, key: Key, start: usize) -> Result<usize, TableFull>
         ensures row { IfOk result (λ i. IsRowOf key i self.new.rows.items) }
@@ -197,7 +199,7 @@ impl<A: Allocator> Table<A> {
         Err(TableFull)
     }
 
-    /// The index of the row of a word at an address, which is mostly that to which the first place leads.
+    /// Return the index of the row of a word at an address, usually from the first slot. Fails if the table is full.
     #[inline(always)]
     pub(crate) fn word_row(&mut self, pc: u64, word: u32) -> Result<usize, TableFull>
         ensures row { IfOk result (λ i. IsRowOf (Word pc word) i self.new.rows.items) }
@@ -213,7 +215,7 @@ impl<A: Allocator> Table<A> {
         self.row_of(Key::Word { pc, word }, start)
     }
 
-    /// The index of the row of a vector type and length, which is mostly the last one that was asked for.
+    /// Return the index of the row of a vector type and length, usually the last one used. Fails if the table is full.
     #[inline(always)]
     fn length_row(&mut self, vtype: u64, vl: u16) -> Result<usize, TableFull>
         ensures row { IfOk result (λ i. IsRowOf (Length vtype vl) i self.new.rows.items) }
@@ -228,7 +230,7 @@ impl<A: Allocator> Table<A> {
         Ok(index)
     }
 
-    /// Counts this more in the row with an index.
+    /// Add sums to the row with an index.
     #[inline(always)]
     pub(crate) fn count_at(&mut self, index: usize, sums: Sums)
         requires { index < length self.old.rows.items }
@@ -239,7 +241,7 @@ impl<A: Allocator> Table<A> {
         row.sums = row.sums.added(sums);
     }
 
-    /// Counts a vector type and length once.
+    /// Count a vector type and length once. Fails if the table is full.
     #[inline(always)]
     pub(crate) fn count_length(&mut self, vtype: u64, vl: u16) -> Result<(), TableFull>
         ensures { OnOk result (HasMore (more_of (Length vtype vl) once) self.old.rows.items self.new.rows.items) }
@@ -249,7 +251,7 @@ impl<A: Allocator> Table<A> {
         Ok(())
     }
 
-    /// Counts a jump from an address to another once.
+    /// Count a jump from one address to another once. Fails if the table is full.
     #[inline(never)]
     pub(crate) fn count_jump(&mut self, pc: u64, target: u64) -> Result<(), TableFull>
         ensures { OnOk result (HasMore (more_of (Jump pc target) once) self.old.rows.items self.new.rows.items) }

@@ -37,7 +37,7 @@ loop-preserved g c =
       },
     )
 
--- an instruction stops the program
+-- return at an instruction that stops the program
 pub returns-then-not-goes_on : goal.returns-then-not-goes_on
 returns-then-not-goes_on g c =
     let s : HartState = state_of g.M.UserBytes.memory c.loop.alone in
@@ -61,7 +61,7 @@ returns-then-not-goes_on g c =
           ∙ g.met.M.UserBytes.with_memory_twice _ _ _;
     }
 
--- it can't go on
+-- return with an error
 pub returns-in_err-end-clause-part : goal.returns-in_err-end-clause-part
 returns-in_err-end-clause-part g c =
     let s : HartState = state_of g.M.UserBytes.memory c.loop.alone in
@@ -72,7 +72,7 @@ returns-in_err-end-clause-part g c =
     (first_put_out g.K.Sink.took g.met.K.Sink.took_more seen begun.0 _ s _ _ _ (ap (λ (l : List HartState). seen ++ l) (sym begun.1) ∙ before.so_far.found)
     before.took c.in_err-end.ensures.part)
 
--- the ticks ran out
+-- return when no ticks are left
 pub returns-then-left-eq0 : goal.returns-then-left-eq0
 returns-then-left-eq0 g c =
     let s : HartState = state_of g.M.UserBytes.memory c.loop.alone in

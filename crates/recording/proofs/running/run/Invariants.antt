@@ -5,7 +5,7 @@ use Rattle.recording.specs.Runs.{put_out, ran, run}
 use Rattle.recording.proofs.Runs.{SoFar}
 use Rattle.recording.proofs.running.run.Given as goal
 
--- the states that instructions found so far are recorded, and what they put out is out
+-- the instructions so far are recorded, and the sink has their output
 abbrev pub invariant-loop : goal.invariant-loop
 invariant-loop g l = (seen : List HartState) × (record {
   so_far : SoFar g.R.Recorder.recorded (ran l.ticks (state_of g.M.UserBytes.memory l.fn.alone)) (run (l.ticks - l.counter) l.left (state_of g.M.UserBytes.memory l.alone)) seen l.fn.recorder l.recorder;

@@ -11,7 +11,7 @@ use Rattle.recording.specs.declared.key.Key.TheVariants.{Word}
 use Rattle.recording.proofs.Counted.{share_found, share_not_counted, share_plain}
 use Rattle.recording.proofs.counts.CountsRecorder.keep.Goals as goal
 
--- the class of the row that was noted
+-- the class of the saved row
 class_noted : (row : Row) (s : HartState) (index : ℕ) (found : Found) (rows : List Row) (noted : IsRowFor s index found rows) → row ≡ get_or rows index row
     → row.class ≡ class_of (scan table noted.word)
 class_noted row s index found rows noted is = row.class_is s.scalar.pc noted.word (ap (λ (r : Row). r.key) is ∙ noted.row.of row)
