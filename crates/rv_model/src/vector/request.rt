@@ -3,7 +3,7 @@
 /// The requested number of elements ("V" Vector Extension 1.0, section 6.2, "AVL encoding").
 #[derive(Clone, Copy, Debug, PartialEq, Eq)]
 pub enum RequestedLength {
-    /// This number of elements, at most VLMAX.
+    /// This number of elements, or VLMAX if that is less.
     Elements(u64),
     /// VLMAX elements.
     Maximum,
