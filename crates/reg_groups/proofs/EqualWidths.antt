@@ -1,4 +1,4 @@
--- Legality of operands that have the vector type's multiplier: their groups are aligned, and equal widths may overlap.
+-- Legality of operands with the vector type's multiplier: their groups are aligned, and operands of equal width may overlap.
 use Rattle.std.proofs.Common.{◌≡◌, ℕ, zero, suc, ◌+◌, ◌*◌, ◌≤◌, Bool, ◌&&◌, ◌||◌, not, nat_lt, ◌==◌, max, min, refl, arith, ◌∙◌, ap}
 use Rattle.std.proofs.Math.Bool.{or-false, or-true}
 use Rattle.std.proofs.lemmas.Bool.Decides.{nat_tests}
@@ -15,12 +15,12 @@ use Rattle.rv_model.proofs.legality_lemmas.Bounds.{emul-sew}
 use Rattle.reg_groups.specs.Roles.{is_apart_from_mask}
 use Rattle.reg_groups.proofs.Sources.{masked_legal}
 
--- a destination holds v0 exactly where it begins with it
+-- a destination contains v0 if and only if it starts with v0
 pub holds_v0 : (a n : ℕ) → 1 ≤ n → nat_lt (max a 0) (min (a + 1 * n) (0 + 1 * 1)) ≡ (a == 0)
 holds_v0 zero n h = grind (arith, nat_tests)
 holds_v0 (suc a) n h = grind (arith, nat_tests)
 
--- a group has a register
+-- a group has at least one register
 pub some_registers : (e : ℕ) → 1 ≤ registers e
 some_registers e = omega arith
 
@@ -32,7 +32,7 @@ role_allows Write a g = or-false _ ∙ apart_from_v0 a g
 role_allows Apart a g = or-false _ ∙ apart_from_v0 a g
 role_allows _ a g = or-true _
 
--- one group of elements of SEW beside the mask
+-- one group of elements of SEW, and the mask
 pub group_with_mask : (r : Role) (a : ℕ) (unmasked : Bool) (t : VType)
     → are_legal (group r a (group_type t) ∷ v0 unmasked)
     ≡ (is_group (group Read a (group_type t)) && (unmasked || (not (is_apart_from_mask r) || not (a == 0))))

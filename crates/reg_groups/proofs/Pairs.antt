@@ -1,5 +1,5 @@
--- Legality of operands of two widths, and of those that may not overlap: what two groups ask of each other is tried for each pair of
--- registers under each vector type.
+-- Legality of operands of two widths, and of operands that may not overlap. The proofs evaluate the conditions on two groups for each pair
+-- of registers under each vector type.
 use Rattle.std.proofs.Common.{◌≡◌, ℕ, zero, suc, ◌+◌, ◌*◌, ◌/◌, ◌<◌, ◌≤◌, Bool, true, false, ◌&&◌, ◌||◌, not, nat_le, nat_lt, ◌==◌, eq-eqb, lit≤, refl, arith, ◌∙◌, ap, inl, inr}
 use Rattle.std.proofs.Math.Bool.{and-true, or-false, or-true}
 use Rattle.std.proofs.lemmas.Bool.{and_parts, cases_order}
@@ -31,7 +31,7 @@ use Rattle.reg_groups.proofs.Sources.{guarded, lone_legal, masked_legal, pair_le
 
 -- ---- groups of twice SEW
 
--- they have twice the multiplier
+-- they have twice the multiplier of a group of SEW
 wide_emul : (s : Sew) (e : ℕ) → bits (doubled (sew_width s)) * e / sew_bits s ≡ 2 * e
 wide_emul E8 e = omega arith
 wide_emul _ e = omega arith
@@ -41,7 +41,7 @@ wide_group : (s : Sew) (a e f : ℕ) → e ≡ 2 * f
 wide_group E64 a e f h = refl
 wide_group _ a e f h = rw h refl
 
--- there are some where SEW is below 64, and their multiplier at most 8
+-- they exist where SEW is below 64 and their multiplier is at most 8
 pub wide_aligned : (a : ℕ) (t : VType)
     → is_group (group Read a (wide_type t)) ≡ (not (sew_bits t.sew == 64) && is_group (groups_of Read 1 a 8 (2 * lmul_eighths t.lmul)))
 wide_aligned a t = wide_group t.sew a _ (lmul_eighths t.lmul) (wide_emul t.sew (lmul_eighths t.lmul))
@@ -71,14 +71,14 @@ alike_same true true h = refl
 alike_same false false h = refl
 alike_same _ _ h = absurd (cc)
 
--- what a register operand holds, and its multiplier
+-- the contents of a register operand, and its multiplier in eighths of a register
 abbrev Kind : Type 0
 Kind = Content × ℕ
 
 abbrev operand : Role → ℕ → Kind → Operand
 operand r a k = record { role = r; first = a; content = k.0; emul = k.1; fields = 1 }
 
--- for each vector type and each pair of registers
+-- a test holds for each vector type and each pair of registers
 abbrev each : (Sew → Lmul → ℕ → ℕ → Bool) → Bool
 each p = list_all (λ w. list_all (λ l. below 32 (λ a. below 32 (p w l a))) lmuls) sews
 
@@ -87,7 +87,7 @@ of_each p h w l a b in_a in_b =
     let types = of_lmuls (λ m. below 32 (λ x. below 32 (p w m x))) (of_sews (λ v. list_all (λ m. below 32 (λ x. below 32 (p v m x))) lmuls) h w) l in
     of_below 32 (p w l a) (of_below 32 (λ x. below 32 (p w l x)) types a in_a) b in_b
 
--- what a destination and a source that are groups ask of each other comes to a test of their first registers
+-- for a destination and a source that are groups, `allows` equals a test of their first registers
 abbrev comes_to : Role → (Sew → Lmul → Kind) → (Sew → Lmul → Kind) → (Lmul → ℕ → ℕ → Bool) → Sew → Lmul → ℕ → ℕ → Bool
 comes_to r d s test w l a b =
     not (is_group (operand r a (d w l)) && is_group (operand Read b (s w l))) || alike (allows (operand r a (d w l)) (operand Read b (s w l))) (test l a b)
@@ -128,17 +128,17 @@ after emul l a b = nat_le a b || nat_le (b + registers (emul l)) a
 abbrev outside : Lmul → ℕ → ℕ → Bool
 outside l a b = nat_lt b a || nat_le (a + registers (lmul_eighths l)) b
 
--- a narrow source of a wide destination
+-- a narrow source and a wide destination
 pub widening_beside : (vd b : ℕ) (t : VType) → is_group (group Write vd (wide_type t)) ≡ true
     → stands_beside (group Write vd (wide_type t)) (group Read b (group_type t)) ≡ is_other_group vd b t
 widening_beside vd b t h = told Write wide narrow other refl t.sew t.lmul vd b h
 
--- a wide source of a narrow destination
+-- a wide source and a narrow destination
 pub narrowing_beside : (vd b : ℕ) (t : VType) → is_group (group Write vd (group_type t)) ≡ true
     → stands_beside (group Write vd (group_type t)) (group Read b (wide_type t)) ≡ is_wide_beside vd b t
 narrowing_beside vd b t h = told Write narrow wide (after (λ l. 2 * lmul_eighths l)) refl t.sew t.lmul vd b h
 
--- a source of a destination that may not overlap it
+-- a source and a destination that may not overlap it
 pub apart_beside : (vd b : ℕ) (t : VType) → is_group (group Apart vd (group_type t)) ≡ true
     → stands_beside (group Apart vd (group_type t)) (group Read b (group_type t)) ≡ is_other_group vd b t
 apart_beside vd b t h = told Apart narrow narrow other refl t.sew t.lmul vd b h
@@ -155,21 +155,21 @@ mask_apart_beside vd b t h = told Apart narrow masks outside refl t.sew t.lmul v
 masks_apart : (a b : ℕ) → is_group (mask Apart a) ≡ true → stands_beside (mask Apart a) (mask Read b) ≡ (is_group (mask Read b) && not (a == b))
 masks_apart a b h = told Apart masks masks other refl E8 M1 a b h
 
--- a source of the destination's width
+-- a source with the destination's element width
 pub equal_beside : (a b : ℕ) (g : GroupType) → stands_beside (group Write a g) (group Read b g) ≡ is_group (group Read b g)
 equal_beside a b g = rw (eq-eqb (bits g.width), or-true (not (overlaps (group Write a g) (group Read b g)))) (and-true _)
 
--- a source of a destination that may overlap anything
+-- a source and a destination that may overlap any operand
 pub free_beside : (d : Operand) (s : Operand) → d.role ≡ Free → stands_beside d s ≡ is_group s
 free_beside d s h = rw (h, or-true (not (overlaps d s))) (and-true _)
 
--- a mask may be written over the one that is read
+-- a mask may be written to v0, from which the instruction reads its mask
 pub mask_over_v0 : (a : ℕ) → allows (mask Write a) (mask Control 0) ≡ true
 mask_over_v0 a = or-true _
 
--- ---- what instructions ask of their operands
+-- ---- conditions on the operands of instructions
 
--- one that counts in a mask
+-- `viota.m`, which counts active elements of a mask
 pub iota_legal : (vd vs2 : ℕ) (unmasked : Bool) (t : VType)
     → are_legal (group Apart vd (group_type t) ∷ mask Read vs2 ∷ v0 unmasked)
     ≡ (is_group (group Read vd (group_type t)) && (is_mask_outside vd vs2 t && (unmasked || not (vd == 0))))
@@ -177,7 +177,7 @@ iota_legal vd vs2 unmasked t =
     pair_legal (group Apart vd (group_type t)) (mask Read vs2) unmasked refl
     ∙ guarded (is_group (group Read vd (group_type t))) _ _ (λ h. rw (mask_apart_beside vd vs2 t h, role_allows Apart vd (group_type t)) refl)
 
--- one from a mask to a mask
+-- an operation from a mask to a mask
 pub scan_legal : (vd vs2 : ℕ) (unmasked : Bool)
     → are_legal (mask Apart vd ∷ mask Read vs2 ∷ v0 unmasked)
     ≡ (is_group (mask Read vd) && ((is_group (mask Read vs2) && not (vd == vs2)) && (unmasked || not (vd == 0))))
@@ -189,7 +189,7 @@ scan_legal vd vs2 unmasked =
     (λ h. rw (masks_apart vd vs2 h, ap not (holds_v0 vd 1 (lit≤ tt)))
     (ap (λ b. (is_group (mask Read vs2) && not (vd == vs2)) && (unmasked || b)) (or-false _)))
 
--- one from a mask to a scalar register
+-- an operation from a mask to a scalar register
 pub mask_source_legal : (vs2 : ℕ) (unmasked : Bool) → are_legal (mask Read vs2 ∷ v0 unmasked) ≡ is_group (mask Read vs2)
 mask_source_legal vs2 unmasked =
     masked_legal (mask Read vs2) unmasked ∙ ap (λ b. is_group (mask Read vs2) && (unmasked || b)) (or-true _)
@@ -198,7 +198,7 @@ mask_source_legal vs2 unmasked =
 mask_beside_mask : (a b : ℕ) → stands_beside (mask Write a) (mask Read b) ≡ is_group (mask Read b)
 mask_beside_mask a b = ap (λ x. is_group (mask Read b) && x) (or-true _) ∙ and-true _
 
--- logic on masks
+-- a logical operation on masks
 pub mask_logic_legal : (vd vs1 vs2 : ℕ)
     → are_legal (mask Write vd ∷ mask Read vs2 ∷ mask Read vs1 ∷ [])
     ≡ (is_group (mask Read vd) && (is_group (mask Read vs2) && is_group (mask Read vs1)))
@@ -208,7 +208,7 @@ mask_logic_legal vd vs1 vs2 =
     (ap (λ b. b && list_all (stands_beside (mask Write vd)) (mask Read vs1 ∷ [])) (mask_beside_mask vd vs2)
     ∙ ap (λ b. is_group (mask Read vs2) && b) (and-true _ ∙ mask_beside_mask vd vs1))
 
--- a compression
+-- `vcompress.vm`
 pub compress_legal : (vd vs1 vs2 : ℕ) (t : VType)
     → are_legal (compress_operands vd vs1 vs2 t)
     ≡ (is_group (group Read vd (group_type t)) && (is_other_group vd vs2 t && is_mask_outside vd vs1 t))

@@ -1,4 +1,4 @@
--- What each shape of an operation asks of its operands, as tests of its registers.
+-- Conditions of each shape of operation on its operands, as tests of registers.
 use Rattle.std.proofs.Common.{◌≡◌, ℕ, Bool, true, ◌&&◌, ◌||◌, not, ◌==◌, refl, ◌∙◌, ap}
 use Rattle.std.proofs.Math.Bool.{and-true, or-true}
 use Rattle.std.specs.Prelude.{[], ◌∷◌}
@@ -22,7 +22,7 @@ same_of_vector (source.V vs1) f g h = h vs1
 same_of_vector _ f g h = refl
 
 module _ (vd vs2 : ℕ) (from : Source) (unmasked : Bool) (t : VType) where
-  -- a test for each operand, where the destination is a group
+  -- a test of each operand; the tests may assume that the destination is a group
   row : (shape : Shape) (a m : Bool) (b : ℕ → Bool)
       → (is_group (destination shape vd t) ≡ true → stands_beside (destination shape vd t) (first_source shape vs2 t) ≡ a)
       → (is_group (destination shape vd t) ≡ true → (vs1 : ℕ) → stands_beside (destination shape vd t) (vector_source shape vs1 t) ≡ b vs1)

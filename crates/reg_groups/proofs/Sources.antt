@@ -1,4 +1,4 @@
--- Legality of a destination beside sources: only the destination has to agree with others.
+-- Legality of a destination and sources: only pairs with the destination need a test.
 use Rattle.std.proofs.Common.{◌≡◌, ℕ, Bool, true, false, ◌&&◌, ◌||◌, not, List, refl, sym, ap, subst, ◌∙◌}
 use Rattle.std.proofs.Math.Bool.{and-true, or-true}
 use Rattle.std.specs.Prelude.{⊤, [], ◌∷◌, ◌++◌}
@@ -15,7 +15,7 @@ use Rattle.rv_model.specs.legality.OperandShapes.{destination, first_source, mas
 use Rattle.rv_model.specs.legality.RegisterOperands.{allows, are_legal, is_group, may_share, overlaps}
 use Rattle.reg_groups.specs.Roles.{of_vector, stands_beside}
 
--- the registers of an operand aren't written
+-- the instruction doesn't write the registers of the operand
 abbrev IsSource : Role → Type 0
 IsSource Read = ⊤
 IsSource Control = ⊤
@@ -52,7 +52,7 @@ zipped d (x ∷ xs) = pair (is_group x) _ (allows d x) _ ∙ ap (λ b. stands_be
     pair true false false y = refl
     pair false b x y = refl
 
--- a destination beside sources
+-- a destination and sources
 pub sources_legal : (d : Operand) (xs : List Operand) → AreSources xs → are_legal (d ∷ xs) ≡ (is_group d && list_all (stands_beside d) xs)
 unfolding are_legal
 sources_legal d xs h =
@@ -63,7 +63,7 @@ sources_legal d xs h =
     tests true a b = ap (λ x. a && x) (and-true b)
     tests false a b = refl
 
--- v0 is a group, so a destination has to agree with it alone
+-- v0 is a group, so only its pair with the destination needs a test
 mask_beside : (d : Operand) (unmasked : Bool) → list_all (stands_beside d) (v0 unmasked) ≡ (unmasked || allows d (mask Control 0))
 mask_beside d true = refl
 mask_beside d false = and-true _
@@ -72,11 +72,11 @@ mask_is_source : (unmasked : Bool) → AreSources (v0 unmasked)
 mask_is_source true = tt
 mask_is_source false = (tt, tt)
 
--- one operand beside the mask
+-- one operand and the mask
 pub masked_legal : (o : Operand) (unmasked : Bool) → are_legal (o ∷ v0 unmasked) ≡ (is_group o && (unmasked || allows o (mask Control 0)))
 masked_legal o unmasked = sources_legal o (v0 unmasked) (mask_is_source unmasked) ∙ ap (λ b. is_group o && b) (mask_beside o unmasked)
 
--- a destination and a source beside the mask
+-- a destination, a source and the mask
 pub pair_legal : (d s : Operand) (unmasked : Bool) → s.role ≡ Read
     → are_legal (d ∷ s ∷ v0 unmasked) ≡ (is_group d && (stands_beside d s && (unmasked || allows d (mask Control 0))))
 pair_legal d s unmasked read =
@@ -99,14 +99,14 @@ second_is_source : (shape : Shape) (from : Source) (t : VType) (rest : List Oper
 second_is_source shape (source.V vs1) t rest h = (vector_is_source shape vs1 t, h)
 second_is_source shape _ t rest h = h
 
--- the second source, if it is one of vectors
+-- the second source, if it is a vector
 second_beside : (d : Operand) (shape : Shape) (from : Source) (t : VType) (rest : List Operand)
     → list_all (stands_beside d) (second_source shape from t ++ rest)
     ≡ (of_vector from (λ vs1. stands_beside d (vector_source shape vs1 t)) && list_all (stands_beside d) rest)
 second_beside d shape (source.V vs1) t rest = refl
 second_beside d shape _ t rest = refl
 
--- what a shape asks of its operands
+-- conditions of a shape on its operands
 pub shape_legal : (shape : Shape) (vd vs2 : ℕ) (from : Source) (unmasked : Bool) (t : VType)
     → are_legal (shape_operands shape vd vs2 from unmasked t)
     ≡ (is_group (destination shape vd t) && (stands_beside (destination shape vd t) (first_source shape vs2 t)
@@ -122,7 +122,7 @@ shape_legal shape vd vs2 from unmasked t =
     (second_beside d shape from t (v0 unmasked)
     ∙ ap (λ b. of_vector from (λ vs1. stands_beside d (vector_source shape vs1 t)) && b) (mask_beside d unmasked))
 
--- the second of two tests may take the first for granted
+-- the second of two tests may assume that the first holds
 pub guarded : (g a b : Bool) → (g ≡ true → a ≡ b) → (g && a) ≡ (g && b)
 guarded true a b h = h refl
 guarded false a b h = refl

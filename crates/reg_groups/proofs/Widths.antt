@@ -1,4 +1,4 @@
--- Widths that an operand has beside SEW, in bits.
+-- Widths of operands other than SEW, in bits.
 use Rattle.std.proofs.Common.{◌≡◌, ℕ, ◌*◌, ◌/◌, max, refl}
 use mir.Val.{bits}
 use Rattle.rv_model.specs.declared.instructions.operations.ExtendOp.{ExtendOp}

@@ -1,4 +1,4 @@
--- What an instruction does with the registers of an operand, and operands beside a destination.
+-- Roles of register operands, and tests of operands together with a destination.
 use Rattle.std.specs.Prelude.{ℕ, ◌+◌, ◌*◌, Bool, true, false, ◌&&◌, ◌||◌, not, nat_le, nat_lt, ◌==◌}
 use Rattle.rv_model.specs.declared.instructions.source.Source.{Source}
 use Rattle.rv_model.specs.declared.instructions.source.Source.TheVariants as source
@@ -11,41 +11,41 @@ use Rattle.rv_model.specs.legality.OperandShapes.{group, mask}
 use Rattle.rv_model.specs.legality.RegisterOperands.{allows, is_group}
 use Rattle.rv_model.specs.vector.Groups.{group_type, lmul_eighths, registers, wide_type}
 
--- registers that may not hold the mask of the same instruction
+-- registers that may not overlap the mask of the same instruction
 abbrev pub is_apart_from_mask : Role → Bool
 is_apart_from_mask Write = true
 is_apart_from_mask Apart = true
 is_apart_from_mask _ = false
 
--- for each field a group of elements of so many bits; `emul` is the multiplier, in eighths of a register
+-- for each field, a group of elements of `width` bits; `emul` is the multiplier of one group, in eighths of a register
 abbrev pub groups_of : Role → ℕ → ℕ → ℕ → ℕ → Operand
 groups_of role fields r width emul = record { role = role; first = r; content = Elements width; emul = emul; fields = fields }
 
--- a source that a destination may stand beside
+-- a source that is a legal group, and that the destination may be used with
 abbrev pub stands_beside : Operand → Operand → Bool
 stands_beside d s = is_group s && allows d s
 
--- a test of the register of a second source, if it is one of vectors
+-- a test of the register of a second source, if it is a vector
 abbrev pub of_vector : Source → (ℕ → Bool) → Bool
 of_vector (source.V vs1) test = test vs1
 of_vector (source.X rs1) test = true
 of_vector (source.I imm) test = true
 
--- a group of the vector type that doesn't begin with `vd`
+-- a group of the vector type that doesn't start with `vd`
 abbrev pub is_other_group : ℕ → ℕ → VType → Bool
 is_other_group vd first t = is_group (group Read first (group_type t)) && not (vd == first)
 
--- a group of elements of twice SEW of which `vd` is no register, or the first
+-- a group of elements of twice SEW; `vd` is outside of the group, or is its first register
 abbrev pub is_wide_beside : ℕ → ℕ → VType → Bool
 is_wide_beside vd first t =
     is_group (group Read first (wide_type t)) && (nat_le vd first || nat_le (first + registers (2 * lmul_eighths t.lmul)) vd)
 
--- a group of the vector type of which `vd` is no register, or the first
+-- a group of the vector type; `vd` is outside of the group, or is its first register
 abbrev pub is_beside_mask : ℕ → ℕ → VType → Bool
 is_beside_mask vd first t =
     is_group (group Read first (group_type t)) && (nat_le vd first || nat_le (first + registers (lmul_eighths t.lmul)) vd)
 
--- a mask that is outside of the group of the vector type from `vd` on
+-- a mask outside of the group of the vector type that starts with `vd`
 abbrev pub is_mask_outside : ℕ → ℕ → VType → Bool
 is_mask_outside vd register t =
     is_group (mask Read register) && (nat_lt register vd || nat_le (vd + registers (lmul_eighths t.lmul)) register)

@@ -1,5 +1,5 @@
-//! Which register operands may stand together in one instruction ("V" Vector Extension 1.0, sections
-//! 3.4.2, 5.2 and 5.3).
+//! Which register operands one instruction may have together ("V" Vector Extension 1.0, sections 3.4.2, 5.2 and
+//! 5.3).
 ghost use Rattle.std.specs.Prelude.{◌≡◌, true};
 ghost use Rattle.rv_model.specs.legality.RegisterOperands.{allows, eew, end, is_group, is_width, may_overlap};
 ghost use Rattle.rv_model.specs.legality.RegisterOperands.{overlaps};
@@ -7,7 +7,7 @@ ghost use Rattle.rv_model.specs.legality.RegisterOperands.{overlaps};
 use crate::groups::registers;
 use rv_model::{Content, Operand, Role, VECTOR_REGISTERS};
 
-/// The effective element width in bits.
+/// The effective element width (EEW) in bits; 1 for a mask.
 #[inline(always)]
 fn eew(content: Content) -> u16
     ensures { result ≡ eew content }
@@ -29,7 +29,7 @@ fn is_width(content: Content) -> bool
     }
 }
 
-/// The number of the register after the last.
+/// The number of the register after the operand's last one.
 #[inline(always)]
 fn end(operand: &Operand) -> u64
     ensures { result ≡ end operand.now }
@@ -38,8 +38,8 @@ fn end(operand: &Operand) -> u64
         + u64::from(operand.fields) * u64::from(registers(operand.emul))
 }
 
-/// Whether the multiplier is one of 1/8 to 8, for the fields together at most 8, and the registers are
-/// aligned and there.
+/// Whether an operand is a legal group: elements have 8 to 64 bits, the multiplier is 1/8 to 8 and, for all fields
+/// together, at most 8. The first register is aligned, and the last one exists.
 #[inline(always)]
 pub(crate) fn is_group(operand: &Operand) -> bool
     ensures { result ≡ is_group operand.now }
@@ -52,7 +52,7 @@ pub(crate) fn is_group(operand: &Operand) -> bool
         && end(operand) <= VECTOR_REGISTERS as u64
 }
 
-/// Whether the two have a register in common.
+/// Whether the two operands have a register in common.
 #[inline(always)]
 fn overlaps(one: &Operand, other: &Operand) -> bool
     ensures { result ≡ overlaps one.now other.now }
@@ -60,7 +60,7 @@ fn overlaps(one: &Operand, other: &Operand) -> bool
     u64::from(one.first.number().max(other.first.number())) < end(one).min(end(other))
 }
 
-/// Whether a destination may overlap a source.
+/// Whether a destination may overlap a source (section 5.2).
 #[inline(always)]
 fn may_overlap(destination: &Operand, source: &Operand) -> bool
     ensures { result ≡ may_overlap destination.now source.now }
@@ -76,8 +76,8 @@ fn may_overlap(destination: &Operand, source: &Operand) -> bool
     }
 }
 
-/// Whether what an instruction does with the registers of the first operand agrees with what it does with
-/// those of the second.
+/// Whether the two operands don't overlap, or may overlap in their roles. The test depends on the order:
+/// `destination` is the written operand.
 #[inline(always)]
 pub(crate) fn allows(destination: &Operand, other: &Operand) -> bool
     ensures { result ≡ allows destination.now other.now }

@@ -1,5 +1,5 @@
-//! Which operations with a line of their own in the manual's table are legal, and moves of one group ("V" Vector
-//! Extension 1.0, sections 3.4.2, 5.2, 5.3, 10.2, 11, 12, 14, 16 and 19).
+//! Legality of the operations of the funct6 table, and of moves of one group ("V" Vector Extension 1.0, sections
+//! 3.4.2, 5.2, 5.3, 10.2, 11, 12, 14, 16 and 19).
 ghost use Rattle.std.specs.Prelude.{◌≡◌, ◌∷◌};
 ghost use Rattle.rv_model.specs.legality.Legality.{is_legal, is_narrow_only};
 ghost use Rattle.rv_model.specs.legality.OperandShapes.{destination, second_source, shape_of, shape_operands};
@@ -12,7 +12,7 @@ use crate::positions::{
 use rv_model::instructions::operations::{BinaryOp, FixedPointOp, PermuteOp, VectorOp};
 use rv_model::{Arith, Instr, Shape, Source, VConf, VReg, VType, VectorInstr};
 
-/// Whether they are legal as operands of one width.
+/// Whether the operands are legal if all have elements of SEW.
 #[inline(always)]
 #[tactic(auto, using(crate::proofs::Shapes::single_legal))]
 pub(crate) fn is_legal_single(
@@ -33,7 +33,7 @@ pub(crate) fn is_legal_single(
         && is_free_of_mask(vd, unmasked)
 }
 
-/// Whether they are legal as operands whose destination has twice the width.
+/// Whether the operands are legal if the destination has twice the width of the sources.
 #[inline(always)]
 #[tactic(auto, using(crate::proofs::Shapes::widening_legal))]
 fn is_legal_widening(vd: VReg, vs2: VReg, source: Source, unmasked: bool, vtype: VType) -> bool
@@ -48,7 +48,7 @@ fn is_legal_widening(vd: VReg, vs2: VReg, source: Source, unmasked: bool, vtype:
         && is_free_of_mask(vd, unmasked)
 }
 
-/// Whether they are legal as operands of which the destination and `vs2` have twice the width.
+/// Whether the operands are legal if the destination and `vs2` have twice the width of the second source.
 #[inline(always)]
 #[tactic(auto, using(crate::proofs::Shapes::wide_source_legal))]
 fn is_legal_wide_source(vd: VReg, vs2: VReg, source: Source, unmasked: bool, vtype: VType) -> bool
@@ -63,7 +63,7 @@ fn is_legal_wide_source(vd: VReg, vs2: VReg, source: Source, unmasked: bool, vty
         && is_free_of_mask(vd, unmasked)
 }
 
-/// Whether they are legal as operands of which `vs2` has twice the width.
+/// Whether the operands are legal if `vs2` has twice the width of the destination.
 #[inline(always)]
 #[tactic(auto, using(crate::proofs::Shapes::narrowing_legal))]
 fn is_legal_narrowing(vd: VReg, vs2: VReg, source: Source, unmasked: bool, vtype: VType) -> bool
@@ -78,10 +78,10 @@ fn is_legal_narrowing(vd: VReg, vs2: VReg, source: Source, unmasked: bool, vtype
         && is_free_of_mask(vd, unmasked)
 }
 
-/// Whether they are legal as operands whose destination is a mask, which may be v0.
+/// Whether the operands are legal if the destination is a mask, which may be v0.
 #[inline(always)]
 #[tactic(auto, using(crate::proofs::Sources::shape_legal,
-// And the mask beside its sources.
+// The mask and its sources.
 crate::proofs::Pairs::compare_beside, crate::proofs::Pairs::mask_over_v0))]
 fn is_legal_comparison(vd: VReg, vs2: VReg, source: Source, unmasked: bool, vtype: VType) -> bool
     ensures { result ≡ are_legal (shape_operands Shape.Compare vd vs2 source unmasked vtype) }
@@ -94,7 +94,7 @@ fn is_legal_comparison(vd: VReg, vs2: VReg, source: Source, unmasked: bool, vtyp
         }
 }
 
-/// Whether they are legal as operands whose destination may not overlap the others.
+/// Whether the operands are legal if the destination may not overlap the others.
 #[inline(always)]
 #[tactic(auto, using(crate::proofs::Shapes::gather_legal))]
 fn is_legal_gather(vd: VReg, vs2: VReg, source: Source, unmasked: bool, vtype: VType) -> bool
@@ -109,7 +109,7 @@ fn is_legal_gather(vd: VReg, vs2: VReg, source: Source, unmasked: bool, vtype: V
         && is_free_of_mask(vd, unmasked)
 }
 
-/// Whether they are legal as operands of a gather whose indices have 16 bits.
+/// Whether the operands of a gather with 16-bit indices are legal.
 #[inline(always)]
 #[tactic(auto, using(crate::proofs::Shapes::gather_by_16_bits_legal))]
 fn is_legal_gather_by_16_bits(
@@ -130,7 +130,7 @@ fn is_legal_gather_by_16_bits(
         && is_free_of_mask(vd, unmasked)
 }
 
-/// Whether they are legal as operands of a reduction, whose destination may overlap anything.
+/// Whether the operands of a reduction are legal: the destination may overlap any operand.
 #[inline(always)]
 #[tactic(auto, using(crate::proofs::Shapes::reduction_legal))]
 fn is_legal_reduction(vd: VReg, vs2: VReg, source: Source, unmasked: bool, vtype: VType) -> bool
@@ -144,7 +144,7 @@ fn is_legal_reduction(vd: VReg, vs2: VReg, source: Source, unmasked: bool, vtype
         }
 }
 
-/// Whether they are legal as operands of a reduction to twice the width.
+/// Whether the operands of a reduction to twice the width are legal.
 #[inline(always)]
 #[tactic(auto, using(crate::proofs::Shapes::wide_reduction_legal))]
 fn is_legal_wide_reduction(
@@ -164,7 +164,7 @@ fn is_legal_wide_reduction(
         }
 }
 
-/// Whether a move of one group may have these operands.
+/// Whether the operands of a move of one group are legal.
 #[inline(always)]
 #[tactic(auto, using(crate::proofs::Shapes::move_legal))]
 pub(crate) fn is_legal_move(source: Source, vd: VReg, vtype: VType) -> bool
@@ -177,7 +177,7 @@ pub(crate) fn is_legal_move(source: Source, vd: VReg, vtype: VType) -> bool
         }
 }
 
-/// Whether it is an upper half of a product.
+/// Whether the operation returns the upper half of a product, which is undefined for SEW of 64.
 #[inline(always)]
 fn has_wide_product(op: BinaryOp) -> bool
     ensures { result ≡ is_narrow_only (VectorOp.Binary op) }
@@ -185,7 +185,7 @@ fn has_wide_product(op: BinaryOp) -> bool
     matches!(op, BinaryOp::Vmulhu | BinaryOp::Vmulhsu | BinaryOp::Vmulh)
 }
 
-/// Whether it is a fractional product.
+/// Whether the operation is the fractional product `vsmul`.
 #[inline(always)]
 fn is_fractional_product(op: FixedPointOp) -> bool
     ensures { result ≡ is_narrow_only (VectorOp.FixedPoint op) }
@@ -193,7 +193,7 @@ fn is_fractional_product(op: FixedPointOp) -> bool
     matches!(op, FixedPointOp::Vsmul)
 }
 
-/// Whether a move of elements may have these operands.
+/// Whether the operands of a permutation are legal.
 #[inline(always)]
 fn is_legal_permutation(
     op: PermuteOp,
@@ -216,8 +216,8 @@ fn is_legal_permutation(
     }
 }
 
-/// Whether an operation with a line of its own in the manual's table is legal with this vector type and vstart,
-/// by its parts (sections 3.4.2, 5.2, 5.3 and 14).
+/// Return whether an operation of the funct6 table is legal with this vector type and vstart (sections 3.4.2, 5.2,
+/// 5.3 and 14). The operation is passed as its separate operands; `unmasked` is its vm bit.
 #[tactic(auto, unfolding(rv_model::specs::legality::Legality::is_legal, rv_model::specs::legality::Legality::operands))]
 #[inline(always)]
 pub fn legal_arith(

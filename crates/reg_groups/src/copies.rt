@@ -1,11 +1,12 @@
-//! Registers and groups, copied: a destination may overlap them ("V" Vector Extension 1.0, sections 5.2 and 5.3).
+//! Copies of registers and groups, for operations whose destination may overlap a source ("V" Vector Extension 1.0,
+//! sections 5.2 and 5.3).
 ghost use Rattle.std.specs.Prelude.{◌≡◌, ◌+◌, ◌*◌, ◌≤◌, length};
 ghost use Rattle.rv_model.specs.vector.Groups.{group_of, register_of, registers, with_group};
 
 use crate::groups::{group, group_mut, registers};
 use rv_model::{GROUP_BYTES, VECTOR_REGISTERS, VFile, VLENB, VReg};
 
-/// A copy of the bytes of a register.
+/// Return a copy of the `VLENB` bytes of a register.
 pub fn register_copy(file: &VFile, register: VReg) -> [u8; VLENB]
     ensures { result ≡ register_of file.now register }
 {
@@ -14,17 +15,17 @@ pub fn register_copy(file: &VFile, register: VReg) -> [u8; VLENB]
     copy
 }
 
-/// The bytes of v0.
+/// Return a copy of the `VLENB` bytes of v0.
 pub fn mask_register(file: &VFile) -> [u8; VLENB]
     ensures { result ≡ register_of file.now 0 }
 {
     register_copy(file, VReg::new(0))
 }
 
-/// The bytes of two registers.
+/// The number of bytes in two registers.
 const TWO_REGISTERS: usize = 2 * VLENB;
 
-/// Copies `N` bytes, in line.
+/// Copy `N` bytes. `N` is a constant, so that the compiler inlines the copy.
 #[inline(always)]
 fn copy_known<const N: usize>(from: &[u8], to: &mut [u8])
     requires from { length from.now ≡ N }
@@ -34,7 +35,7 @@ fn copy_known<const N: usize>(from: &[u8], to: &mut [u8])
     to[..N].copy_from_slice(&from[..N]);
 }
 
-/// Copies the bytes of a group; those of one register or two in line.
+/// Copy the bytes of a group. The copies of one or two registers are inlined.
 #[inline(always)]
 fn copy_bytes(from: &[u8], to: &mut [u8])
     requires length { length from.now ≡ length to.old }
@@ -49,7 +50,8 @@ fn copy_bytes(from: &[u8], to: &mut [u8])
     }
 }
 
-/// A copy of the bytes of a group, to be written to; `emul` is its multiplier in eighths of a register.
+/// Copy the bytes of a group to the start of `copy`, and return them for writing; `emul` is the group's multiplier
+/// in eighths of a register.
 #[inline(always)]
 pub fn group_copy_mut<'a>(
     file: &VFile,
@@ -67,7 +69,8 @@ pub fn group_copy_mut<'a>(
     copied
 }
 
-/// A copy of the bytes of a group.
+/// Copy the bytes of a group to the start of `copy`, and return them; `emul` is the group's multiplier in eighths
+/// of a register.
 pub fn group_copy<'a>(
     file: &VFile,
     first: VReg,
@@ -85,7 +88,7 @@ pub fn group_copy<'a>(
     copied
 }
 
-/// Puts a copy of a group in its place.
+/// Write `bytes` to a group; `emul` is the group's multiplier in eighths of a register.
 #[inline(always)]
 pub fn put_group(file: &mut VFile, first: VReg, emul: u32, bytes: &[u8])
     requires inside { first + registers emul ≤ VECTOR_REGISTERS }

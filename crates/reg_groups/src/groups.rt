@@ -6,8 +6,8 @@ ghost use Rattle.reg_groups.specs.GroupLending.{LendsGroup};
 
 use rv_model::{FILE_BYTES, VECTOR_REGISTERS, VFile, VLENB, VReg};
 
-/// How many registers a group takes; `emul` is its multiplier in eighths of a register, as in each
-/// function here, and one below 1 takes a register.
+/// Return the number of registers in a group, 1 to 8 for a legal multiplier. `emul` is the multiplier in eighths of
+/// a register, as in each function here; a group with a multiplier below 1 has one register.
 pub fn registers(emul: u32) -> u32
     ensures value { result ≡ registers emul }
     ensures some { 1 ≤ result }
@@ -15,7 +15,7 @@ pub fn registers(emul: u32) -> u32
     (emul / 8).max(1)
 }
 
-/// The bytes of a group, `VLENB` for each register.
+/// Return the bytes of a group, `VLENB` for each register.
 pub fn group(file: &VFile, first: VReg, emul: u32) -> &[u8]
     requires inside { first + registers emul ≤ VECTOR_REGISTERS }
     ensures value { result.now ≡ group_of file.now first emul }
@@ -26,7 +26,7 @@ pub fn group(file: &VFile, first: VReg, emul: u32) -> &[u8]
     file.part(start, start + length)
 }
 
-/// The bytes of a group, for writing.
+/// Borrow the bytes of a group for writing, `VLENB` for each register.
 pub fn group_mut(file: &mut VFile, first: VReg, emul: u32) -> &mut [u8]
     requires inside { first + registers emul ≤ VECTOR_REGISTERS }
     ensures* writes_back { sem 𝓛 (LendsGroup file.entry first result) }

@@ -1,4 +1,4 @@
-//! Which vector instructions are legal.
+//! Legality of vector instructions.
 ghost use Rattle.std.specs.Prelude.{[], ◌∷◌, ◌≡◌, ◌↔◌, ◌+◌, ◌==◌, IsTrue, Some, None, true, false, ℕ};
 ghost use Rattle.std.specs.Option.{option_map_or};
 ghost use Rattle.rv_model.specs.legality.Legality.{IsLegal, access_operands, compress_operands, data_role};
@@ -23,14 +23,14 @@ use rv_model::instructions::operations::{
 };
 use rv_model::{AccessInstr, Field, Instr, Operand, Role, Sew, VConf, VReg, VType, VectorInstr};
 
-/// How many fields `nf` says.
+/// The number of fields, 1 to 8, that `nf` encodes.
 fn fields(nf: Field<3>) -> u8
     ensures { result ≡ nf + 1 }
 {
     nf.value() as u8 + 1
 }
 
-/// What a load or store does with its data registers.
+/// The role of the data registers of a load or store.
 fn data_role(direction: Direction) -> Role
     ensures { result ≡ data_role direction }
 {
@@ -40,7 +40,7 @@ fn data_role(direction: Direction) -> Role
     }
 }
 
-/// What a unit-stride access does with its data registers.
+/// The role of the data registers of a unit-stride access.
 fn unit_role(op: UnitOp) -> Role
     ensures { result ≡ unit_role op }
 {
@@ -50,8 +50,7 @@ fn unit_role(op: UnitOp) -> Role
     }
 }
 
-/// What an indexed access does with its data registers: the fields of a segment load may not overlap the
-/// indices.
+/// The role of the data registers of an indexed access: the fields of a segment load may not overlap the indices.
 fn indexed_role(direction: Direction, nf: Field<3>) -> Role
     ensures { result ≡ indexed_role direction nf }
 {
@@ -67,7 +66,7 @@ fn indexed_role(direction: Direction, nf: Field<3>) -> Role
     }
 }
 
-/// Whether a mask may be read outside of a group.
+/// Whether a mask is outside of a group of the vector type that starts with `vd`.
 #[inline(always)]
 fn is_mask_outside(vd: VReg, register: VReg, vtype: VType) -> bool
     ensures { result ≡ is_mask_outside vd register vtype }
@@ -77,7 +76,7 @@ fn is_mask_outside(vd: VReg, register: VReg, vtype: VType) -> bool
         && (register.number() < vd.number() || vd.number() + size <= register.number())
 }
 
-/// Whether the operands of an operation that counts in a mask are legal.
+/// Whether the operands of `viota.m`, which counts active elements of a mask, are legal.
 #[inline(always)]
 #[tactic(auto, using(crate::proofs::Pairs::iota_legal))]
 fn is_legal_iota(vd: VReg, vs2: VReg, unmasked: bool, vtype: VType) -> bool
@@ -108,7 +107,7 @@ fn is_legal_mask_unary(op: MaskUnaryOp, vd: VReg, vs2: VReg, unmasked: bool, vty
     }
 }
 
-/// Whether the operands of an operation from a mask to a scalar register are legal: each mask is.
+/// Whether the operands of an operation from a mask to a scalar register are legal: true of each mask register.
 #[inline(always)]
 #[tactic(auto, using(crate::proofs::Pairs::mask_source_legal))]
 fn is_legal_mask_source(vs2: VReg, unmasked: bool) -> bool
@@ -117,7 +116,7 @@ fn is_legal_mask_source(vs2: VReg, unmasked: bool) -> bool
     is_mask_register(vs2)
 }
 
-/// Whether the operands of logic on masks are legal: all are.
+/// Whether the operands of a logical operation on masks are legal: true of all mask registers.
 #[inline(always)]
 #[tactic(auto, using(crate::proofs::Pairs::mask_logic_legal))]
 fn is_legal_mask_logic(vd: VReg, vs1: VReg, vs2: VReg) -> bool
@@ -126,7 +125,7 @@ fn is_legal_mask_logic(vd: VReg, vs1: VReg, vs2: VReg) -> bool
     is_mask_register(vd) && is_mask_register(vs2) && is_mask_register(vs1)
 }
 
-/// Whether the operands of a compression are legal.
+/// Whether the operands of `vcompress.vm` are legal.
 #[inline(always)]
 #[tactic(auto, using(crate::proofs::Pairs::compress_legal))]
 fn is_legal_compression(vd: VReg, vs1: VReg, vs2: VReg, vtype: VType) -> bool
@@ -135,7 +134,7 @@ fn is_legal_compression(vd: VReg, vs1: VReg, vs2: VReg, vtype: VType) -> bool
     is_aligned(vd, vtype) && is_other_group(vd, vs2, vtype) && is_mask_outside(vd, vs1, vtype)
 }
 
-/// Whether so many whole registers may begin with a register.
+/// Whether a group of `count` whole registers may start with this register.
 #[inline(always)]
 fn is_whole_aligned(count: RegisterCount, first: VReg, sew: Sew) -> bool
     ensures { result ≡ is_group (group Role.Read first (registers_type (sew_width sew) count)) }
@@ -160,7 +159,7 @@ fn is_legal_whole_move(count: RegisterCount, vd: VReg, vs2: VReg, vtype: VType) 
     is_whole_aligned(count, vd, vtype.sew) && is_whole_aligned(count, vs2, vtype.sew)
 }
 
-/// Whether a destination and a source beside the mask are legal.
+/// Whether a destination, a source and the mask are legal together.
 #[inline(always)]
 #[tactic(auto, using(crate::proofs::Sources::pair_legal))]
 fn are_legal_with_mask(destination: &Operand, source: &Operand, unmasked: bool) -> bool
@@ -196,7 +195,7 @@ fn are_legal_fields(
     is_group(&data) && allows_v0(&data, unmasked)
 }
 
-/// Whether an operand of this role may not stand where the mask is.
+/// Whether an operand of this role may not overlap the mask.
 #[inline(always)]
 fn is_apart_from_mask(role: Role) -> bool
     ensures { result ≡ is_apart_from_mask role }
@@ -204,7 +203,7 @@ fn is_apart_from_mask(role: Role) -> bool
     matches!(role, Role::Write | Role::Apart)
 }
 
-/// Whether one group of elements of SEW may be loaded or stored. An aligned group that holds v0 begins with it.
+/// Whether one group of elements of SEW may be loaded or stored. An aligned group that contains v0 starts with v0.
 #[inline(always)]
 #[tactic(auto, using(crate::proofs::EqualWidths::group_with_mask))]
 fn is_legal_group(role: Role, vd: VReg, unmasked: bool, vtype: VType) -> bool
@@ -233,7 +232,7 @@ fn is_legal_access(
     }
 }
 
-/// Whether a load or store may have its operands without a vector type: not if it needs one.
+/// Whether the operands of a load or store are legal without a vector type: false if it needs one.
 #[tactic(auto, using(crate::proofs::Sources::lone_legal), unfolding(rv_model::specs::legality::Legality::operands))]
 #[inline(always)]
 fn has_legal_untyped_access(instr: AccessInstr) -> bool
@@ -251,7 +250,7 @@ fn has_legal_untyped_access(instr: AccessInstr) -> bool
     }
 }
 
-/// Whether a load or store may have its operands under a vector type.
+/// Whether the operands of a load or store are legal under a vector type.
 #[tactic(auto, using(crate::proofs::Sources::lone_legal), unfolding(rv_model::specs::legality::Legality::operands))]
 #[inline(always)]
 fn has_legal_access(instr: AccessInstr, vtype: VType) -> bool
@@ -294,11 +293,11 @@ fn has_legal_access(instr: AccessInstr, vtype: VType) -> bool
     }
 }
 
-/// Whether an operation without a line of its own in the manual's table is legal under a vector type.
+/// Whether an operation outside of the funct6 table is legal under a vector type.
 #[tactic(auto, using(crate::proofs::Sources::lone_legal), unfolding(
-// As it is written, and its operands.
+// The definition of legality, and the operands of an instruction.
 rv_model::specs::legality::Legality::is_legal, rv_model::specs::legality::Legality::operands,
-// That they are legal together.
+// The rule of operands together.
 rv_model::specs::legality::RegisterOperands::are_legal))]
 #[inline(always)]
 fn is_legal_typed(operation: VectorInstr, vtype: VType, vstart: u8) -> bool
@@ -330,12 +329,12 @@ fn is_legal_typed(operation: VectorInstr, vtype: VType, vstart: u8) -> bool
     }
 }
 
-/// Whether an operation without a line of its own in the manual's table is legal with this vector type and vstart.
-/// Those that set the vector type need none.
+/// Return whether an operation outside of the funct6 table is legal with this vector type and vstart. Operations
+/// that set the vector type are legal without one.
 #[tactic(auto, unfolding(
-// As it is written, and its operands.
+// The definition of legality, and the operands of an instruction.
 rv_model::specs::legality::Legality::is_legal, rv_model::specs::legality::Legality::operands,
-// That they are legal together.
+// The rule of operands together.
 rv_model::specs::legality::RegisterOperands::are_legal))]
 #[inline(always)]
 pub fn legal_irregular(operation: &VectorInstr, conf: &VConf, vstart: u8) -> bool
@@ -351,7 +350,7 @@ pub fn legal_irregular(operation: &VectorInstr, conf: &VConf, vstart: u8) -> boo
     }
 }
 
-/// Whether a load or store is legal with this vector type, whatever vstart is (sections 3.4.2, 5.2, 5.3 and 7).
+/// Return whether a load or store is legal with this vector type, for each vstart (sections 3.4.2, 5.2, 5.3 and 7).
 #[tactic(auto, unfolding(rv_model::specs::legality::Legality::is_legal, rv_model::specs::legality::Legality::operands))]
 #[inline(always)]
 pub fn legal_access(access: &AccessInstr, conf: &VConf) -> bool
@@ -370,11 +369,11 @@ pub fn legal_access(access: &AccessInstr, conf: &VConf) -> bool
     }
 }
 
-/// Whether an instruction is legal; the test that the definitions have.
+/// Whether an instruction is legal, as the test in the definitions.
 #[tactic(auto, unfolding(
-// As it is written, and its operands.
+// The definition of legality, and the operands of an instruction.
 rv_model::specs::legality::Legality::is_legal, rv_model::specs::legality::Legality::operands,
-// That they are legal together.
+// The rule of operands together.
 rv_model::specs::legality::RegisterOperands::are_legal))]
 #[inline(always)]
 fn is_legal(instr: &Instr, conf: &VConf, vstart: u8) -> bool
@@ -390,8 +389,8 @@ fn is_legal(instr: &Instr, conf: &VConf, vstart: u8) -> bool
     }
 }
 
-/// Whether an instruction is legal with this vector type and vstart; the length has no part in it. Scalar
-/// instructions are.
+/// Return whether an instruction is legal with this vector type and vstart; it doesn't depend on vl. Scalar
+/// instructions are always legal.
 #[tactic(auto, using(rv_model::proofs::legality_lemmas::Meaning::is_legal_means))]
 #[inline(always)]
 pub fn legal(instr: &Instr, conf: &VConf, vstart: u8) -> bool

@@ -1,4 +1,4 @@
-//! Groups of vector registers: which instructions may use which, and their bytes.
+//! Groups of vector registers: which instructions may use which groups, and the bytes of a group.
 #![tactic(auto)]
 
 mod agreement;

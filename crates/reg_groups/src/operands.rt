@@ -11,22 +11,22 @@ ghost use Rattle.reg_groups.specs.Roles.{groups_of};
 use rv_model::instructions::operations::{Eew, ExtendOp, RegisterCount};
 use rv_model::{Content, Operand, Role, Sew, VReg, VType};
 
-/// The multiplier, in eighths of a register, of groups with elements of so many bits, as many as the vector
-/// type has.
+/// Return the multiplier (EMUL), in eighths of a register, of a group whose elements have `bits` bits, and which
+/// has the same number of elements as a group of `vtype`.
 pub fn emul(bits: u16, vtype: VType) -> u32
     ensures { result ≡ emul bits vtype }
 {
     u32::from(bits) * u32::from(vtype.lmul.eighths()) / u32::from(vtype.sew.bits())
 }
 
-/// The width of memory elements, or of indices, in bits.
+/// Return the width of memory elements, or of indices, in bits.
 pub(crate) fn element_bits(width: Eew) -> u16
     ensures { result ≡ sew_bits (element_width width) }
 {
     Sew::from_width(width).bits()
 }
 
-/// How many whole registers.
+/// Return the number of registers, 1 to 8, that a move, load or store of whole registers accesses.
 pub fn register_count(count: RegisterCount) -> u8
     ensures { result ≡ register_count count }
 {
@@ -38,7 +38,7 @@ pub fn register_count(count: RegisterCount) -> u8
     }
 }
 
-/// Which part of SEW the source of an extension has: SEW divided by this.
+/// Return the number, 2 to 8, by which an extension divides SEW to get the element width of its source.
 pub fn extension_divisor(op: ExtendOp) -> u16
     ensures value { result ≡ extension_divisor op }
     ensures some { 1 ≤ result }
@@ -50,7 +50,8 @@ pub fn extension_divisor(op: ExtendOp) -> u16
     }
 }
 
-/// For each field a group of elements of so many bits; `emul` is the multiplier of one, in eighths of a register.
+/// For each field, a group of elements of `bits` bits; `emul` is the multiplier of one group, in eighths of a
+/// register.
 #[inline(always)]
 fn groups_of(role: Role, fields: u8, first: VReg, bits: u16, emul: u32) -> Operand
     ensures { result ≡ groups_of role fields first bits emul }
@@ -64,7 +65,7 @@ fn groups_of(role: Role, fields: u8, first: VReg, bits: u16, emul: u32) -> Opera
     }
 }
 
-/// The fields of a segment, each a group of the vector type.
+/// The fields of a segment, each a group with SEW and LMUL of the vector type.
 #[inline(always)]
 pub(crate) fn field_groups(role: Role, fields: u8, first: VReg, vtype: VType) -> Operand
     ensures { result ≡ field_groups role fields first (group_type vtype) }
@@ -73,7 +74,7 @@ pub(crate) fn field_groups(role: Role, fields: u8, first: VReg, vtype: VType) ->
     groups_of(role, fields, first, vtype.sew.bits(), emul)
 }
 
-/// A group of the vector type.
+/// A group with SEW and LMUL of the vector type.
 #[inline(always)]
 pub(crate) fn group_operand(role: Role, first: VReg, vtype: VType) -> Operand
     ensures { result ≡ group role first (group_type vtype) }
@@ -81,7 +82,7 @@ pub(crate) fn group_operand(role: Role, first: VReg, vtype: VType) -> Operand
     field_groups(role, 1, first, vtype)
 }
 
-/// A group of indices of 16 bits, as many as the vector type has elements.
+/// A group of 16-bit indices, with the same number of elements as a group of the vector type.
 #[inline(always)]
 pub(crate) fn index_group(role: Role, first: VReg, vtype: VType) -> Operand
     ensures { result ≡ group role first (with_width w16 (group_type vtype)) }
@@ -89,7 +90,8 @@ pub(crate) fn index_group(role: Role, first: VReg, vtype: VType) -> Operand
     groups_of(role, 1, first, 16, emul(16, vtype))
 }
 
-/// The fields of a load or store, each a group of elements of its width, as many as the vector type has.
+/// The fields of a load or store, each a group of elements of `width`, with the same number of elements as a group
+/// of the vector type.
 #[inline(always)]
 pub(crate) fn access_groups(
     role: Role,
@@ -104,7 +106,7 @@ pub(crate) fn access_groups(
     groups_of(role, fields, first, bits, emul(bits, vtype))
 }
 
-/// vs2 of an extension: a group of elements of a part of SEW, which may be below 8 bits.
+/// vs2 of an extension: a group of elements of SEW divided by 2, 4 or 8, which may be below 8 bits.
 #[tactic(auto, using(crate::proofs::Widths::part_group))]
 #[inline(always)]
 pub(crate) fn extension_source(op: ExtendOp, first: VReg, vtype: VType) -> Operand
@@ -114,7 +116,7 @@ pub(crate) fn extension_source(op: ExtendOp, first: VReg, vtype: VType) -> Opera
     groups_of(Role::Read, 1, first, bits, emul(bits.max(8), vtype))
 }
 
-/// A register with a mask.
+/// A register that holds a mask.
 #[inline(always)]
 pub(crate) fn mask(role: Role, first: VReg) -> Operand
     ensures { result ≡ mask role first }

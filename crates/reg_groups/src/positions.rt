@@ -1,5 +1,5 @@
-//! Where a group of registers may begin, by itself and beside a destination ("V" Vector Extension 1.0, sections
-//! 3.4.2, 5.2 and 5.3).
+//! The registers with which a group may start, by itself and together with a destination ("V" Vector Extension 1.0,
+//! sections 3.4.2, 5.2 and 5.3).
 ghost use Rattle.std.specs.Prelude.{◌||◌, ◌≡◌, ◌==◌, ◌*◌, not};
 ghost use Rattle.rv_model.specs.legality.OperandShapes.{destination, group, mask, vector_source};
 ghost use Rattle.rv_model.specs.legality.RegisterOperands.{allows, is_group};
@@ -11,8 +11,8 @@ use crate::groups::registers;
 use crate::operands::{group_operand, index_group, mask};
 use rv_model::{Lmul, Operand, Role, Shape, VReg, VType};
 
-/// Whether a group of the vector type's multiplier may begin with a register. One that is aligned ends inside
-/// the file.
+/// Whether a group of the vector type's multiplier may start with this register. An aligned group ends inside the
+/// register file.
 #[inline(always)]
 pub(crate) fn is_aligned(first: VReg, vtype: VType) -> bool
     ensures { result ≡ is_group (group Role.Read first (group_type vtype)) }
@@ -26,7 +26,7 @@ pub(crate) fn is_aligned(first: VReg, vtype: VType) -> bool
     first.number() & low_bits == 0
 }
 
-/// Whether a destination begins after the mask of the same instruction, if that has one.
+/// Whether the instruction is unmasked or its destination starts after v0, which holds the mask.
 #[inline(always)]
 pub(crate) fn is_free_of_mask(vd: VReg, unmasked: bool) -> bool
     ensures { result ≡ (unmasked || not (vd == 0)) }
@@ -34,7 +34,7 @@ pub(crate) fn is_free_of_mask(vd: VReg, unmasked: bool) -> bool
     unmasked || vd.number() != 0
 }
 
-/// Whether a source is a group, and the destination agrees with it.
+/// Whether a source is a legal group, and the destination may be used together with it.
 #[inline(always)]
 pub(crate) fn stands_beside(destination: &Operand, source: &Operand) -> bool
     ensures { result ≡ stands_beside destination.now source.now }
@@ -42,7 +42,7 @@ pub(crate) fn stands_beside(destination: &Operand, source: &Operand) -> bool
     is_group(source) && allows(destination, source)
 }
 
-/// Whether what an instruction does with the registers of an operand agrees with its mask, if it has one.
+/// Whether an operand may be used together with v0 as the mask, if the instruction is masked.
 #[inline(always)]
 pub(crate) fn allows_v0(operand: &Operand, unmasked: bool) -> bool
     ensures { result ≡ (unmasked || allows operand.now (mask Role.Control 0)) }
@@ -50,7 +50,8 @@ pub(crate) fn allows_v0(operand: &Operand, unmasked: bool) -> bool
     unmasked || allows(operand, &mask(Role::Control, VReg::new(0)))
 }
 
-/// Whether a group may be read where a mask is written: the mask is outside of it, or its first register.
+/// Whether an instruction may read a group and write a mask to `vd`: the mask is outside of the group, or is its
+/// first register.
 #[inline(always)]
 pub(crate) fn is_beside_mask(vd: VReg, first: VReg, vtype: VType) -> bool
     ensures { result ≡ is_beside_mask vd first vtype }
@@ -60,7 +61,7 @@ pub(crate) fn is_beside_mask(vd: VReg, first: VReg, vtype: VType) -> bool
         && (vd.number() <= first.number() || first.number() + size <= vd.number())
 }
 
-/// Whether a register may hold a mask: each may.
+/// Whether a register may hold a mask: true of each register.
 #[inline(always)]
 pub(crate) fn is_mask_register(register: VReg) -> bool
     ensures { result ≡ is_group (mask Role.Read register) }
@@ -70,7 +71,7 @@ pub(crate) fn is_mask_register(register: VReg) -> bool
     true
 }
 
-/// Whether a register may hold elements of SEW: each may.
+/// Whether a register may hold elements of SEW: true of each register.
 #[inline(always)]
 pub(crate) fn is_register(register: VReg, vtype: VType) -> bool
     ensures { result ≡ is_group (group Role.Read register (single_type (sew_width vtype.sew))) }
@@ -81,7 +82,7 @@ pub(crate) fn is_register(register: VReg, vtype: VType) -> bool
     true
 }
 
-/// Whether a register may hold elements of twice SEW.
+/// Whether a register may hold elements of twice SEW: true unless SEW is 64.
 #[inline(always)]
 #[tactic(auto, using(crate::proofs::Widths::doubled_bits))]
 pub(crate) fn is_wide_register(register: VReg, vtype: VType) -> bool
@@ -92,7 +93,7 @@ pub(crate) fn is_wide_register(register: VReg, vtype: VType) -> bool
     vtype.sew.bits() != 64
 }
 
-/// Whether a group of twice the vector type's multiplier may begin with a register. There is none if LMUL is 8.
+/// Whether a group of twice the vector type's multiplier may start with this register: none may if LMUL is 8.
 #[inline(always)]
 fn is_aligned_twice(first: VReg, vtype: VType) -> bool
     ensures { result ≡ is_group (groups_of Role.Read 1 first 8 (2 * lmul_eighths vtype.lmul)) }
@@ -107,7 +108,7 @@ fn is_aligned_twice(first: VReg, vtype: VType) -> bool
     first.number() & low_bits == 0
 }
 
-/// Whether a group of elements of twice SEW may begin with a register. There is none if SEW is 64.
+/// Whether a group of elements of twice SEW may start with this register: none may if SEW is 64.
 #[inline(always)]
 #[tactic(auto, using(crate::proofs::Pairs::wide_aligned))]
 pub(crate) fn is_wide_aligned(first: VReg, vtype: VType) -> bool
@@ -116,7 +117,7 @@ pub(crate) fn is_wide_aligned(first: VReg, vtype: VType) -> bool
     vtype.sew.bits() != 64 && is_aligned_twice(first, vtype)
 }
 
-/// Whether a group of the vector type may begin with a register, which is another one than `vd`.
+/// Whether a group of the vector type may start with `first`, which isn't `vd`.
 #[inline(always)]
 pub(crate) fn is_other_group(vd: VReg, first: VReg, vtype: VType) -> bool
     ensures { result ≡ is_other_group vd first vtype }
@@ -124,8 +125,8 @@ pub(crate) fn is_other_group(vd: VReg, first: VReg, vtype: VType) -> bool
     is_aligned(first, vtype) && vd.number() != first.number()
 }
 
-/// Whether a group of elements of twice SEW may be read where one of the vector type is written: it doesn't
-/// hold it beyond its own first registers.
+/// Whether an instruction may read a group of elements of twice SEW and write a group of the vector type to `vd`:
+/// `vd` is outside of the source, or is its first register.
 #[inline(always)]
 pub(crate) fn is_wide_beside(vd: VReg, first: VReg, vtype: VType) -> bool
     ensures { result ≡ is_wide_beside vd first vtype }
@@ -135,7 +136,7 @@ pub(crate) fn is_wide_beside(vd: VReg, first: VReg, vtype: VType) -> bool
         && (vd.number() <= first.number() || first.number() + size <= vd.number())
 }
 
-/// Whether a group of indices of 16 bits may be read beside a destination that may not overlap it.
+/// Whether an instruction may read a group of 16-bit indices, if its destination may not overlap them.
 #[inline(always)]
 pub(crate) fn are_indices_apart(vd: VReg, first: VReg, vtype: VType) -> bool
     ensures { result
