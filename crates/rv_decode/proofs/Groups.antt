@@ -1,5 +1,6 @@
--- A word of OP-V is one of a regular operation, or else it is found among the irregular rows; the accesses of unit stride, of
--- registers and at distances are told apart by mop; a call or breakpoint is found first.
+-- Decoding of a word by groups of rows of the instruction table. A word of OP-V is an operation of the funct6 table, or its row is one of
+-- the others. mop distinguishes accesses of unit stride, of registers, and strided or indexed ones. A word of SYSTEM is first compared with
+-- calls and breakpoints.
 use Rattle.std.proofs.Common.{◌≡◌, ◌≢◌, refl, ap, ◌∙◌, sym, ℕ, List, [], ◌∷◌, ◌++◌, Option, Some, None, ◌⊎◌}
 use Rattle.std.specs.Prelude.{IfNone, IfSome}
 use Rattle.std.specs.Int.Bits.{bit_and}
@@ -18,21 +19,21 @@ use Rattle.rv_model.specs.declared.instructions.arith_operation.ArithOperation.{
 use Rattle.rv_decode.specs.Groups.{rows_where, is_irregular_instr, is_unit_stride, is_other_access, is_csr}
 use Rattle.rv_decode.proofs.Scan.{at_access, at_70, at_0057, at_2057, at_3057, at_4057, at_6057, at_7057, places}
 
--- what a decoder finds among the first rows is found among all
+-- an instruction that a decoder finds in the first rows is the result of the scan of all rows
 first_found : {A : Type 0} (make : A → Instr) (found : Option A) (all : Option Instr) (xs ys : List Row) (word : ℕ)
     → all ≡ scan (xs ++ ys) word → option_map make found ≡ scan xs word → IfSome found (λ x. all ≡ Some (make x))
 first_found make None all xs ys word whole part = tt
 first_found make (Some x) all xs ys word whole part =
     whole ∙ scan_append xs ys word ∙ ap (λ o. option_or o (scan ys word)) (sym part)
 
--- what it doesn't find among the first rows is found among the rest, if at all
+-- if a decoder finds no instruction in the first rows, the scan of the other rows gives the result
 first_missed : {A : Type 0} (make : A → Instr) (found : Option A) (all rest : Option Instr) (xs ys : List Row) (word : ℕ)
     → all ≡ scan (xs ++ ys) word → rest ≡ scan ys word → option_map make found ≡ scan xs word → IfNone found (all ≡ rest)
 first_missed make None all rest xs ys word whole e part =
     whole ∙ scan_append xs ys word ∙ ap (λ o. option_or o (scan ys word)) (sym part) ∙ sym e
 first_missed make (Some x) all rest xs ys word whole e part = tt
 
--- where the rest finds nothing, it is found among the first rows, if at all
+-- if the other rows don't match, the scan of the first rows gives the result
 or_none : (o : Option Instr) → option_or o None ≡ o
 or_none None = refl
 or_none (Some i) = refl
@@ -41,17 +42,17 @@ first_alone : (xs ys : List Row) (word : ℕ) → scan ys word ≡ None → scan
 first_alone xs ys word nothing =
     scan_append xs ys word ∙ ap (option_or (scan xs word)) nothing ∙ or_none (scan xs word)
 
--- rows that can match a word with such bits of two masks
+-- two lists of rows give the same scan if the same rows remain for the word's bits under two masks
 narrow_both : (m v n w word : ℕ) → bit_and word m ≡ v → bit_and word n ≡ w → (t s : List Row)
     → narrowed n w (narrowed m v t) ≡ narrowed n w (narrowed m v s) → scan t word ≡ scan s word
 narrow_both m v n w word is at t s e =
     scan_narrow m v word is t ∙ same_narrow n w word at (narrowed m v t) (narrowed m v s) e ∙ sym (scan_narrow m v word is s)
 
--- the instruction of an operation
+-- the instruction of an operation of the funct6 table
 abbrev instr_of : ArithOperation → Instr
 instr_of o = instr.Vector (Arith o.arith o.vd o.vs2 o.unmasked)
 
--- ---- the irregular rows of each place
+-- ---- the rows outside of the funct6 table, by funct3 and opcode
 
 pub irregular_0057 : (word : ℕ) → bit_and word 0x707f ≡ 0x0057
     → scan (rows_where is_irregular_instr) word ≡ scan (rows (Carries form.V) ++ rows (Moves form.V)) word
@@ -87,7 +88,7 @@ pub no_irregular : (word : ℕ) → DiffersFrom places (bit_and word 0x707f) →
 unfolding rows_where table
 no_irregular word h = no_scan 0x707f places word (rows_where is_irregular_instr) refl h
 
--- ---- regular operations
+-- ---- operations of the funct6 table
 
 abbrev pub FindsRegular : Family → ℕ → Option ArithOperation → Type 0
 FindsRegular family word found = option_map (λ o. instr.Vector (Arith o.arith o.vd o.vs2 o.unmasked)) found ≡ scan (rows family) word
@@ -141,7 +142,7 @@ none_6057 word found is e = first_missed instr_of found (scan table word) (scan 
 pub none_7057 : (word : ℕ) → bit_and word 0x707f ≡ 0x7057 → scan table word ≡ scan (rows_where is_irregular_instr) word
 none_7057 word is = at_7057 word is ∙ sym (irregular_7057 word is)
 
--- ---- funct6 of irregular operations
+-- ---- funct6 of operations outside of the funct6 table
 
 pub funct6_10 : (word : ℕ) → bit_and word 0x7c ≡ 0x54 → bit_and word 0xfc000000 ≡ 0x40000000 → scan table word ≡ scan (rows_where is_irregular_instr) word
 unfolding rows_where table rows
@@ -161,7 +162,7 @@ funct6_17 word opcode is = narrow_both 0x7c 0x54 0xfc000000 0x5c000000 word opco
 
 -- ---- OPMVV
 
--- the rows of OPMVV that have no line of their own
+-- the rows of OPMVV outside of the funct6 table
 abbrev mask_rows : List Row
 mask_rows =
     rows MaskLogics ++ rows Compresses ++ rows MasksToScalar ++ rows Extends ++ rows MaskUnaries ++ rows ElementIndices ++ rows MovesToScalar
@@ -182,7 +183,7 @@ pub mask_17 : (word : ℕ) → bit_and word 0xfc000000 ≡ 0x5c000000 → scan (
 unfolding rows
 mask_17 word is = same_narrow 0xfc000000 0x5c000000 word is _ mask_rows refl
 
--- any other is mask logic
+-- with any other funct6, only a logical operation on masks is possible
 pub mask_other : (word : ℕ) → DiffersFrom (0x40000000 ∷ 0x48000000 ∷ 0x50000000 ∷ 0x5c000000 ∷ []) (bit_and word 0xfc000000)
     → scan (rows MaskLogics) word ≡ scan mask_rows word
 unfolding rows
@@ -200,7 +201,7 @@ pub units : (word : ℕ) → scan (rows_where is_unit_stride) word ≡ scan (row
 unfolding rows_where table rows
 units word = refl
 
--- mop and bit 23 are 0 in each of unit stride, and in no other
+-- mop and bit 23 are 0 in each unit-stride access, and in no other access
 pub units_alone : (word : ℕ) → (bit_and word 0x7c ≡ 0x04) ⊎ (bit_and word 0x7c ≡ 0x24) → bit_and word 0x0c800000 ≡ 0
     → scan table word ≡ scan (rows_where is_unit_stride) word
 unfolding rows
@@ -218,7 +219,7 @@ others_alone word opcode other =
     ∙ ap (λ o. option_or o (scan (rows Strideds ++ rows Indexeds ++ rows WholeLoads ++ rows WholeStores ++ rows MaskMemories) word)) (no_scan 0x0c800000 (0 ∷ []) word (rows Units) refl (other, tt))
     ∙ ap (λ t. scan t word) (sym other_rows)
 
--- of the others, mop is 0 in each of whole registers and masks, and in no other
+-- among the other accesses, mop is 0 in each access of whole registers or of a mask, and in no other
 pub registers_alone : (word : ℕ) → bit_and word 0x0c000000 ≡ 0 → scan (rows_where is_other_access) word ≡ scan (rows WholeLoads ++ rows WholeStores ++ rows MaskMemories) word
 unfolding rows_where table rows
 registers_alone word is = same_narrow 0x0c000000 0 word is (rows_where is_other_access) (rows WholeLoads ++ rows WholeStores ++ rows MaskMemories) refl

@@ -1,4 +1,4 @@
--- What a scan of each family finds, and which families a word can be of
+-- Results of a scan of each family of rows, and the families that a word's opcode selects.
 use Rattle.std.proofs.Common.{◌≡◌, refl, ap, ap₂, ◌∙◌, sym, ℕ, ◌+◌, ◌*◌, ◌/◌, ◌%◌, ◌^◌, ◌<◌, List, [], ◌∷◌, ◌++◌, map, Option, Some, None, Bool, true, false, nat_eq, cond, ◌&&◌, inl, inr, ◌⊎◌, arith}
 use Rattle.std.specs.Int.Bits.{bit_and}
 use Rattle.std.specs.Option.{option_map}
@@ -28,7 +28,7 @@ use Rattle.rv_model.proofs.instruction_lemmas.Words.{form_source_of}
 use Rattle.rv_model.proofs.instruction_lemmas.Parts.{masked}
 use Rattle.rv_model.proofs.instruction_lemmas.Scans.{narrowed, scan_narrow, same_narrow, no_scan, DiffersFrom}
 
--- what a family's rows answer, by the operation that was found
+-- the result of a scan of a family's rows, by the operation that was found
 abbrev pub answer : {A : Type 0} → (A → Instr) → ℕ → Option A → Option Instr
 answer t word None = None
 answer t word (Some op) = Some (filled (t op) word)
@@ -117,7 +117,7 @@ scan_system word small =
     scan_map system_bits 0xffffffff (λ op. instr.Scalar (System op)) (λ x. refl) (λ x. refl) system_ops word
     ∙ ap (λ w. answer (λ op. instr.Scalar (System op)) word (find system_bits system_ops w)) (whole_word word small)
 
--- a scan of a family's rows finds its operation by the bits that all of them fix
+-- a scan of a family's rows finds the operation by the bits that all operations of the family fix
 abbrev pub Finds : {A : Type 0} → Family → (A → Instr) → (A → ℕ) → List A → ℕ → ℕ → Type 0
 Finds family t code ops mask word = scan (rows family) word ≡ answer t word (find code ops (bit_and word mask))
 
@@ -205,7 +205,7 @@ pub scan_mask_memory : (word : ℕ) → Finds MaskMemories (λ op. instr.Access 
 unfolding rows
 scan_mask_memory word = scan_map mask_memory_bits 0xfff0707f (λ op. instr.Access (MaskAccess op 0 0)) (λ x. refl) (λ x. refl) directions word
 
--- ---- the families that a word can be of, by its opcode, and for vector operations by funct3 too
+-- ---- the families that a word can belong to, by its opcode, and for vector operations by funct3 too
 
 pub at_00 : (word : ℕ) → bit_and word 0x7c ≡ 0x00 → scan table word ≡ scan (rows Loads) word
 unfolding table rows
@@ -324,7 +324,7 @@ unfolding table rows
 no_place word is h =
     scan_narrow 0x7c 0x54 word is table ∙ no_scan 0x707f places word (narrowed 0x7c 0x54 table) refl h
 
--- what the decoder of a word's families doesn't find is nowhere
+-- if the decoder of a word's families finds no instruction, the whole table has none
 pub missed : (word : ℕ) (found : Option ScalarInstr) (xs : List Row) → scan table word ≡ scan xs word → option_map instr.Scalar found ≡ scan xs word → found ≡ None → scan table word ≡ None
 missed word found xs at row none = at ∙ sym row ∙ ap (option_map instr.Scalar) none
 

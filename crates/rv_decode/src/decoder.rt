@@ -1,4 +1,4 @@
-//! Words to instructions.
+//! Decoding of 32-bit instruction words.
 ghost use Rattle.std.specs.Prelude.{◌≡◌, ◌++◌, ◌⊎◌, bit_and, option_map, false, true, IfSome, IfNone, Some};
 ghost use Rattle.rv_model.specs.declared.instructions.operations.Form.TheVariants as form;
 ghost use Rattle.rv_model.specs.instructions.Table.{word_of, Row, IsRow, scan, table};
@@ -23,7 +23,7 @@ use crate::vector_memory::{indexed, mask_memory, strided, unit, whole_load, whol
 use rv_model::instructions::operations::{Form, Major, SystemOp};
 use rv_model::{AccessInstr, ArithOperation, CsrInstr, Instr, ScalarInstr, VectorInstr};
 
-/// OP-IMM.
+/// Decode a word of OP-IMM.
 #[tactic(auto, using(rv_model::proofs::instruction_lemmas::Scans::scan_append))]
 #[inline(always)]
 fn immediates(word: u32) -> Option<ScalarInstr>
@@ -36,7 +36,7 @@ fn immediates(word: u32) -> Option<ScalarInstr>
     shift_immediate(word)
 }
 
-/// OP-IMM-32.
+/// Decode a word of OP-IMM-32.
 #[tactic(auto, using(rv_model::proofs::instruction_lemmas::Scans::scan_append))]
 #[inline(always)]
 fn word_immediates(word: u32) -> Option<ScalarInstr>
@@ -49,8 +49,8 @@ fn word_immediates(word: u32) -> Option<ScalarInstr>
     shift_immediate_word(word)
 }
 
-/// The vector operation that a word of OP-V is, if it is one with a line of its own in the table: by funct3, which says
-/// the place of that line.
+/// Decode a word of OP-V to an operation of the funct6 table. Return `None` for any other word. funct3 selects the
+/// half of the table and the form of the second operand.
 #[tactic(auto, using(crate::proofs::Groups::regular_steps))]
 #[inline(always)]
 pub fn decode_regular(word: u32) -> Option<ArithOperation>
@@ -70,7 +70,7 @@ pub fn decode_regular(word: u32) -> Option<ArithOperation>
     }
 }
 
-/// OPIVV and OPIVX, and OPIVI but for moves of whole registers.
+/// Decode carries and moves of OPIVV, OPIVX and OPIVI, except moves of whole registers.
 #[tactic(auto, using(rv_model::proofs::instruction_lemmas::Scans::scan_append))]
 fn carry_or_move(word: u32, form: Form) -> Option<VectorInstr>
     ensures row { option_map Instr.Vector result
@@ -83,7 +83,7 @@ fn carry_or_move(word: u32, form: Form) -> Option<VectorInstr>
     vector_move(word, form)
 }
 
-/// OPIVI.
+/// Decode carries and moves of OPIVI, including moves of whole registers.
 #[tactic(auto, using(rv_model::proofs::instruction_lemmas::Scans::scan_append))]
 fn immediate(word: u32) -> Option<VectorInstr>
     ensures row { option_map Instr.Vector result
@@ -96,7 +96,7 @@ fn immediate(word: u32) -> Option<VectorInstr>
     whole_move(word)
 }
 
-/// VWXUNARY0.
+/// Decode VWXUNARY0: an operation that writes a scalar register.
 #[tactic(auto, using(rv_model::proofs::instruction_lemmas::Scans::scan_append))]
 fn scalar_result(word: u32) -> Option<VectorInstr>
     ensures row { option_map Instr.Vector result ≡ scan (rows MasksToScalar ++ rows MovesToScalar) word }
@@ -108,7 +108,7 @@ fn scalar_result(word: u32) -> Option<VectorInstr>
     move_to_scalar(word)
 }
 
-/// VMUNARY0.
+/// Decode VMUNARY0: an operation on one mask, or `vid.v`.
 #[tactic(auto, using(rv_model::proofs::instruction_lemmas::Scans::scan_append))]
 fn mask_or_index(word: u32) -> Option<VectorInstr>
     ensures row { option_map Instr.Vector result ≡ scan (rows MaskUnaries ++ rows ElementIndices) word }
@@ -120,7 +120,7 @@ fn mask_or_index(word: u32) -> Option<VectorInstr>
     element_index(word)
 }
 
-/// OPMVV, by funct6.
+/// Decode an operation of OPMVV outside of the funct6 table, by funct6.
 #[tactic(auto, using(crate::proofs::Groups::mask_steps))]
 fn mask_or_unary(word: u32) -> Option<VectorInstr>
     ensures row { option_map Instr.Vector result
@@ -139,7 +139,7 @@ fn mask_or_unary(word: u32) -> Option<VectorInstr>
     }
 }
 
-/// OPCFG.
+/// Decode OPCFG: `vsetvli`, `vsetivli` or `vsetvl`.
 #[tactic(auto, using(rv_model::proofs::instruction_lemmas::Scans::scan_append))]
 fn set_vector_length(word: u32) -> Option<VectorInstr>
     ensures row { option_map Instr.Vector result ≡ scan (rows SetVlis ++ rows SetIvlis ++ rows SetVls) word }
@@ -154,7 +154,8 @@ fn set_vector_length(word: u32) -> Option<VectorInstr>
     set_vl(word)
 }
 
-/// The vector operation that a word of OP-V is which `decode_regular` doesn't know.
+/// Decode a word of OP-V to an operation outside of the funct6 table: one for which `decode_regular` returns
+/// `None`. Return `None` if the word isn't one of these.
 #[tactic(auto, using(crate::proofs::Groups::irregular_steps))]
 #[inline(always)]
 pub fn decode_irregular(word: u32) -> Option<VectorInstr>
@@ -173,15 +174,15 @@ pub fn decode_irregular(word: u32) -> Option<VectorInstr>
     }
 }
 
-/// Whether a word of OP-V has a funct6 of which all operations have no line of their own in the table: where it isn't
-/// known, `decode_regular` tells.
+/// Return whether funct6 of a word of OP-V excludes all operations of the funct6 table. If the result is false,
+/// only `decode_regular` decides.
 #[tactic(auto, using(crate::proofs::Groups::funct6_steps))]
 #[inline(always)]
 pub fn has_irregular_funct6(word: u32) -> bool
     requires { bit_and word 0x7c ≡ 0x54 }
     ensures { result ≡ true → scan table word ≡ scan (rows_where is_irregular_instr) word }
 {
-    // The first three bits of these are 010, and those of most operations aren't.
+    // The top three bits of these funct6 are 010, and those of most operations aren't.
     if word >> 29 != 0b010 {
         return false;
     }
@@ -194,8 +195,8 @@ pub fn has_irregular_funct6(word: u32) -> bool
     }
 }
 
-/// Whether a word of LOAD-FP or STORE-FP may be an access of unit stride that the vector length bounds, by mop and by
-/// lumop or sumop.
+/// Return whether a word of LOAD-FP or STORE-FP may only be a unit-stride access whose number of elements is vl, by
+/// mop and by lumop or sumop.
 #[tactic(auto, using(crate::proofs::Groups::unit_steps))]
 #[inline(always)]
 pub fn is_unit_stride(word: u32) -> bool
@@ -206,7 +207,7 @@ pub fn is_unit_stride(word: u32) -> bool
     word & 0x0c80_0000 == 0
 }
 
-/// The unit-stride load or store that a word is.
+/// Decode a unit-stride load or store. Return `None` for any other word.
 #[tactic(auto, using(crate::proofs::Groups::units))]
 #[inline(always)]
 pub fn decode_unit_stride(word: u32) -> Option<AccessInstr>
@@ -215,7 +216,8 @@ pub fn decode_unit_stride(word: u32) -> Option<AccessInstr>
     unit(word)
 }
 
-/// Whether a word that isn't of unit stride may be a load or store of whole registers or of a mask, by mop.
+/// Whether mop restricts a word, which isn't a unit-stride access, to loads and stores of whole registers or of a
+/// mask.
 #[tactic(auto, using(crate::proofs::Groups::register_steps))]
 #[inline(always)]
 fn is_register_access(word: u32) -> bool
@@ -227,7 +229,7 @@ fn is_register_access(word: u32) -> bool
     word & 0x0c00_0000 == 0
 }
 
-/// The load or store of whole registers or of a mask that a word is.
+/// Decode a load or store of whole registers or of a mask.
 #[tactic(auto, using(rv_model::proofs::instruction_lemmas::Scans::scan_append))]
 #[inline(always)]
 fn decode_registers(word: u32) -> Option<AccessInstr>
@@ -242,7 +244,7 @@ fn decode_registers(word: u32) -> Option<AccessInstr>
     mask_memory(word)
 }
 
-/// The strided or indexed load or store that a word is.
+/// Decode a strided or indexed load or store.
 #[tactic(auto, using(rv_model::proofs::instruction_lemmas::Scans::scan_append))]
 #[inline(always)]
 fn decode_strided_or_indexed(word: u32) -> Option<AccessInstr>
@@ -254,7 +256,7 @@ fn decode_strided_or_indexed(word: u32) -> Option<AccessInstr>
     indexed(word)
 }
 
-/// The load or store that a word is which isn't of unit stride.
+/// Decode a load or store other than a unit-stride access. Return `None` for any other word.
 #[inline(always)]
 pub fn decode_other_access(word: u32) -> Option<AccessInstr>
     ensures { option_map Instr.Access result ≡ scan (rows_where is_other_access) word }
@@ -266,7 +268,7 @@ pub fn decode_other_access(word: u32) -> Option<AccessInstr>
     }
 }
 
-/// The vector operation that a word of OP-V is.
+/// Decode a word of OP-V.
 fn operation(word: u32) -> Option<Instr>
     requires { bit_and word 0x7c ≡ 0x54 }
     ensures { result ≡ scan table word }
@@ -282,7 +284,7 @@ fn operation(word: u32) -> Option<Instr>
     Some(Instr::Vector(decode_irregular(word)?))
 }
 
-/// The vector load or store that a word of LOAD-FP or STORE-FP is.
+/// Decode a word of LOAD-FP or STORE-FP to a vector load or store.
 fn access(word: u32) -> Option<Instr>
     requires { (bit_and word 0x7c ≡ 0x04) ⊎ (bit_and word 0x7c ≡ 0x24) }
     ensures { result ≡ scan table word }
@@ -293,7 +295,7 @@ fn access(word: u32) -> Option<Instr>
     Some(Instr::Access(decode_other_access(word)?))
 }
 
-/// The call or breakpoint that a word of SYSTEM is, if it is one.
+/// Decode a word of SYSTEM to `ecall` or `ebreak`. Return `None` for any other word.
 #[tactic(auto, using(crate::proofs::Groups::call_steps))]
 #[inline(always)]
 pub fn decode_call(word: u32) -> Option<SystemOp>
@@ -304,7 +306,8 @@ pub fn decode_call(word: u32) -> Option<SystemOp>
     system(word)
 }
 
-/// The access of a control register that a word of SYSTEM is which `decode_call` doesn't know.
+/// Decode a word of SYSTEM, for which `decode_call` returns `None`, to an instruction that accesses a control
+/// register. Return `None` for any other word.
 #[tactic(auto, using(crate::proofs::Groups::csrs, rv_model::proofs::instruction_lemmas::Scans::scan_append))]
 #[inline(always)]
 pub fn decode_csr(word: u32) -> Option<CsrInstr>
@@ -317,7 +320,7 @@ pub fn decode_csr(word: u32) -> Option<CsrInstr>
     csr_immediate(word)
 }
 
-/// The call, breakpoint or access of a control register that a word of SYSTEM is.
+/// Decode a word of SYSTEM.
 fn call_or_csr(word: u32) -> Option<Instr>
     requires { bit_and word 0x7c ≡ 0x70 }
     ensures { result ≡ scan table word }
@@ -328,8 +331,9 @@ fn call_or_csr(word: u32) -> Option<Instr>
     Some(Instr::Csr(decode_csr(word)?))
 }
 
-/// What a word is, by its opcode: a scalar instruction but for calls and breakpoints, a word of LOAD-FP or STORE-FP, of
-/// OP-V or of SYSTEM, each of which has decoders of its own, or no instruction.
+/// The kind of instruction that the opcode of a word selects. `Scalar` is a decoded scalar instruction other than
+/// `ecall` and `ebreak`. `Access`, `Operation` and `System` are words of LOAD-FP or STORE-FP, of OP-V and of
+/// SYSTEM, which other functions decode. `Unknown` is no instruction.
 #[derive(Clone, Copy)]
 pub enum Kind {
     Scalar(ScalarInstr),
@@ -339,8 +343,8 @@ pub enum Kind {
     Unknown,
 }
 
-/// What a word is, by its opcode without the two bits that are ones in each. All values are listed, which leaves no
-/// test of their range.
+/// Classify a word by bits 6 to 2 of its opcode. Bits 1 and 0 are ones in each instruction. The patterns list all
+/// values, so that the compiler emits no range check.
 #[tactic(auto, using(crate::proofs::Scan::opcode_steps))]
 #[inline(always)]
 pub fn kind_of(word: u32) -> Kind
@@ -384,7 +388,7 @@ pub fn kind_of(word: u32) -> Kind
     }
 }
 
-/// The instruction of a word, by its opcode.
+/// Decode a word by its opcode.
 #[inline(always)]
 fn by_opcode(word: u32) -> Option<Instr>
     ensures { result ≡ scan table word }
@@ -398,7 +402,8 @@ fn by_opcode(word: u32) -> Option<Instr>
     }
 }
 
-/// The instruction of the one row of the table that the word matches, if there is one.
+/// Decode an instruction word. Return the instruction of the only row of the instruction table that the word
+/// matches, or `None` if there is no such row.
 #[inline(never)]
 pub fn decode(word: u32) -> Option<Instr>
     ensures row { result ≡ scan table word }

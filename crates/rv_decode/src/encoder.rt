@@ -1,4 +1,4 @@
-//! Instructions to words.
+//! Encoding of instructions.
 ghost use Rattle.std.specs.Prelude.{◌≡◌, ◌<◌, ◌^◌, Some, true};
 ghost use Rattle.rv_model.specs.instructions.Operations.{form_of, has_form, line, carry_line, line_bits, major_bits};
 ghost use Rattle.rv_model.specs.instructions.Table.{bits, word_of, scan, table};
@@ -16,7 +16,7 @@ use crate::operands::operands;
 use rv_model::instructions::operations::{Form, Line, Major};
 use rv_model::{AccessInstr, Arith, Carry, CsrInstr, Instr, ScalarInstr, Source, VectorInstr};
 
-/// Opcode and funct3 of a half of the opcode map, by form.
+/// Opcode and funct3 of a half of the funct6 table, by the form of the second operand.
 fn major_bits(major: Major, form: Form) -> u64
     ensures value { result ≡ major_bits major form }
     ensures small { result < 2 ^ 32 }
@@ -31,7 +31,7 @@ fn major_bits(major: Major, form: Form) -> u64
     }
 }
 
-/// The bits that a line of the table fixes for one of its forms.
+/// The fixed bits of an operation of the funct6 table in one of its forms.
 fn line_bits(line: Line, form: Form) -> u64
     ensures value { result ≡ line_bits line form }
     ensures small { result < 2 ^ 60 }
@@ -39,7 +39,7 @@ fn line_bits(line: Line, form: Form) -> u64
     (u64::from(line.funct6) << 26) + major_bits(line.major, form)
 }
 
-/// Where a source comes from.
+/// The form of a second operand: vector register, scalar register or immediate.
 fn form_of(source: &Source) -> Form
     ensures { result ≡ form_of source.now }
 {
@@ -50,7 +50,7 @@ fn form_of(source: &Source) -> Form
     }
 }
 
-/// The bits of an operation with a line of its own, in the form of its source.
+/// The fixed bits of an operation of the funct6 table, in the form of its source.
 fn arith_bits(arith: Arith) -> u64
     ensures value { result ≡ line_bits (line arith.0) (form_of arith.1) }
     ensures small { result < 2 ^ 60 }
@@ -60,7 +60,7 @@ fn arith_bits(arith: Arith) -> u64
     line_bits(line(op), form_of(&source))
 }
 
-/// The bits of an operation that takes v0, in the form of its source.
+/// The fixed bits of an operation with v0 as an operand, in the form of its source.
 fn carry_bits(carry: Carry) -> u64
     ensures value { result ≡ line_bits (carry_line carry.0) (form_of carry.1) }
     ensures small { result < 2 ^ 60 }
@@ -70,7 +70,7 @@ fn carry_bits(carry: Carry) -> u64
     line_bits(carry_line(op), form_of(&source))
 }
 
-/// The bits that a scalar instruction fixes.
+/// The fixed bits of a scalar instruction.
 fn scalar_code(instr: &ScalarInstr) -> u64
     ensures value { result ≡ bits (Instr.Scalar instr.now) }
     ensures small { result < 2 ^ 61 }
@@ -91,7 +91,7 @@ fn scalar_code(instr: &ScalarInstr) -> u64
     }
 }
 
-/// The bits that a vector instruction fixes that is no load or store.
+/// The fixed bits of a vector instruction other than a load or store.
 fn vector_code(instr: &VectorInstr) -> u64
     ensures value { result ≡ bits (Instr.Vector instr.now) }
     ensures small { result < 2 ^ 61 }
@@ -116,7 +116,7 @@ fn vector_code(instr: &VectorInstr) -> u64
     }
 }
 
-/// The bits that a vector load or store fixes.
+/// The fixed bits of a vector load or store.
 fn access_code(instr: &AccessInstr) -> u64
     ensures value { result ≡ bits (Instr.Access instr.now) }
     ensures small { result < 2 ^ 61 }
@@ -140,7 +140,7 @@ fn access_code(instr: &AccessInstr) -> u64
     }
 }
 
-/// The bits that an instruction fixes.
+/// The fixed bits of an instruction.
 fn code(instr: &Instr) -> u64
     ensures value { result ≡ bits instr.now }
     ensures small { result < 2 ^ 61 }
@@ -155,9 +155,9 @@ fn code(instr: &Instr) -> u64
     }
 }
 
-/// The word of an instruction.
+/// Return the 32-bit word of an instruction.
 #[tactic(auto, using(rv_model::proofs::instruction_lemmas::RoundTrips::small,
-// And the way back.
+// Decoding returns the same instruction.
 rv_model::proofs::instruction_lemmas::RoundTrips::back, rv_model::proofs::instruction_lemmas::RoundTrips::word_sum))]
 pub fn encode(instr: &Instr) -> u32
     ensures word { result ≡ word_of instr.now }

@@ -1,4 +1,4 @@
-//! The bits that each operation fixes in its word.
+//! The fixed bits of each operation in its 32-bit word.
 ghost use Rattle.std.specs.Prelude.{◌≡◌, ◌<◌, ◌^◌};
 ghost use Rattle.rv_model.specs.instructions.FixedBits.{count_bits, direction_bits, order_bits, unit_bits, width_bits};
 ghost use Rattle.rv_model.specs.lending.ListedBits.{mask_memory_bits, move_bits, whole_move_bits, branch_bits};
@@ -145,7 +145,7 @@ pub(crate) fn register_op_bits(op: RegisterOp) -> u64
     }
 }
 
-/// SYSTEM with no operands: the whole word.
+/// SYSTEM without operands: the fixed bits are the whole word.
 pub(crate) fn system_bits(op: SystemOp) -> u64
     ensures value { result ≡ system_bits op }
     ensures small { result < 2 ^ 32 }
@@ -205,7 +205,7 @@ pub(crate) fn whole_move_bits(count: RegisterCount) -> u64
     }
 }
 
-/// Mask logic, with bit 25 set.
+/// Logical operations on masks, with bit 25 set.
 pub(crate) fn mask_logic_bits(op: MaskLogicOp) -> u64
     ensures value { result ≡ mask_logic_bits op }
     ensures small { result < 2 ^ 32 }

@@ -11,7 +11,7 @@ pub fn one_row()
     ensures { (r s : Row) → Contains table r → Contains table s → (word : ℕ) → Matches r word → Matches s word → r ≡ s }
 {}
 
-/// The word of a word's instruction, which is that word.
+/// Decode a word and encode the instruction. Return the same word, or `None` if the word is no instruction.
 pub fn encoded_again(word: u32) -> Option<u32>
     ensures same { IfSome result (λ again. again ≡ word) }
     ensures found { IfSome result (λ again. (r : Row) × IsRow word r) }
@@ -23,7 +23,7 @@ pub fn encoded_again(word: u32) -> Option<u32>
     }
 }
 
-/// The instruction of an instruction's word, which is that instruction.
+/// Encode an instruction and decode the resulting word. Return the same instruction.
 pub fn decoded_again(instr: &Instr) -> Option<Instr>
     ensures { result ≡ Some instr.now }
 {

@@ -1,4 +1,4 @@
-//! Words to instructions, and instructions to words.
+//! Decoding and encoding of 32-bit instruction words.
 #![tactic(auto)]
 
 mod decoder;

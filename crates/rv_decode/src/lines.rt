@@ -1,4 +1,4 @@
-//! The lines of the manual's table of vector operations.
+//! Entries of the manual's funct6 table of vector operations ("V" Vector Extension 1.0, chapter 19).
 ghost use Rattle.std.specs.Prelude.{◌≡◌, ◌<◌};
 ghost use Rattle.rv_model.specs.instructions.Operations.{carry_line, line, has_form};
 ghost use Rattle.rv_model.specs.lending.ListedBits.{line_at, binary_line, carry_out_line, compare_line};
@@ -12,7 +12,7 @@ use rv_model::instructions::operations::{
     WidenOp, WidenReduceOp,
 };
 
-/// A line of OPIVV, OPIVX and OPIVI.
+/// An entry of OPIVV, OPIVX and OPIVI.
 fn opi(funct6: u32, forms: Forms) -> Line
     ensures { result ≡ line_at Major.Opi funct6 forms }
 {
@@ -23,7 +23,7 @@ fn opi(funct6: u32, forms: Forms) -> Line
     }
 }
 
-/// A line of OPMVV and OPMVX.
+/// An entry of OPMVV and OPMVX.
 fn opm(funct6: u32, forms: Forms) -> Line
     ensures { result ≡ line_at Major.Opm funct6 forms }
 {
@@ -34,7 +34,7 @@ fn opm(funct6: u32, forms: Forms) -> Line
     }
 }
 
-/// Whether a form is one of these.
+/// Whether `forms` includes a form.
 #[inline(always)]
 pub(crate) fn has_form(forms: Forms, form: Form) -> bool
     ensures { result ≡ has_form forms form }
@@ -47,7 +47,7 @@ pub(crate) fn has_form(forms: Forms, form: Form) -> bool
     }
 }
 
-/// Integer operations of one width.
+/// Integer operations whose operands all have width SEW.
 fn binary_line(op: BinaryOp) -> Line
     ensures { result ≡ binary_line op }
 {
@@ -76,7 +76,7 @@ fn binary_line(op: BinaryOp) -> Line
     }
 }
 
-/// Carries and borrows.
+/// Operations that write carries or borrows to a mask.
 fn carry_out_line(op: CarryOutOp) -> Line
     ensures { result ≡ carry_out_line op }
 {
@@ -102,7 +102,7 @@ fn compare_line(op: CompareOp) -> Line
     }
 }
 
-/// Fixed-point operations of one width.
+/// Fixed-point operations whose operands all have width SEW.
 fn fixed_point_line(op: FixedPointOp) -> Line
     ensures { result ≡ fixed_point_line op }
 {
@@ -232,7 +232,7 @@ fn permute_line(op: PermuteOp) -> Line
     }
 }
 
-/// The line of an operation that takes v0.
+/// The entry of an operation with v0 as an operand.
 pub(crate) fn carry_line(op: CarryOp) -> Line
     ensures { result ≡ carry_line op }
 {
@@ -243,7 +243,7 @@ pub(crate) fn carry_line(op: CarryOp) -> Line
     }
 }
 
-/// The line of an operation.
+/// The entry of an operation.
 pub(crate) fn line(op: VectorOp) -> Line
     ensures { result ≡ line op }
 {

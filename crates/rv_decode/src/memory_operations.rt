@@ -1,4 +1,4 @@
-//! The vector accesses of memory by the bits that they fix.
+//! Decoding of vector loads and stores by their fixed bits.
 #![tactic(auto, unfolding(rv_model::specs::lending::Search::find))]
 
 ghost use Rattle.std.specs.Prelude.{◌≡◌};
@@ -10,7 +10,7 @@ ghost use Rattle.rv_model.specs.lending.Search.{find};
 
 use rv_model::instructions::operations::{Direction, Eew, Order, RegisterCount, UnitOp};
 
-/// The unit-stride access of these bits.
+/// The unit-stride access with these fixed bits.
 #[inline(always)]
 pub(crate) fn unit_access(bits: u32) -> Option<(UnitOp, Eew)>
     ensures { result ≡ find unit_access_bits unit_accesses bits }
@@ -32,7 +32,7 @@ pub(crate) fn unit_access(bits: u32) -> Option<(UnitOp, Eew)>
     }
 }
 
-/// The strided access of these bits.
+/// The strided access with these fixed bits.
 pub(crate) fn strided_access(bits: u32) -> Option<(Direction, Eew)>
     ensures { result ≡ find strided_access_bits strided_accesses bits }
 {
@@ -49,7 +49,7 @@ pub(crate) fn strided_access(bits: u32) -> Option<(Direction, Eew)>
     }
 }
 
-/// The indexed access of these bits, with the index's width.
+/// The indexed access with these fixed bits, with the width of an index.
 pub(crate) fn indexed_access(bits: u32) -> Option<((Direction, Order), Eew)>
     ensures { result ≡ find indexed_access_bits indexed_accesses bits }
 {
@@ -74,7 +74,7 @@ pub(crate) fn indexed_access(bits: u32) -> Option<((Direction, Order), Eew)>
     }
 }
 
-/// The load of whole registers of these bits.
+/// The load of whole registers with these fixed bits.
 pub(crate) fn whole_load_access(bits: u32) -> Option<(RegisterCount, Eew)>
     ensures { result ≡ find whole_load_bits whole_loads bits }
 {
@@ -99,7 +99,7 @@ pub(crate) fn whole_load_access(bits: u32) -> Option<(RegisterCount, Eew)>
     }
 }
 
-/// How many registers a store of whole registers of these bits moves.
+/// The number of registers that the store of whole registers with these fixed bits writes to memory.
 pub(crate) fn whole_store_count(bits: u32) -> Option<RegisterCount>
     ensures { result ≡ find whole_store_bits counts bits }
 {
@@ -112,7 +112,7 @@ pub(crate) fn whole_store_count(bits: u32) -> Option<RegisterCount>
     }
 }
 
-/// The direction of an access to a mask of these bits.
+/// The direction of the mask access with these fixed bits.
 pub(crate) fn mask_memory_direction(bits: u32) -> Option<Direction>
     ensures { result ≡ find mask_memory_bits directions bits }
 {

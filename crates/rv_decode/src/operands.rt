@@ -1,4 +1,5 @@
-//! The operands of instructions, each at its place in a word.
+//! Encoding of operands: each function returns the bits of operands at their position in an instruction's 32-bit
+//! word.
 ghost use Rattle.std.specs.Prelude.{◌≡◌, ◌<◌, ◌*◌, ◌+◌, ◌/◌, ◌%◌, ◌^◌};
 ghost use Rattle.rv_model.specs.instructions.FixedBits.{flag_bit, sum_of};
 ghost use Rattle.rv_model.specs.lending.ListedBits.{AllFit};
@@ -7,7 +8,7 @@ ghost use Rattle.rv_model.specs.instructions.Table.{parts};
 
 use rv_model::{AccessInstr, CsrInstr, Field, Instr, Reg, ScalarInstr, Source, VReg, VectorInstr};
 
-/// A register's number at bit `low`.
+/// The number of a scalar register, shifted to bit `low`.
 fn reg(register: Reg, low: u32) -> u64
     requires { low < 32 }
     ensures value { result ≡ register * 2 ^ low }
@@ -17,7 +18,7 @@ fn reg(register: Reg, low: u32) -> u64
     u64::from(register.number()) << low
 }
 
-/// A vector register's number at bit `low`.
+/// The number of a vector register, shifted to bit `low`.
 fn vreg(register: VReg, low: u32) -> u64
     requires { low < 32 }
     ensures value { result ≡ register * 2 ^ low }
@@ -27,7 +28,7 @@ fn vreg(register: VReg, low: u32) -> u64
     u64::from(register.number()) << low
 }
 
-/// A field at bit `low`.
+/// The value of a field, shifted to bit `low`.
 fn put<const BITS: u32>(field: Field<BITS>, low: u32) -> u64
     requires { low < 32 }
     ensures value { result ≡ field.entry * 2 ^ low }
@@ -36,7 +37,7 @@ fn put<const BITS: u32>(field: Field<BITS>, low: u32) -> u64
     u64::from(field.value()) << low
 }
 
-/// The bit that says that a vector instruction is not masked.
+/// The vm bit, bit 25, which is 1 for an unmasked vector instruction.
 fn unmasked(vm: bool) -> u64
     ensures value { result ≡ flag_bit vm * 2 ^ 25 }
     ensures small { result < 2 ^ 40 }
@@ -45,7 +46,7 @@ fn unmasked(vm: bool) -> u64
     if vm { 1 << 25 } else { 0 }
 }
 
-/// The immediate of a store, in its two pieces.
+/// The immediate of a store, split into its two parts: bits 7 and 25 of the word are their lowest bits.
 fn store_part(imm: Field<12>) -> u64
     ensures value { result ≡ imm % 2 ^ 5 * 2 ^ 7 + imm / 2 ^ 5 * 2 ^ 25 }
     ensures fit { imm < 2 ^ 12 }
@@ -55,7 +56,7 @@ fn store_part(imm: Field<12>) -> u64
     ((bits % 32) << 7) + ((bits / 32) << 25)
 }
 
-/// The distance of a branch, in its four pieces.
+/// Bits 12 to 1 of the offset of a branch, split into the four parts of the B-type format.
 fn branch_part(imm: Field<12>) -> u64
     ensures value { result
         ≡ imm / 2 ^ 10 % 2 ^ 1 * 2 ^ 7 + imm % 2 ^ 4 * 2 ^ 8
@@ -67,7 +68,7 @@ fn branch_part(imm: Field<12>) -> u64
     ((bits / 1024 % 2) << 7) + ((bits % 16) << 8) + ((bits / 16 % 64) << 25) + ((bits / 2048) << 31)
 }
 
-/// The distance of a jump, in its four pieces.
+/// Bits 20 to 1 of the offset of a jump, split into the four parts of the J-type format.
 fn jump_part(imm: Field<20>) -> u64
     ensures value { result
         ≡ imm / 2 ^ 11 % 2 ^ 8 * 2 ^ 12 + imm / 2 ^ 10 % 2 ^ 1 * 2 ^ 20
@@ -94,7 +95,7 @@ fn source_part(source: &Source) -> u64
     }
 }
 
-/// The operands of a scalar instruction, each at its place.
+/// The operands of a scalar instruction, each at its position.
 fn scalar_operands(instr: &ScalarInstr) -> u64
     ensures value { result ≡ sum_of 0 (parts (Instr.Scalar instr.now)) }
     ensures fit { AllFit (parts (Instr.Scalar instr.now)) }
@@ -124,7 +125,7 @@ fn scalar_operands(instr: &ScalarInstr) -> u64
     }
 }
 
-/// The operands of an access of a control register, each at its place.
+/// The operands of an instruction that accesses a control register, each at its position.
 fn csr_operands(instr: &CsrInstr) -> u64
     ensures value { result ≡ sum_of 0 (parts (Instr.Csr instr.now)) }
     ensures fit { AllFit (parts (Instr.Csr instr.now)) }
@@ -136,7 +137,7 @@ fn csr_operands(instr: &CsrInstr) -> u64
     }
 }
 
-/// The operands of a vector instruction that is no load or store, each at its place.
+/// The operands of a vector instruction other than a load or store, each at its position.
 fn vector_operands(instr: &VectorInstr) -> u64
     ensures value { result ≡ sum_of 0 (parts (Instr.Vector instr.now)) }
     ensures fit { AllFit (parts (Instr.Vector instr.now)) }
@@ -166,7 +167,7 @@ fn vector_operands(instr: &VectorInstr) -> u64
     }
 }
 
-/// The operands of a vector load or store, each at its place.
+/// The operands of a vector load or store, each at its position.
 fn access_operands(instr: &AccessInstr) -> u64
     ensures value { result ≡ sum_of 0 (parts (Instr.Access instr.now)) }
     ensures fit { AllFit (parts (Instr.Access instr.now)) }
@@ -202,7 +203,7 @@ fn access_operands(instr: &AccessInstr) -> u64
     }
 }
 
-/// The operands, each at its place.
+/// The operands of an instruction, each at its position.
 pub(crate) fn operands(instr: &Instr) -> u64
     ensures value { result ≡ sum_of 0 (parts instr.now) }
     ensures fit { AllFit (parts instr.now) }

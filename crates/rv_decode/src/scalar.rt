@@ -1,4 +1,5 @@
-//! Words to scalar instructions and accesses of control registers, a function for each layout of operands.
+//! Decoding of scalar instructions and of instructions that access control registers, with a function for each
+//! layout of operands.
 #![tactic(auto, unfolding(rv_model::specs::instructions::Table::scan, rv_model::specs::lending::Families::rows))]
 
 ghost use Rattle.std.specs.Prelude.{◌≡◌, IfSome, option_map, true};
@@ -17,7 +18,7 @@ use rv_model::instructions::bits;
 use rv_model::instructions::operations::SystemOp;
 use rv_model::{CsrInstr, Field, Instr, ScalarInstr};
 
-/// LUI and AUIPC.
+/// Decode LUI or AUIPC.
 #[tactic(auto, using(crate::proofs::Scan::scan_upper))]
 #[inline(always)]
 pub(crate) fn upper(word: u32) -> Option<ScalarInstr>
@@ -32,7 +33,7 @@ pub(crate) fn upper(word: u32) -> Option<ScalarInstr>
     })
 }
 
-/// JAL.
+/// Decode JAL.
 #[inline(always)]
 pub(crate) fn jump(word: u32) -> Option<ScalarInstr>
     ensures row { option_map Instr.Scalar result ≡ scan (rows Jumps) word }
@@ -48,7 +49,7 @@ pub(crate) fn jump(word: u32) -> Option<ScalarInstr>
     }
 }
 
-/// JALR.
+/// Decode JALR.
 #[inline(always)]
 pub(crate) fn jump_register(word: u32) -> Option<ScalarInstr>
     ensures row { option_map Instr.Scalar result ≡ scan (rows JumpRegisters) word }
@@ -65,7 +66,7 @@ pub(crate) fn jump_register(word: u32) -> Option<ScalarInstr>
     }
 }
 
-/// BRANCH.
+/// Decode BRANCH.
 #[tactic(auto, using(crate::proofs::Scan::scan_branch))]
 #[inline(always)]
 pub(crate) fn branch(word: u32) -> Option<ScalarInstr>
@@ -81,7 +82,7 @@ pub(crate) fn branch(word: u32) -> Option<ScalarInstr>
     })
 }
 
-/// LOAD.
+/// Decode LOAD.
 #[tactic(auto, using(crate::proofs::Scan::scan_load))]
 #[inline(always)]
 pub(crate) fn load(word: u32) -> Option<ScalarInstr>
@@ -97,7 +98,7 @@ pub(crate) fn load(word: u32) -> Option<ScalarInstr>
     })
 }
 
-/// STORE.
+/// Decode STORE.
 #[tactic(auto, using(crate::proofs::Scan::scan_store))]
 #[inline(always)]
 pub(crate) fn store(word: u32) -> Option<ScalarInstr>
@@ -113,7 +114,7 @@ pub(crate) fn store(word: u32) -> Option<ScalarInstr>
     })
 }
 
-/// OP-IMM and OP-IMM-32 with an immediate of 12 bits.
+/// Decode OP-IMM or OP-IMM-32 with an immediate of 12 bits.
 #[tactic(auto, using(crate::proofs::Scan::scan_register_immediate))]
 #[inline(always)]
 pub(crate) fn register_immediate(word: u32) -> Option<ScalarInstr>
@@ -129,7 +130,7 @@ pub(crate) fn register_immediate(word: u32) -> Option<ScalarInstr>
     })
 }
 
-/// OP-IMM with a shift amount.
+/// Decode OP-IMM with a shift amount.
 #[tactic(auto, using(crate::proofs::Scan::scan_shift_immediate))]
 #[inline(always)]
 pub(crate) fn shift_immediate(word: u32) -> Option<ScalarInstr>
@@ -145,7 +146,7 @@ pub(crate) fn shift_immediate(word: u32) -> Option<ScalarInstr>
     })
 }
 
-/// OP-IMM-32 with a shift amount.
+/// Decode OP-IMM-32 with a shift amount.
 #[tactic(auto, using(crate::proofs::Scan::scan_shift_immediate_word))]
 #[inline(always)]
 pub(crate) fn shift_immediate_word(word: u32) -> Option<ScalarInstr>
@@ -161,7 +162,7 @@ pub(crate) fn shift_immediate_word(word: u32) -> Option<ScalarInstr>
     })
 }
 
-/// OP and OP-32.
+/// Decode OP or OP-32.
 #[tactic(auto, using(crate::proofs::Scan::scan_register_register))]
 #[inline(always)]
 pub(crate) fn register_register(word: u32) -> Option<ScalarInstr>
@@ -177,7 +178,7 @@ pub(crate) fn register_register(word: u32) -> Option<ScalarInstr>
     })
 }
 
-/// FENCE of MISC-MEM.
+/// Decode FENCE of MISC-MEM.
 #[inline(always)]
 pub(crate) fn fence(word: u32) -> Option<ScalarInstr>
     ensures row { option_map Instr.Scalar result ≡ scan (rows Fences) word }
@@ -194,7 +195,7 @@ pub(crate) fn fence(word: u32) -> Option<ScalarInstr>
     }
 }
 
-/// ECALL and EBREAK of SYSTEM.
+/// Decode ECALL or EBREAK of SYSTEM.
 #[tactic(auto, using(crate::proofs::Scan::scan_system))]
 pub(crate) fn system(word: u32) -> Option<SystemOp>
     ensures { option_map (λ op. Instr.Scalar (ScalarInstr.System op)) result ≡ scan (rows Systems) word }
@@ -202,7 +203,7 @@ pub(crate) fn system(word: u32) -> Option<SystemOp>
     system_op(word)
 }
 
-/// Zicsr with a scalar register.
+/// Decode an instruction of Zicsr with a scalar register.
 #[tactic(auto, using(crate::proofs::Scan::scan_csr))]
 pub(crate) fn csr(word: u32) -> Option<CsrInstr>
     ensures { option_map Instr.Csr result ≡ scan (rows Csrs) word }
@@ -216,7 +217,7 @@ pub(crate) fn csr(word: u32) -> Option<CsrInstr>
     })
 }
 
-/// Zicsr with an immediate.
+/// Decode an instruction of Zicsr with an immediate.
 #[tactic(auto, using(crate::proofs::Scan::scan_csr_immediate))]
 pub(crate) fn csr_immediate(word: u32) -> Option<CsrInstr>
     ensures { option_map Instr.Csr result ≡ scan (rows CsrImmediates) word }

@@ -1,4 +1,4 @@
-//! The scalar operations by the bits that they fix.
+//! Decoding of scalar operations by their fixed bits.
 #![tactic(auto, unfolding(rv_model::specs::lending::Search::find))]
 
 ghost use Rattle.std.specs.Prelude.{◌≡◌};
@@ -15,7 +15,7 @@ use rv_model::instructions::operations::{
     ShiftImmediateWordOp, StoreOp, SystemOp, UpperOp,
 };
 
-/// The operation of these bits, for `Instr::Scalar(ScalarInstr::Upper)`.
+/// The operation of `ScalarInstr::Upper` with these fixed bits.
 pub(crate) fn upper_op(bits: u32) -> Option<UpperOp>
     ensures { result ≡ find upper_bits upper_ops bits }
 {
@@ -26,7 +26,7 @@ pub(crate) fn upper_op(bits: u32) -> Option<UpperOp>
     }
 }
 
-/// The operation of these bits, for `Instr::Scalar(ScalarInstr::Branch)`.
+/// The operation of `ScalarInstr::Branch` with these fixed bits.
 pub(crate) fn branch_op(bits: u32) -> Option<BranchOp>
     ensures { result ≡ find branch_bits branch_ops bits }
 {
@@ -41,7 +41,7 @@ pub(crate) fn branch_op(bits: u32) -> Option<BranchOp>
     }
 }
 
-/// The operation of these bits, for `Instr::Scalar(ScalarInstr::Load)`.
+/// The operation of `ScalarInstr::Load` with these fixed bits.
 pub(crate) fn load_op(bits: u32) -> Option<LoadOp>
     ensures { result ≡ find load_bits load_ops bits }
 {
@@ -57,7 +57,7 @@ pub(crate) fn load_op(bits: u32) -> Option<LoadOp>
     }
 }
 
-/// The operation of these bits, for `Instr::Scalar(ScalarInstr::Store)`.
+/// The operation of `ScalarInstr::Store` with these fixed bits.
 pub(crate) fn store_op(bits: u32) -> Option<StoreOp>
     ensures { result ≡ find store_bits store_ops bits }
 {
@@ -70,7 +70,7 @@ pub(crate) fn store_op(bits: u32) -> Option<StoreOp>
     }
 }
 
-/// The operation of these bits, for `Instr::Scalar(ScalarInstr::RegisterImmediate)`.
+/// The operation of `ScalarInstr::RegisterImmediate` with these fixed bits.
 pub(crate) fn immediate_op(bits: u32) -> Option<ImmediateOp>
     ensures { result ≡ find immediate_op_bits immediate_ops bits }
 {
@@ -86,7 +86,7 @@ pub(crate) fn immediate_op(bits: u32) -> Option<ImmediateOp>
     }
 }
 
-/// The operation of these bits, for `Instr::Scalar(ScalarInstr::ShiftImmediate)`.
+/// The operation of `ScalarInstr::ShiftImmediate` with these fixed bits.
 pub(crate) fn shift_immediate_op(bits: u32) -> Option<ShiftImmediateOp>
     ensures { result ≡ find shift_immediate_bits shift_immediate_ops bits }
 {
@@ -98,7 +98,7 @@ pub(crate) fn shift_immediate_op(bits: u32) -> Option<ShiftImmediateOp>
     }
 }
 
-/// The operation of these bits, for `Instr::Scalar(ScalarInstr::ShiftImmediateWord)`.
+/// The operation of `ScalarInstr::ShiftImmediateWord` with these fixed bits.
 pub(crate) fn shift_immediate_word_op(bits: u32) -> Option<ShiftImmediateWordOp>
     ensures { result ≡ find shift_immediate_word_bits shift_immediate_word_ops bits }
 {
@@ -110,7 +110,7 @@ pub(crate) fn shift_immediate_word_op(bits: u32) -> Option<ShiftImmediateWordOp>
     }
 }
 
-/// The operation of these bits, for `Instr::Scalar(ScalarInstr::RegisterRegister)`.
+/// The operation of `ScalarInstr::RegisterRegister` with these fixed bits.
 #[inline(always)]
 pub(crate) fn register_op(bits: u32) -> Option<RegisterOp>
     ensures { result ≡ find register_op_bits register_ops bits }
@@ -148,7 +148,7 @@ pub(crate) fn register_op(bits: u32) -> Option<RegisterOp>
     }
 }
 
-/// The operation of these bits, for `Instr::Scalar(ScalarInstr::System)`.
+/// The operation of `ScalarInstr::System` with these fixed bits.
 pub(crate) fn system_op(bits: u32) -> Option<SystemOp>
     ensures { result ≡ find system_bits system_ops bits }
 {
@@ -159,7 +159,7 @@ pub(crate) fn system_op(bits: u32) -> Option<SystemOp>
     }
 }
 
-/// The operation of these bits, for `Instr::Csr(CsrInstr::Register)`.
+/// The operation of `CsrInstr::Register` with these fixed bits.
 pub(crate) fn csr_op(bits: u32) -> Option<CsrOp>
     ensures { result ≡ find csr_bits csr_ops bits }
 {
@@ -171,7 +171,7 @@ pub(crate) fn csr_op(bits: u32) -> Option<CsrOp>
     }
 }
 
-/// The operation of these bits, for `Instr::Csr(CsrInstr::Immediate)`.
+/// The operation of `CsrInstr::Immediate` with these fixed bits.
 pub(crate) fn csr_immediate_op(bits: u32) -> Option<CsrImmediateOp>
     ensures { result ≡ find csr_immediate_bits csr_immediate_ops bits }
 {

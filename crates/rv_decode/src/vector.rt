@@ -1,4 +1,4 @@
-//! Words to vector instructions on registers, a function for each layout of operands.
+//! Decoding of vector instructions on registers, with a function for each layout of operands.
 #![tactic(auto, unfolding(rv_model::specs::instructions::Table::scan, rv_model::specs::lending::Families::rows))]
 
 ghost use Rattle.std.specs.Prelude.{◌≡◌, IfSome, bit_and, option_map, true};
@@ -17,7 +17,7 @@ use rv_model::instructions::bits;
 use rv_model::instructions::operations::{Form, Major};
 use rv_model::{Arith, ArithOperation, Carry, Field, Instr, VectorInstr};
 
-/// An operation with a line of its own in the table, masked or not.
+/// Decode an operation of the funct6 table, masked or unmasked.
 #[tactic(auto, using(crate::proofs::Scan::scan_arith, rv_model::proofs::instruction_lemmas::Words::form_source_of))]
 #[inline(always)]
 pub(crate) fn arith(word: u32, major: Major, form: Form) -> Option<ArithOperation>
@@ -37,7 +37,7 @@ pub(crate) fn arith(word: u32, major: Major, form: Form) -> Option<ArithOperatio
     })
 }
 
-/// An operation that takes v0.
+/// Decode an operation with v0 as an operand.
 #[tactic(auto, using(crate::proofs::Scan::scan_carry, rv_model::proofs::instruction_lemmas::Words::form_source_of))]
 pub(crate) fn carry(word: u32, form: Form) -> Option<VectorInstr>
     ensures row { option_map Instr.Vector result ≡ scan (rows (Carries form)) word }
@@ -51,7 +51,7 @@ pub(crate) fn carry(word: u32, form: Form) -> Option<VectorInstr>
     })
 }
 
-/// `vmv.v.v`, `vmv.v.x` or `vmv.v.i`, whose vs2 is 0.
+/// Decode `vmv.v.v`, `vmv.v.x` or `vmv.v.i`, whose vs2 is 0.
 pub(crate) fn vector_move(word: u32, form: Form) -> Option<VectorInstr>
     ensures row { option_map Instr.Vector result ≡ scan (rows (Moves form)) word }
     ensures group { IfSome result (λ i. is_irregular i ≡ true) }
@@ -71,7 +71,7 @@ pub(crate) fn vector_move(word: u32, form: Form) -> Option<VectorInstr>
     }
 }
 
-/// `vsetvli`.
+/// Decode `vsetvli`.
 pub(crate) fn set_vli(word: u32) -> Option<VectorInstr>
     ensures row { option_map Instr.Vector result ≡ scan (rows SetVlis) word }
     ensures group { IfSome result (λ i. is_irregular i ≡ true) }
@@ -87,7 +87,7 @@ pub(crate) fn set_vli(word: u32) -> Option<VectorInstr>
     }
 }
 
-/// `vsetivli`.
+/// Decode `vsetivli`.
 pub(crate) fn set_ivli(word: u32) -> Option<VectorInstr>
     ensures row { option_map Instr.Vector result ≡ scan (rows SetIvlis) word }
     ensures group { IfSome result (λ i. is_irregular i ≡ true) }
@@ -103,7 +103,7 @@ pub(crate) fn set_ivli(word: u32) -> Option<VectorInstr>
     }
 }
 
-/// `vsetvl`.
+/// Decode `vsetvl`.
 pub(crate) fn set_vl(word: u32) -> Option<VectorInstr>
     ensures row { option_map Instr.Vector result ≡ scan (rows SetVls) word }
     ensures group { IfSome result (λ i. is_irregular i ≡ true) }
@@ -119,7 +119,7 @@ pub(crate) fn set_vl(word: u32) -> Option<VectorInstr>
     }
 }
 
-/// `vmv1r.v` to `vmv8r.v`.
+/// Decode `vmv1r.v` to `vmv8r.v`.
 #[tactic(auto, using(crate::proofs::Scan::scan_whole_move))]
 pub(crate) fn whole_move(word: u32) -> Option<VectorInstr>
     ensures row { option_map Instr.Vector result ≡ scan (rows WholeMoves) word }
@@ -133,7 +133,7 @@ pub(crate) fn whole_move(word: u32) -> Option<VectorInstr>
     })
 }
 
-/// Mask logic, which is never masked.
+/// Decode a logical operation on masks, which is always unmasked.
 #[tactic(auto, using(crate::proofs::Scan::scan_mask_logic))]
 pub(crate) fn mask_logic(word: u32) -> Option<VectorInstr>
     ensures row { option_map Instr.Vector result ≡ scan (rows MaskLogics) word }
@@ -148,7 +148,7 @@ pub(crate) fn mask_logic(word: u32) -> Option<VectorInstr>
     })
 }
 
-/// `vcompress.vm`, which is never masked.
+/// Decode `vcompress.vm`, which is always unmasked.
 pub(crate) fn compress(word: u32) -> Option<VectorInstr>
     ensures row { option_map Instr.Vector result ≡ scan (rows Compresses) word }
     ensures group { IfSome result (λ i. is_irregular i ≡ true) }
@@ -164,7 +164,7 @@ pub(crate) fn compress(word: u32) -> Option<VectorInstr>
     }
 }
 
-/// `vcpop.m` and `vfirst.m`.
+/// Decode `vcpop.m` or `vfirst.m`.
 #[tactic(auto, using(crate::proofs::Scan::scan_mask_to_scalar))]
 pub(crate) fn mask_to_scalar(word: u32) -> Option<VectorInstr>
     ensures row { option_map Instr.Vector result ≡ scan (rows MasksToScalar) word }
@@ -179,7 +179,7 @@ pub(crate) fn mask_to_scalar(word: u32) -> Option<VectorInstr>
     })
 }
 
-/// VXUNARY0.
+/// Decode VXUNARY0: an integer extension.
 #[tactic(auto, using(crate::proofs::Scan::scan_extend))]
 pub(crate) fn extend(word: u32) -> Option<VectorInstr>
     ensures row { option_map Instr.Vector result ≡ scan (rows Extends) word }
@@ -194,7 +194,7 @@ pub(crate) fn extend(word: u32) -> Option<VectorInstr>
     })
 }
 
-/// VMUNARY0 on a mask.
+/// Decode VMUNARY0 with a mask as the source.
 #[tactic(auto, using(crate::proofs::Scan::scan_mask_unary))]
 pub(crate) fn mask_unary(word: u32) -> Option<VectorInstr>
     ensures row { option_map Instr.Vector result ≡ scan (rows MaskUnaries) word }
@@ -209,7 +209,7 @@ pub(crate) fn mask_unary(word: u32) -> Option<VectorInstr>
     })
 }
 
-/// `vid.v`.
+/// Decode `vid.v`.
 pub(crate) fn element_index(word: u32) -> Option<VectorInstr>
     ensures row { option_map Instr.Vector result ≡ scan (rows ElementIndices) word }
     ensures group { IfSome result (λ i. is_irregular i ≡ true) }
@@ -224,7 +224,7 @@ pub(crate) fn element_index(word: u32) -> Option<VectorInstr>
     }
 }
 
-/// `vmv.x.s`.
+/// Decode `vmv.x.s`.
 pub(crate) fn move_to_scalar(word: u32) -> Option<VectorInstr>
     ensures row { option_map Instr.Vector result ≡ scan (rows MovesToScalar) word }
     ensures group { IfSome result (λ i. is_irregular i ≡ true) }
@@ -239,7 +239,7 @@ pub(crate) fn move_to_scalar(word: u32) -> Option<VectorInstr>
     }
 }
 
-/// `vmv.s.x`.
+/// Decode `vmv.s.x`.
 pub(crate) fn move_to_vector(word: u32) -> Option<VectorInstr>
     ensures row { option_map Instr.Vector result ≡ scan (rows MovesToVector) word }
     ensures group { IfSome result (λ i. is_irregular i ≡ true) }

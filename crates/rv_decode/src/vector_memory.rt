@@ -1,4 +1,4 @@
-//! Words to vector accesses of memory, a function for each layout of operands.
+//! Decoding of vector loads and stores, with a function for each layout of operands.
 ghost use Rattle.std.specs.Prelude.{◌≡◌, option_map};
 ghost use Rattle.rv_model.specs.instructions.Table.{scan};
 ghost use Rattle.rv_model.specs.lending.Families.{rows, Units, Strideds, Indexeds, WholeLoads, WholeStores};
@@ -12,7 +12,7 @@ use crate::word_fields::{is_unmasked, reg, vreg};
 use rv_model::instructions::bits;
 use rv_model::{AccessInstr, Field, Instr};
 
-/// Unit stride.
+/// Decode a unit-stride load or store.
 #[tactic(auto, using(crate::proofs::Scan::scan_unit))]
 #[inline(always)]
 pub(crate) fn unit(word: u32) -> Option<AccessInstr>
@@ -29,7 +29,7 @@ pub(crate) fn unit(word: u32) -> Option<AccessInstr>
     })
 }
 
-/// Strided.
+/// Decode a strided load or store.
 #[tactic(auto, using(crate::proofs::Scan::scan_strided))]
 pub(crate) fn strided(word: u32) -> Option<AccessInstr>
     ensures { option_map Instr.Access result ≡ scan (rows Strideds) word }
@@ -46,7 +46,7 @@ pub(crate) fn strided(word: u32) -> Option<AccessInstr>
     })
 }
 
-/// Indexed.
+/// Decode an indexed load or store.
 #[tactic(auto, using(crate::proofs::Scan::scan_indexed))]
 pub(crate) fn indexed(word: u32) -> Option<AccessInstr>
     ensures { option_map Instr.Access result ≡ scan (rows Indexeds) word }
@@ -64,7 +64,7 @@ pub(crate) fn indexed(word: u32) -> Option<AccessInstr>
     })
 }
 
-/// Loads of whole registers.
+/// Decode a load of whole registers.
 #[tactic(auto, using(crate::proofs::Scan::scan_whole_load))]
 pub(crate) fn whole_load(word: u32) -> Option<AccessInstr>
     ensures { option_map Instr.Access result ≡ scan (rows WholeLoads) word }
@@ -78,7 +78,7 @@ pub(crate) fn whole_load(word: u32) -> Option<AccessInstr>
     })
 }
 
-/// Stores of whole registers.
+/// Decode a store of whole registers.
 #[tactic(auto, using(crate::proofs::Scan::scan_whole_store))]
 pub(crate) fn whole_store(word: u32) -> Option<AccessInstr>
     ensures { option_map Instr.Access result ≡ scan (rows WholeStores) word }
@@ -91,7 +91,7 @@ pub(crate) fn whole_store(word: u32) -> Option<AccessInstr>
     })
 }
 
-/// `vlm.v` and `vsm.v`.
+/// Decode `vlm.v` or `vsm.v`.
 #[tactic(auto, using(crate::proofs::Scan::scan_mask_memory))]
 pub(crate) fn mask_memory(word: u32) -> Option<AccessInstr>
     ensures { option_map Instr.Access result ≡ scan (rows MaskMemories) word }

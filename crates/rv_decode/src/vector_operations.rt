@@ -1,4 +1,4 @@
-//! The vector operations by funct6 and form, or by the bits that they fix.
+//! Decoding of vector operations by funct6 and form, or by their fixed bits.
 ghost use Rattle.std.specs.Prelude.{◌≡◌, ◌<◌, ◌≤◌, IfSome, Some, None, true, if◌then◌else◌};
 ghost use Rattle.rv_model.specs.lending.ListedBits.{whole_move_bits, mask_logic_bits, mask_to_scalar_bits, extend_bits};
 ghost use Rattle.rv_model.specs.lending.ListedBits.{mask_unary_bits};
@@ -15,7 +15,7 @@ use rv_model::instructions::operations::{
     ReduceOp, RegisterCount, VectorOp, WideSourceOp, WidenMultiplyAddOp, WidenOp, WidenReduceOp,
 };
 
-/// The operation, if it has this form; `forms` are those that the manual's table has.
+/// The operation, or `None` if it doesn't have this form; `forms` are its forms in the manual's funct6 table.
 #[inline(always)]
 fn if_allowed(op: VectorOp, forms: Forms, form: Form) -> Option<VectorOp>
     requires { forms ≡ (line op).forms }
@@ -29,7 +29,7 @@ fn if_allowed(op: VectorOp, forms: Forms, form: Form) -> Option<VectorOp>
     }
 }
 
-/// The operation of OPIVV, OPIVX or OPIVI with this funct6, below 0x18, and form.
+/// The operation of OPIVV, OPIVX or OPIVI with this form and this funct6, which is below 0x18.
 #[tactic(auto, unfolding(rv_model::specs::lending::Search::find_at))]
 #[inline(always)]
 fn lower_opi(funct6: u32, form: Form) -> Option<VectorOp>
@@ -61,7 +61,7 @@ fn lower_opi(funct6: u32, form: Form) -> Option<VectorOp>
     if_allowed(op, forms, form)
 }
 
-/// The operation of OPIVV, OPIVX or OPIVI with this funct6, from 0x18 on, and form.
+/// The operation of OPIVV, OPIVX or OPIVI with this form and this funct6, which is at least 0x18.
 #[tactic(auto, unfolding(rv_model::specs::lending::Search::find_at))]
 #[inline(always)]
 fn upper_opi(funct6: u32, form: Form) -> Option<VectorOp>
@@ -112,7 +112,7 @@ pub(crate) fn opi(funct6: u32, form: Form) -> Option<VectorOp>
     }
 }
 
-/// The operation of OPMVV or OPMVX with this funct6, below 0x20, and form.
+/// The operation of OPMVV or OPMVX with this form and this funct6, which is below 0x20.
 #[tactic(auto, unfolding(rv_model::specs::lending::Search::find_at))]
 #[inline(always)]
 fn lower_opm(funct6: u32, form: Form) -> Option<VectorOp>
@@ -140,7 +140,7 @@ fn lower_opm(funct6: u32, form: Form) -> Option<VectorOp>
     if_allowed(op, forms, form)
 }
 
-/// The operation of OPMVV or OPMVX with this funct6, from 0x20 on and below 0x30, and form.
+/// The operation of OPMVV or OPMVX with this form and this funct6, which is 0x20 to 0x2f.
 #[tactic(auto, unfolding(rv_model::specs::lending::Search::find_at))]
 #[inline(always)]
 fn middle_opm(funct6: u32, form: Form) -> Option<VectorOp>
@@ -167,7 +167,7 @@ fn middle_opm(funct6: u32, form: Form) -> Option<VectorOp>
     if_allowed(op, forms, form)
 }
 
-/// The operation of OPMVV or OPMVX with this funct6, from 0x30 on, and form.
+/// The operation of OPMVV or OPMVX with this form and this funct6, which is at least 0x30.
 #[tactic(auto, unfolding(rv_model::specs::lending::Search::find_at))]
 #[inline(always)]
 fn upper_opm(funct6: u32, form: Form) -> Option<VectorOp>
@@ -223,7 +223,7 @@ pub(crate) fn opm(funct6: u32, form: Form) -> Option<VectorOp>
     }
 }
 
-/// The operation of these bits that takes v0 and has this form.
+/// The operation with v0 as an operand that has these fixed bits and this form.
 #[tactic(auto, unfolding(rv_model::specs::lending::Search::find))]
 pub(crate) fn carry_op(bits: u32, form: Form) -> Option<CarryOp>
     ensures row { result
@@ -254,7 +254,7 @@ pub(crate) fn carry_op(bits: u32, form: Form) -> Option<CarryOp>
     }
 }
 
-/// The operation of these bits, for `Instr::Vector(VectorInstr::WholeMove)`.
+/// The number of registers of the `VectorInstr::WholeMove` with these fixed bits.
 #[tactic(auto, unfolding(rv_model::specs::lending::Search::find))]
 pub(crate) fn whole_move_op(bits: u32) -> Option<RegisterCount>
     ensures { result ≡ find whole_move_bits counts bits }
@@ -268,7 +268,7 @@ pub(crate) fn whole_move_op(bits: u32) -> Option<RegisterCount>
     }
 }
 
-/// The operation of these bits, for `Instr::Vector(VectorInstr::MaskLogic)`.
+/// The operation of `VectorInstr::MaskLogic` with these fixed bits.
 #[tactic(auto, unfolding(rv_model::specs::lending::Search::find))]
 pub(crate) fn mask_logic_op(bits: u32) -> Option<MaskLogicOp>
     ensures { result ≡ find mask_logic_bits mask_logic_ops bits }
@@ -286,7 +286,7 @@ pub(crate) fn mask_logic_op(bits: u32) -> Option<MaskLogicOp>
     }
 }
 
-/// The operation of these bits, for `Instr::Vector(VectorInstr::MaskToScalar)`.
+/// The operation of `VectorInstr::MaskToScalar` with these fixed bits.
 #[tactic(auto, unfolding(rv_model::specs::lending::Search::find))]
 pub(crate) fn mask_to_scalar_op(bits: u32) -> Option<MaskToScalarOp>
     ensures { result ≡ find mask_to_scalar_bits mask_to_scalar_ops bits }
@@ -298,7 +298,7 @@ pub(crate) fn mask_to_scalar_op(bits: u32) -> Option<MaskToScalarOp>
     }
 }
 
-/// The operation of these bits, for `Instr::Vector(VectorInstr::Extend)`.
+/// The operation of `VectorInstr::Extend` with these fixed bits.
 #[tactic(auto, unfolding(rv_model::specs::lending::Search::find))]
 pub(crate) fn extend_op(bits: u32) -> Option<ExtendOp>
     ensures { result ≡ find extend_bits extend_ops bits }
@@ -314,7 +314,7 @@ pub(crate) fn extend_op(bits: u32) -> Option<ExtendOp>
     }
 }
 
-/// The operation of these bits, for `Instr::Vector(VectorInstr::MaskUnary)`.
+/// The operation of `VectorInstr::MaskUnary` with these fixed bits.
 #[tactic(auto, unfolding(rv_model::specs::lending::Search::find))]
 pub(crate) fn mask_unary_op(bits: u32) -> Option<MaskUnaryOp>
     ensures { result ≡ find mask_unary_bits mask_unary_ops bits }

@@ -1,4 +1,4 @@
-//! The operands that a word holds.
+//! Decoding of operands from an instruction's 32-bit word.
 ghost use Rattle.std.specs.Prelude.{◌≡◌, ◌≤◌, ◌<◌, ◌+◌, ◌^◌};
 ghost use Rattle.rv_model.specs.instructions.FixedBits.{field, flag};
 ghost use Rattle.rv_model.specs.instructions.Immediates.{store_immediate, branch_offset, jump_offset};
@@ -8,7 +8,7 @@ use rv_model::instructions::bits;
 use rv_model::instructions::operations::Form;
 use rv_model::{Field, Reg, Source, VReg};
 
-/// The scalar register at bit `low`.
+/// The scalar register whose number starts at bit `low`.
 pub(crate) fn reg(word: u32, low: u32) -> Reg
     requires { low + 5 ≤ 32 }
     ensures { result ≡ field low 5 word }
@@ -16,7 +16,7 @@ pub(crate) fn reg(word: u32, low: u32) -> Reg
     Reg::new(bits(word, low, 5))
 }
 
-/// The vector register at bit `low`.
+/// The vector register whose number starts at bit `low`.
 #[inline(always)]
 pub(crate) fn vreg(word: u32, low: u32) -> VReg
     requires { low + 5 ≤ 32 }
@@ -25,7 +25,7 @@ pub(crate) fn vreg(word: u32, low: u32) -> VReg
     VReg::new(bits(word, low, 5))
 }
 
-/// Whether a vector instruction is not masked.
+/// Whether a vector instruction is unmasked: its vm bit is 1.
 #[inline(always)]
 pub(crate) fn is_unmasked(word: u32) -> bool
     ensures { result ≡ flag word }
@@ -52,7 +52,7 @@ pub(crate) fn store_immediate(word: u32) -> Field<12>
     Field::new(bits(word, 7, 5) + bits(word, 25, 7) * 32)
 }
 
-/// Bits 12 to 1 of the distance of a branch.
+/// Bits 12 to 1 of the offset of a branch, in bytes.
 pub(crate) fn branch_offset(word: u32) -> Field<12>
     ensures { result ≡ branch_offset word }
 {
@@ -60,7 +60,7 @@ pub(crate) fn branch_offset(word: u32) -> Field<12>
     Field::new(low + bits(word, 7, 1) * 1024 + bits(word, 31, 1) * 2048)
 }
 
-/// Bits 20 to 1 of the distance of a jump.
+/// Bits 20 to 1 of the offset of a jump, in bytes.
 pub(crate) fn jump_offset(word: u32) -> Field<20>
     ensures { result ≡ jump_offset word }
 {
