@@ -1,4 +1,4 @@
--- Chunks of 32 bytes that are written one after another.
+-- Chunks of 32 bytes, written one after another.
 use Rattle.std.proofs.Common.{ℕ, zero, suc, ◌+◌, ◌-◌, ◌*◌, ◌/◌, ◌%◌, ◌^◌, ◌<◌, ◌≤◌, ◌≡◌, List, length, get_or, take, drop, Bool, true, false, cond, ◌&&◌, ◌||◌, nat_lt, refl, sym, ap, ◌∙◌, arith, inl, inr, ◌⊎◌, lt-ltb, le-ltb, mul-one, not, eqb, Fits, w8, add-zero}
 use Rattle.std.proofs.lemmas.Bool.Decides.{nat_tests}
 use Rattle.std.proofs.lemmas.Bool.{cases_lt}
@@ -12,13 +12,13 @@ use Rattle.rv_model.specs.lending.Writes.{Writes}
 use Rattle.rv_model.proofs.element_lemmas.Writes.{byte_at-is}
 use Rattle.lane_arith.proofs.MaskBits.{byte_of_number}
 
--- the chunk c of n elements, each written where the test lets it through
+-- a write of chunk c with n elements of k bytes; only elements that satisfy `changed` change
 pub record WritesChunk (k n c : ℕ) (changed : ℕ → Bool) (number : ℕ → ℕ) (old new : List ℕ) : Type 0 where
   pub same_length : length new ≡ length old
   pub inside : (i m : ℕ) → i < n → m < k → get_or new (k * (n * c + i) + m) 0 ≡ byte_or changed number old k (n * c + i) m
   pub outside : (j : ℕ) → (j < k * (n * c)) ⊎ (k * (n * c + n) ≤ j) → get_or new j 0 ≡ get_or old j 0
 
--- a chunk more
+-- one more chunk extends the written elements
 pub chunk_more : (k n c : ℕ) (W : ℕ → Bool) (F : ℕ → ℕ) (old mid new : List ℕ) → Writes k (λ e. W e && nat_lt e (n * c)) F old mid → WritesChunk k n c W F mid new
     → Writes k (λ e. W e && nat_lt e (n * (c + 1))) F old new
 chunk_more k n c W F old mid new was step = record {
@@ -62,7 +62,7 @@ chunk_of_chunk s l t k xs h =
     let cut : drop t (take l (drop s xs)) ≡ take (l - t) (drop t (drop s xs)) = ap (λ n. drop t (take n (drop s xs))) e ∙ drop-take t (l - t) (drop s xs) in
     ap (λ ys. take k ys) cut ∙ take-take k (l - t) (drop t (drop s xs)) (omega arith) ∙ ap (λ ys. take k ys) (drop-drop t s xs)
 
--- where element i of the chunk c stands
+-- the byte offset of element i of chunk c
 pub place : (k n c i : ℕ) → k * n ≡ 32 → k * (n * c + i) ≡ 32 * c + k * i
 place k n c i e = mul-add k (n * c) i ∙ ap (λ x. x + k * i) (sym (mul_assoc k n c) ∙ ap (λ x. x * c) e)
 
@@ -71,7 +71,7 @@ element_of_chunk k n c i xs e h =
     let low : k * suc i ≤ k * n = mul-le-mul_left k h in
     ap (number_l 256) (chunk_of_chunk (32 * c) 32 (k * i) k xs (omega (arith, mul-suc k i)) ∙ ap (λ x. chunk x k xs) (sym (place k n c i e)))
 
--- results, ones and bytes that stay, as the bits of two numbers tell
+-- the bits of two numbers select results, all ones or unchanged bytes
 pub step_any : (k n c : ℕ) (is_result is_one changed : ℕ → Bool) (number chunk_result : ℕ → ℕ) (ones : ℕ) (mid new made : List ℕ) (active filled : ℕ)
     → k * n ≡ 32 → 32 * c + 32 ≤ length mid → new ≡ put_chunk (32 * c) mid made → length made ≡ 32
     → ((i m : ℕ) → i < n → m < k → get_or made (k * i + m) 0
@@ -101,7 +101,7 @@ step_any k n c is_result is_one changed number chunk_result ones mid new made ac
     apart j (inl low) = get_or-put_chunk_below (32 * c) mid made j 0 (omega (arith, place k n c 0 e, add-zero (n * c), mul-zero k))
     apart j (inr high) = get_or-put_chunk_above (32 * c) mid made j 0 (omega (arith, place k n c n e))
 
--- the same for the chunk of that index of a list
+-- the same for the chunk with index c of a body's results
 pub step_chunk : (k n c : ℕ) (body : Body) (fill_masked_off : Bool) (result chunk_result : ℕ → ℕ) (ones : ℕ) (mid new made : List ℕ) (active filled : ℕ)
     → k * n ≡ 32 → 32 * c + 32 ≤ length mid → new ≡ put_chunk (32 * c) mid made → length made ≡ 32
     → ((i m : ℕ) → i < n → m < k → get_or made (k * i + m) 0
@@ -115,16 +115,16 @@ step_chunk k n c body fill_masked_off result chunk_result ones mid new made acti
     (is_changed body fill_masked_off false) (result_or_ones body result ones) chunk_result ones mid new made active filled e room is long bytes
     actives filleds (λ i h. either_way fill_masked_off (in_body body (n * c + i)) (is_enabled body (n * c + i))) (λ i h. rw (same i h) refl)
   where
-    -- of those in the body, those at which the mask is enabled change anyway
+    -- enabled elements of the body change anyway
     either_way : (m b l : Bool) → ((b && l) || ((m && (b && not l)) || false)) ≡ ((b && l) || ((m && b) || false))
     either_way m b l = grind (arith, nat_tests)
 
--- how many elements a chunk has
+-- a chunk has at most 32 elements
 pub few_in_chunk : (k n : ℕ) → 0 < k → k * n ≡ 32 → n ≤ 32
 few_in_chunk zero n some e = absurd (omega arith)
 few_in_chunk (suc k) n some e = omega (arith, e, suc-mul k n)
 
--- an element that stays keeps its bytes
+-- the bytes of an unchanged element are unchanged
 pub merged_byte : (k n i m : ℕ) (old : List ℕ) → length old ≡ 32 → Each1 (Fits w8) old → k * n ≡ 32 → i < n → m < k → (a f : Bool) (x y : ℕ)
     → byte_at m (cond a (cond f (element k old i) y) x) ≡ cond a (cond f (get_or old (k * i + m) 0) (byte_at m y)) (byte_at m x)
 merged_byte k n i m old long fits e h l false f x y = refl

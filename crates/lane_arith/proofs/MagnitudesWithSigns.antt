@@ -1,4 +1,4 @@
--- Signed numbers by their signs and magnitudes: their quotients and remainders, and what is left of them.
+-- Signed numbers as signs and magnitudes: quotients, remainders and their low bits.
 use Rattle.std.proofs.Common.{ℕ, zero, suc, ◌+◌, ◌-◌, ◌/◌, ◌%◌, ◌^◌, ◌<◌, ◌≤◌, ◌≡◌, ℤ, pos, negsuc, neg_ℤ, false, not, refl, sym, ap, ◌∙◌, arith, w64}
 use Rattle.std.proofs.Math.Facts.{sfits_to_z}
 use Rattle.std.proofs.Math.Nat.{div-le_self}
@@ -12,7 +12,7 @@ use mir.Val.{bits, hbits}
 use Rattle.rv_model.specs.elements.Formulas.{wrap}
 use Rattle.rv_model.proofs.element_lemmas.Numbers.{half, half_positive, low_bits_of}
 
--- what is left of a negative number, of which 64 bits have what makes 0 with its magnitude
+-- the low bits of a negative number: a 64-bit number n whose sum with the magnitude m is 0 modulo 2^64 has the low bits of -m
 pub left_of_negated : (w : Width) → bits w ≤ 64 → (n m : ℕ) → n < 2 ^ 64 → m < 2 ^ 64 → (n + m) % 2 ^ 64 ≡ 0 → n % 2 ^ bits w ≡ wrap w (neg_ℤ (pos m))
 left_of_negated w narrow n zero h k e = let is : n ≡ 0 = omega (arith, e, h) in ap (λ x. x % 2 ^ bits w) is
 left_of_negated w narrow n (suc m) h k e =
@@ -39,14 +39,14 @@ negated : (r c : ℕ) → r ≤ suc c → mag (neg_ℤ (pos r)) ≤ c
 negated zero c h = omega arith
 negated (suc r) c h = omega (arith, h)
 
--- a quotient is no further from zero than the dividend
+-- the magnitude of a quotient is at most that of the dividend
 quotient_below : (a d : ℤ) → mag (int_div a d) ≤ suc (mag a)
 quotient_below (pos a) (pos b) = omega (arith, div-le_self a b)
 quotient_below (pos a) (negsuc b) = negated (a / suc b) (suc a) (omega (arith, div-le_self a (suc b)))
 quotient_below (negsuc a) (pos b) = negated (suc a / b) (suc a) (omega (arith, div-le_self (suc a) b))
 quotient_below (negsuc a) (negsuc b) = div-le_self (suc a) (suc b)
 
--- the quotient and the remainder of numbers of a width
+-- the quotient and the remainder of numbers of width w
 module _ (w : Width) (a b : ℕ) (h : a < 2 ^ bits w) where
   pub left_quotient : wrap w (if not (beq (int_lt (cast_signed w a) (pos 0)) (int_lt (cast_signed w b) (pos 0)))
       then neg_ℤ (pos (unsigned_abs (cast_signed w a) / unsigned_abs (cast_signed w b))) else pos (unsigned_abs (cast_signed w a) / unsigned_abs (cast_signed w b)))

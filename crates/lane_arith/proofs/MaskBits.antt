@@ -1,4 +1,4 @@
--- Bits that tell of the elements of a chunk.
+-- Bit masks for the elements of a chunk.
 use Rattle.std.proofs.Common.{bit_xor, cond, ◌≡◌, ℕ, zero, suc, ◌+◌, ◌-◌, ◌*◌, ◌/◌, ◌%◌, ◌^◌, ◌<◌, ◌≤◌, Bool, true, false, not, eqb, List, [], ◌∷◌, length, get_or, refl, sym, ap, ◌∙◌, arith, bit_and, min, max, ◌&&◌, inl, inr, nat_le, le-leb, lt-ltb, le-ltb}
 use Rattle.std.proofs.Math.Nat.{mul-add, mul-div-le, mul-div_cancel, mul-le-mul_left, mul-suc, mul-zero, mul_assoc, mul-le-mul_right, mul_comm, pow-le-pow_right, suc-mul, div-div-eq-div-mul, div-one, pow-succ'}
 use Rattle.std.proofs.lemmas.Bool.{cases_lt}
@@ -11,7 +11,7 @@ use lib.Lanes.{Each1, number_l, chunk}
 use Rattle.rv_model.specs.elements.Elements.{element, in_range, mask_bit}
 use Rattle.rv_model.proofs.element_lemmas.Reads.{bytes_power}
 
--- both bits are set
+-- the bitwise AND of two masks is set where both are
 pub both_bits : (a b i : ℕ) (p q : Bool) → eqb (a / 2 ^ i % 2) 0 ≡ not p → eqb (b / 2 ^ i % 2) 0 ≡ not q → eqb (bit_and a b / 2 ^ i % 2) 0 ≡ not (p && q)
 both_bits a b i p q h k = ap (λ x. eqb x 0) (bit_at_and a b i) ∙ go p q (a / 2 ^ i % 2) (b / 2 ^ i % 2) (bit_at-lt a i) (bit_at-lt b i) h k
   where
@@ -20,7 +20,7 @@ both_bits a b i p q h k = ap (λ x. eqb x 0) (bit_at_and a b i) ∙ go p q (a / 
     go true false x y l m h k = grind (arith, nat_tests)
     go false q x y l m h k = grind (arith, nat_tests)
 
--- a run of ones
+-- the difference of two powers of 2 is a mask of the range's elements in a chunk
 pub body_bit : (start end first count low high i : ℕ) → low ≡ min (start - first) count → high ≡ max (min (end - first) count) low → i < count
     → eqb ((2 ^ high - 2 ^ low) / 2 ^ i % 2) 0 ≡ not (in_range start end (first + i))
 body_bit start end first count low high i l h inside = elim (cases_lt (first + i) start) [
@@ -39,7 +39,7 @@ body_bit start end first count low high i l h inside = elim (cases_lt (first + i
   ]
 ]
 
--- a byte of a number that bytes make
+-- byte m of the number that a list of bytes represents
 pub byte_of_number : (ys : List ℕ) (m : ℕ) → Each1 (λ x. x < 256) ys → m < length ys → number_l 256 ys / 256 ^ m % 256 ≡ get_or ys m 0
 byte_of_number [] m f h = absurd (omega arith)
 byte_of_number (y ∷ ys) zero f h =
@@ -53,13 +53,13 @@ byte_of_number (y ∷ ys) (suc m) f h =
     ap (λ z. (y + 256 * number_l 256 ys) / z) (pow-succ' 256 m) ∙ sym (div-div-eq-div-mul (y + 256 * number_l 256 ys) 256 (256 ^ m)) in
     rw (s, q) (byte_of_number ys m f.1 (omega arith))
 
--- a bit of the low bits
+-- a bit below k of a number's low k bits
 pub low_bit : (n k i : ℕ) → i < k → n % 2 ^ k / 2 ^ i % 2 ≡ n / 2 ^ i % 2
 low_bit n k i h =
     let one : (2 ^ k - 1) / 2 ^ i % 2 ≡ 1 = bit_at_ones k i h in
     ap (λ x. x / 2 ^ i % 2) (sym (and_mask n k)) ∙ bit_at_and n (2 ^ k - 1) i ∙ omega (arith, one, bit_at-lt n i)
 
--- a bit of the mask, read as words of 32 bits
+-- a bit of the mask, read as 32-bit words
 pub word_bit : (mask : List ℕ) (first count i : ℕ) → 4 * (first / 32) + 4 ≤ length mask → ((j : ℕ) → get_or mask j 0 < 256) → first % 32 + count ≤ 32 → i < count
     → eqb (element 4 mask (first / 32) / 2 ^ (first % 32) / 2 ^ i % 2) 0 ≡ not (mask_bit mask (first + i))
 word_bit mask first count i long fits word h =
@@ -85,21 +85,21 @@ word_bit mask first count i long fits word h =
     flip : (x : ℕ) → eqb (x % 2) 0 ≡ not (eqb (x % 2) 1)
     flip x = grind (arith, nat_tests)
 
--- where the chunk is inside the range
+-- each element of a chunk is in the range if the chunk is inside it
 pub all_in_range : (start end first count i : ℕ) → i < count → (nat_le start first && nat_le count (end - first)) ≡ true → in_range start end (first + i) ≡ true
 all_in_range start end first count i h whole = grind (arith, nat_tests)
 
--- what is told by a bit that is not zero
+-- the condition that a set bit represents
 pub told_set : (word i : ℕ) (b : Bool) → eqb (word / 2 ^ i % 2) 0 ≡ not b → not (eqb (word / 2 ^ i % 2) 0) ≡ b
 told_set word i true e = rw e refl
 told_set word i false e = rw e refl
 
--- a word tells of so many bits
+-- the low n bits of a word represent the conditions `bit`, and all other bits are 0
 pub record TellsTo (n word : ℕ) (bit : ℕ → Bool) : Type 0 where
   pub below : word < 2 ^ n
   pub tells : (i : ℕ) → i < n → eqb (word / 2 ^ i % 2) 0 ≡ not (bit i)
 
--- and of more
+-- n more bits above the low s bits
 pub tells_more : (s n word more : ℕ) (bit : ℕ → Bool) → TellsTo s word bit → more < 2 ^ n → ((i : ℕ) → i < n → eqb (more / 2 ^ i % 2) 0 ≡ not (bit (s + i)))
     → TellsTo (s + n) (word + more * 2 ^ s) bit
 tells_more s n word more bit was few told =
@@ -123,7 +123,7 @@ shifted_fits s n more h few =
     let most : 2 ^ (s + n) ≤ 2 ^ 64 = pow-le-pow_right (omega arith) h in
     omega (arith, up, whole, most, suc-mul more (2 ^ s), pow_pos s)
 
--- a bit of a word with some bits replaced
+-- a bit of a 32-bit word whose active bits are replaced
 pub replaced_bit : (old new active i : ℕ) → i < 32
     → eqb (bit_xor old (bit_and (bit_xor old new) active) % 2 ^ 32 / 2 ^ i % 2) 1 ≡ cond (eqb (active / 2 ^ i % 2) 0) (eqb (old / 2 ^ i % 2) 1) (not (eqb (new / 2 ^ i % 2) 0))
 replaced_bit old new active i h =
@@ -147,21 +147,21 @@ pub count_positive : (k n : ℕ) → k * n ≡ 32 → 0 < n
 count_positive k zero e = absurd (omega (arith, e, mul-zero k))
 count_positive k (suc n) e = omega arith
 
--- so many chunks of n elements have 32
+-- 32 / n chunks of n elements have 32 elements
 pub word_chunks : (k n : ℕ) → k * n ≡ 32 → n * (32 / n) ≡ 32
 word_chunks k n e =
     let some : 0 < n = count_positive k n e in
     let is : 32 / n ≡ k = ap (λ x. x / n) (sym e) ∙ mul-div_cancel k some in
     ap (λ x. n * x) is ∙ mul_comm n k ∙ e
 
--- an element of a chunk of a word
+-- the index of element i of chunk j of a 32-bit word
 pub place_in_word : (n q word j i : ℕ) → n * q ≡ 32 → n * (q * word + j) + i ≡ 32 * word + (n * j + i)
 place_in_word n q word j i e =
     let parts : n * (q * word + j) ≡ n * (q * word) + n * j = mul-add n (q * word) j in
     let whole : n * (q * word) ≡ 32 * word = sym (mul_assoc n q word) ∙ ap (λ x. x * word) e in
     omega (arith, parts, whole)
 
--- the chunks before the last end by the last
+-- each chunk of a 32-bit word ends at or below bit 32
 pub chunk_ends : (n j : ℕ) → j < 32 / n → n * j + n ≤ 32
 chunk_ends n j h =
     let up : n * suc j ≤ n * (32 / n) = mul-le-mul_left n h in

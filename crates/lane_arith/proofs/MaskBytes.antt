@@ -17,17 +17,17 @@ use Rattle.rv_model.proofs.element_lemmas.Bits.{same_byte}
 use Rattle.lane_arith.proofs.MaskWords.{byte_of_own}
 use Rattle.lane_arith.proofs.VectorLanes.{chosen_by, all_below, every_below}
 
--- 32 bytes with these bits
+-- 32 bytes with these 256 bits
 pub record IsMask (bytes : List ℕ) (bit : ℕ → Bool) : Type 0 where
   pub long : length bytes ≡ 32
   pub fits : Each1 (Fits w8) bytes
   pub bits : (i : ℕ) → i < 256 → mask_bit bytes i ≡ bit i
 
--- what a vector holds
+-- the bits of a vector of 32 bytes
 pub own_bits : (xs : List ℕ) → length xs ≡ 32 → Each1 (Fits w8) xs → IsMask xs (mask_bit xs)
 own_bits xs long fits = record { long = long; fits = fits; bits = λ i h. refl }
 
--- an operation on bytes that is one on their bits
+-- a bitwise operation on bytes, applied to vectors of 32 bytes
 both : (f : ℕ → ℕ → ℕ) (g : Bool → Bool → Bool)
     → ((a b i : ℕ) → (f a b / 2 ^ i % 2 == 1) ≡ g (a / 2 ^ i % 2 == 1) (b / 2 ^ i % 2 == 1))
     → ((a b : ℕ) → a < 2 ^ 8 → b < 2 ^ 8 → f a b < 2 ^ 8)
@@ -86,7 +86,7 @@ mask_not {xs} {p} a =
     go (suc (suc x)) s = absurd (omega (arith, s))
     go _ s = refl
 
--- the bits of a register of which some are replaced
+-- the bits of a register with its active bits replaced
 pub mask_replaced : {old results active : List ℕ} {o r a : ℕ → Bool} → IsMask old o → IsMask results r → IsMask active a
     → IsMask (zip2 bit_xor old (zip2 bit_and (zip2 bit_xor old results) active)) (λ i. cond (a i) (r i) (o i))
 mask_replaced {o} {r} {a} x y z =
@@ -101,7 +101,7 @@ mask_replaced {o} {r} {a} x y z =
 
 -- ---- the bits below an index
 
--- the byte k
+-- byte k of the mask of the bits below `end`
 abbrev low_byte : ℕ → ℕ → ℕ
 low_byte end k = cond (ltb k (end / 8)) 255 (cond (eqb k (end / 8)) (1 * 2 ^ (end % 8) % 256 - 1) 0)
 
@@ -125,7 +125,7 @@ low_bit_told end k j h =
           rw (le-ltb k (end / 8) (omega arith), other, zero-div (2 ^ j), le-ltb (8 * k + j) end (omega arith)) refl
     ]
 
--- a table of places, compared with the place of the byte in which the index is
+-- the mask of the bits below `end`, computed by comparing a table of byte indices with the index of the byte that contains `end`
 pub low_mask : (places : List ℕ) → length places ≡ 32 → all_below (λ k. eqb (get_or places k 0) k) 32 ≡ true → (end i : ℕ) → i < 256
     → mask_bit (sel_l (map (top 7) (zip2 (λ a b. cond (ltb a b) 255 0) places (replicate 32 (end / 8)))) (replicate 32 255)
     (sel_l (map (top 7) (zip2 (λ a b. cond (eqb a b) 255 0) places (replicate 32 (end / 8)))) (replicate 32 (1 * 2 ^ (end % 8) % 256 - 1)) (replicate 32 0))) i ≡ ltb i end
@@ -155,11 +155,11 @@ low_mask places long known end i h =
     let whole : 8 * k + i % 8 ≡ i = omega arith in
     ap (λ x. x / 2 ^ (i % 8) % 2 == 1) outer ∙ low_bit_told end k (i % 8) (omega arith) ∙ ap (λ x. ltb x end) whole
 
--- from one index up to another
+-- the bits below `end` without those below `start` are the range
 pub below_but_before : (start end i : ℕ) → (ltb i end && not (ltb i (min start end))) ≡ in_range start end i
 below_but_before start end i = grind (arith, nat_tests)
 
--- ---- a register that is written
+-- ---- writes to a register
 
 in_byte : (bytes : List ℕ) (q j : ℕ) → j < 8 → mask_bit bytes (8 * q + j) ≡ (get_or bytes q 0 / 2 ^ j % 2 == 1)
 in_byte bytes q j h =

@@ -1,4 +1,4 @@
--- Masks that are replaced four bytes at a time.
+-- Replacement of a mask's bits, four bytes at a time.
 use Rattle.std.proofs.Common.{ℕ, ◌+◌, ◌-◌, ◌*◌, ◌/◌, ◌%◌, ◌^◌, ◌<◌, ◌≤◌, ◌≡◌, ◌==◌, List, [], ◌∷◌, length, get_or, Bool, true, false, cond, not, refl, sym, ap, ◌∙◌, arith, inl, inr, lit<, lt-ltb, le-ltb, zero-add}
 use Rattle.std.proofs.lemmas.Bool.{cases_lt}
 use Rattle.std.proofs.lemmas.Bool.Decides.{nat_tests}
@@ -14,11 +14,11 @@ use Rattle.rv_model.proofs.element_lemmas.Reads.{bytes_power}
 use Rattle.rv_model.proofs.element_lemmas.Writes.{byte_at-is, get_or-bytes, length-bytes}
 use Rattle.lane_arith.proofs.MaskBits.{low_bit, word_bit}
 
--- a byte has its own bits
+-- a byte is the number that its bits represent
 pub byte_of_own : (y : ℕ) → y < 256 → y ≡ byte_of_bits (λ j. y / 2 ^ j % 2 == 1)
 byte_of_own y h = byte_kept (λ i. false) (λ i. false) 0 0 (y ∷ []) h (λ i e. absurd (cc)) (omega arith)
 
--- a bit of a byte of a word
+-- bit j of byte m of a 32-bit word
 bit_of_byte : (word m j : ℕ) → j < 8 → byte_at m word / 2 ^ j % 2 ≡ word / 2 ^ (8 * m + j) % 2
 bit_of_byte word m j h =
     let split : 256 ^ m * 2 ^ j ≡ 2 ^ (8 * m + j) = ap (λ x. x * 2 ^ j) (sym (bytes_power m)) ∙ sym (pow-add 2 (8 * m) j) in
@@ -26,7 +26,7 @@ bit_of_byte word m j h =
     ∙ ap (λ y. y % 2) (div-div-eq-div-mul word (256 ^ m) (2 ^ j) ∙ ap (λ y. word / y) split)
 
 module _ (changed bit : ℕ → Bool) (w word : ℕ) (old mid : List ℕ) (room : 4 * w + 4 ≤ length old) (was : RebuiltTo changed bit (4 * w) old mid) where
-  -- a byte of the word is the byte that is wanted
+  -- byte m of the word is the byte with its active bits replaced
   wanted : (m : ℕ) → m < 4 → ((i : ℕ) → i < 32 → (word / 2 ^ i % 2 == 1) ≡ bit_or changed bit old (32 * w + i))
       → byte_at m word ≡ byte_with_bits changed bit old (4 * w + m)
   wanted m h told =
@@ -38,7 +38,7 @@ module _ (changed bit : ℕ → Bool) (w word : ℕ) (old mid : List ℕ) (room 
       let at : 32 * w + (8 * m + j) ≡ 8 * (4 * w + m) + j = omega arith in
       ap (λ x. x == 1) (bit_of_byte word m j l) ∙ told (8 * m + j) (omega (arith, h, l)) ∙ ap (bit_or changed bit old) at)
 
-  -- four bytes more
+  -- one more word of four bytes
   pub rebuild_word : (new : List ℕ) → new ≡ put_chunk (4 * w) mid (bytes_low_first 0 4 word)
       → ((i : ℕ) → i < 32 → (word / 2 ^ i % 2 == 1) ≡ bit_or changed bit old (32 * w + i)) → RebuiltTo changed bit (4 * (w + 1)) old new
   rebuild_word new is told =
@@ -65,7 +65,7 @@ module _ (changed bit : ℕ → Bool) (w word : ℕ) (old mid : List ℕ) (room 
         ];
       }
 
-  -- a bit of the word that stands there is still the old one
+  -- each bit of the next word is unchanged
   pub old_bit : (i : ℕ) → i < 32 → mask_bit mid (32 * w + i) ≡ mask_bit old (32 * w + i)
   old_bit i h =
       let at : ℕ = (32 * w + i) / 8 in
@@ -75,7 +75,7 @@ module _ (changed bit : ℕ → Bool) (w word : ℕ) (old mid : List ℕ) (room 
       was.bytes at inside ∙ ap (λ t. cond t (byte_with_bits changed bit old at) (get_or old at 0)) (le-ltb at (4 * w) from) in
       ap (λ y. y / 2 ^ ((32 * w + i) % 8) % 2 == 1) here
 
--- a bit of a word of a mask
+-- bit i of a mask's 32-bit word w
 pub bit_of_word : (mask : List ℕ) (w i : ℕ) → 4 * w + 4 ≤ length mask → ((j : ℕ) → get_or mask j 0 < 256) → i < 32
     → (element 4 mask w / 2 ^ i % 2 == 1) ≡ mask_bit mask (32 * w + i)
 bit_of_word mask w i room fits h =
@@ -89,13 +89,13 @@ bit_of_word mask w i room fits h =
     flip x true e = grind (arith, nat_tests)
     flip x false e = grind (arith, nat_tests)
 
--- which bit a word with some bits replaced has
+-- the bit of a word with its active bits replaced
 pub picked : (c b o : Bool) (a n : Bool) {x y : Bool} → x ≡ cond a y (not n) → a ≡ not c → (c ≡ true → n ≡ not b) → y ≡ o → x ≡ cond c b o
 picked true true o a n e f g h = rw (e, f, g refl) refl
 picked true false o a n e f g h = rw (e, f, g refl) refl
 picked false b o a n e f g h = rw (e, f, h) refl
 
--- bytes that are rebuilt up to one, where those from that one on are as they would be rebuilt
+-- the bytes below q are replaced, and replacement doesn't change those from q on
 pub rebuild_rest : (changed bit : ℕ → Bool) (q : ℕ) (old new : List ℕ)
     → ((x : ℕ) → x < length old → q ≤ x → get_or old x 0 ≡ byte_with_bits changed bit old x) → RebuiltTo changed bit q old new
     → WritesBits changed bit old new

@@ -1,4 +1,4 @@
--- Signed numbers by way of unsigned ones, whose top bit is turned round.
+-- Operations on signed numbers as operations on unsigned numbers whose top bit is inverted.
 use Rattle.std.proofs.Common.{◌≡◌, ℕ, suc, ◌+◌, ◌-◌, ◌*◌, ◌/◌, ◌%◌, ◌^◌, ◌<◌, pos, negsuc, ◌-ℤ◌, refl, sym, ap, ◌∙◌, arith, inl, inr, mod-eq_of_lt, w8}
 use Rattle.std.proofs.lemmas.Bool.{cases_lt}
 use Rattle.std.proofs.lemmas.Int.{ints}
@@ -24,7 +24,7 @@ negative : (w : Width) (x : ℕ) → x < 2 ^ hbits w → cast_signed w (2 ^ hbit
 negative w8 x h = grind (arith, ints)
 negative _ x h = grind (arith, ints)
 
--- what is left of a multiple, divided
+-- the quotient of a multiple of q less a smaller number
 divided_down : (q m x : ℕ) → 0 < q → x < q * m → (q * m - suc x) / q ≡ m - suc (x / q)
 divided_down q m x some h =
     let u : ℕ = x / q in
@@ -37,7 +37,7 @@ divided_down q m x some h =
     let split : q * m - suc x ≡ k * q + (q - suc r) = omega (arith, up, mul-suc q u, div-add-mod x q, small, mul_comm k q) in
     ap (λ y. y / q) split ∙ div-mul-add k q (q - suc r) (omega (arith, small))
 
--- shifted with the top bit turned round, and less what that bit adds
+-- an arithmetic right shift is a shift of the number with its top bit inverted, less the shifted top bit
 pub shifted_with_sign : (w : Width) (a b : ℕ) → a < 2 ^ bits w
     → wrap w (pos ((a + 2 ^ hbits w) % 2 ^ bits w / 2 ^ (b % bits w)) -ℤ pos (2 ^ hbits w / 2 ^ (b % bits w))) ≡ wrap w (int_shr (cast_signed w a) (b % bits w))
 shifted_with_sign w a b h =

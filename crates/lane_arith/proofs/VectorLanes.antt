@@ -1,4 +1,4 @@
--- The operations on vectors, element by element.
+-- Operations on SIMD vectors, for each element.
 use Rattle.std.proofs.Common.{lit<, not, ◌≡◌, ℕ, zero, suc, ◌+◌, ◌-◌, ◌*◌, ◌/◌, ◌%◌, ◌^◌, ◌<◌, ◌≤◌, Bool, true, false, cond, eqb, List, [], ◌∷◌, map, length, get_or, replicate, refl, sym, ap, ◌∙◌, zero-add, arith, ◌&&◌, eqb-true, Fits, bit_and, inl, inr, mod-eq_of_lt}
 use Rattle.std.proofs.Math.Nat.{zero-mul, suc-mul, div-div-eq-div-mul, mod-lt}
 use Rattle.std.proofs.lemmas.Bool.{cases_lt, false≢true}
@@ -30,7 +30,7 @@ digit_below p (suc n) x (suc i) some h = digit_below p n (x / p) i some (omega a
 
 -- ---- masks
 
--- an element that `select` takes by a comparison
+-- the element that `select` returns for the result of a comparison
 pub chosen_by : (w : Width) (t : ℕ → ℕ → Bool) (us vs xs ys : List ℕ) (n k : ℕ) → length us ≡ n → length vs ≡ n → length xs ≡ n → length ys ≡ n → k < n
     → get_or (sel_l (map (top (hbits w)) (zip2 (λ a b. cond (t a b) (2 ^ bits w - 1) 0) us vs)) xs ys) k 0 ≡ cond (t (get_or us k 0) (get_or vs k 0)) (get_or xs k 0) (get_or ys k 0)
 chosen_by w t us vs xs ys n k la lb lx ly h =
@@ -38,7 +38,7 @@ chosen_by w t us vs xs ys n k la lb lx ly h =
     let at : get_or (zip2 t us vs) k false ≡ t (get_or us k 0) (get_or vs k 0) = get_or-zip2 t us vs k 0 0 false (omega arith) (omega arith) in
     rw (tops_compared w t us vs, get_or-sel_l (zip2 t us vs) xs ys k 0 (omega arith) (omega arith) (omega arith), at) refl
 
--- with 0
+-- the same for a comparison with 0
 pub selected : (w : Width) (ms xs ys : List ℕ) (n : ℕ) → length ms ≡ n → length xs ≡ n → length ys ≡ n → (i : ℕ) → i < n
     → get_or (sel_l (map (top (hbits w)) (zip2 (λ a b. cond (eqb a b) (2 ^ bits w - 1) 0) ms (replicate n 0))) xs ys) i 0 ≡ cond (eqb (get_or ms i 0) 0) (get_or xs i 0) (get_or ys i 0)
 selected w ms xs ys n lm lx ly i h =
@@ -49,7 +49,7 @@ above_one : (w : Width) → 1 < 2 ^ bits w
 above_one w8 = lit< tt
 above_one _ = lit< tt
 
--- an element of the mask that tells of a comparison
+-- an element of the mask that a comparison returns
 pub compared : (w : Width) (t : ℕ → ℕ → Bool) (xs ys : List ℕ) (n : ℕ) → length xs ≡ n → length ys ≡ n → (i : ℕ) → i < n
     → eqb (get_or (sel_l (map (top (hbits w)) (zip2 (λ a b. cond (t a b) (2 ^ bits w - 1) 0) xs ys)) (replicate n (2 ^ bits w - 1)) (replicate n 0)) i 0) 0 ≡ not (t (get_or xs i 0) (get_or ys i 0))
 compared w t xs ys n lx ly i h =
@@ -62,7 +62,7 @@ compared w t xs ys n lx ly i h =
     tell true = let more : 1 < 2 ^ bits w = above_one w in let some : 0 < 2 ^ bits w - 1 = omega arith in grind (arith, nat_tests)
     tell false = refl
 
--- the bits that tell which elements of a mask are not 0
+-- a bit mask of the elements of a mask that are not 0
 abbrev differs : ℕ → ℕ → Bool
 differs a b = not (eqb a b)
 
@@ -91,7 +91,7 @@ flag : (x p : ℕ) → 0 < p → eqb (x * p) 0 ≡ eqb x 0
 flag zero p h = ap (λ y. eqb y 0) (zero-mul p)
 flag (suc x) p h = let more : 0 < suc x * p = omega (arith, suc-mul x p) in grind (arith, nat_tests)
 
--- a test of each number below n, computed
+-- a test of each number below n, as a computable function
 abbrev pub all_below : (ℕ → Bool) → ℕ → Bool
 all_below p zero = true
 all_below p (suc n) = p n && all_below p n
@@ -107,7 +107,7 @@ every_below p (suc n) h i l = go (p n) refl h (λ k low. every_below p n k i low
       | inr top ↦ let is : i ≡ n = omega arith in rw is e
     ]
 
--- an element of a mask, made of the low bits of a word and a table of powers
+-- element i of a mask, computed from the low bits of a word and a table of powers of 2
 pub chosen : (word low b : ℕ) (table : List ℕ) (n : ℕ) → low ≡ word % 2 ^ b → n ≤ b → length table ≡ n → all_below (λ k. eqb (get_or table k 0) (2 ^ k)) n ≡ true → (i : ℕ) → i < n
     → eqb (get_or (zip2 bit_and (replicate n low) table) i 0) 0 ≡ eqb (word / 2 ^ i % 2) 0
 chosen word low b table n is few long powers i h =
@@ -117,7 +117,7 @@ chosen word low b table n is few long powers i h =
     rw (at, get_or-replicate n i low 0 h, e, and_pow low i)
     (flag (low / 2 ^ i % 2) (2 ^ i) (pow_pos i) ∙ ap (λ x. eqb (x / 2 ^ i % 2) 0) is ∙ ap (λ x. eqb x 0) (low_bit word b i (omega arith)))
 
--- the same of bytes, where each byte of the word stands eight times
+-- the same for elements of one byte, where eight elements share a byte of the word
 pub chosen_bytes : (word : ℕ) (at bs : List ℕ) → word < 2 ^ 64 → length at ≡ 32 → length bs ≡ 32
     → all_below (λ k. eqb (get_or at k 0) (k / 8)) 32 ≡ true → all_below (λ k. eqb (get_or bs k 0) (2 ^ (k % 8))) 32 ≡ true → (i : ℕ) → i < 32
     → eqb (get_or (zip2 bit_and (map (λ k. get_or (digits_l 256 8 (number_l (2 ^ 64) (word ∷ []))) k 0) at) bs) i 0) 0 ≡ eqb (word / 2 ^ i % 2) 0
@@ -135,7 +135,7 @@ chosen_bytes word at bs small la lb ta tb i h =
 
 -- ---- shifts
 
--- the amounts, below the width
+-- shift amounts modulo the width
 amount : (w : Width) (k : ℕ) (ys : List ℕ) (n : ℕ) → bits w ≡ 2 ^ k → length ys ≡ n → (i : ℕ) → i < n
     → get_or (zip2 bit_and ys (replicate n (bits w - 1))) i 0 ≡ get_or ys i 0 % bits w
 amount w k ys n e ly i h =

@@ -1,4 +1,4 @@
--- Sums and differences with numbers of which only what is left at a width is known.
+-- Sums and differences with numbers that are known modulo 2 to a width.
 use Rattle.std.proofs.Common.{◌≡◌, ℕ, suc, ◌+◌, ◌-◌, ◌*◌, ◌/◌, ◌%◌, ◌^◌, ◌<◌, ◌≤◌, pos, negsuc, ◌-ℤ◌, sym, ap, ◌∙◌, arith, inl, inr}
 use Rattle.std.proofs.lemmas.Bool.{cases_lt}
 use Rattle.std.proofs.lemmas.Int.{ints}
@@ -10,7 +10,7 @@ use Rattle.rv_model.specs.elements.Formulas.{wrap}
 use Rattle.rv_model.proofs.element_lemmas.Numbers.{left_of}
 use Rattle.rv_model.proofs.element_lemmas.Widths.{power_positive}
 
--- a difference, by so many multiples that it is a natural number
+-- a difference to which k multiples of 2 to the width are added, so that it is a natural number
 wrapped_difference : (w : Width) (a x k : ℕ) → x ≤ a + k * 2 ^ bits w → wrap w (pos a -ℤ pos x) ≡ (a + k * 2 ^ bits w - x) % 2 ^ bits w
 wrapped_difference w a x k h =
     let p : ℕ = 2 ^ bits w in
@@ -24,7 +24,7 @@ wrapped_difference w a x k h =
           ap (wrap w) is ∙ sym (ap (λ y. y % p) parts ∙ add-mul-mod_self_right (a - x) k p)
     ]
 
--- what is taken may be told modulo 2 to the width
+-- the subtrahend may be reduced modulo 2 to the width
 pub wrap-sub : (w : Width) (a n : ℕ) → wrap w (pos a -ℤ pos (n % 2 ^ bits w)) ≡ wrap w (pos a -ℤ pos n)
 wrap-sub w a n =
     let p : ℕ = 2 ^ bits w in

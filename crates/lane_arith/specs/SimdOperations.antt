@@ -1,4 +1,4 @@
--- Operations of one width whose results for the elements of 32 bytes are made by SIMD.
+-- Operations, with operands and results of the same width, that SIMD instructions compute for the elements of 32 bytes.
 use Rattle.std.specs.Prelude.{Bool, true, false}
 use Rattle.rv_model.specs.declared.instructions.operations.BinaryOp.{BinaryOp}
 use Rattle.rv_model.specs.declared.instructions.operations.BinaryOp.TheVariants.{Vdiv, Vdivu, Vmulh, Vmulhsu, Vmulhu, Vrem, Vremu}

@@ -1,4 +1,5 @@
-//! Operations of one width on two operands ("V" Vector Extension 1.0, chapter 11).
+//! Operations on two operands whose elements and results have the same width ("V" Vector Extension 1.0, chapter
+//! 11).
 ghost use Rattle.std.specs.Prelude.{◌≡◌, ℕ};
 ghost use Rattle.rv_model.specs.elements.Elements.{element};
 ghost use Rattle.rv_model.specs.lending.Writes.{HasElement};
@@ -16,7 +17,7 @@ use crate::operations::apply;
 use crate::results::Results;
 use rv_model::instructions::operations::BinaryOp;
 
-/// An operation on the elements of `a`, those of vs2, and of `b`, those of the second operand.
+/// An operation on `a`, the elements of vs2, and `b`, the elements of the second operand.
 #[derive(Clone, Copy)]
 pub struct Binary<'a> {
     pub op: BinaryOp,

@@ -1,4 +1,4 @@
-//! Whole chunks of 32 bytes: their elements as SIMD vectors, and what they become.
+//! Operations on whole chunks of 32 bytes, with elements as SIMD vectors.
 ghost use Rattle.std.specs.Prelude.{◌≡◌, ◌+◌, ◌*◌, ◌-ℤ◌, pos, ◌/◌, ◌%◌, ◌^◌, ◌<◌, ◌==◌, ◌&&◌, ℕ, IfSome, IsTrue};
 ghost use Rattle.std.specs.Prelude.{int_le, int_lt, length, nat_le, not, slice_index, if◌then◌else◌};
 ghost use Rattle.std.specs.Int.{byte_at, cast_signed, from_bool};
@@ -18,8 +18,8 @@ use crate::lane::Lane;
 use rv_model::instructions::operations::{BinaryOp, CarryOp, CompareOp, MultiplyAddOp};
 use std::simd::prelude::*;
 
-/// A chunk: results where the bit of `active` is set, else ones where that of `filled` is, and else the
-/// elements of `old`.
+/// Merge a chunk: each element is its result if its bit of `active` is set, else all ones if its bit of `filled` is
+/// set, else its old value.
 #[inline(always)]
 pub(crate) fn merged<L: Lane>(results: L::Vector, old: u8x32, active: u64, filled: u64) -> u8x32
     ensures { (i m : ℕ) → i < L.count → m < width_bytes L.width → slice_index result (width_bytes L.width * i + m)
@@ -42,14 +42,14 @@ pub(crate) fn merged<L: Lane>(results: L::Vector, old: u8x32, active: u64, fille
     L::to_bytes(L::select(L::choose(active), results, rest))
 }
 
-/// The bits that two mask registers both have.
+/// The bitwise AND of two mask registers.
 pub(crate) fn and_bytes(a: u8x32, b: u8x32) -> u8x32
     ensures { (i : ℕ) → i < GROUP_BYTES → mask_bit result i ≡ (mask_bit a i && mask_bit b i) }
 {
     a & b
 }
 
-/// The bits that the first of two mask registers has alone.
+/// The bits of `a` that are clear in `b`, for two mask registers.
 pub(crate) fn and_not_bytes(a: u8x32, b: u8x32) -> u8x32
     ensures { (i : ℕ) → i < GROUP_BYTES → mask_bit result i ≡ (mask_bit a i && not (mask_bit b i)) }
 {
@@ -66,7 +66,7 @@ pub(crate) fn replaced_bytes(old: u8x32, results: u8x32, active: u8x32) -> u8x32
     old ^ ((old ^ results) & active)
 }
 
-/// The lesser of each two unsigned numbers.
+/// The lesser unsigned number of each pair of elements.
 fn minima<L: Lane>(a: L::Vector, b: L::Vector) -> L::Vector
     requires first { (i : ℕ) → i < L.count → L.lane a i < 2 ^ bits L.width }
     requires second { (i : ℕ) → i < L.count → L.lane b i < 2 ^ bits L.width }
@@ -75,7 +75,7 @@ fn minima<L: Lane>(a: L::Vector, b: L::Vector) -> L::Vector
     L::select(L::less(b, a), b, a)
 }
 
-/// The greater of each two unsigned numbers.
+/// The greater unsigned number of each pair of elements.
 fn maxima<L: Lane>(a: L::Vector, b: L::Vector) -> L::Vector
     requires first { (i : ℕ) → i < L.count → L.lane a i < 2 ^ bits L.width }
     requires second { (i : ℕ) → i < L.count → L.lane b i < 2 ^ bits L.width }
@@ -84,14 +84,15 @@ fn maxima<L: Lane>(a: L::Vector, b: L::Vector) -> L::Vector
     L::select(L::less(a, b), b, a)
 }
 
-/// The top bit alone, in each element.
+/// Return a vector whose elements have only their top bit set.
 pub fn top_bits<L: Lane>() -> L::Vector
     ensures { (i : ℕ) → i < L.count → L.lane result i ≡ 2 ^ hbits L.width }
 {
     L::repeated(L::low_bits(1 << (L::bits() - 1)))
 }
 
-/// A mask: an element is 0 where that of `a` is not less than that of `b`, as signed numbers.
+/// Return a mask: an element is not 0 if the element of `a` is less than that of `b`, as signed numbers, and else
+/// 0.
 pub fn signed_less<L: Lane>(a: L::Vector, b: L::Vector) -> L::Vector
     requires first { (i : ℕ) → i < L.count → L.lane a i < 2 ^ bits L.width }
     requires second { (i : ℕ) → i < L.count → L.lane b i < 2 ^ bits L.width }
@@ -102,7 +103,7 @@ pub fn signed_less<L: Lane>(a: L::Vector, b: L::Vector) -> L::Vector
     L::less(L::sums(a, top), L::sums(b, top))
 }
 
-/// The lesser of each two signed numbers.
+/// The lesser signed number of each pair of elements.
 fn signed_minima<L: Lane>(a: L::Vector, b: L::Vector) -> L::Vector
     requires first { (i : ℕ) → i < L.count → L.lane a i < 2 ^ bits L.width }
     requires second { (i : ℕ) → i < L.count → L.lane b i < 2 ^ bits L.width }
@@ -111,7 +112,7 @@ fn signed_minima<L: Lane>(a: L::Vector, b: L::Vector) -> L::Vector
     L::select(signed_less::<L>(b, a), b, a)
 }
 
-/// The greater of each two signed numbers.
+/// The greater signed number of each pair of elements.
 fn signed_maxima<L: Lane>(a: L::Vector, b: L::Vector) -> L::Vector
     requires first { (i : ℕ) → i < L.count → L.lane a i < 2 ^ bits L.width }
     requires second { (i : ℕ) → i < L.count → L.lane b i < 2 ^ bits L.width }
@@ -120,7 +121,7 @@ fn signed_maxima<L: Lane>(a: L::Vector, b: L::Vector) -> L::Vector
     L::select(signed_less::<L>(a, b), b, a)
 }
 
-/// The bits that both have.
+/// The bitwise AND of each pair of elements.
 fn and<L: Lane>(a: L::Vector, b: L::Vector) -> L::Vector
     requires first { (i : ℕ) → i < L.count → L.lane a i < 2 ^ bits L.width }
     requires second { (i : ℕ) → i < L.count → L.lane b i < 2 ^ bits L.width }
@@ -129,7 +130,7 @@ fn and<L: Lane>(a: L::Vector, b: L::Vector) -> L::Vector
     L::each_and(a, b)
 }
 
-/// The bits that either has.
+/// The bitwise OR of each pair of elements.
 fn or<L: Lane>(a: L::Vector, b: L::Vector) -> L::Vector
     requires first { (i : ℕ) → i < L.count → L.lane a i < 2 ^ bits L.width }
     requires second { (i : ℕ) → i < L.count → L.lane b i < 2 ^ bits L.width }
@@ -138,7 +139,7 @@ fn or<L: Lane>(a: L::Vector, b: L::Vector) -> L::Vector
     L::each_or(a, b)
 }
 
-/// The bits that one of them has.
+/// The bitwise XOR of each pair of elements.
 fn xor<L: Lane>(a: L::Vector, b: L::Vector) -> L::Vector
     requires first { (i : ℕ) → i < L.count → L.lane a i < 2 ^ bits L.width }
     requires second { (i : ℕ) → i < L.count → L.lane b i < 2 ^ bits L.width }
@@ -147,7 +148,7 @@ fn xor<L: Lane>(a: L::Vector, b: L::Vector) -> L::Vector
     L::each_xor(a, b)
 }
 
-/// Each shifted right, with zeros for the upper bits.
+/// Each element shifted right; the upper bits become zeros.
 fn shifted_right<L: Lane>(a: L::Vector, amounts: L::Vector) -> L::Vector
     requires { (i : ℕ) → i < L.count → L.lane a i < 2 ^ bits L.width }
     ensures { (i : ℕ) → i < L.count → L.lane result i
@@ -156,8 +157,8 @@ fn shifted_right<L: Lane>(a: L::Vector, amounts: L::Vector) -> L::Vector
     L::each_shifted_right(a, amounts)
 }
 
-/// Each shifted right, with copies of the sign for the upper bits: with the top bit turned round, and then
-/// less what that bit adds.
+/// Each element shifted right; the upper bits become copies of the sign. The function inverts the top bit, shifts
+/// the unsigned numbers, and subtracts the shifted top bit.
 fn signed_shifted_right<L: Lane>(a: L::Vector, amounts: L::Vector) -> L::Vector
     requires { (i : ℕ) → i < L.count → L.lane a i < 2 ^ bits L.width }
     ensures { (i : ℕ) → i < L.count → L.lane result i
@@ -168,7 +169,7 @@ fn signed_shifted_right<L: Lane>(a: L::Vector, amounts: L::Vector) -> L::Vector
     L::differences(turned, L::each_shifted_right(top, amounts))
 }
 
-/// Whether the results of an operation of one width are made by SIMD.
+/// Return whether `simd_results` computes an operation.
 pub fn is_simd(op: BinaryOp) -> bool
     ensures { result ≡ is_simd op }
 {
@@ -184,7 +185,7 @@ pub fn is_simd(op: BinaryOp) -> bool
     )
 }
 
-/// The results of an operation of one width that are made by SIMD.
+/// Return the results of an operation that satisfies `is_simd`. Both operands and the result have the same width.
 #[inline(always)]
 pub fn simd_results<L: Lane>(op: BinaryOp, a: L::Vector, b: L::Vector) -> L::Vector
     requires made { IsTrue (is_simd op) }
@@ -211,7 +212,8 @@ pub fn simd_results<L: Lane>(op: BinaryOp, a: L::Vector, b: L::Vector) -> L::Vec
     }
 }
 
-/// The results of an operation of one width, where they are made by SIMD.
+/// Return the results of an operation, or `None` if SIMD instructions don't compute it. Both operands and the
+/// result have the same width.
 pub fn binary<L: Lane>(op: BinaryOp, a: L::Vector, b: L::Vector) -> Option<L::Vector>
     requires first { (i : ℕ) → i < L.count → L.lane a i < 2 ^ bits L.width }
     requires second { (i : ℕ) → i < L.count → L.lane b i < 2 ^ bits L.width }
@@ -225,14 +227,14 @@ pub fn binary<L: Lane>(op: BinaryOp, a: L::Vector, b: L::Vector) -> Option<L::Ve
     }
 }
 
-/// Numbers that products are added to.
+/// The sums of `d` and the products of `a` and `b`.
 fn product_sums<L: Lane>(d: L::Vector, a: L::Vector, b: L::Vector) -> L::Vector
     ensures { (i : ℕ) → i < L.count → L.lane result i ≡ wrap L.width (pos (L.lane a i * L.lane b i + L.lane d i)) }
 {
     L::sums(L::products(a, b), d)
 }
 
-/// Numbers that products are taken from.
+/// The differences of `d` and the products of `a` and `b`.
 fn product_differences<L: Lane>(d: L::Vector, a: L::Vector, b: L::Vector) -> L::Vector
     ensures { (i : ℕ) → i < L.count → L.lane result i
         ≡ wrap L.width (pos (L.lane d i) -ℤ pos (L.lane a i * L.lane b i)) }
@@ -240,7 +242,7 @@ fn product_differences<L: Lane>(d: L::Vector, a: L::Vector, b: L::Vector) -> L::
     L::differences(d, L::products(a, b))
 }
 
-/// The results of products that a third operand is added to, or that are taken from it.
+/// The results of a multiply-add: the products are added to a third operand, or subtracted from it.
 pub(crate) fn multiply_add<L: Lane>(
     op: MultiplyAddOp,
     a: L::Vector,
@@ -258,7 +260,7 @@ pub(crate) fn multiply_add<L: Lane>(
     }
 }
 
-/// One where the bit of the word is set, and else zero.
+/// A vector whose element i is 1 if bit i of `word` is set, else 0.
 fn carries<L: Lane>(word: u64) -> L::Vector
     ensures { (i : ℕ) → i < L.count → L.lane result i ≡ from_bool (not (word / 2 ^ i % 2 == 0)) }
 {
@@ -269,7 +271,7 @@ fn carries<L: Lane>(word: u64) -> L::Vector
     )
 }
 
-/// Sums with carries.
+/// Sums with incoming carries.
 fn carry_sums<L: Lane>(a: L::Vector, b: L::Vector, word: u64) -> L::Vector
     ensures { (i : ℕ) → i < L.count → L.lane result i
         ≡ wrap L.width (carry_formula Vadc (L.lane a i) (L.lane b i) (not (word / 2 ^ i % 2 == 0))) }
@@ -277,7 +279,7 @@ fn carry_sums<L: Lane>(a: L::Vector, b: L::Vector, word: u64) -> L::Vector
     L::sums(L::sums(a, b), carries::<L>(word))
 }
 
-/// Differences with borrows.
+/// Differences with incoming borrows.
 fn borrow_differences<L: Lane>(a: L::Vector, b: L::Vector, word: u64) -> L::Vector
     ensures { (i : ℕ) → i < L.count → L.lane result i
         ≡ wrap L.width (carry_formula Vsbc (L.lane a i) (L.lane b i) (not (word / 2 ^ i % 2 == 0))) }
@@ -285,7 +287,7 @@ fn borrow_differences<L: Lane>(a: L::Vector, b: L::Vector, word: u64) -> L::Vect
     L::differences(a, L::sums(b, carries::<L>(word)))
 }
 
-/// The elements of `b` where the bit of the word is set, and else those of `a`.
+/// The elements of `b` where the bit of `word` is set, and those of `a` where it is clear.
 fn merges<L: Lane>(a: L::Vector, b: L::Vector, word: u64) -> L::Vector
     requires first { (i : ℕ) → i < L.count → L.lane a i < 2 ^ bits L.width }
     requires second { (i : ℕ) → i < L.count → L.lane b i < 2 ^ bits L.width }
@@ -295,7 +297,7 @@ fn merges<L: Lane>(a: L::Vector, b: L::Vector, word: u64) -> L::Vector
     L::select(L::choose(word), b, a)
 }
 
-/// The results of an operation that takes a bit of the word for each element.
+/// The results of an operation with v0 as an operand; bit i of `word` is the bit of v0 for element i.
 pub(crate) fn with_mask_operand<L: Lane>(
     op: CarryOp,
     a: L::Vector,
@@ -314,7 +316,7 @@ pub(crate) fn with_mask_operand<L: Lane>(
     }
 }
 
-/// A mask: an element is 0 where that of the other mask is not.
+/// The complement of a mask: an element is 0 where that of `mask` isn't, and not 0 where it is.
 fn complement<L: Lane>(mask: L::Vector) -> L::Vector
     ensures { (i : ℕ) → i < L.count → (L.lane result i == 0) ≡ not (L.lane mask i == 0) }
 {
@@ -325,14 +327,15 @@ fn complement<L: Lane>(mask: L::Vector) -> L::Vector
     )
 }
 
-/// A mask: an element is 0 where that of `a` is not at most that of `b`, as unsigned numbers.
+/// Return a mask: an element is not 0 if the element of `a` is at most that of `b`, as unsigned numbers, and else
+/// 0.
 pub fn at_most<L: Lane>(a: L::Vector, b: L::Vector) -> L::Vector
     ensures { (i : ℕ) → i < L.count → (L.lane result i == 0) ≡ not (nat_le (L.lane a i) (L.lane b i)) }
 {
     complement::<L>(L::less(b, a))
 }
 
-/// A mask: an element is 0 where that of `a` is not at most that of `b`, as signed numbers.
+/// A mask: an element is not 0 if the element of `a` is at most that of `b`, as signed numbers, and else 0.
 fn signed_at_most<L: Lane>(a: L::Vector, b: L::Vector) -> L::Vector
     requires first { (i : ℕ) → i < L.count → L.lane a i < 2 ^ bits L.width }
     requires second { (i : ℕ) → i < L.count → L.lane b i < 2 ^ bits L.width }
@@ -342,7 +345,7 @@ fn signed_at_most<L: Lane>(a: L::Vector, b: L::Vector) -> L::Vector
     complement::<L>(signed_less::<L>(b, a))
 }
 
-/// A bit for each element, set where that of `a` is at most that of `b`, as signed numbers.
+/// A bit for each element, set if the element of `a` is at most that of `b`, as signed numbers.
 #[inline(never)]
 fn signed_at_most_bits<L: Lane>(a: L::Vector, b: L::Vector) -> u64
     requires first { (i : ℕ) → i < L.count → L.lane a i < 2 ^ bits L.width }
@@ -354,8 +357,8 @@ fn signed_at_most_bits<L: Lane>(a: L::Vector, b: L::Vector) -> u64
     L::to_bits(signed_at_most::<L>(a, b))
 }
 
-/// The results of a comparison, a bit for each element. One arm is a call, so that the compiler joins the arms in a
-/// number, and not in a vector of bits that it would take apart.
+/// The results of a comparison, one bit for each element. One match arm calls a function, so that the compiler
+/// joins the arms in an integer rather than in a vector of bits that it would have to split.
 pub(crate) fn compare<L: Lane>(op: CompareOp, a: L::Vector, b: L::Vector) -> u64
     requires first { (i : ℕ) → i < L.count → L.lane a i < 2 ^ bits L.width }
     requires second { (i : ℕ) → i < L.count → L.lane b i < 2 ^ bits L.width }

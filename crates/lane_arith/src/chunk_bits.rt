@@ -1,5 +1,4 @@
-//! The elements of a chunk of 32 bytes that count, as the bits of a word ("V" Vector Extension 1.0, sections
-//! 5.3 and 5.4).
+//! Bit masks for the elements of a chunk of 32 bytes ("V" Vector Extension 1.0, sections 5.3 and 5.4).
 ghost use Rattle.std.specs.Prelude.{◌≡◌, ◌+◌, ◌-◌, ◌/◌, ◌%◌, ◌^◌, ◌<◌, ◌≤◌, ◌==◌, ◌&&◌, ℕ, nat_le, not};
 ghost use Rattle.rv_model.specs.elements.Elements.{in_body, in_range, is_active, is_enabled, mask_bit};
 
@@ -7,7 +6,7 @@ use crate::body::Body;
 use crate::lane::Lane;
 use rv_model::{GROUP_BYTES, VLENB};
 
-/// Whether all of `count` indices from `first` on are from `start` on and below `end`.
+/// Whether all of the `count` indices starting at `first` are at least `start` and below `end`.
 #[inline(always)]
 fn is_within(start: usize, end: usize, first: usize, count: usize) -> bool
     ensures { result ≡ (nat_le start first && nat_le count (end - first)) }
@@ -15,7 +14,7 @@ fn is_within(start: usize, end: usize, first: usize, count: usize) -> bool
     start <= first && count <= end.saturating_sub(first)
 }
 
-/// `range_bits`, where not all of the bits are set.
+/// `range_bits`, if at least one of the bits is clear.
 #[inline(never)]
 fn part_bits(start: usize, end: usize, first: usize, count: usize) -> u64
     requires { count ≤ 32 }
@@ -26,7 +25,7 @@ fn part_bits(start: usize, end: usize, first: usize, count: usize) -> u64
     (1 << high) - (1 << low)
 }
 
-/// A bit for each of `count` indices from `first` on, set from `start` up to `end`.
+/// A bit for each of the `count` indices starting at `first`, set if the index is at least `start` and below `end`.
 #[inline(always)]
 fn range_bits(start: usize, end: usize, first: usize, count: usize) -> u64
     requires { count ≤ 32 }
@@ -39,7 +38,8 @@ fn range_bits(start: usize, end: usize, first: usize, count: usize) -> u64
     }
 }
 
-/// The bits of a mask for `count` elements from `first` on.
+/// Return the bits of a mask for the `count` elements starting at `first`, the first element in bit 0. Bits above
+/// these are unspecified.
 #[inline(always)]
 pub fn mask_bits(mask: &[u8; VLENB], first: usize, count: usize) -> u64
     requires word { first % 32 + count ≤ 32 }
@@ -50,7 +50,8 @@ pub fn mask_bits(mask: &[u8; VLENB], first: usize, count: usize) -> u64
     u64::from(u32::load(mask, first / 32)) >> (first % 32)
 }
 
-/// A bit for each of `count` elements from `first` on, set where the mask is enabled at it.
+/// Return a bit for each of the `count` elements starting at `first`, set if the mask enables the element. Bits
+/// above these are unspecified.
 #[inline(always)]
 pub fn enabled_bits(body: &Body<'_>, first: usize, count: usize) -> u64
     requires word { first % 32 + count ≤ 32 }
@@ -65,8 +66,9 @@ pub fn enabled_bits(body: &Body<'_>, first: usize, count: usize) -> u64
     }
 }
 
-/// A bit for each of `count` elements from `first` on, the lowest for the first, set where it is active. They lie
-/// in one of the mask's words of 32 bits.
+/// Return a bit for each of the `count` elements starting at `first`, the first element in bit 0, set if the
+/// element is active. A single 32-bit word of v0 must contain the mask bits of these elements. Bits above these are
+/// unspecified.
 #[inline(always)]
 pub fn active_bits(body: &Body<'_>, first: usize, count: usize) -> u64
     requires word { first % 32 + count ≤ 32 }
@@ -77,8 +79,8 @@ pub fn active_bits(body: &Body<'_>, first: usize, count: usize) -> u64
     range_bits(body.start(), body.end(), first, count) & enabled_bits(body, first, count)
 }
 
-/// A bit for each of `count` elements from `first` on, the lowest for the first, set in the body where
-/// `fill_masked_off`.
+/// Return a bit for each of the `count` elements starting at `first`, the first element in bit 0, set if
+/// `fill_masked_off` and the element is in the body. Bits above these are unspecified.
 #[inline(always)]
 pub fn filled_bits(body: &Body<'_>, fill_masked_off: bool, first: usize, count: usize) -> u64
     requires { count ≤ 32 }

@@ -1,4 +1,5 @@
-//! Comparisons, and carries and borrows as masks ("V" Vector Extension 1.0, sections 11.4 and 11.8).
+//! Comparisons, and operations that write carries or borrows to a mask ("V" Vector Extension 1.0, sections 11.4 and
+//! 11.8).
 ghost use Rattle.std.specs.Prelude.{◌≡◌, ◌<◌, ◌&&◌, not, ℕ};
 ghost use Rattle.rv_model.specs.declared.vector.sizes.TheConstants.{GROUP_BYTES};
 ghost use Rattle.lane_arith.specs.SecondElements.{HasNumber, number_at};
@@ -16,7 +17,7 @@ use crate::second_elements::SecondElements;
 use rv_model::VLENB;
 use rv_model::instructions::operations::{CarryOutOp, CompareOp};
 
-/// A comparison of the elements of `a`, those of vs2, with those of `b`, those of the second operand.
+/// A comparison of `a`, the elements of vs2, with `b`, the elements of the second operand.
 #[derive(Clone, Copy)]
 pub struct Compare<'a> {
     pub op: CompareOp,
@@ -24,7 +25,7 @@ pub struct Compare<'a> {
     pub b: SecondElements<'a>,
 }
 
-/// Whether two elements compare so.
+/// Whether the comparison of two elements is true.
 fn holds<L: Lane>(op: CompareOp, a: L, b: L) -> bool
     ensures { result ≡ compare_formula op L.width (L.value a) (L.value b) }
 {
@@ -57,8 +58,8 @@ impl<'a, L: Lane> MaskResults<L> for Compare<'a> {
     }
 }
 
-/// The carries of sums, or the borrows of differences, of the elements of `a`, those of vs2, and of `b`,
-/// those of the second operand; a bit of v0 comes in for each unless `alone`.
+/// The carries of sums, or the borrows of differences, of `a`, the elements of vs2, and `b`, the elements of the
+/// second operand. Unless `alone`, the bits of v0 are the incoming carries or borrows.
 #[derive(Clone, Copy)]
 pub struct CarryOut<'a> {
     pub op: CarryOutOp,
@@ -68,7 +69,7 @@ pub struct CarryOut<'a> {
     pub alone: bool,
 }
 
-/// Whether two elements carry or borrow, where `c` comes in.
+/// Whether two elements produce a carry or borrow; `c` is the incoming carry or borrow.
 fn carries<L: Lane>(op: CarryOutOp, a: L, b: L, c: bool) -> bool
     ensures { result ≡ carry_out_formula op L.width (L.value a) (L.value b) c }
 {

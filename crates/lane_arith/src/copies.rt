@@ -1,4 +1,4 @@
-//! Copies of elements ("V" Vector Extension 1.0, section 11.16).
+//! Moves of elements ("V" Vector Extension 1.0, section 11.16).
 ghost use Rattle.std.specs.Prelude.{◌≡◌, ℕ};
 ghost use Rattle.rv_model.specs.elements.Elements.{element};
 ghost use Rattle.rv_model.specs.lending.Writes.{HasElement};
@@ -7,7 +7,7 @@ ghost use Rattle.rv_model.specs.vector.Groups.{width_bytes};
 use crate::lane::Lane;
 use crate::results::Results;
 
-/// The elements of `b`, those of the one operand.
+/// Copies of `b`, the elements of the only operand.
 #[derive(Clone, Copy)]
 pub struct Copies<'a> {
     pub b: &'a [u8],

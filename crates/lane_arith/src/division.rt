@@ -1,4 +1,4 @@
-//! Quotients and remainders of elements ("V" Vector Extension 1.0, section 11.11): no division traps.
+//! Quotients and remainders of elements ("V" Vector Extension 1.0, section 11.11). No division traps.
 ghost use Rattle.std.specs.Prelude.{◌≡◌, ◌%◌, ◌^◌, ◌<◌, int_div, int_rem, pos, if◌then◌else◌};
 ghost use Rattle.std.proofs.Common.{neg_ℤ};
 ghost use Rattle.std.specs.Int.{cast_signed, cast_unsigned};
@@ -9,7 +9,7 @@ ghost use mir.Val.{bits};
 
 use crate::lane::Lane;
 
-/// The unsigned quotient; all ones for a divisor of zero.
+/// The unsigned quotient; all ones if the divisor is zero.
 pub(crate) fn quotient<L: Lane>(a: L, b: L) -> L
     ensures { L.value result ≡ wrap L.width (formula Vdivu L.width (L.value a) (L.value b)) }
 {
@@ -19,7 +19,7 @@ pub(crate) fn quotient<L: Lane>(a: L, b: L) -> L
     }
 }
 
-/// The unsigned remainder; the dividend for a divisor of zero.
+/// The unsigned remainder; the dividend if the divisor is zero.
 pub(crate) fn remainder<L: Lane>(a: L, b: L) -> L
     ensures { L.value result ≡ wrap L.width (formula Vremu L.width (L.value a) (L.value b)) }
 {
@@ -29,14 +29,14 @@ pub(crate) fn remainder<L: Lane>(a: L, b: L) -> L
     }
 }
 
-/// Whether the least number is divided by -1.
+/// Whether a signed division overflows: the least number is divided by -1.
 fn overflows<L: Lane>(a: L, b: L) -> bool
     ensures { result ≡ overflows L.width (L.value a) (L.value b) }
 {
     a.number() == 1 << (L::bits() - 1) && b.number() == L::all_ones().number()
 }
 
-/// A number by its sign and its magnitude, modulo 2 to the width.
+/// The number with this sign and magnitude, modulo 2 to the width.
 fn with_sign<L: Lane>(negative: bool, magnitude: u64) -> L
     ensures { L.value result ≡ wrap L.width (if negative then neg_ℤ (pos magnitude) else pos magnitude) }
 {
@@ -47,8 +47,8 @@ fn with_sign<L: Lane>(negative: bool, magnitude: u64) -> L
     })
 }
 
-/// The signed quotient by a number that isn't zero, where it fits. It is made of magnitudes, since an unsigned division
-/// needs no more bits than its operands have.
+/// The signed quotient if the divisor isn't zero, modulo 2 to the width. The function divides magnitudes, since an
+/// unsigned division needs no more bits than its operands have.
 fn divided<L: Lane>(a: L, b: L) -> L
     requires { 0 < L.value b }
     ensures { L.value result
@@ -60,7 +60,7 @@ fn divided<L: Lane>(a: L, b: L) -> L
     with_sign((dividend < 0) != (divisor < 0), magnitude)
 }
 
-/// The signed quotient; all ones for a divisor of zero, and the dividend at an overflow.
+/// The signed quotient; all ones if the divisor is zero, and the dividend at an overflow.
 pub(crate) fn signed_quotient<L: Lane>(a: L, b: L) -> L
     ensures { L.value result ≡ wrap L.width (formula Vdiv L.width (L.value a) (L.value b)) }
 {
@@ -73,7 +73,7 @@ pub(crate) fn signed_quotient<L: Lane>(a: L, b: L) -> L
     }
 }
 
-/// The remainder of a signed division by a number that isn't zero.
+/// The remainder of a signed division if the divisor isn't zero.
 fn left_over<L: Lane>(a: L, b: L) -> L
     requires { 0 < L.value b }
     ensures { L.value result
@@ -85,7 +85,7 @@ fn left_over<L: Lane>(a: L, b: L) -> L
     with_sign(dividend < 0, magnitude)
 }
 
-/// The signed remainder; the dividend for a divisor of zero, and zero at an overflow.
+/// The signed remainder; the dividend if the divisor is zero, and zero at an overflow.
 pub(crate) fn signed_remainder<L: Lane>(a: L, b: L) -> L
     ensures { L.value result ≡ wrap L.width (formula Vrem L.width (L.value a) (L.value b)) }
 {

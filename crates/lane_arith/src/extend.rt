@@ -1,4 +1,4 @@
-//! Extensions of narrower elements ("V" Vector Extension 1.0, section 11.3).
+//! Zero extension and sign extension of narrower elements ("V" Vector Extension 1.0, section 11.3).
 ghost use Rattle.std.specs.Prelude.{◌≡◌, ℕ};
 ghost use Rattle.rv_model.specs.elements.Elements.{element};
 ghost use Rattle.rv_model.specs.lending.Writes.{HasElement};
@@ -10,7 +10,7 @@ use crate::results::Results;
 use rv_model::instructions::operations::ExtendOp;
 use std::marker::PhantomData;
 
-/// Extensions of the elements of `a`, those of vs2, of the width of `N`.
+/// Extensions of `a`, the elements of vs2, which have the width of `N`.
 #[derive(Clone, Copy)]
 pub struct Extend<'a, N> {
     pub op: ExtendOp,

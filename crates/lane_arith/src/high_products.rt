@@ -1,4 +1,4 @@
-//! The upper halves of products of elements ("V" Vector Extension 1.0, section 11.10).
+//! Upper halves of products of elements ("V" Vector Extension 1.0, section 11.10).
 ghost use Rattle.std.specs.Prelude.{◌≡◌};
 ghost use Rattle.rv_model.specs.declared.instructions.operations.BinaryOp.TheVariants.{Vmulh, Vmulhsu, Vmulhu};
 ghost use Rattle.rv_model.specs.elements.Formulas.{formula, wrap};
@@ -7,7 +7,7 @@ use crate::lane::Lane;
 use crate::whole_number::wrapped;
 use scalar_core::{full_mixed, full_signed};
 
-/// Of two unsigned numbers.
+/// The upper half of the product of two unsigned numbers.
 pub(crate) fn high_product<L: Lane>(a: L, b: L) -> L
     ensures { L.value result ≡ wrap L.width (formula Vmulhu L.width (L.value a) (L.value b)) }
 {
@@ -15,7 +15,7 @@ pub(crate) fn high_product<L: Lane>(a: L, b: L) -> L
     L::low_bits((product >> L::bits()) as u64)
 }
 
-/// Of two signed numbers.
+/// The upper half of the product of two signed numbers.
 pub(crate) fn signed_high_product<L: Lane>(a: L, b: L) -> L
     ensures { L.value result ≡ wrap L.width (formula Vmulh L.width (L.value a) (L.value b)) }
 {
@@ -23,7 +23,7 @@ pub(crate) fn signed_high_product<L: Lane>(a: L, b: L) -> L
     wrapped(product >> L::bits())
 }
 
-/// Of a signed and an unsigned number.
+/// The upper half of the product of a signed and an unsigned number.
 pub(crate) fn mixed_high_product<L: Lane>(a: L, b: L) -> L
     ensures { L.value result ≡ wrap L.width (formula Vmulhsu L.width (L.value a) (L.value b)) }
 {

@@ -1,4 +1,4 @@
-//! Elements of 8, 16, 32 and 64 bits, one by one, and as SIMD vectors of 32 bytes.
+//! Elements of 8, 16, 32 and 64 bits, as single elements and as SIMD vectors of 32 bytes.
 ghost use Rattle.std.specs.Prelude.{◌≡◌, ◌+◌, ◌*◌, ◌/◌, ◌%◌, ◌^◌, ◌<◌, ◌≤◌, ◌==◌, ℕ, bit_and, bit_or, bit_xor, length};
 ghost use Rattle.std.specs.Prelude.{nat_lt, not, slice_index, if◌then◌else◌};
 ghost use Rattle.std.specs.Int.{Width, byte_at, bytes_low_first, cast_signed, w8, w16, w32, w64};
@@ -14,135 +14,137 @@ ghost use mir.Val.{bits};
 use byteorder::{ByteOrder, LittleEndian};
 use std::simd::prelude::*;
 
-/// An element of a vector register, of one width.
+/// An element of a vector register, of one of the four widths.
 pub trait Lane: Copy + Drop {
     // The width in bits.
     ghost width: { Width };
 
-    // The unsigned number.
+    // The element as an unsigned number.
     ghost value: { Self → ℕ };
 
     /// The elements of 32 bytes, as a SIMD vector.
     type Vector: Copy + Drop;
 
-    // How many there are.
+    // The number of elements in 32 bytes.
     ghost count: { ℕ };
 
-    // The unsigned number of one of them.
+    // The element at an index of a SIMD vector, as an unsigned number.
     ghost lane: { Self.Vector → ℕ → ℕ };
 
-    /// The element at an index of a list of bytes.
+    /// Load the element at an index of a list of bytes, in little-endian order.
     fn load(bytes: &[u8], index: usize) -> Self
         requires { width_bytes width * index + width_bytes width ≤ length bytes.now }
         ensures { value result ≡ element (width_bytes width) bytes.now index };
 
-    /// Writes the element at an index of a list of bytes.
+    /// Store the element at an index of a list of bytes, in little-endian order.
     fn store(self, bytes: &mut [u8], index: usize)
         requires { width_bytes width * index + width_bytes width ≤ length bytes.old }
         ensures { bytes.new ≡ put_chunk (width_bytes width * index) bytes.old
             (bytes_low_first 0 (width_bytes width) (value self)) };
 
-    /// The unsigned number, below 2 to the width.
+    /// Return the element as an unsigned number, below 2 to the width.
     fn number(self) -> u64
         ensures value { result ≡ value self }
         ensures bound { value self < 2 ^ bits width };
 
-    /// The signed number, in two's complement.
+    /// Return the element as a signed number, in two's complement.
     fn signed_number(self) -> i64
         ensures value { result ≡ cast_signed width (value self) }
         ensures bound { value self < 2 ^ bits width };
 
-    /// The low bits of a number.
+    /// Return the element that consists of the low bits of a number.
     fn low_bits(number: u64) -> Self
         ensures { value result ≡ number % 2 ^ bits width };
 
-    /// All bits set.
+    /// Return the element with all bits set.
     fn all_ones() -> Self
         ensures { value result ≡ ones width };
 
-    /// How many bits it has.
+    /// Return the width in bits: 8, 16, 32 or 64.
     fn bits() -> u32
         ensures { result ≡ bits width };
 
-    /// How many elements 32 bytes have.
+    /// Return the number of elements in 32 bytes: 32, 16, 8 or 4.
     fn count() -> usize
         ensures { result ≡ count };
 
-    /// The elements of 32 bytes.
+    /// Convert 32 bytes to a vector of elements, in little-endian order.
     fn from_bytes(bytes: u8x32) -> Self::Vector
         ensures value { (i : ℕ) → i < count → lane result i ≡ element (width_bytes width) bytes i }
         ensures bound { (i : ℕ) → i < count → lane result i < 2 ^ bits width };
 
-    /// Their bytes.
+    /// Convert a vector of elements to 32 bytes, in little-endian order.
     fn to_bytes(elements: Self::Vector) -> u8x32
         ensures { (i m : ℕ) → i < count → m < width_bytes width →
             slice_index result (width_bytes width * i + m) ≡ byte_at m (lane elements i) };
 
-    /// One number in each element.
+    /// Return a vector with the same number in each element.
     fn repeated(number: Self) -> Self::Vector
         ensures { (i : ℕ) → i < count → lane result i ≡ value number };
 
-    /// A mask: an element is 0 where its bit of the word is not set.
+    /// Return a mask: element i is 0 if bit i of `word` is clear, and not 0 if it is set.
     fn choose(word: u64) -> Self::Vector
         ensures { (i : ℕ) → i < count → (lane result i == 0) ≡ (word / 2 ^ i % 2 == 0) };
 
-    /// The elements of `chosen` where the mask is not 0, and else those of `others`.
+    /// Return the elements of `chosen` where the element of `mask` isn't 0, and those of `others` where it is.
     fn select(mask: Self::Vector, chosen: Self::Vector, others: Self::Vector) -> Self::Vector
         ensures { (i : ℕ) → i < count → lane result i ≡ (if lane mask i == 0 then lane others i else lane chosen i) };
 
-    /// A mask: an element is 0 where that of `a` is not less than that of `b`, as unsigned numbers.
+    /// Return a mask: an element is not 0 if the element of `a` is less than that of `b`, as unsigned numbers, and
+    /// else 0.
     fn less(a: Self::Vector, b: Self::Vector) -> Self::Vector
         ensures { (i : ℕ) → i < count → (lane result i == 0) ≡ not (nat_lt (lane a i) (lane b i)) };
 
-    /// A mask: an element is 0 where those of `a` and `b` differ.
+    /// Return a mask: an element is not 0 if the elements of `a` and `b` are equal, and else 0.
     fn equal(a: Self::Vector, b: Self::Vector) -> Self::Vector
         ensures { (i : ℕ) → i < count → (lane result i == 0) ≡ not (lane a i == lane b i) };
 
-    /// A bit for each element of a mask, set where that is not 0.
+    /// Return a bit for each element of a mask, the first element in bit 0, set if the element isn't 0.
     fn to_bits(mask: Self::Vector) -> u64
         ensures value { (i : ℕ) → i < count → (result / 2 ^ i % 2 == 0) ≡ (lane mask i == 0) }
         ensures bound { result < 2 ^ count };
 
-    /// The sums, modulo 2 to the width.
+    /// Return the sum of each pair of elements, modulo 2 to the width.
     fn sums(a: Self::Vector, b: Self::Vector) -> Self::Vector
         ensures { (i : ℕ) → i < count → lane result i ≡ wrap width (formula Vadd width (lane a i) (lane b i)) };
 
-    /// The differences, modulo 2 to the width.
+    /// Return the difference of each pair of elements, modulo 2 to the width.
     fn differences(a: Self::Vector, b: Self::Vector) -> Self::Vector
         ensures { (i : ℕ) → i < count → lane result i ≡ wrap width (formula Vsub width (lane a i) (lane b i)) };
 
-    /// The products, modulo 2 to the width.
+    /// Return the product of each pair of elements, modulo 2 to the width.
     fn products(a: Self::Vector, b: Self::Vector) -> Self::Vector
         ensures { (i : ℕ) → i < count → lane result i ≡ wrap width (formula Vmul width (lane a i) (lane b i)) };
 
-    /// The bits that both have.
+    /// Return the bitwise AND of each pair of elements.
     fn each_and(a: Self::Vector, b: Self::Vector) -> Self::Vector
         ensures { (i : ℕ) → i < count → lane result i ≡ bit_and (lane a i) (lane b i) };
 
-    /// The bits that either has.
+    /// Return the bitwise OR of each pair of elements.
     fn each_or(a: Self::Vector, b: Self::Vector) -> Self::Vector
         ensures { (i : ℕ) → i < count → lane result i ≡ bit_or (lane a i) (lane b i) };
 
-    /// The bits that one of them has.
+    /// Return the bitwise XOR of each pair of elements.
     fn each_xor(a: Self::Vector, b: Self::Vector) -> Self::Vector
         ensures { (i : ℕ) → i < count → lane result i ≡ bit_xor (lane a i) (lane b i) };
 
-    /// Each shifted left, by the low bits of the amount.
+    /// Return each element of `a` shifted left by the low bits of its amount.
     fn each_shifted_left(a: Self::Vector, amounts: Self::Vector) -> Self::Vector
         ensures { (i : ℕ) → i < count → lane result i ≡ wrap width (formula Vsll width (lane a i) (lane amounts i)) };
 
-    /// Each shifted right, by the low bits of the amount, with zeros for the upper bits.
+    /// Return each element of `a` shifted right by the low bits of its amount; the upper bits become zeros.
     fn each_shifted_right(a: Self::Vector, amounts: Self::Vector) -> Self::Vector
         ensures { (i : ℕ) → i < count → lane result i ≡ lane a i / 2 ^ (lane amounts i % bits width) };
 
-    // At most 64 bits.
+    // The width is at most 64 bits.
     ghost fits_64: { bits width ≤ 64 };
 
     // The elements fill the 32 bytes.
     ghost fills: { width_bytes width * count ≡ 32 };
 }
 
-// The bit of a mask that tells of each of 32 elements in its byte, and that byte's place.
+// For each of 32 elements of 8 bits, its bit within a byte of a 32-bit mask; `PLACE_OF_BYTE` has the index of that
+// byte.
 const BIT_OF_BYTE: [u8; 32] = [
     1, 2, 4, 8, 16, 32, 64, 128, 1, 2, 4, 8, 16, 32, 64, 128, 1, 2, 4, 8, 16, 32, 64, 128, 1, 2, 4,
     8, 16, 32, 64, 128,
@@ -152,7 +154,8 @@ const PLACE_OF_BYTE: [usize; 32] = [
     0, 0, 0, 0, 0, 0, 0, 0, 1, 1, 1, 1, 1, 1, 1, 1, 2, 2, 2, 2, 2, 2, 2, 2, 3, 3, 3, 3, 3, 3, 3, 3,
 ];
 
-// The bit that tells of each of 16, 8 and 4 elements.
+// For each of 16 elements of 16 bits, its bit of a mask; the next tables have the bits for 8 elements of 32 bits
+// and 4 elements of 64 bits.
 const BIT_OF_HALF: [u16; 16] = [
     1, 2, 4, 8, 16, 32, 64, 128, 256, 512, 1024, 2048, 4096, 8192, 16384, 32768,
 ];

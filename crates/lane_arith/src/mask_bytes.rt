@@ -1,4 +1,4 @@
-//! The active elements of a body as a mask register: 32 bytes with a bit for each of 256 elements ("V" Vector
+//! The active elements of a body as a mask register of 32 bytes, with one bit for each of 256 elements ("V" Vector
 //! Extension 1.0, sections 4.5 and 5.3).
 ghost use Rattle.std.specs.Prelude.{◌≡◌, ◌<◌, ◌≤◌, ℕ, nat_lt};
 ghost use Rattle.rv_model.specs.elements.Elements.{in_range, is_active, mask_bit};
@@ -8,13 +8,13 @@ use crate::chunk::{and_bytes, and_not_bytes};
 use rv_model::GROUP_BYTES;
 use std::simd::prelude::*;
 
-// The place of each byte.
+// The index of each byte.
 const PLACES: [u8; 32] = [
     0, 1, 2, 3, 4, 5, 6, 7, 8, 9, 10, 11, 12, 13, 14, 15, 16, 17, 18, 19, 20, 21, 22, 23, 24, 25,
     26, 27, 28, 29, 30, 31,
 ];
 
-/// A bit for each element, set below `end`.
+/// A mask whose bit is set for each element below `end`.
 #[inline(always)]
 fn low_bytes(end: usize) -> u8x32
     requires { end ≤ GROUP_BYTES }
@@ -27,7 +27,7 @@ fn low_bytes(end: usize) -> u8x32
     places.simd_lt(whole).select(u8x32::splat(u8::MAX), rest)
 }
 
-/// A bit for each element, set from `start` up to `end`.
+/// A mask whose bit is set for each element from `start` up to `end`, excluding `end`.
 #[inline(always)]
 fn range_bytes(start: usize, end: usize) -> u8x32
     requires { end ≤ GROUP_BYTES }
@@ -40,7 +40,7 @@ fn range_bytes(start: usize, end: usize) -> u8x32
     and_not_bytes(low, low_bytes(start.min(end)))
 }
 
-/// A bit for each element, set where it is active.
+/// Return a mask whose bit is set for each active element.
 #[inline(always)]
 pub fn active_bytes(body: &Body<'_>) -> u8x32
     ensures { (i : ℕ) → i < GROUP_BYTES → mask_bit result i ≡ is_active body.now i }

@@ -14,8 +14,7 @@ use crate::results::Results;
 use rv_model::instructions::operations::CarryOp;
 use rv_model::{GROUP_BYTES, VLENB};
 
-/// An operation on the elements of `a`, those of vs2, of `b`, those of the second operand, and on the
-/// bits of v0.
+/// An operation on `a`, the elements of vs2, `b`, the elements of the second operand, and the bits of v0.
 #[derive(Clone, Copy)]
 pub struct WithMaskOperand<'a> {
     pub op: CarryOp,
@@ -24,7 +23,7 @@ pub struct WithMaskOperand<'a> {
     pub v0: &'a [u8; VLENB],
 }
 
-/// A bit of a mask.
+/// Return the bit of a mask at an index.
 pub fn bit_of(mask: &[u8; VLENB], index: usize) -> bool
     requires { index < GROUP_BYTES }
     ensures { result ≡ mask_bit mask.now index }

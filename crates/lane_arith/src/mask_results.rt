@@ -1,5 +1,4 @@
-//! The results of instructions whose destination is a mask, written to its bits ("V" Vector Extension
-//! 1.0, sections 4.5, 5.3 and 5.4).
+//! Writing of results to a destination that is a mask ("V" Vector Extension 1.0, sections 4.5, 5.3 and 5.4).
 ghost use Rattle.std.specs.Prelude.{◌≡◌, ◌+◌, ◌*◌, ◌/◌, ◌%◌, ◌^◌, ◌<◌, ◌≤◌, ◌==◌, ℕ, Bool, IfSome, length, nat_lt, not};
 ghost use Rattle.std.specs.Prelude.{slice_index, true, false, if◌then◌else◌};
 ghost use Rattle.std.specs.Int.{from_bool};
@@ -14,20 +13,21 @@ use crate::mask_bytes::active_bytes;
 use rv_model::{GROUP_BYTES, VLENB};
 use std::simd::prelude::*;
 
-/// What an instruction gives to the bits of its destination, from elements of a width.
+/// The results of an instruction on elements of width `L` for the bits of its destination.
 pub trait MaskResults<L: Lane> {
-    // The bit at an index.
+    // The result for the bit at an index.
     ghost bit: { Self → ℕ → Bool };
 
     // The operands have an element at this index.
     ghost has: { Self → ℕ → Type 0 };
 
-    /// The result for the bit at an index.
+    /// Return the result for the bit at an index.
     fn bit(&self, index: usize) -> bool
         requires { has self.now index }
         ensures { result ≡ bit self.now index };
 
-    /// The results for the elements of a chunk of 32 bytes, a bit for each, where they are made by SIMD.
+    /// Return the results for the elements of a chunk of 32 bytes, one bit for each with the first element in bit
+    /// 0, or `None` if SIMD instructions don't compute them.
     fn chunk_bits(&self, _chunk: usize) -> Option<u64>
         requires { L.count * _chunk + L.count ≤ GROUP_BYTES }
         ensures value { IfSome result (λ word. (i : ℕ) → i < L.count → (word / 2 ^ i % 2 == 0)
@@ -37,7 +37,8 @@ pub trait MaskResults<L: Lane> {
         None
     }
 
-    /// `write_mask_results` to a whole register, where the results are made by SIMD. Answers whether they are.
+    /// `write_mask_results` to a whole register, if SIMD instructions compute the results. Return whether the
+    /// results are written.
     fn write_register(&self, _body: &Body<'_>, _destination: &mut [u8]) -> bool
         ensures done { result ≡ true → WritesBits (is_active _body.now) (bit self.now)
             _destination.old _destination.new }
@@ -47,7 +48,7 @@ pub trait MaskResults<L: Lane> {
     }
 }
 
-/// The result, if the bit is active, else the bit as it is.
+/// The result if the bit at an index is active, else the old bit.
 fn bit_or<L: Lane, R: MaskResults<L>>(
     results: &R,
     body: &Body<'_>,
@@ -65,7 +66,7 @@ fn bit_or<L: Lane, R: MaskResults<L>>(
     }
 }
 
-/// 1 for a bit that is set.
+/// 1 if the bit is set, else 0.
 fn one_if(bit: bool) -> u8
     ensures value { result ≡ from_bool bit }
     ensures most { result ≤ 1 }
@@ -73,7 +74,7 @@ fn one_if(bit: bool) -> u8
     u8::from(bit)
 }
 
-/// A byte with its active bits replaced by results.
+/// The byte at an index of a mask, with its active bits replaced by results.
 fn byte_with_bits<L: Lane, R: MaskResults<L>>(
     results: &R,
     body: &Body<'_>,
@@ -96,13 +97,14 @@ fn byte_with_bits<L: Lane, R: MaskResults<L>>(
         + 128 * one_if(bit_or(results, body, bytes, first + 7))
 }
 
-/// A byte past the body is already the one with its active bits replaced, since it has none.
+/// Replacing the active bits of a byte past the body doesn't change the byte, since it has none.
 fn bytes_past_the_body<L: Lane, R: MaskResults<L>>(_results: &R, _body: &Body<'_>, _bytes: &[u8])
     ensures { (q : ℕ) → _body.now.end ≤ 8 * q → slice_index _bytes.now q
         ≡ byte_with_bits (is_active _body.now) (R.bit _results.now) _bytes.now q }
 {}
 
-/// The results for the 32 bits of a word of the destination, those before `end`, where their chunks are made by SIMD.
+/// The results for the bits before `end` of the destination's 32-bit word with index `word`, or `None` if SIMD
+/// instructions don't compute its chunks.
 fn word_results<L: Lane, R: MaskResults<L>>(results: &R, word: usize, end: usize) -> Option<u64>
     requires { 32 * word + 32 ≤ GROUP_BYTES }
     ensures { IfSome result (λ bits. (i : ℕ) → i < 32 → 32 * word + i < end
@@ -124,7 +126,7 @@ fn word_results<L: Lane, R: MaskResults<L>>(results: &R, word: usize, end: usize
     Some(bits)
 }
 
-/// A word of a mask.
+/// The word with index `word` of a mask, as 32-bit words.
 fn word_of(mask: &[u8], word: usize) -> u32
     requires { 4 * word + 4 ≤ length mask.now }
     ensures { (i : ℕ) → i < 32 → (result / 2 ^ i % 2 == 1) ≡ mask_bit mask.now (32 * word + i) }
@@ -132,7 +134,7 @@ fn word_of(mask: &[u8], word: usize) -> u32
     u32::load(mask, word)
 }
 
-/// A word with its active bits replaced.
+/// A 32-bit word `old` with its active bits replaced by bits of `new`.
 fn replaced(old: u32, new: u64, active: u64) -> u32
     ensures { (i : ℕ) → i < 32 → (result / 2 ^ i % 2 == 1)
         ≡ (if active / 2 ^ i % 2 == 0 then old / 2 ^ i % 2 == 1 else not (new / 2 ^ i % 2 == 0)) }
@@ -141,8 +143,8 @@ fn replaced(old: u32, new: u64, active: u64) -> u32
     ((old ^ ((old ^ new) & active)) % (1 << 32)) as u32
 }
 
-/// Writes the results to the active bits of the destination, four bytes at a time, up to the first chunk whose
-/// results aren't made by SIMD. Answers how many bytes are done.
+/// Write the results to the active bits of the destination, four bytes at a time, up to the first chunk whose
+/// results SIMD instructions don't compute. Return the number of processed bytes.
 fn write_words<L: Lane, R: MaskResults<L>>(
     results: &R,
     body: &Body<'_>,
@@ -166,8 +168,8 @@ fn write_words<L: Lane, R: MaskResults<L>>(
     4 * words
 }
 
-/// Writes bits, made by SIMD, to the active ones of the destination, where that is a whole register. Answers
-/// whether it is.
+/// Write 256 bits of results to the active bits of the destination, if it is a whole register. Return whether it
+/// is.
 pub fn put_bits(results: u8x32, body: &Body<'_>, destination: &mut [u8]) -> bool
     ensures answer { result ≡ (length destination.old == VLENB) }
     ensures done { result ≡ true → WritesBits (is_active body.now) (mask_bit results) destination.old destination.new }
@@ -181,8 +183,8 @@ pub fn put_bits(results: u8x32, body: &Body<'_>, destination: &mut [u8]) -> bool
     true
 }
 
-/// `write_mask_results`, word by word as far as their results are made by SIMD, and then byte by byte, up to the last
-/// with a bit of the body.
+/// `write_mask_results`, first in 32-bit words whose results SIMD instructions compute, and then one byte at a time
+/// up to the last byte with a bit of the body.
 fn write_in_turn<L: Lane, R: MaskResults<L>>(results: &R, body: &Body<'_>, destination: &mut [u8])
     requires operands { (i : ℕ) → i < body.now.end → R.has results.now i }
     requires most { length destination.old ≤ GROUP_BYTES }
@@ -196,7 +198,7 @@ fn write_in_turn<L: Lane, R: MaskResults<L>>(results: &R, body: &Body<'_>, desti
     }
 }
 
-/// Writes the result to each active bit of the destination; all others keep.
+/// Write the result to each active bit of the destination. All other bits are unchanged.
 pub fn write_mask_results<L: Lane, R: MaskResults<L>>(
     results: &R,
     body: &Body<'_>,

@@ -1,4 +1,4 @@
-//! Products that a third operand is added to ("V" Vector Extension 1.0, section 11.13).
+//! Products that are added to a third operand, or subtracted from it ("V" Vector Extension 1.0, section 11.13).
 ghost use Rattle.std.specs.Prelude.{◌≡◌, ℕ};
 ghost use Rattle.rv_model.specs.elements.Elements.{element};
 ghost use Rattle.rv_model.specs.lending.Writes.{HasElement};
@@ -11,8 +11,8 @@ use crate::operand::operand_chunk;
 use crate::results::Results;
 use rv_model::instructions::operations::MultiplyAddOp;
 
-/// An operation on the elements of `a`, those of vs2, of `b`, those of the second operand, and of `d`,
-/// those that vd had.
+/// An operation on `a`, the elements of vs2, `b`, the elements of the second operand, and `d`, the old elements of
+/// vd.
 #[derive(Clone, Copy)]
 pub struct MultiplyAdd<'a> {
     pub op: MultiplyAddOp,

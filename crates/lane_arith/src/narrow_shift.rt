@@ -1,4 +1,5 @@
-//! Shifts of elements of twice the width ("V" Vector Extension 1.0, section 11.7).
+//! Narrowing shifts, whose source elements have twice the width of the result ("V" Vector Extension 1.0, section
+//! 11.7).
 ghost use Rattle.std.specs.Prelude.{◌≡◌, ◌%◌, ℕ};
 ghost use Rattle.lane_arith.specs.SecondElements.{HasNumber, number_at};
 ghost use Rattle.rv_model.specs.elements.Elements.{element};
@@ -13,7 +14,7 @@ use crate::second_elements::SecondElements;
 use rv_model::instructions::operations::NarrowShiftOp;
 use std::marker::PhantomData;
 
-/// Shifts of the elements of `a`, those of vs2, of the width of `W`, by those of `b`, of the second operand.
+/// Shifts of `a`, the elements of vs2, which have the width of `W`, by `b`, the elements of the second operand.
 #[derive(Clone, Copy)]
 pub struct NarrowShift<'a, W> {
     pub op: NarrowShiftOp,
@@ -22,7 +23,7 @@ pub struct NarrowShift<'a, W> {
     pub element: PhantomData<W>,
 }
 
-/// How far a shift of a wide element moves.
+/// The shift amount of a wide element in bits, below its width.
 fn shift_amount<N: Lane, W: Lane>(amount: N) -> u32
     ensures { result ≡ N.value amount % bits W.width }
 {

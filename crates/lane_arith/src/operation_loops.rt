@@ -1,5 +1,5 @@
-//! High products, quotients and remainders ("V" Vector Extension 1.0, sections 11.10 and 11.11) of many elements,
-//! which are made one by one: each operation is a type, so that a loop is compiled for each.
+//! High products, quotients and remainders of many elements ("V" Vector Extension 1.0, sections 11.10 and 11.11),
+//! computed one at a time. Each operation is a type, so that the compiler generates a loop for each.
 ghost use Rattle.std.specs.Prelude.{◌≡◌, ◌*◌, ◌<◌, ◌≤◌, ℕ, length};
 ghost use Rattle.rv_model.specs.declared.instructions.operations.BinaryOp.{BinaryOp};
 ghost use Rattle.rv_model.specs.declared.instructions.operations.BinaryOp.TheVariants.{Vdiv, Vdivu, Vmulh, Vmulhsu};
@@ -13,7 +13,7 @@ use crate::division::{quotient, remainder, signed_quotient, signed_remainder};
 use crate::high_products::{high_product, mixed_high_product, signed_high_product};
 use crate::lane::Lane;
 
-/// An operation of one width.
+/// An operation whose operands and result have the same width.
 pub(crate) trait Operation {
     // The operation.
     ghost op: { BinaryOp };
@@ -107,8 +107,8 @@ impl Operation for MixedHighProduct {
     }
 }
 
-/// Writes the results of all elements from one index up to another, of the elements of `a`, those of vs2, and of `b`,
-/// those of the second operand.
+/// Write the results for all elements from `start` up to `end`, excluding `end`; `a` has the elements of vs2, and
+/// `b` those of the second operand.
 #[inline(never)]
 pub(crate) fn write_all<L: Lane, O: Operation>(
     a: &[u8],

@@ -1,5 +1,5 @@
-//! Operations of one width on elements ("V" Vector Extension 1.0, sections 11.1, 11.5, 11.6 and 11.9 to
-//! 11.11).
+//! Operations on elements whose operands and result have the same width ("V" Vector Extension 1.0, sections 11.1,
+//! 11.5, 11.6 and 11.9 to 11.11).
 ghost use Rattle.std.specs.Prelude.{◌≡◌, ◌%◌};
 ghost use mir.Val.{bits};
 ghost use Rattle.rv_model.specs.declared.instructions.operations.BinaryOp.TheVariants.{Vadd, Vand, Vmax, Vmaxu, Vmin};
@@ -12,14 +12,14 @@ use crate::high_products::{high_product, mixed_high_product, signed_high_product
 use crate::lane::Lane;
 use rv_model::instructions::operations::BinaryOp;
 
-/// The sum.
+/// The sum of two elements, modulo 2 to the width.
 pub(crate) fn sum<L: Lane>(a: L, b: L) -> L
     ensures { L.value result ≡ wrap L.width (formula Vadd L.width (L.value a) (L.value b)) }
 {
     L::low_bits(a.number().wrapping_add(b.number()))
 }
 
-/// The difference.
+/// The difference of two elements, modulo 2 to the width.
 fn difference<L: Lane>(a: L, b: L) -> L
     ensures { L.value result ≡ wrap L.width (formula Vsub L.width (L.value a) (L.value b)) }
 {
@@ -63,56 +63,56 @@ fn signed_greatest<L: Lane>(a: L, b: L) -> L
     L::low_bits(a.signed_number().max(b.signed_number()).cast_unsigned())
 }
 
-/// The bits that both have.
+/// The bitwise AND of two elements.
 fn and<L: Lane>(a: L, b: L) -> L
     ensures { L.value result ≡ wrap L.width (formula Vand L.width (L.value a) (L.value b)) }
 {
     L::low_bits(a.number() & b.number())
 }
 
-/// The bits that either has.
+/// The bitwise OR of two elements.
 fn or<L: Lane>(a: L, b: L) -> L
     ensures { L.value result ≡ wrap L.width (formula Vor L.width (L.value a) (L.value b)) }
 {
     L::low_bits(a.number() | b.number())
 }
 
-/// The bits that one of them has.
+/// The bitwise XOR of two elements.
 fn exclusive_or<L: Lane>(a: L, b: L) -> L
     ensures { L.value result ≡ wrap L.width (formula Vxor L.width (L.value a) (L.value b)) }
 {
     L::low_bits(a.number() ^ b.number())
 }
 
-/// How far a shift moves: the low bits of the amount.
+/// The shift amount in bits: the low bits of `amount`, below the element's width.
 fn shift_amount<L: Lane>(amount: L) -> u32
     ensures { result ≡ L.value amount % bits L.width }
 {
     (amount.number() % u64::from(L::bits())) as u32
 }
 
-/// Shifted left.
+/// An element shifted left.
 fn shifted_left<L: Lane>(a: L, amount: L) -> L
     ensures { L.value result ≡ wrap L.width (formula Vsll L.width (L.value a) (L.value amount)) }
 {
     L::low_bits(a.number() << shift_amount(amount))
 }
 
-/// Shifted right, with zeros for the upper bits.
+/// An element shifted right; the upper bits become zeros.
 fn shifted_right<L: Lane>(a: L, amount: L) -> L
     ensures { L.value result ≡ wrap L.width (formula Vsrl L.width (L.value a) (L.value amount)) }
 {
     L::low_bits(a.number() >> shift_amount(amount))
 }
 
-/// Shifted right, with copies of the sign for the upper bits.
+/// An element shifted right; the upper bits become copies of the sign.
 fn signed_shifted_right<L: Lane>(a: L, amount: L) -> L
     ensures { L.value result ≡ wrap L.width (formula Vsra L.width (L.value a) (L.value amount)) }
 {
     L::low_bits((a.signed_number() >> shift_amount(amount)).cast_unsigned())
 }
 
-/// One element of the result of an operation of one width.
+/// Return one element of an operation's result. Both operands and the result have the same width.
 pub fn apply<L: Lane>(op: BinaryOp, a: L, b: L) -> L
     ensures { L.value result ≡ wrap L.width (formula op L.width (L.value a) (L.value b)) }
 {

@@ -1,5 +1,5 @@
-//! The results of element-wise instructions, written to the elements of their destination ("V" Vector
-//! Extension 1.0, sections 5.3 and 5.4).
+//! Writing of results of element-wise instructions to the elements of a destination ("V" Vector Extension 1.0,
+//! sections 5.3 and 5.4).
 ghost use Rattle.std.specs.Prelude.{◌≡◌, ◌+◌, ◌*◌, ◌/◌, ◌%◌, ◌^◌, ◌<◌, ◌≤◌, ◌==◌, ◌&&◌, ℕ, IfSome, List, length};
 ghost use Rattle.std.specs.Prelude.{nat_lt, true, false, slice_index, if◌then◌else◌};
 ghost use Rattle.std.specs.Int.{byte_at};
@@ -16,9 +16,9 @@ use crate::lane::Lane;
 use rv_model::GROUP_BYTES;
 use std::simd::prelude::*;
 
-/// What an instruction gives to the elements of its destination.
+/// The results of an instruction for the elements of its destination.
 pub trait Results<L: Lane> {
-    // The number for the element at an index.
+    // The result for the element at an index, as an unsigned number.
     ghost number: { Self → ℕ → ℕ };
 
     // The operands have an element at this index.
@@ -29,7 +29,8 @@ pub trait Results<L: Lane> {
         requires { has self.now index }
         ensures { L.value result ≡ number self.now index };
 
-    /// The results for the elements of a chunk of 32 bytes, where they are made by SIMD.
+    /// Return the results for the elements of a chunk of 32 bytes, or `None` if SIMD instructions don't compute
+    /// them.
     fn chunk_results(&self, _chunk: usize) -> Option<L::Vector>
         requires { L.count * _chunk + L.count ≤ GROUP_BYTES }
         ensures { IfSome result (λ made. (i : ℕ) → i < L.count → L.lane made i
@@ -38,8 +39,8 @@ pub trait Results<L: Lane> {
         None
     }
 
-    /// Writes the results of all elements from one index up to another, where they needn't be made one by one. Answers
-    /// whether they are written.
+    /// Write the results for all elements from `_start` up to `_end`, excluding `_end`, if the operation has a loop
+    /// of its own for many elements. Return whether the results are written.
     fn write_range(&self, _start: usize, _end: usize, _destination: &mut [u8]) -> bool
         requires operands { (i : ℕ) → i < _end → has self.now i }
         requires room { width_bytes L.width * _end ≤ length _destination.old }
@@ -52,7 +53,7 @@ pub trait Results<L: Lane> {
     }
 }
 
-/// `write_results`, element by element.
+/// `write_results` for one element at a time.
 #[inline(always)]
 fn write_each<L: Lane, R: Results<L>>(
     results: &R,
@@ -74,8 +75,8 @@ fn write_each<L: Lane, R: Results<L>>(
     }
 }
 
-/// Writes a chunk of 32 bytes of results from the byte `at` on: those where the bit of `active` is set, ones
-/// where only that of `filled` is; all others keep.
+/// Write a chunk of 32 bytes of results, starting at byte `at` of the destination. An element becomes its result if
+/// its bit of `active` is set, else all ones if its bit of `filled` is set. All other elements are unchanged.
 #[inline(always)]
 pub fn put_results<L: Lane>(
     results: L::Vector,
@@ -97,8 +98,8 @@ pub fn put_results<L: Lane>(
     new.copy_to_slice(&mut destination[at..]);
 }
 
-/// `write_results`, chunk by chunk, up to the first chunk whose results aren't made by SIMD. Answers the
-/// index of the first element that is left.
+/// `write_results` for one chunk of 32 bytes at a time, up to the first chunk whose results SIMD instructions don't
+/// compute. Return the index of the first element that isn't processed.
 #[inline(always)]
 fn write_chunks<L: Lane, R: Results<L>>(
     results: &R,
@@ -122,7 +123,7 @@ fn write_chunks<L: Lane, R: Results<L>>(
     count * whole
 }
 
-/// `write_results`, chunk by chunk, and then element by element.
+/// `write_results`, first for chunks of 32 bytes and then for the remaining elements one at a time.
 #[inline(always)]
 fn write_in_turn<L: Lane, R: Results<L>>(
     results: &R,
@@ -144,8 +145,8 @@ fn write_in_turn<L: Lane, R: Results<L>>(
     }
 }
 
-/// Writes the result to each active element of the destination. Where `fill_masked_off`, the elements of
-/// the body that are masked off become all ones; all others keep.
+/// Write the result to each active element of the destination. If `fill_masked_off`, masked-off elements of the
+/// body become all ones. All other elements are unchanged.
 #[inline(always)]
 pub fn write_results<L: Lane, R: Results<L>>(
     results: &R,
@@ -164,7 +165,7 @@ pub fn write_results<L: Lane, R: Results<L>>(
     write_in_turn(results, body, destination, fill_masked_off);
 }
 
-/// Writes one number to each element from `start` up to `end`.
+/// Write `number` to each element from `start` up to `end`, excluding `end`.
 pub fn fill<L: Lane>(number: L, start: usize, end: usize, destination: &mut [u8])
     requires destination { width_bytes L.width * end ≤ length destination.old }
     requires count { end ≤ GROUP_BYTES }

@@ -1,4 +1,4 @@
-//! The elements of a second operand ("V" Vector Extension 1.0, sections 5.2 and 11.1).
+//! Elements of a second operand ("V" Vector Extension 1.0, sections 5.2 and 11.1).
 ghost use Rattle.std.specs.Prelude.{◌≡◌, ◌+◌, ◌*◌, ◌%◌, ◌^◌, ◌<◌, ℕ, IfSome};
 ghost use Rattle.std.specs.Int.{Width};
 ghost use Rattle.rv_model.specs.elements.Elements.{element};
@@ -10,8 +10,9 @@ ghost use mir.Val.{bits};
 use crate::lane::Lane;
 use crate::operand::operand_chunk;
 
-/// A second operand: elements, or else one number whose low bits stand for each of them. It is no enum: where both
-/// shared a place, the compiler would no longer see that the elements lie apart from the destination.
+/// A second operand: the elements of a vector, or one number whose low bits are used for each element. This isn't
+/// an enum, since its variants would share memory, and the compiler couldn't deduce that the elements don't overlap
+/// the destination.
 #[derive(Clone, Copy)]
 pub struct SecondElements<'a> {
     pub elements: Option<&'a [u8]>,
@@ -19,7 +20,7 @@ pub struct SecondElements<'a> {
 }
 
 impl<'a> SecondElements<'a> {
-    /// These elements.
+    /// Return an operand with these elements.
     pub fn of(elements: &'a [u8]) -> SecondElements<'a>
         ensures numbers { (w : Width) (i : ℕ) → number_at w result i ≡ element (width_bytes w) elements.now i }
         ensures has { (w : Width) (i : ℕ) → HasElement (width_bytes w) elements.now i → HasNumber w result i }
@@ -30,7 +31,7 @@ impl<'a> SecondElements<'a> {
         }
     }
 
-    /// One number for each element.
+    /// Return an operand with the low bits of `number` as each element.
     pub fn repeated(number: u64) -> SecondElements<'a>
         ensures numbers { (w : Width) (i : ℕ) → number_at w result i ≡ number % 2 ^ bits w }
         ensures has { (w : Width) (i : ℕ) → HasNumber w result i }
@@ -41,7 +42,7 @@ impl<'a> SecondElements<'a> {
         }
     }
 
-    /// The element at an index.
+    /// Return the element at an index.
     #[inline(always)]
     pub fn element<L: Lane>(&self, index: usize) -> L
         requires { HasNumber L.width self.now index }
@@ -53,7 +54,8 @@ impl<'a> SecondElements<'a> {
         }
     }
 
-    /// The elements of a chunk of 32 bytes, as a SIMD vector; `None` where the operand ends before the chunk does.
+    /// Return the elements of a chunk of 32 bytes as a SIMD vector, or `None` if the operand ends before the chunk
+    /// does.
     #[inline(always)]
     pub fn chunk<L: Lane>(&self, chunk: usize) -> Option<L::Vector>
         ensures value { IfSome result (λ elements. (i : ℕ) → i < L.count

@@ -1,4 +1,4 @@
-//! Whole sums, and what is left of a whole number at the width of an element.
+//! Sums and differences without overflow, and their low bits at the width of an element.
 ghost use Rattle.std.specs.Prelude.{◌≡◌, ◌%◌, ◌^◌, ◌+ℤ◌, ◌-ℤ◌};
 ghost use Rattle.std.specs.Int.{cast_unsigned, w128};
 ghost use Rattle.rv_model.specs.elements.Formulas.{wrap};
@@ -12,7 +12,7 @@ fn low_half(number: i128) -> u64
     (number.cast_unsigned() % (1 << 64)) as u64
 }
 
-/// A number modulo 2 to the width.
+/// Return a number modulo 2 to the width of an element.
 #[tactic(auto, using(rv_model::proofs::element_lemmas::Numbers::low_bits_of_half))]
 pub fn wrapped<L: Lane>(number: i128) -> L
     ensures { L.value result ≡ wrap L.width number }
@@ -20,14 +20,14 @@ pub fn wrapped<L: Lane>(number: i128) -> L
     L::low_bits(low_half(number))
 }
 
-/// The whole sum of two signed numbers.
+/// The sum of two signed numbers, without overflow.
 pub(crate) fn full_sum(a: i64, b: i64) -> i128
     ensures { result ≡ a +ℤ b }
 {
     i128::from(a) + i128::from(b)
 }
 
-/// The whole difference of two signed numbers.
+/// The difference of two signed numbers, without overflow.
 pub(crate) fn full_difference(a: i64, b: i64) -> i128
     ensures { result ≡ a -ℤ b }
 {

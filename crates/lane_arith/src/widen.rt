@@ -1,5 +1,5 @@
-//! Operations whose result has twice the width of an operand ("V" Vector Extension 1.0, sections 11.2, 11.12
-//! and 11.14). `N` is the lesser width, and `W` the other.
+//! Operations whose result has twice the width of an operand ("V" Vector Extension 1.0, sections 11.2, 11.12 and
+//! 11.14). `N` is the narrow width, and `W` the wide one.
 ghost use Rattle.std.specs.Prelude.{◌≡◌, ◌+ℤ◌, ◌*ℤ◌, pos, ℕ, ℤ};
 ghost use Rattle.std.specs.Int.{cast_signed};
 ghost use Rattle.lane_arith.specs.SecondElements.{HasNumber, number_at};
@@ -39,7 +39,7 @@ fn mixed_product<N: Lane, W: Lane>(a: N, b: N) -> W
     wrapped(full_mixed(a.signed_number(), b.number()))
 }
 
-/// An operation on the elements of `a`, those of vs2, and of `b`, those of the second operand.
+/// An operation on `a`, the elements of vs2, and `b`, the elements of the second operand.
 #[derive(Clone, Copy)]
 pub struct Widen<'a, N> {
     pub op: WidenOp,
@@ -74,7 +74,7 @@ impl<'a, N: Lane, W: Lane> Results<W> for Widen<'a, N> {
     }
 }
 
-/// An operation on the elements of `a`, those of vs2, of twice the width, and of `b`, those of the second
+/// An operation on `a`, the elements of vs2, which have twice the width, and `b`, the elements of the second
 /// operand.
 #[derive(Clone, Copy)]
 pub struct WideSource<'a, N> {
@@ -84,7 +84,7 @@ pub struct WideSource<'a, N> {
     pub element: PhantomData<N>,
 }
 
-/// One element of the result of an operation whose first operand has twice the width.
+/// Return one element of the result of an operation whose first operand has twice the width.
 pub fn apply_wide<N: Lane, W: Lane>(op: WideSourceOp, a: W, b: N) -> W
     ensures { W.value result ≡ wrap W.width (wide_source_formula op W.width N.width (W.value a) (N.value b)) }
 {
@@ -107,8 +107,8 @@ impl<'a, N: Lane, W: Lane> Results<W> for WideSource<'a, N> {
     }
 }
 
-/// Products of the elements of `a`, those of vs2, and of `b`, those of the second operand, added to those of
-/// `d`, which vd had, of twice the width.
+/// Products of `a`, the elements of vs2, and `b`, the elements of the second operand, which are added to `d`, the
+/// old elements of vd, of twice the width.
 #[derive(Clone, Copy)]
 pub struct WidenMultiplyAdd<'a, N> {
     pub op: WidenMultiplyAddOp,
@@ -118,7 +118,7 @@ pub struct WidenMultiplyAdd<'a, N> {
     pub element: PhantomData<N>,
 }
 
-/// The sum with a product, which is what is left of a whole number.
+/// The sum of an element and a product that is known modulo 2 to the width.
 fn added<W: Lane>(product: W, d: W) -> W
     ensures { (z : ℤ) → W.value product ≡ wrap W.width z → W.value result ≡ wrap W.width (z +ℤ pos (W.value d)) }
 {

@@ -5,7 +5,7 @@ use Rattle.rv_model.specs.elements.Elements.{is_active, mask_bit}
 use Rattle.lane_arith.proofs.MaskBytes.{register_written}
 use Rattle.lane_arith.proofs.mask_results.put_bits.Goals as goal
 
--- a bit of the bytes that are read
+-- a bit of the 32 bytes that the function reads
 read_bit : (old : List ℕ) (i : ℕ) → length old ≡ 32 → i < 256 → mask_bit (chunk 0 32 old) i ≡ mask_bit old i
 read_bit old i long h =
     ap (λ x. x / 2 ^ (i % 8) % 2 == 1) (get_or-chunk 0 32 old (i / 8) 0 (omega (arith, h)) ∙ ap (λ k. get_or old k 0) (zero-add (i / 8)))

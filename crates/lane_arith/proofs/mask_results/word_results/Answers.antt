@@ -4,7 +4,7 @@ use Rattle.rv_model.specs.vector.Groups.{width_bytes}
 use Rattle.lane_arith.proofs.MaskBits.{TellsTo, chunk_ends, place_in_word, shifted_fits, tells_more, word_chunks}
 use Rattle.lane_arith.proofs.mask_results.word_results.Goals as goal
 
--- the word with the bits of a chunk more
+-- a 32-bit word with the bits of one more chunk
 more_told : (k n lanes j word more bits : ℕ) (bit : ℕ → Bool) → n ≡ lanes → k * lanes ≡ 32 → j < 32 / n → TellsTo (n * j) bits (λ i. bit (32 * word + i)) → more < 2 ^ lanes
     → ((i : ℕ) → i < lanes → (more / 2 ^ i % 2 == 0) ≡ not (bit (lanes * (32 / n * word + j) + i)))
     → TellsTo (n * (j + 1)) (bits + more * 2 ^ (n * j) % 2 ^ 64) (λ i. bit (32 * word + i))

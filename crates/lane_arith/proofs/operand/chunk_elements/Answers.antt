@@ -8,7 +8,7 @@ use Rattle.rv_model.specs.vector.Groups.{width_bytes}
 use Rattle.lane_arith.proofs.ChunkWrites.{element_of_chunk}
 use Rattle.lane_arith.proofs.operand.chunk_elements.Goals as goal
 
--- a chunk by its index
+-- the chunk with index c
 chunk_at : (n k : ℕ) (xs : List ℕ) (c : ℕ) → c < k → get_or (first_chunks n k xs) c [] ≡ chunk (n * c) n xs
 chunk_at n zero xs c h = absurd (omega (arith, h))
 chunk_at n (suc k) xs zero h = ap (λ i. chunk i n xs) (sym (mul-zero n))
