@@ -1,4 +1,4 @@
--- Whether a test holds for some active element: of the elements of a chunk, and then of the rest.
+-- A test of whether a condition holds for an active element, first for the elements of chunks and then for the rest.
 use Rattle.std.proofs.Common.{◌≡◌, ℕ, zero, suc, ◌+◌, ◌*◌, ◌/◌, ◌%◌, ◌^◌, ◌<◌, ◌≤◌, Bool, true, false, ◌&&◌, ◌||◌, not, eqb, bit_and, max, refl, sym, ap, ◌∙◌, arith, zero-add}
 use Rattle.std.proofs.Math.Bool.{and_comm, or-false, or_assoc}
 use Rattle.std.proofs.Math.Nat.{div-div-eq-div-mul, mul-add, mul-one, pow-succ'}
@@ -11,7 +11,7 @@ use Rattle.lane_arith.proofs.MaskBits.{both_bits}
 
 -- ---- ranges
 
--- one range after another
+-- a range, split at m
 any_joined : (test : ℕ → Bool) (a m n : ℕ) → list_any test (range_with_len a (m + n)) ≡ (list_any test (range_with_len a m) || list_any test (range_with_len (a + m) n))
 any_joined test a zero n =
     let e : zero + n ≡ n = omega arith in
@@ -24,11 +24,11 @@ any_joined test a (suc m) n =
     ∙ ap (λ t. test a || t) (any_joined test (a + 1) m n ∙ ap (λ x. list_any test (range_with_len (a + 1) m) || list_any test (range_with_len x n)) f)
     ∙ sym (or_assoc (test a) (list_any test (range_with_len (a + 1) m)) (list_any test (range_with_len (a + suc m) n)))
 
--- the first numbers and those after them
+-- the range from 0, split at m
 first_and_next : (test : ℕ → Bool) (m n : ℕ) → list_any test (range_with_len 0 (m + n)) ≡ (list_any test (range_with_len 0 m) || list_any test (range_with_len m n))
 first_and_next test m n = any_joined test 0 m n ∙ ap (λ x. list_any test (range_with_len 0 m) || list_any test (range_with_len x n)) (zero-add m)
 
--- tests that are the same
+-- equal conditions
 any_same : (test other : ℕ → Bool) (a n : ℕ) → ((e : ℕ) → a ≤ e → e < a + n → test e ≡ other e)
     → list_any test (range_with_len a n) ≡ list_any other (range_with_len a n)
 any_same test other a zero h = refl
@@ -37,9 +37,9 @@ any_same test other a (suc n) h =
     ap (λ t. t || list_any test (range_with_len (a + 1) n)) here
     ∙ ap (λ t. other a || t) (any_same test other (a + 1) n (λ e from to. h e (omega (arith, from)) (omega (arith, to))))
 
--- ---- a word with a bit for each index
+-- ---- a bit mask with a bit for each index
 
--- the word is 0 where none is set
+-- the bit mask isn't 0 if and only if a condition in the range holds
 any_bit : (test : ℕ → Bool) (n a x : ℕ) → x < 2 ^ n → ((i : ℕ) → i < n → eqb (x / 2 ^ i % 2) 0 ≡ not (test (a + i)))
     → not (eqb x 0) ≡ list_any test (range_with_len a n)
 any_bit test zero a x small bits = let none : x ≡ 0 = omega (arith, small) in ap (λ y. not (eqb y 0)) none
@@ -67,7 +67,7 @@ any_bit test (suc n) a x small bits =
 
 -- ---- active elements
 
--- a chunk of n elements more, of which one word tells which hold, and another which are active
+-- one more chunk of n elements: bit masks say for which elements the condition holds, and which are active
 pub chunk_tells : (body : Body) (test : ℕ → Bool) (n c : ℕ) (was : Bool) (holds active : ℕ) → was ≡ some_before body test (n * c) → holds < 2 ^ n
     → ((i : ℕ) → i < n → eqb (holds / 2 ^ i % 2) 0 ≡ not (test (n * c + i)))
     → ((i : ℕ) → i < n → eqb (active / 2 ^ i % 2) 0 ≡ not (is_active body (n * c + i)))
@@ -82,7 +82,7 @@ chunk_tells body test n c was holds active told small held actives =
     ∙ ap not (and_comm (test (n * c + i)) (is_active body (n * c + i)))))
     ∙ sym (first_and_next both (n * c) n) ∙ ap (some_before body test) more
 
--- the elements before a cut, and those of a body from it on
+-- the condition holds for an active element if and only if it holds for one before the cut or for one from the cut on
 pub rest_tells : (body rest : Body) (test : ℕ → Bool) (cut : ℕ)
     → rest ≡ record { unmasked = body.unmasked; mask = body.mask; start = max body.start cut; end = body.end }
     → (some_before body test cut || some_active rest test) ≡ some_active body test
@@ -101,7 +101,7 @@ rest_tells body rest test cut is =
     later : (e : ℕ) → cut ≤ e → in_range (max body.start cut) body.end e ≡ in_range body.start body.end e
     later e past = grind (arith, nat_tests)
 
--- where none of the body is left from a cut on
+-- only elements before the cut matter if no element of the body is left from the cut on
 pub none_left : (body : Body) (test : ℕ → Bool) (cut : ℕ) → body.end ≤ max body.start cut → some_before body test cut ≡ some_active body test
 none_left body test cut h =
     let rest : Body = record { unmasked = body.unmasked; mask = body.mask; start = max body.start cut; end = body.end } in

@@ -1,5 +1,5 @@
-//! Whole chunks of 32 bytes of fixed-point operations: their elements as SIMD vectors, and what they become ("V"
-//! Vector Extension 1.0, sections 3.8, 12.1 and 12.2).
+//! Fixed-point operations on whole chunks of 32 bytes, with elements as SIMD vectors ("V" Vector Extension 1.0,
+//! sections 3.8, 12.1 and 12.2).
 ghost use Rattle.std.specs.Prelude.{◌≡◌, ◌+ℤ◌, ◌-ℤ◌, pos, ◌/◌, ◌%◌, ◌^◌, ◌<◌, ◌==◌, ℕ, ℤ, IfSome, not, if◌then◌else◌};
 ghost use Rattle.std.specs.Int.{cast_signed, from_bool, int_shr, saturate_signed, saturate_unsigned};
 ghost use Rattle.std.specs.Int.Signed.{mag};
@@ -15,15 +15,15 @@ use lane_arith::chunk::{at_most, signed_less, top_bits};
 use rv_model::RoundingMode;
 use rv_model::instructions::operations::FixedPointOp;
 
-/// Numbers of one bit more than the width, as SIMD vectors: their low bits, and a mask that is 0 where the bit
-/// above these isn't set.
+/// Numbers with one bit more than the width, as SIMD vectors: the low bits, and a mask whose element isn't 0 if the
+/// bit above them is set.
 #[derive(Clone, Copy, Drop)]
 struct Wider<V> {
     low: V,
     above: V,
 }
 
-/// The sums of unsigned numbers.
+/// The sums of unsigned numbers, without overflow.
 fn sums<L: Lane>(a: L::Vector, b: L::Vector) -> Wider<L::Vector>
     requires first { (i : ℕ) → i < L.count → L.lane a i < 2 ^ bits L.width }
     requires second { (i : ℕ) → i < L.count → L.lane b i < 2 ^ bits L.width }
@@ -37,8 +37,8 @@ fn sums<L: Lane>(a: L::Vector, b: L::Vector) -> Wider<L::Vector>
     }
 }
 
-/// The sums of signed numbers: one is negative where it carries nothing once the top bit of the first number is
-/// turned round.
+/// The sums of signed numbers, without overflow. A sum is negative if the unsigned sum of both numbers, each with
+/// its top bit inverted, has no carry.
 fn signed_sums<L: Lane>(a: L::Vector, b: L::Vector) -> Wider<L::Vector>
     requires first { (i : ℕ) → i < L.count → L.lane a i < 2 ^ bits L.width }
     requires second { (i : ℕ) → i < L.count → L.lane b i < 2 ^ bits L.width }
@@ -53,7 +53,7 @@ fn signed_sums<L: Lane>(a: L::Vector, b: L::Vector) -> Wider<L::Vector>
     }
 }
 
-/// The differences of unsigned numbers.
+/// The differences of unsigned numbers, without overflow.
 fn differences<L: Lane>(a: L::Vector, b: L::Vector) -> Wider<L::Vector>
     requires first { (i : ℕ) → i < L.count → L.lane a i < 2 ^ bits L.width }
     requires second { (i : ℕ) → i < L.count → L.lane b i < 2 ^ bits L.width }
@@ -66,7 +66,7 @@ fn differences<L: Lane>(a: L::Vector, b: L::Vector) -> Wider<L::Vector>
     }
 }
 
-/// The differences of signed numbers.
+/// The differences of signed numbers, without overflow.
 fn signed_differences<L: Lane>(a: L::Vector, b: L::Vector) -> Wider<L::Vector>
     requires first { (i : ℕ) → i < L.count → L.lane a i < 2 ^ bits L.width }
     requires second { (i : ℕ) → i < L.count → L.lane b i < 2 ^ bits L.width }
@@ -79,7 +79,7 @@ fn signed_differences<L: Lane>(a: L::Vector, b: L::Vector) -> Wider<L::Vector>
     }
 }
 
-/// One number in each element.
+/// A vector with the same number in each element.
 fn small<L: Lane>(number: u64) -> L::Vector
     requires { number < 2 ^ 8 }
     ensures { (i : ℕ) → i < L.count → L.lane result i ≡ number }
@@ -97,8 +97,8 @@ fn halves<L: Lane>(numbers: Wider<L::Vector>) -> L::Vector
     L::sums(low, top)
 }
 
-/// What rounding adds to half of each number, which is 0 or 1: by the bit that is lost, and by the lowest bit of
-/// the half.
+/// The increment, 0 or 1, that rounding adds to half of each number. It depends on the bit that halving drops and
+/// on the lowest bit of the half.
 fn increments<L: Lane>(mode: RoundingMode, low: L::Vector, halves: L::Vector) -> L::Vector
     ensures { (i : ℕ) (v : ℤ) → i < L.count → L.lane low i ≡ wrap L.width v
         → L.lane halves i ≡ wrap L.width (int_shr v 1) → L.lane result i ≡ from_bool (rounds_up mode 1 v) }
@@ -115,7 +115,7 @@ fn increments<L: Lane>(mode: RoundingMode, low: L::Vector, halves: L::Vector) ->
     }
 }
 
-/// Half of each number, rounded; none of them saturates.
+/// Half of each number, rounded. None of them saturates.
 fn averages<L: Lane>(mode: RoundingMode, numbers: Wider<L::Vector>) -> SaturatedChunk<L::Vector>
     ensures value { (i : ℕ) (v : ℤ) → i < L.count → IsShown L.width (L.lane numbers.low i) (L.lane numbers.above i) v
         → L.lane result.values i ≡ wrap L.width (rounded mode 1 v) }
@@ -129,7 +129,7 @@ fn averages<L: Lane>(mode: RoundingMode, numbers: Wider<L::Vector>) -> Saturated
     }
 }
 
-/// The numbers, or the limit for those that are beyond the width.
+/// The numbers, replaced by their limit where `beyond` isn't 0.
 fn limited<L: Lane>(
     numbers: L::Vector,
     limits: L::Vector,
@@ -146,7 +146,7 @@ fn limited<L: Lane>(
     }
 }
 
-/// The nearest unsigned numbers of the width to sums of unsigned numbers.
+/// Sums of unsigned numbers, saturated to the unsigned range of the width.
 fn saturated_sums<L: Lane>(a: L::Vector, b: L::Vector) -> SaturatedChunk<L::Vector>
     requires first { (i : ℕ) → i < L.count → L.lane a i < 2 ^ bits L.width }
     requires second { (i : ℕ) → i < L.count → L.lane b i < 2 ^ bits L.width }
@@ -161,7 +161,7 @@ fn saturated_sums<L: Lane>(a: L::Vector, b: L::Vector) -> SaturatedChunk<L::Vect
     limited::<L>(numbers.low, L::repeated(L::all_ones()), numbers.above)
 }
 
-/// The nearest unsigned numbers of the width to differences of unsigned numbers.
+/// Differences of unsigned numbers, saturated to the unsigned range of the width.
 fn saturated_differences<L: Lane>(a: L::Vector, b: L::Vector) -> SaturatedChunk<L::Vector>
     requires first { (i : ℕ) → i < L.count → L.lane a i < 2 ^ bits L.width }
     requires second { (i : ℕ) → i < L.count → L.lane b i < 2 ^ bits L.width }
@@ -176,7 +176,8 @@ fn saturated_differences<L: Lane>(a: L::Vector, b: L::Vector) -> SaturatedChunk<
     limited::<L>(numbers.low, small::<L>(0), numbers.above)
 }
 
-/// The nearest signed numbers of the width: one is beyond it where the top bit and the bit above differ.
+/// Numbers saturated to the signed range of the width. A number is outside of the range if its top bit and the bit
+/// above differ.
 fn signed_saturated<L: Lane>(numbers: Wider<L::Vector>) -> SaturatedChunk<L::Vector>
     ensures value { (i : ℕ) (v : ℤ) → i < L.count → IsShown L.width (L.lane numbers.low i) (L.lane numbers.above i) v
         → mag v < 2 ^ bits L.width → L.lane result.values i ≡ wrap L.width (saturate_signed L.width v) }
@@ -196,7 +197,8 @@ fn signed_saturated<L: Lane>(numbers: Wider<L::Vector>) -> SaturatedChunk<L::Vec
     limited::<L>(numbers.low, limits, beyond)
 }
 
-/// The results of an operation of one width, where they are made by SIMD.
+/// The results of an operation whose operands and result have the same width, or `None` if SIMD instructions don't
+/// compute it.
 pub(crate) fn fixed_point<L: Lane>(
     op: FixedPointOp,
     mode: RoundingMode,

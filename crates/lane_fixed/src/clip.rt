@@ -1,4 +1,4 @@
-//! Shifts of elements of twice the width, which are rounded and clipped ("V" Vector Extension 1.0, section
+//! Narrowing clips: shifts of elements of twice the width, rounded and saturated ("V" Vector Extension 1.0, section
 //! 12.5).
 ghost use Rattle.std.specs.Prelude.{◌≡◌, ℕ};
 ghost use Rattle.rv_model.specs.elements.Elements.{element};
@@ -15,8 +15,8 @@ use rv_model::RoundingMode;
 use rv_model::instructions::operations::ClipOp;
 use std::marker::PhantomData;
 
-/// Shifts of the elements of `a`, those of vs2, of the width of `W`, by those of `b`, of the second operand,
-/// which have the width of the result. `mode` is the rounding mode (section 3.8).
+/// Narrowing clips of `a`, the elements of vs2, which have the width of `W`. `b` has the shift amounts, the
+/// elements of the second operand, which have the width of the result. `mode` is the rounding mode (section 3.8).
 #[derive(Clone, Copy)]
 pub struct Clip<'a, W> {
     pub op: ClipOp,

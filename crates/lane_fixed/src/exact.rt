@@ -1,5 +1,5 @@
-//! The exact numbers of operations of one width ("V" Vector Extension 1.0, sections 12.1 to 12.4), before
-//! they are brought into the width.
+//! Results before saturation of operations whose operands and result have the same width ("V" Vector Extension 1.0,
+//! sections 12.1 to 12.4).
 ghost use Rattle.std.specs.Prelude.{◌≡◌, ◌+ℤ◌, ◌-ℤ◌, ◌*ℤ◌, ◌%◌, pos};
 ghost use Rattle.std.specs.Int.{cast_signed};
 ghost use Rattle.rv_model.specs.elements.FixedPoint.{exact, rounded};
@@ -10,49 +10,49 @@ use lane_arith::Lane;
 use rv_model::instructions::operations::FixedPointOp;
 use scalar_core::full_signed;
 
-/// The sum of two unsigned numbers.
+/// The sum of two unsigned numbers, without overflow.
 fn sum<L: Lane>(a: L, b: L) -> i128
     ensures { result ≡ pos (L.value a) +ℤ pos (L.value b) }
 {
     i128::from(a.number()) + i128::from(b.number())
 }
 
-/// The sum of two signed numbers.
+/// The sum of two signed numbers, without overflow.
 fn signed_sum<L: Lane>(a: L, b: L) -> i128
     ensures { result ≡ cast_signed L.width (L.value a) +ℤ cast_signed L.width (L.value b) }
 {
     i128::from(a.signed_number()) + i128::from(b.signed_number())
 }
 
-/// The difference of two unsigned numbers.
+/// The difference of two unsigned numbers, without overflow.
 fn difference<L: Lane>(a: L, b: L) -> i128
     ensures { result ≡ pos (L.value a) -ℤ pos (L.value b) }
 {
     i128::from(a.number()) - i128::from(b.number())
 }
 
-/// The difference of two signed numbers.
+/// The difference of two signed numbers, without overflow.
 fn signed_difference<L: Lane>(a: L, b: L) -> i128
     ensures { result ≡ cast_signed L.width (L.value a) -ℤ cast_signed L.width (L.value b) }
 {
     i128::from(a.signed_number()) - i128::from(b.signed_number())
 }
 
-/// The product of two signed numbers, of twice the width.
+/// The product of two signed numbers, which has twice the width.
 fn signed_product<L: Lane>(a: L, b: L) -> i128
     ensures { result ≡ cast_signed L.width (L.value a) *ℤ cast_signed L.width (L.value b) }
 {
     full_signed(a.signed_number(), b.signed_number())
 }
 
-/// A number that an element is shifted to, rounded.
+/// A number shifted right by the low bits of `amount`, rounded.
 fn shifted<L: Lane, M: Rounding>(number: i128, amount: L) -> i128
     ensures { result ≡ rounded M.mode (L.value amount % bits L.width) number }
 {
     wide_rounded::<M>(shift_amount::<L, L>(amount), number)
 }
 
-/// The number that an operation has as its result, before it is brought into the width.
+/// The rounded result of an operation, before saturation.
 pub(crate) fn exact<L: Lane, M: Rounding>(op: FixedPointOp, a: L, b: L) -> i128
     ensures { result ≡ exact op M.mode L.width (L.value a) (L.value b) }
 {

@@ -1,4 +1,5 @@
-//! Fixed-point operations of one width on two operands ("V" Vector Extension 1.0, sections 12.1 to 12.4).
+//! Fixed-point operations on two operands whose elements and results have the same width ("V" Vector Extension 1.0,
+//! sections 12.1 to 12.4).
 ghost use Rattle.std.specs.Prelude.{◌≡◌, ◌<◌, ◌*ℤ◌, ℕ};
 ghost use Rattle.std.specs.Int.{cast_signed};
 ghost use Rattle.rv_model.specs.elements.Elements.{element};
@@ -18,8 +19,8 @@ use lane_arith::{Lane, operand_chunk, wrapped};
 use rv_model::RoundingMode;
 use rv_model::instructions::operations::FixedPointOp;
 
-/// An operation on the elements of `a`, those of vs2, and of `b`, those of the second operand, both of the
-/// width of the result: 8, 16, 32 or 64 bits. `mode` is the rounding mode (section 3.8).
+/// An operation on `a`, the elements of vs2, and `b`, the elements of the second operand. Both have the width of
+/// the result: 8, 16, 32 or 64 bits. `mode` is the rounding mode (section 3.8).
 #[derive(Clone, Copy)]
 pub struct FixedPoint<'a> {
     pub op: FixedPointOp,
@@ -28,7 +29,7 @@ pub struct FixedPoint<'a> {
     pub b: &'a [u8],
 }
 
-/// The nearest number of the width, where the operation saturates.
+/// The nearest number of the width if the operation saturates, else the number itself.
 fn clipped<L: Lane>(op: FixedPointOp, number: i128) -> i128
     ensures { result ≡ clipped op L.width number }
 {
@@ -46,8 +47,8 @@ fn clipped<L: Lane>(op: FixedPointOp, number: i128) -> i128
     }
 }
 
-/// One element of the result, where its exact number may need more than 64 bits. It stands out of line, so that the
-/// loops of products and of shifts are short.
+/// One element of a result that may need more than 64 bits before saturation. The function isn't inlined, so that
+/// the loops of products and of shifts are short.
 #[inline(never)]
 fn apply_wide<L: Lane, M: Rounding>(op: FixedPointOp, a: L, b: L) -> Saturated<L>
     ensures value { L.value result.value
@@ -62,7 +63,7 @@ fn apply_wide<L: Lane, M: Rounding>(op: FixedPointOp, a: L, b: L) -> Saturated<L
     }
 }
 
-/// The whole product of signed numbers of less than 64 bits.
+/// The exact product of two signed numbers of less than 64 bits.
 fn small_product<L: Lane>(a: L, b: L) -> i64
     requires { bits L.width < 64 }
     ensures { result ≡ cast_signed L.width (L.value a) *ℤ cast_signed L.width (L.value b) }
@@ -70,7 +71,7 @@ fn small_product<L: Lane>(a: L, b: L) -> i64
     a.signed_number() * b.signed_number()
 }
 
-/// One element of the product of signed numbers, which has less than 64 bits.
+/// One element of `vsmul` at a width below 64 bits.
 fn product<L: Lane, M: Rounding>(a: L, b: L) -> Saturated<L>
     requires { bits L.width < 64 }
     ensures value { L.value result.value
@@ -80,7 +81,7 @@ fn product<L: Lane, M: Rounding>(a: L, b: L) -> Saturated<L>
     signed_result(signed_rounded::<M>(L::bits() - 1, small_product(a, b)))
 }
 
-/// One element shifted right, with zeros for the upper bits.
+/// One element shifted right and rounded; the upper bits become zeros.
 fn shifted<L: Lane, M: Rounding>(a: L, b: L) -> Saturated<L>
     ensures value { L.value result.value
         ≡ wrap L.width (fixed_point_formula Vssrl M.mode L.width (L.value a) (L.value b)) }
@@ -92,7 +93,7 @@ fn shifted<L: Lane, M: Rounding>(a: L, b: L) -> Saturated<L>
     }
 }
 
-/// One element shifted right, with copies of its sign for the upper bits.
+/// One element shifted right and rounded; the upper bits become copies of the sign.
 fn signed_shifted<L: Lane, M: Rounding>(a: L, b: L) -> Saturated<L>
     ensures value { L.value result.value
         ≡ wrap L.width (fixed_point_formula Vssra M.mode L.width (L.value a) (L.value b)) }

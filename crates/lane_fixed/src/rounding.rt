@@ -1,4 +1,4 @@
-//! How a number is rounded where its low bits are dropped ("V" Vector Extension 1.0, section 3.8).
+//! Rounding of numbers whose low bits are dropped ("V" Vector Extension 1.0, section 3.8).
 ghost use Rattle.std.specs.Prelude.{◌≡◌, ◌%◌, ◌<◌, ◌&&◌, nat_lt, pos};
 ghost use Rattle.rv_model.specs.elements.FixedPoint.{rounded, rounds_up};
 ghost use Rattle.rv_model.specs.elements.Formulas.{low_bits};
@@ -8,30 +8,31 @@ ghost use mir.Val.{bits};
 
 use lane_arith::Lane;
 
-/// A rounding mode as a type, so that loops are compiled for each mode.
+/// A rounding mode as a type, so that the compiler generates a loop for each mode.
 pub trait Rounding {
-    // The mode.
+    // The rounding mode.
     ghost mode: { RoundingMode };
 
-    /// Whether one is added where the low bits of a number are dropped, if any is.
+    /// Return whether rounding adds 1 when the low `count` bits of `number` are dropped. The result is false if
+    /// `count` is 0.
     fn rounds_up(count: u32, number: u64) -> bool
         requires { count < 64 }
         ensures { result ≡ (nat_lt 0 count && rounds_up mode count (pos number)) };
 }
 
-/// To the nearest number, and up where two are as near.
+/// Round to the nearest number, and up if two are equally near (`rnu`).
 #[derive(Clone, Copy)]
 pub struct ToNearestUp;
 
-/// To the nearest number, and to the even one where two are as near.
+/// Round to the nearest number, and to the even one if two are equally near (`rne`).
 #[derive(Clone, Copy)]
 pub struct ToNearestEven;
 
-/// Down.
+/// Round down (`rdn`).
 #[derive(Clone, Copy)]
 pub struct ToDown;
 
-/// To the odd one of the two nearest numbers.
+/// Round to odd (`rod`): if the dropped bits aren't all zeros, the lowest bit of the result is set.
 #[derive(Clone, Copy)]
 pub struct ToOdd;
 
@@ -78,7 +79,7 @@ fn low_half(number: i128) -> u64
     (number.cast_unsigned() % (1 << 64)) as u64
 }
 
-/// A natural number without its low bits, rounded.
+/// An unsigned number without its low `count` bits, rounded.
 pub(crate) fn rounded<M: Rounding>(count: u32, number: u64) -> u64
     requires { count < 64 }
     ensures { pos result ≡ rounded M.mode count (pos number) }
@@ -86,7 +87,7 @@ pub(crate) fn rounded<M: Rounding>(count: u32, number: u64) -> u64
     (number >> count) + u64::from(M::rounds_up(count, number))
 }
 
-/// A number without its low bits, rounded.
+/// A signed number without its low `count` bits, rounded.
 pub(crate) fn signed_rounded<M: Rounding>(count: u32, number: i64) -> i64
     requires { count < 64 }
     ensures { result ≡ rounded M.mode count number }
@@ -94,7 +95,7 @@ pub(crate) fn signed_rounded<M: Rounding>(count: u32, number: i64) -> i64
     (number >> count) + i64::from(M::rounds_up(count, number.cast_unsigned()))
 }
 
-/// A number of 128 bits without its low bits, rounded.
+/// A signed number of 128 bits without its low `count` bits, rounded.
 pub(crate) fn wide_rounded<M: Rounding>(count: u32, number: i128) -> i128
     requires { count < 64 }
     ensures { result ≡ rounded M.mode count number }
@@ -102,7 +103,7 @@ pub(crate) fn wide_rounded<M: Rounding>(count: u32, number: i128) -> i128
     (number >> count) + i128::from(M::rounds_up(count, low_half(number)))
 }
 
-/// How many low bits a shift at the width of `W` drops.
+/// The number of bits by which a shift at the width of `W` shifts: the low bits of `amount`.
 pub(crate) fn shift_amount<N: Lane, W: Lane>(amount: N) -> u32
     ensures { result ≡ N.value amount % bits W.width }
 {

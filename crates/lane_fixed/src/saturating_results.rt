@@ -1,5 +1,5 @@
-//! The results of element-wise instructions that may saturate, written to the elements of their destination
-//! ("V" Vector Extension 1.0, sections 3.9, 5.3 and 5.4).
+//! Writing of results that may saturate to the elements of a destination ("V" Vector Extension 1.0, sections 3.9,
+//! 5.3 and 5.4).
 ghost use Rattle.std.specs.Prelude.{◌≡◌, ◌+◌, ◌*◌, ◌/◌, ◌%◌, ◌^◌, ◌<◌, ◌≤◌, ◌==◌, ◌&&◌, ℕ, Bool, IfSome, length, false};
 ghost use Rattle.std.specs.Prelude.{nat_lt, not};
 ghost use Rattle.std.specs.List.{list_any, range_with_len};
@@ -13,47 +13,48 @@ use crate::rounding::{Rounding, ToDown, ToNearestEven, ToNearestUp, ToOdd};
 use lane_arith::{Body, Lane, active_bits, filled_bits, put_results};
 use rv_model::{GROUP_BYTES, RoundingMode};
 
-/// An element of a result, and whether it isn't the exact number but the nearest one of the width.
+/// An element of a result, and whether it is saturated: the nearest number of the width rather than the exact
+/// number.
 #[derive(Clone, Copy, Drop)]
 pub struct Saturated<L> {
     pub value: L,
     pub saturated: bool,
 }
 
-/// The elements of a chunk of 32 bytes of a result, as a SIMD vector, and a bit for each of them, the lowest for
-/// the first: whether it isn't the exact number but the nearest one of the width.
+/// The elements of a chunk of 32 bytes of a result, as a SIMD vector. Bit i of `saturated` says whether element i
+/// is saturated.
 #[derive(Clone, Copy, Drop)]
 pub struct SaturatedChunk<V> {
     pub values: V,
     pub saturated: u64,
 }
 
-/// What an instruction gives to the elements of its destination, which have the width of `L`.
+/// The results of an instruction for the elements of its destination, which have the width of `L`.
 pub trait SaturatingResults<L: Lane>: Copy {
-    // The number for the element at an index.
+    // The result for the element at an index, as an unsigned number.
     ghost number: { Self → ℕ → ℕ };
 
-    // Whether it isn't the exact number.
+    // Whether that result is saturated.
     ghost saturates: { Self → ℕ → Bool };
 
     // The operands have an element at this index.
     ghost has: { Self → ℕ → Type 0 };
 
-    // How it rounds.
+    // The rounding mode.
     ghost mode: { Self → RoundingMode };
 
-    /// How it rounds.
+    /// The rounding mode.
     fn mode(&self) -> RoundingMode
         ensures { result ≡ mode self.now };
 
-    /// The result for the element at an index, in the mode as a type.
+    /// Return the result for the element at an index, with the rounding mode as a type.
     fn result_in<M: Rounding>(&self, index: usize) -> Saturated<L>
         requires has { has self.now index }
         requires mode { M.mode ≡ mode self.now }
         ensures value { L.value result.value ≡ number self.now index }
         ensures saturated { result.saturated ≡ saturates self.now index };
 
-    /// The result for the element at an index.
+    /// Return the result for the element at an index.
     fn result(&self, index: usize) -> Saturated<L>
         requires { has self.now index }
         ensures value { L.value result.value ≡ number self.now index }
@@ -67,7 +68,8 @@ pub trait SaturatingResults<L: Lane>: Copy {
         }
     }
 
-    /// The results for the elements of a chunk of 32 bytes, where they are made by SIMD.
+    /// Return the results for the elements of a chunk of 32 bytes, or `None` if SIMD instructions don't compute
+    /// them.
     fn chunk_results(&self, _chunk: usize) -> Option<SaturatedChunk<L::Vector>>
         requires { L.count * _chunk + L.count ≤ GROUP_BYTES }
         ensures value { IfSome result (λ made. (i : ℕ) → i < L.count → L.lane made.values i
@@ -80,8 +82,9 @@ pub trait SaturatingResults<L: Lane>: Copy {
     }
 }
 
-/// `write_saturating_results`, element by element, in one mode. It reads copies of its own, which no store to the
-/// destination can change: so the compiler tests what they say outside of the loop.
+/// `write_saturating_results` for one element at a time, in one rounding mode. The function copies `results` and
+/// `body`, which no store to the destination can change, so that the compiler moves tests of their fields out of
+/// the loop.
 #[inline(never)]
 fn write_each<L: Lane, R: SaturatingResults<L>, M: Rounding>(
     results: &R,
@@ -111,7 +114,7 @@ fn write_each<L: Lane, R: SaturatingResults<L>, M: Rounding>(
     saturated
 }
 
-/// `write_saturating_results`, element by element, in the mode of the results.
+/// `write_saturating_results` for one element at a time, in the rounding mode of the results.
 #[inline(never)]
 fn write_rest<L: Lane, R: SaturatingResults<L>>(
     results: &R,
@@ -141,15 +144,16 @@ fn write_rest<L: Lane, R: SaturatingResults<L>>(
     }
 }
 
-/// How far a destination is written: the index of the first element that is left, and whether an active one
-/// before it saturated.
+/// Progress of a write: the index of the first element that isn't processed, and whether an active one before it
+/// saturated.
 #[derive(Drop)]
 struct Progress {
     left: usize,
     saturated: bool,
 }
 
-/// `write_saturating_results`, chunk by chunk, up to the first chunk whose results aren't made by SIMD.
+/// `write_saturating_results` for one chunk of 32 bytes at a time, up to the first chunk whose results SIMD
+/// instructions don't compute.
 fn write_chunks<L: Lane, R: SaturatingResults<L>>(
     results: &R,
     body: &Body<'_>,
@@ -183,9 +187,9 @@ fn write_chunks<L: Lane, R: SaturatingResults<L>>(
     }
 }
 
-/// Writes the result to each active element of the destination, and says whether one of these saturated,
-/// so that `vxsat` is set (section 3.9). Where `fill_masked_off`, the elements of the body that are masked
-/// off become all ones; all others keep.
+/// Write the result to each active element of the destination. Return whether one of these saturated, so that the
+/// caller sets vxsat (section 3.9). If `fill_masked_off`, masked-off elements of the body become all ones. All
+/// other elements are unchanged.
 pub fn write_saturating_results<L: Lane, R: SaturatingResults<L>>(
     results: &R,
     body: &Body<'_>,
@@ -202,7 +206,7 @@ pub fn write_saturating_results<L: Lane, R: SaturatingResults<L>>(
     let start = body.start().max(done.left);
     let end = body.end();
     if start < end {
-        // Only this copy has to stand in memory.
+        // Only this copy has to be in memory, since `write_rest` isn't inlined.
         let results = *results;
         let rest = Body::new(body.is_unmasked(), body.mask(), start, end);
         done.saturated | write_rest(&results, &rest, destination, fill_masked_off)

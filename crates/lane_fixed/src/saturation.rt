@@ -1,4 +1,4 @@
-//! The nearest numbers of a width ("V" Vector Extension 1.0, sections 12.1, 12.3 and 12.5).
+//! Saturation: the nearest numbers of a width ("V" Vector Extension 1.0, sections 12.1, 12.3 and 12.5).
 ghost use Rattle.std.specs.Prelude.{◌≡◌, pos, not};
 ghost use Rattle.std.specs.Int.{saturate_signed, saturate_unsigned};
 ghost use Rattle.std.specs.Ordering.{int_eq};
@@ -34,7 +34,7 @@ pub(crate) fn unsigned_result<L: Lane>(number: u64) -> Saturated<L>
     }
 }
 
-/// The nearest signed number of the width to one of 64 bits.
+/// The nearest signed number of the width to a 64-bit number.
 fn nearest_signed<L: Lane>(number: i64) -> i64
     ensures { result ≡ saturate_signed L.width number }
 {

@@ -6,7 +6,7 @@ use mir.Val.{bits}
 use Rattle.lane_fixed.proofs.WiderNumbers.{product_fits}
 use Rattle.lane_fixed.proofs.fixed_point.small_product.Goals as goal
 
--- the product of two signed numbers fits, and is read as it is
+-- the product of two signed numbers fits in 64 bits, and conversions preserve it
 product_kept : (w : Width) (a b : ℕ) (x y : ℤ) → bits w < 64 → a < 2 ^ bits w → b < 2 ^ bits w → x ≡ cast_signed w a → y ≡ cast_signed w b → FitsSigned w64 x → FitsSigned w64 y
     → FitsSigned w64 (cast_signed w64 (cast_unsigned w64 x) *ℤ cast_signed w64 (cast_unsigned w64 y))
     × (cast_signed w64 (cast_unsigned w64 (cast_signed w64 (cast_unsigned w64 x) *ℤ cast_signed w64 (cast_unsigned w64 y))) ≡ cast_signed w a *ℤ cast_signed w b)
