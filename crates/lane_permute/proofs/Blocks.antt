@@ -1,4 +1,4 @@
--- Elements that are copied side by side, as one block of bytes.
+-- Consecutive elements, copied as one block of bytes.
 use Rattle.std.proofs.Common.{ℕ, suc, ◌+◌, ◌-◌, ◌*◌, ◌<◌, ◌≤◌, ◌≡◌, true, false, cond, ◌&&◌, ◌||◌, nat_le, List, length, get_or, refl, sym, ap, ◌∙◌, arith, inl, inr, le-leb, le-ltb, lt-ltb, w8}
 use Rattle.std.proofs.Math.Bool.{and-false, or-false}
 use Rattle.std.proofs.Math.Nat.{mul-add, mul-le-mul_left, mul-suc}
@@ -22,7 +22,7 @@ element_byte k i m xs fits room h =
     ∙ byte_of_number ys m (below_from_Fits w8 ys (chunk-fits w8 (k * i) k xs (λ j. record { fits = fits j }))) (omega (arith, long, h))
     ∙ get_or-chunk (k * i) k xs m 0 h
 
--- the elements from one on of a list, put in from another on
+-- the elements of a list starting at `from`, written to the elements of another list from `start` up to `end`
 pub block_moved : (k from start end : ℕ) (a old ys : List ℕ) → ((j : ℕ) → get_or a j 0 < 256) → start < end
     → k * (from + (end - start)) ≤ length a → k * end ≤ length old → ys ≡ chunk (k * from) (k * (end - start)) a
     → Writes k (in_range start end) (λ i. element k a (from + (i - start))) old (put_mid (k * start) (k * end - k * start) old ys)
@@ -61,7 +61,7 @@ block_moved k from start end a old ys fits some has room is =
       ];
     })
 
--- elements that are moved, and after them one number
+-- moved elements, followed by elements filled with one number
 pub then_filled : (k start to end v : ℕ) (moved number : ℕ → ℕ) (old mid new : List ℕ) → to ≤ end → ((i : ℕ) → to ≤ i → i < end → start ≤ i)
     → ((i : ℕ) → start ≤ i → i < to → number i ≡ moved i) → ((i : ℕ) → to ≤ i → i < end → number i ≡ v)
     → Writes k (in_range start to) moved old mid → Writes k (in_range to end) (λ i. v) mid new → Writes k (in_range start end) number old new

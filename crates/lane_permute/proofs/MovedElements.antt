@@ -1,4 +1,4 @@
--- Elements of 32 bytes that are those of a list from an index on.
+-- Elements of 32 bytes that are consecutive elements of a list.
 use Rattle.std.proofs.Common.{ℕ, zero, suc, ◌+◌, ◌-◌, ◌*◌, ◌/◌, ◌%◌, ◌^◌, ◌<◌, ◌≤◌, ◌≡◌, ◌==◌, true, false, min, List, [], ◌∷◌, length, take, drop, replicate, get_or, cond, nat_lt, refl, sym, ap, ◌∙◌, arith, inl, inr, lt-ltb, le-ltb}
 use Rattle.std.proofs.Math.Nat.{mul-add, mul-le-mul_left, mul-suc}
 use Rattle.std.proofs.lemmas.Bool.{cases_lt}
@@ -13,7 +13,7 @@ use Rattle.rv_model.proofs.element_lemmas.Reads.{element-take}
 
 -- ---- bytes
 
--- a byte of a chunk that stands between zeros
+-- a byte of a chunk with zeros on both sides
 between : (room ys : List ℕ) (p : ℕ) → length room ≡ 96 → get_or room p 0 ≡ 0 → length ys ≡ 32 → 32 ≤ p → get_or (put_chunk 32 room ys) p 0 ≡ get_or ys (p - 32) 0
 between room ys p wide none long from = elim (cases_lt p 64) [
   | inl low ↦
@@ -22,7 +22,7 @@ between room ys p wide none long from = elim (cases_lt p 64) [
   | inr high ↦ get_or-put_chunk_above 32 room ys p 0 (omega (arith, high, long)) ∙ none ∙ sym (get_or_past ys (p - 32) 0 (omega (arith, high, long)))
 ]
 
--- the bytes from an index on of 32 zeros, a list, and zeros
+-- the bytes starting at an index of a sequence of 32 zeros, a list, and zeros
 pub byte_around : (xs : List ℕ) (at start j : ℕ) → 32 ≤ length xs → at ≤ length xs + 32 → start ≡ min (at - 32) (length xs - 32) → j < 32 → 32 ≤ at + j
     → get_or (chunk (at - start) 32 (put_chunk 32 (replicate 96 0) (chunk start 32 xs))) j 0 ≡ get_or xs (at + j - 32) 0
 byte_around xs at start j whole inside is h behind =
@@ -64,7 +64,7 @@ same_element : (k i e : ℕ) (xs ys : List ℕ) → ((m : ℕ) → m < k → get
 same_element k i e xs ys same =
     same_number k (drop (k * i) xs) (drop (k * e) ys) (λ m h. get_or-drop (k * i) xs m 0 ∙ same m h ∙ sym (get_or-drop (k * e) ys m 0))
 
--- past the end of the list
+-- an element past the end of the list is 0
 element_past : (k e : ℕ) (xs : List ℕ) → length xs ≤ k * e → element k xs e ≡ 0
 element_past k e xs h =
     same_number k (drop (k * e) xs) [] (λ m l. get_or-drop (k * e) xs m 0 ∙ get_or_past xs (k * e + m) 0 (omega (arith, h))) ∙ no_bytes k
@@ -74,7 +74,7 @@ in_chunk k n i m fills h l =
     let up : k * suc i ≤ k * n = mul-le-mul_left k h in
     omega (arith, up, fills, mul-suc k i, l)
 
--- the elements from one on of so many zeros, a list, and zeros
+-- the elements starting at an index of a sequence of n zeros, a list, and zeros
 pub element_around : (k n from i : ℕ) (bytes xs : List ℕ) → k * n ≡ 32 → i < n → n ≤ from + i
     → ((j : ℕ) → j < 32 → 32 ≤ k * from + j → get_or bytes j 0 ≡ get_or xs (k * from + j - 32) 0)
     → element k bytes i ≡ element k xs (from + i - n)
@@ -85,7 +85,7 @@ element_around k n from i bytes xs fills h past told =
     let place : k * from + (k * i + m) - 32 ≡ k * (from + i - n) + m = omega (arith, split) in
     told (k * i + m) (in_chunk k n i m fills h l) (omega (arith, split)) ∙ ap (λ x. get_or xs x 0) place)
 
--- the first elements of a list, and zeros after them
+-- the first elements of a list, followed by zeros
 limited : (k limit x y : ℕ) (xs : List ℕ) → k * limit ≤ length xs → (x < limit → y ≡ x) → (limit ≤ x → limit ≤ y)
     → element k (take (k * limit) xs) y ≡ gathered limit (element k xs) x
 limited k limit x y xs room same past = elim (cases_lt x limit) [
@@ -97,23 +97,23 @@ limited k limit x y xs room same past = elim (cases_lt x limit) [
       rw (le-ltb x limit high) (element_past k y (take (k * limit) xs) (omega (arith, up, length-take (k * limit) xs)))
 ]
 
--- those from an offset on, which is added up to the last number of 64 bits
+-- the elements starting at an offset, which is added with saturation at `top`
 pub moved_down_lane : (k limit offset first n i place from top : ℕ) (xs : List ℕ) → k * limit ≤ length xs → limit ≤ top
     → place ≡ min (offset + first) top → from ≡ min place limit
     → element k (take (k * limit) xs) (from + n + i - n) ≡ gathered limit (element k xs) (first + i + offset)
 moved_down_lane k limit offset first n i place from top xs room few is least =
     limited k limit (first + i + offset) (from + n + i - n) xs room (λ low. omega (arith, few, is, least, low)) (λ high. omega (arith, few, is, least, high))
 
--- ---- choices
+-- ---- selections of elements
 
--- those whose bit of the word is set, and those after them
+-- a mask of the low `count` bits selects the elements below `count`
 pub picked : (count i lane x y : ℕ) → (lane == 0) ≡ ((2 ^ count - 1) / 2 ^ i % 2 == 0) → cond (lane == 0) y x ≡ cond (nat_lt i count) x y
 picked count i lane x y told = elim (cases_lt i count) [
   | inl low ↦ (let one : (2 ^ count - 1) / 2 ^ i % 2 ≡ 1 = bit_at_ones count i low in rw (told, one, lt-ltb i count low) refl)
   | inr high ↦ (let none : (2 ^ count - 1) / 2 ^ i % 2 ≡ 0 = bit_at_ones_above count i high in rw (told, none, le-ltb i count high) refl)
 ]
 
--- a number before the elements that moved up
+-- a number before the elements that are moved up
 pub moved_up_lane : (offset first n start gap i : ℕ) {made moved before v e : ℕ} → i < n → start ≡ min offset (first + n) → gap ≡ start - first
     → made ≡ cond (nat_lt i gap) before moved → before ≡ v → (offset ≤ first + i → moved ≡ e) → made ≡ cond (nat_lt (first + i) offset) v e
 moved_up_lane offset first n start gap i h is long made one rest = elim (cases_lt (first + i) offset) [
@@ -121,7 +121,7 @@ moved_up_lane offset first n start gap i h is long made one rest = elim (cases_l
   | inr high ↦ (let t : nat_lt i gap ≡ false = le-ltb i gap (omega (arith, is, long, high)) in rw (le-ltb (first + i) offset high) (rw t at made ∙ rest high))
 ]
 
--- where that is the first element
+-- the same if the number is the first element
 pub first_before : (f : ℕ → ℕ) (x offset v : ℕ) → v ≡ f 0 → cond (nat_lt x offset) v (f (x - offset)) ≡ f (x - offset)
 first_before f x offset v is = elim (cases_lt x offset) [
   | inl low ↦ (let none : x - offset ≡ 0 = omega (arith, low) in rw (lt-ltb x offset low, none) is)
@@ -131,7 +131,7 @@ first_before f x offset v is = elim (cases_lt x offset) [
 pub is_first : (x : ℕ) → nat_lt x 1 ≡ (x == 0)
 is_first x = grind (arith, nat_tests)
 
--- a number in place of the last of the elements that moved down
+-- a number in place of the last of the elements that are moved down
 pub last_lane : (end first n i before to : ℕ) (last moved : ℕ) → i < n → before ≡ min (end - (first + 1)) n → to ≡ min (end - first) n
     → cond (nat_lt i before) moved (cond (nat_lt i to) last moved) ≡ cond (first + i + 1 == end) last moved
 last_lane end first n i before to last moved h low high = elim (cases_lt i before) [

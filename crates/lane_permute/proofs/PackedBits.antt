@@ -1,4 +1,4 @@
--- Elements that are packed, by the bits of a word that select them.
+-- Packed elements, selected by the bits of a number.
 use Rattle.std.proofs.Common.{ℕ, zero, suc, ◌+◌, ◌-◌, ◌*◌, ◌/◌, ◌%◌, ◌^◌, ◌<◌, ◌≡◌, ◌==◌, ◌&&◌, List, Bool, true, false, not, nat_lt, refl, sym, ap, subst, ◌∙◌, arith, inl, inr, lt-ltb, le-ltb, pow-add, w64}
 use Rattle.std.proofs.Math.Nat.{div-div-eq-div-mul, mod-lt}
 use Rattle.std.proofs.lemmas.Bool.{ltb-true, cases_lt}
@@ -10,11 +10,11 @@ use Rattle.rv_model.proofs.element_lemmas.Packed.{PackedTo, pack_passed}
 use Rattle.lane_arith.proofs.MaskBits.{low_bit}
 
 module _ (select : List ℕ) where
-  -- a word whose bits tell which of the elements from one on, before another, are selected
+  -- a number whose bit i says whether element next + i is below `to` and selected
   abbrev pub Tells : ℕ → ℕ → ℕ → Type 0
   Tells set next to = (i : ℕ) → (set / 2 ^ i % 2 == 0) ≡ not (nat_lt (next + i) to && mask_bit select (next + i))
 
-  -- of a word of the mask
+  -- the low bits of a mask's word are such a number
   pub tells_first : (m from to : ℕ) → ((i : ℕ) → i < to - from → (m / 2 ^ i % 2 == 0) ≡ not (mask_bit select (from + i)))
       → Tells (m % 2 ^ (to - from)) from to
   tells_first m from to told i = elim (cases_lt i (to - from)) [
@@ -24,7 +24,7 @@ module _ (select : List ℕ) where
         rw (none, le-ltb (from + i) to (omega (arith, high))) refl
   ]
 
-  -- after the bit t
+  -- shifting out the bits up to bit t gives such a number for the elements after it
   pub tells_next : (set next to t : ℕ) → Tells set next to → Tells (set / 2 ^ t / 2) (next + t + 1) to
   tells_next set next to t told i =
       let place : next + (t + 1 + i) ≡ next + t + 1 + i = omega arith in
@@ -33,7 +33,7 @@ module _ (select : List ℕ) where
       ap (λ x. x / 2 ^ i) (div-div-eq-div-mul set (2 ^ t) 2) ∙ div-div-eq-div-mul set (2 ^ t * 2) (2 ^ i) ∙ ap (λ x. set / x) power in
       ap (λ x. x % 2 == 0) shifted ∙ told (t + 1 + i) ∙ ap (λ x. not (nat_lt x to && mask_bit select x)) place
 
-  -- what a bit tells
+  -- the meaning of a set bit
   one_is : (x : ℕ) (a b : Bool) → x ≡ 1 → (x == 0) ≡ not (a && b) → (a ≡ true) × (b ≡ true)
   one_is x true true one told = (refl, refl)
   one_is x _ _ one told = let off = rw one at told in absurd (cc)
@@ -43,7 +43,7 @@ module _ (select : List ℕ) where
   none_is x true true none is told = let on = rw none at told in absurd (cc)
   none_is x false b none is told = absurd (cc)
 
-  -- the first that is selected
+  -- the lowest set bit is the first selected element
   pub lowest : (set next to : ℕ) → 0 < set → set < 2 ^ 64 → Tells set next to
       → (next + trailing_zeros w64 set < to) × (mask_bit select (next + trailing_zeros w64 set) ≡ true)
       × ((i : ℕ) → i < trailing_zeros w64 set → mask_bit select (next + i) ≡ false)
@@ -58,13 +58,13 @@ module _ (select : List ℕ) where
             (lt-ltb (next + i) to (omega (arith, h, inside))) (told i),
       )
 
-  -- none is
+  -- if the number is 0, no element is selected
   pub none_left : (set next to : ℕ) → set ≡ 0 → Tells set next to → (i : ℕ) → i < to - next → mask_bit select (next + i) ≡ false
   none_left set next to empty told i h =
       let none : set / 2 ^ i % 2 ≡ 0 = rw empty (bit_at_above 0 0 i (omega arith) (omega arith)) in
       none_is (set / 2 ^ i % 2) (nat_lt (next + i) to) (mask_bit select (next + i)) none (lt-ltb (next + i) to (omega (arith, h))) (told i)
 
-  -- so many elements aren't taken
+  -- t elements that aren't selected don't change the packed elements
   pub passed_many : (element : ℕ → ℕ) (k next t count : ℕ) (old mid : List ℕ) → ((i : ℕ) → i < t → mask_bit select (next + i) ≡ false)
       → PackedTo select element k next count old mid → PackedTo select element k (next + t) count old mid
   passed_many element k next zero count old mid none was =

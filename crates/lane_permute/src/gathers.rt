@@ -1,4 +1,4 @@
-//! Gathers: elements of a source by their index ("V" Vector Extension 1.0, section 16.4).
+//! Gathers: elements of a source, selected by their indices ("V" Vector Extension 1.0, section 16.4).
 ghost use Rattle.std.specs.Prelude.{◌≡◌, ◌*◌, ◌≤◌, ℕ, length};
 ghost use Rattle.rv_model.specs.elements.Elements.{element};
 ghost use Rattle.rv_model.specs.lending.Writes.{HasElement};
@@ -8,7 +8,7 @@ ghost use Rattle.rv_model.specs.vector.Groups.{width_bytes};
 use lane_arith::{Lane, Results};
 use std::marker::PhantomData;
 
-/// The element of `a` at an index, and 0 from `limit` on.
+/// The element of `a` at an index, or 0 if the index is at least `limit`.
 #[tactic(auto, using(rv_model::proofs::element_lemmas::Sets::room_for))]
 pub(crate) fn gathered<L: Lane>(a: &[u8], limit: usize, index: u64) -> L
     requires { width_bytes L.width * limit ≤ length a.now }
@@ -21,9 +21,9 @@ pub(crate) fn gathered<L: Lane>(a: &[u8], limit: usize, index: u64) -> L
     }
 }
 
-/// vrgather and vrgatherei16 with indices in vs1: the elements of `a`, those of vs2, at the indices of
-/// `indices`, unsigned and of the width of `I`. The source has `limit` elements, which is VLMAX and not `vl`;
-/// from there on each is 0.
+/// `vrgather` and `vrgatherei16` with indices in vs1: elements of `a`, the elements of vs2, at the unsigned indices
+/// in `indices`, which have the width of `I`. `limit` is the number of source elements, VLMAX rather than vl. An
+/// index of at least `limit` selects 0.
 #[derive(Clone, Copy)]
 pub struct Gather<'a, I> {
     pub a: &'a [u8],
@@ -52,9 +52,9 @@ impl<'a, I: Lane, L: Lane> Results<L> for Gather<'a, I> {
     }
 }
 
-/// vrgather with one index for all elements of the result, unsigned and of 64 bits: the element of `a`, those
-/// of vs2, at that index. The source has `limit` elements, which is VLMAX and not `vl`; from there on each is
-/// 0.
+/// `vrgather` with one unsigned 64-bit index for all elements of the result: the element of `a`, the elements of
+/// vs2, at that index. `limit` is the number of source elements, VLMAX rather than vl. An index of at least `limit`
+/// selects 0.
 #[derive(Clone, Copy)]
 pub struct GatherOne<'a> {
     pub a: &'a [u8],

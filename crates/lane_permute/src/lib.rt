@@ -1,5 +1,5 @@
-//! Kernels of permutations of elements, generic over the width of an element ("V" Vector Extension 1.0,
-//! chapter 16). Slides and gathers are results for `lane_arith::write_results`.
+//! Kernels of permutations of elements, generic over the width of an element ("V" Vector Extension 1.0, chapter
+//! 16). Slides and gathers implement `Results` for `lane_arith::write_results`.
 #![tactic(auto)]
 
 mod gathers;

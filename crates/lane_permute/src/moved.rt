@@ -1,4 +1,4 @@
-//! Elements of a source that stand side by side in a chunk of 32 bytes, from any index on.
+//! Consecutive elements of a source, starting at any index, as chunks of 32 bytes.
 ghost use Rattle.std.specs.Prelude.{◌≡◌, ◌+◌, ◌-◌, ◌*◌, ◌<◌, ◌≤◌, ℕ, IfSome, length, nat_lt, replicate, slice_index};
 ghost use Rattle.std.specs.Prelude.{if◌then◌else◌};
 ghost use Rattle.std.specs.Simd.Lanes.{chunk, put_chunk};
@@ -10,7 +10,7 @@ use lane_arith::Lane;
 use rv_model::GROUP_BYTES;
 use std::simd::prelude::*;
 
-/// The 32 bytes from the index `at` on.
+/// The 32 bytes starting at index `at`.
 fn window(bytes: &[u8], at: usize) -> u8x32
     requires { at + 32 ≤ length bytes.now }
     ensures { result ≡ chunk at 32 bytes.now }
@@ -27,7 +27,7 @@ fn between_zeros(chunk: u8x32) -> [u8; 96]
     room
 }
 
-/// The 32 bytes from the index `at` on of 32 zeros, `a`, and zeros.
+/// The 32 bytes starting at index `at` of a sequence of 32 zeros, `a`, and zeros.
 fn bytes_around(a: &[u8], at: usize) -> u8x32
     requires whole { 32 ≤ length a.now }
     requires inside { at ≤ length a.now + 32 }
@@ -37,7 +37,8 @@ fn bytes_around(a: &[u8], at: usize) -> u8x32
     window(&between_zeros(window(a, start)), at - start)
 }
 
-/// The elements from the index `from` on of a chunk of zeros, `a`, and zeros.
+/// The elements starting at index `from` of a sequence of a chunk of zeros, `a`, and zeros. Return `None` if `a` is
+/// shorter than 32 bytes, or `from` is past the end of `a` in the sequence.
 pub(crate) fn elements_around<L: Lane>(a: &[u8], from: usize) -> Option<L::Vector>
     ensures { IfSome result (λ made. (i : ℕ) → i < L.count → L.count ≤ from + i
         → L.lane made i ≡ element (width_bytes L.width) a.now (from + i - L.count)) }
@@ -49,7 +50,7 @@ pub(crate) fn elements_around<L: Lane>(a: &[u8], from: usize) -> Option<L::Vecto
     Some(L::from_bytes(bytes_around(a, width * from)))
 }
 
-/// The elements of `first` before the index `count`, and those of `rest` from there on.
+/// The elements of `first` below index `count`, and those of `rest` from there on.
 pub(crate) fn first_then<L: Lane>(first: L::Vector, rest: L::Vector, count: usize) -> L::Vector
     requires { count ≤ L.count }
     ensures { (i : ℕ) → i < L.count → L.lane result i ≡ (if nat_lt i count then L.lane first i else L.lane rest i) }
@@ -57,7 +58,7 @@ pub(crate) fn first_then<L: Lane>(first: L::Vector, rest: L::Vector, count: usiz
     L::select(L::choose((1 << count) - 1), first, rest)
 }
 
-/// A chunk of the elements of `a` moved up by `offset` places; `before` comes before them.
+/// A chunk of the elements of `a`, moved up by `offset` indices. The elements below `offset` are `before`.
 pub(crate) fn moved_up<L: Lane>(a: &[u8], offset: u64, before: L, chunk: usize) -> Option<L::Vector>
     requires { L.count * chunk + L.count ≤ GROUP_BYTES }
     ensures { IfSome result (λ made. (i : ℕ) → i < L.count → L.lane made i
@@ -72,7 +73,8 @@ pub(crate) fn moved_up<L: Lane>(a: &[u8], offset: u64, before: L, chunk: usize) 
     Some(first_then::<L>(before, moved, start.saturating_sub(first)))
 }
 
-/// Copies the elements of `a` from the index `from` on to those of the destination from `start` up to `end`.
+/// Copy the elements of `a` starting at index `from` to those of the destination from `start` up to `end`,
+/// excluding `end`.
 pub(crate) fn move_elements<L: Lane>(
     a: &[u8],
     from: usize,

@@ -1,4 +1,4 @@
-//! Elements that are packed, as a mask selects them ("V" Vector Extension 1.0, section 16.5).
+//! Packing of the elements that a mask selects ("V" Vector Extension 1.0, section 16.5).
 ghost use Rattle.std.specs.Prelude.{◌≡◌, ◌+◌, ◌-◌, ◌*◌, ◌/◌, ◌%◌, ◌^◌, ◌<◌, ◌≤◌, ◌==◌, ◌&&◌, ℕ, List, length, nat_lt};
 ghost use Rattle.std.specs.Prelude.{not, slice_index};
 ghost use Rattle.rv_model.specs.elements.Elements.{element, mask_bit};
@@ -9,7 +9,8 @@ ghost use Rattle.rv_model.specs.vector.Groups.{width_bytes};
 use lane_arith::{Lane, mask_bits};
 use rv_model::{GROUP_BYTES, VLENB};
 
-/// A bit for each of the elements from `from` on, set where that of the mask is, and none from `to` on.
+/// A bit for each element from `from` up to `to`, excluding `to`, set if the mask's bit is set. All bits above are
+/// clear.
 fn selected(select: &[u8; VLENB], from: usize, to: usize) -> u64
     requires word { from % 32 + (to - from) ≤ 32 }
     requires some { from < to }
@@ -19,8 +20,8 @@ fn selected(select: &[u8; VLENB], from: usize, to: usize) -> u64
     mask_bits(select, from, to - from) % (1 << (to - from))
 }
 
-/// `compress` of the elements from `from` up to `to`, whose bits lie in one word of the mask, after as many as are
-/// packed `before`. Answers how many are packed then.
+/// `compress` for the elements from `from` up to `to`, excluding `to`, whose bits are in a single 32-bit word of
+/// `select`. `before` elements are already packed. Return the number of packed elements.
 fn pack_word<L: Lane>(
     a: &[u8],
     select: &[u8; VLENB],
@@ -58,9 +59,9 @@ fn pack_word<L: Lane>(
     count
 }
 
-/// vcompress: writes the elements of `a`, those of vs2, whose bit in `select`, which is vs1, is set, one after
-/// another from element 0 of the destination on. Only those before `end`, which is `vl`, are selected. All
-/// other elements of the destination keep, also those before `end`.
+/// `vcompress.vm`: write the elements of `a`, the elements of vs2, whose bit in `select`, which is vs1, is set.
+/// They become consecutive elements of the destination, starting at element 0. Only elements below `end`, which is
+/// vl, are selected. All other elements of the destination are unchanged, including those below `end`.
 pub fn compress<L: Lane>(a: &[u8], select: &[u8; VLENB], end: usize, destination: &mut [u8])
     requires operand { width_bytes L.width * end ≤ length a.now }
     requires room { width_bytes L.width * end ≤ length destination.old }

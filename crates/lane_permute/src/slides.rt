@@ -1,5 +1,5 @@
-//! Slides: elements of a source that move up or down by an offset, or by one place ("V" Vector Extension
-//! 1.0, section 16.3).
+//! Slides: elements of a source that move up or down by an offset, or by one index ("V" Vector Extension 1.0,
+//! section 16.3).
 ghost use Rattle.std.specs.Prelude.{◌≡◌, ◌+◌, ◌-◌, ◌*◌, ◌<◌, ◌≤◌, ◌==◌, ℕ, length, max, if◌then◌else◌};
 ghost use Rattle.rv_model.specs.elements.Elements.{element};
 ghost use Rattle.rv_model.specs.lending.Writes.{HasElement};
@@ -11,9 +11,9 @@ use crate::moved::{elements_around, first_then, move_elements, moved_up};
 use lane_arith::{Body, Lane, Results, fill};
 use rv_model::GROUP_BYTES;
 
-/// vslideup (section 16.3.1): the elements of `a`, those of vs2, `offset` places up. Below the offset no
-/// element changes: the results are for the elements of `SlideUp::body`. The offset is unsigned, of 64 bits
-/// at every width of an element.
+/// `vslideup` (section 16.3.1): the elements of `a`, the elements of vs2, moved up by `offset` indices. Elements
+/// below the offset are unchanged: the results are for the elements of `SlideUp::body`. The offset is unsigned and
+/// has 64 bits at each element width.
 #[derive(Clone, Copy)]
 pub struct SlideUp<'a> {
     pub a: &'a [u8],
@@ -21,7 +21,7 @@ pub struct SlideUp<'a> {
 }
 
 impl<'a> SlideUp<'a> {
-    /// The elements that it works on: those of the instruction's body from the offset on.
+    /// Return the body of the slide: the elements of the instruction's body from the offset on.
     pub fn body<'b>(&self, body: &'b Body<'_>) -> Body<'b>
         ensures { result ≡ record body.now { start = max body.now.start self.now.offset } }
     {
@@ -57,9 +57,9 @@ impl<'a, L: Lane> Results<L> for SlideUp<'a> {
     }
 }
 
-/// vslidedown (section 16.3.2): the elements of `a`, those of vs2, `offset` places down. The source has
-/// `limit` elements, which is VLMAX and not `vl`; past them come zeros. The offset is unsigned, of 64 bits at
-/// every width of an element.
+/// `vslidedown` (section 16.3.2): the elements of `a`, the elements of vs2, moved down by `offset` indices. `limit`
+/// is the number of source elements, VLMAX rather than vl; zeros follow them. The offset is unsigned and has 64
+/// bits at each element width.
 #[derive(Clone, Copy)]
 pub struct SlideDown<'a> {
     pub a: &'a [u8],
@@ -96,8 +96,8 @@ impl<'a, L: Lane> Results<L> for SlideDown<'a> {
     }
 }
 
-/// vslide1up (section 16.3.3): the elements of `a`, those of vs2, one place up, and `first`, the low bits of a
-/// scalar, as element 0.
+/// `vslide1up` (section 16.3.3): the elements of `a`, the elements of vs2, moved up by one index. Element 0 is
+/// `first`, the low bits of a scalar.
 #[derive(Clone, Copy)]
 pub struct SlideOneUp<'a, L> {
     pub a: &'a [u8],
@@ -130,8 +130,8 @@ impl<'a, L: Lane> Results<L> for SlideOneUp<'a, L> {
     }
 }
 
-/// vslide1down (section 16.3.5): the elements of `a`, those of vs2, one place down, and `last`, the low bits of
-/// a scalar, as the last element before `end`, which is `vl`.
+/// `vslide1down` (section 16.3.5): the elements of `a`, the elements of vs2, moved down by one index. The last
+/// element before `end`, which is vl, is `last`, the low bits of a scalar.
 #[derive(Clone, Copy)]
 pub struct SlideOneDown<'a, L> {
     pub a: &'a [u8],
