@@ -1,4 +1,4 @@
--- The operations of reductions may be combined in any order.
+-- The operations of reductions are associative and commutative, so that numbers may be combined in any order.
 use Rattle.std.proofs.Common.{ℕ, ◌+◌, ◌-◌, ◌%◌, ◌^◌, ◌<◌, ◌≡◌, ℤ, pos, negsuc, int_lt, Bool, true, false, cond, bit_and, bit_or, bit_xor, min, max, refl, sym, ap, ◌∙◌, arith, mod-eq_of_lt, inl, inr, ◌⊎◌}
 use Rattle.std.proofs.Math.Facts.{sfits_to_z}
 use Rattle.std.proofs.Math.Nat.{mod-lt}
@@ -29,7 +29,7 @@ sums p some = record {
       ∙ ap (λ t. t % p) (let e : (y + z) % p + x ≡ x + (y + z) % p = omega arith in e);
 }
 
--- one that stays below the bound by itself
+-- an operation whose results are below the bound without a modulus
 plain : (g : ℕ → ℕ → ℕ) (e p : ℕ) → ((x y : ℕ) → x < p → y < p → g x y < p) → e < p → ((x : ℕ) → x < p → g x e ≡ x) → ((x y : ℕ) → g x y ≡ g y x)
     → ((x y z : ℕ) → g (g x y) z ≡ g x (g y z)) → AnyOrder (λ x y. g x y % p) e p
 plain g e p closed within unchanged commutative associative = record {
@@ -66,14 +66,14 @@ wrapped_below : (w : Width) (z : ℤ) → wrap w z < 2 ^ bits w
 wrapped_below w (pos n) = mod-lt n (power_positive w)
 wrapped_below w (negsuc n) = omega (arith, power_positive w)
 
--- a signed number, taken modulo 2 to its width, is the unsigned one
+-- a signed number modulo 2 to its width is the unsigned number
 back : (w : Width) (x : ℕ) → x < 2 ^ bits w → wrap w (cast_signed w x) ≡ x
 back w x h =
     let near : mag (cast_signed w x) < 2 ^ hbits w = (sfits_to_z {w = w} {n = x} (record { fits = h })).sfits in
     sym (low_bits_of w w (omega arith) (cast_signed w x) (omega (arith, near, half w)))
     ∙ ap (λ n. n % 2 ^ bits w) (of_z-to_z w x h) ∙ mod-eq_of_lt h
 
--- one that picks one of two
+-- an operation that returns one of its two operands
 picks : (w : Width) (m : ℤ → ℤ → ℤ) (e : ℕ) → e < 2 ^ bits w → ((a b : ℤ) → (m a b ≡ a) ⊎ (m a b ≡ b)) → ((a b : ℤ) → m a b ≡ m b a)
     → ((a b c : ℤ) → m (m a b) c ≡ m a (m b c)) → ((x : ℕ) → x < 2 ^ bits w → m (cast_signed w x) (cast_signed w e) ≡ cast_signed w x)
     → AnyOrder (λ x y. wrap w (m (cast_signed w x) (cast_signed w y))) e (2 ^ bits w)
@@ -123,7 +123,7 @@ greatest_kept : (w : Width) (x : ℕ) → x < 2 ^ bits w → int_max (cast_signe
 greatest_kept w8 x h = grind (arith, ints)
 greatest_kept _ x h = grind (arith, ints)
 
--- ---- all of them
+-- ---- all operations
 
 pub any_order : (op : ReduceOp) (w : Width) → AnyOrder (combination op w) (neutral_number op w) (2 ^ bits w)
 any_order Vredsum w = sums (2 ^ bits w) (power_positive w)

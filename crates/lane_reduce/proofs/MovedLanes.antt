@@ -1,4 +1,4 @@
--- Elements that are read again from the bytes of a vector.
+-- Elements of a vector, read from its bytes.
 use Rattle.std.proofs.Common.{ℕ, zero, suc, ◌+◌, ◌*◌, ◌/◌, ◌%◌, ◌^◌, ◌<◌, ◌≤◌, ◌≡◌, List, [], ◌∷◌, length, drop, get_or, refl, sym, ap, ◌∙◌, arith}
 use Rattle.std.proofs.Math.Nat.{div-div-eq-div-mul, div-one, mul-div_cancel, pow-suc, pow-succ', mul-le-mul_left, mul-add, mul-suc, pow-le-pow_right}
 use Rattle.std.proofs.lemmas.List.{length-take}
@@ -15,7 +15,7 @@ use Rattle.rv_model.proofs.element_lemmas.Writes.{byte_at-is}
 use Rattle.lane_arith.proofs.ChunkWrites.{chunk_of_chunk}
 use Rattle.lane_arith.proofs.MaskBits.{count_positive}
 
--- a number of as many bytes as a width has is below 2 to the width
+-- 2 to a width is 256 to its number of bytes
 pub bytes_of_width : (w : Width) → 2 ^ bits w ≡ 256 ^ width_bytes w
 bytes_of_width w = ap (λ n. 2 ^ n) (whole_bytes w) ∙ bytes_power (width_bytes w)
 
@@ -26,7 +26,7 @@ number_below (y ∷ ys) few =
     let up : 256 * suc (number_l 256 ys) ≤ 256 * 256 ^ length ys = mul-le-mul_left 256 (number_below ys few.1) in
     omega (arith, low, up, pow-succ' 256 (length ys))
 
--- an element of a list of bytes
+-- an element of a list of bytes is below 2 to the width
 pub element_below : (w : Width) (xs : List ℕ) (i : ℕ) → ((j : ℕ) → Fits w8 (get_or xs j 0)) → element (width_bytes w) xs i < 2 ^ bits w
 element_below w xs i fits =
     let k : ℕ = width_bytes w in
@@ -36,7 +36,7 @@ element_below w xs i fits =
     let most : 256 ^ length ys ≤ 256 ^ k = pow-le-pow_right (omega arith) short in
     rw (bytes_of_width w) (omega (arith, below, most))
 
--- the number that has these bytes
+-- the number that a list of bytes represents
 number_is : (ys : List ℕ) (v : ℕ) → v < 256 ^ length ys → ((m : ℕ) → m < length ys → get_or ys m 0 ≡ byte_at m v) → number_l 256 ys ≡ v
 number_is [] v small bytes = let one : 256 ^ 0 ≡ 1 = refl in omega (arith, one, small)
 number_is (y ∷ ys) v small bytes =
@@ -57,7 +57,7 @@ module _ (w : Width) (n : ℕ) (lane : ℕ → ℕ) (room bytes : List ℕ) (lon
       let up : width_bytes w * suc j ≤ width_bytes w * n = mul-le-mul_left (width_bytes w) h in
       omega (arith, up, fills, mul-suc (width_bytes w) j)
 
-  -- an element of a vector whose bytes stand first in a list
+  -- an element of a vector whose bytes are the first in a list
   pub stored_element : (j : ℕ) → j < n → lane j < 2 ^ bits w → element (width_bytes w) (put_chunk 0 room bytes) j ≡ lane j
   unfolding k
   stored_element j h small =
@@ -72,7 +72,7 @@ module _ (w : Width) (n : ℕ) (lane : ℕ → ℕ) (room bytes : List ℕ) (lon
       ∙ ap (λ s. get_or all s 0) (sym place) ∙ get_or-put_chunk_at 0 room bytes (k * j + m) 0 (omega (arith, end, inside, long)) (omega (arith, end, inside, long, wide))
       ∙ stored j m h inside)
 
-  -- the elements from one on
+  -- the elements starting at an index
   pub moved_element : (by i : ℕ) → by + i < n → lane (by + i) < 2 ^ bits w → element (width_bytes w) (chunk (width_bytes w * by) 32 (put_chunk 0 room bytes)) i ≡ lane (by + i)
   unfolding k
   moved_element by i h small =
@@ -81,7 +81,7 @@ module _ (w : Width) (n : ℕ) (lane : ℕ → ℕ) (room bytes : List ℕ) (lon
       let within : k * i + k ≤ 32 = omega (arith, ends (by + i) h, at) in
       ap (number_l 256) (chunk_of_chunk (k * by) 32 (k * i) k all within ∙ ap (λ s. chunk s k all) at) ∙ stored_element (by + i) h small
 
--- how many elements a chunk has is a power of two
+-- the number of elements in a chunk is a power of two
 pub count_power : (w : Width) (n : ℕ) → width_bytes w * n ≡ 32 → (j : ℕ) × (n ≡ 2 ^ j)
 count_power w8 n e = (5, omega (arith, e))
 count_power w16 n e = (4, omega (arith, e))
@@ -89,15 +89,15 @@ count_power w32 n e = (3, omega (arith, e))
 count_power w64 n e = (2, omega (arith, e))
 count_power w128 n e = (1, omega (arith, e))
 
--- and so is half of it
+-- half of a power of two above 1 is a power of two
 pub half_power : (n : ℕ) → 1 < n → (j : ℕ) × (n ≡ 2 ^ j) → ((j : ℕ) × (n / 2 ≡ 2 ^ j)) × (n ≡ n / 2 + n / 2)
 half_power n h (zero, e) = absurd (let one : 2 ^ 0 ≡ 1 = refl in omega (arith, e, one, h))
 half_power n h (suc j, e) = ((j, omega (arith, e, pow-suc 2 j)), omega (arith, e, pow-suc 2 j))
 
--- how many bytes an element of a chunk has
+-- the number of bytes of an element in a chunk of n elements
 pub bytes_in_chunk : (k n : ℕ) → k * n ≡ 32 → 32 / n ≡ k
 bytes_in_chunk k n e = ap (λ x. x / n) (sym e) ∙ mul-div_cancel k (count_positive k n e)
 
--- a power of two that is at most one
+-- a power of two that is at most 1 is 1
 pub one_left : (n : ℕ) → n ≤ 1 → (j : ℕ) × (n ≡ 2 ^ j) → n ≡ 1
 one_left n h (j, e) = omega (arith, h, e, pow_pos j)

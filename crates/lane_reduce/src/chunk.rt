@@ -1,4 +1,4 @@
-//! Whole chunks of 32 bytes: their elements as SIMD vectors, combined lane by lane.
+//! Combination of whole chunks of 32 bytes lane by lane, with elements as SIMD vectors.
 ghost use Rattle.std.specs.Prelude.{◌≡◌, ◌/◌, ◌%◌, ◌^◌, ◌<◌, ◌==◌, ℕ, IfSome, if◌then◌else◌};
 ghost use Rattle.lane_reduce.specs.AnyOrder.{combination, neutral_number};
 ghost use mir.Val.{bits};
@@ -8,7 +8,7 @@ use lane_arith::Lane;
 use lane_arith::chunk::binary;
 use rv_model::instructions::operations::ReduceOp;
 
-/// In each lane, the number that changes no other that it is combined with.
+/// A vector whose lanes are the operation's neutral element: combining a number with it returns the number.
 pub(crate) fn neutral<L: Lane>(op: ReduceOp) -> L::Vector
     ensures { (i : ℕ) → i < L.count → L.lane result i ≡ neutral_number op L.width }
 {
@@ -23,7 +23,7 @@ pub(crate) fn neutral<L: Lane>(op: ReduceOp) -> L::Vector
     }
 }
 
-/// Lanes combined with others.
+/// The lanes of `a`, combined with those of `b`, or `None` if SIMD instructions don't compute the operation.
 pub(crate) fn combined<L: Lane>(op: ReduceOp, a: L::Vector, b: L::Vector) -> Option<L::Vector>
     requires first { (i : ℕ) → i < L.count → L.lane a i < 2 ^ bits L.width }
     requires second { (i : ℕ) → i < L.count → L.lane b i < 2 ^ bits L.width }
@@ -33,7 +33,7 @@ pub(crate) fn combined<L: Lane>(op: ReduceOp, a: L::Vector, b: L::Vector) -> Opt
     binary::<L>(combining(op), a, b)
 }
 
-/// The elements whose bit of `active` is set, and the neutral number for the others.
+/// The elements whose bit of `active` is set; the neutral element in place of the others.
 pub(crate) fn active_or_neutral<L: Lane>(
     op: ReduceOp,
     elements: L::Vector,

@@ -1,4 +1,4 @@
-//! The active elements of a body, combined with a first number ("V" Vector Extension 1.0, chapter 14).
+//! Combination of the active elements of a body with an initial number ("V" Vector Extension 1.0, chapter 14).
 ghost use Rattle.std.specs.Prelude.{◌≡◌, ◌*◌, ◌≤◌, ℕ, IfSome, length, map};
 ghost use Rattle.std.specs.List.{filter, fold, range_with_len};
 ghost use Rattle.rv_model.specs.elements.Elements.{element, is_active};
@@ -7,24 +7,24 @@ ghost use Rattle.rv_model.specs.vector.Groups.{width_bytes};
 
 use lane_arith::{Body, Lane};
 
-/// What comes of a first number and of so many elements.
+/// The combination of an initial number with the active ones of the first `count` elements.
 #[derive(Clone, Copy)]
 pub struct Combined<R> {
     pub number: R,
     pub count: usize,
 }
 
-/// How a reduction of elements of the width of `E` combines them to a result of the width of `R`.
+/// The operation of a reduction of elements of the width of `E` to a result of the width of `R`.
 pub trait Combine<E: Lane, R: Lane> {
-    // The number that comes of what is combined so far, and of an element.
+    // The combination of the result so far with an element, as unsigned numbers.
     ghost combined: { Self → ℕ → ℕ → ℕ };
 
-    /// What is combined so far, combined with one element more.
+    /// Return the combination of the result so far with one more element.
     fn combined(&self, so_far: R, element: E) -> R
         ensures { R.value result ≡ combined self.now (R.value so_far) (E.value element) };
 
-    /// The active elements of whole chunks of 32 bytes, from the first on, combined with a first number, where
-    /// chunks are combined by SIMD.
+    /// Return the combination of an initial number with the active elements of the first whole chunks of 32 bytes,
+    /// or `None` if SIMD instructions don't compute it.
     fn combined_chunks(&self, _first: R, _elements: &[u8], _body: &Body<'_>) -> Option<Combined<R>>
         ensures { IfSome result (λ made. R.value made.number ≡ fold (combined self.now) (R.value _first)
             (map (element (width_bytes E.width) _elements.now)
@@ -34,7 +34,7 @@ pub trait Combine<E: Lane, R: Lane> {
     }
 }
 
-/// Combines each active element, in order, with what comes of `first` and those before it.
+/// Combine `first` with each active element, in order, and return the result.
 pub fn reduce<E: Lane, R: Lane, C: Combine<E, R>>(
     combine: &C,
     first: R,

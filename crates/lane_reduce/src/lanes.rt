@@ -1,4 +1,5 @@
-//! The active elements of whole chunks of 32 bytes, combined lane by lane, and then the lanes by halves.
+//! Reduction of the active elements of whole chunks of 32 bytes: first chunks are combined lane by lane, then the
+//! upper half of the lanes with the lower half, until one lane remains.
 ghost use Rattle.std.specs.Prelude.{◌≡◌, ◌+◌, ◌*◌, ◌^◌, ◌<◌, ◌≤◌, ℕ, IfSome, map, replicate, if◌then◌else◌};
 ghost use Rattle.std.specs.List.{filter, fold, range_with_len};
 ghost use Rattle.std.specs.Simd.Lanes.{chunk, put_chunk};
@@ -15,7 +16,7 @@ use rv_model::GROUP_BYTES;
 use rv_model::instructions::operations::ReduceOp;
 use std::simd::prelude::*;
 
-/// The bytes from the index `at` on, and zeros after them.
+/// The bytes starting at index `at`, followed by zeros.
 fn bytes_from(bytes: u8x32, at: usize) -> u8x32
     requires { at ≤ 32 }
     ensures { result ≡ chunk at 32 (put_chunk 0 (replicate 64 0) bytes) }
@@ -25,7 +26,7 @@ fn bytes_from(bytes: u8x32, at: usize) -> u8x32
     u8x32::from_slice(&room[at..])
 }
 
-/// The elements from the index `by` on, and zeros after them.
+/// The elements starting at index `by`, followed by zeros.
 fn moved_down<L: Lane>(elements: L::Vector, by: usize) -> L::Vector
     requires few { by ≤ L.count }
     requires fits { (i : ℕ) → i < L.count → L.lane elements i < 2 ^ bits L.width }
@@ -36,7 +37,7 @@ fn moved_down<L: Lane>(elements: L::Vector, by: usize) -> L::Vector
     L::from_bytes(bytes_from(L::to_bytes(elements), width * by))
 }
 
-/// All lanes combined, as lane 0 of the result.
+/// The combination of all lanes, as lane 0 of the result.
 fn combined_lanes<L: Lane>(op: ReduceOp, lanes: L::Vector) -> Option<L::Vector>
     requires { (i : ℕ) → i < L.count → L.lane lanes i < 2 ^ bits L.width }
     ensures value { IfSome result (λ made. L.lane made 0
@@ -52,7 +53,7 @@ fn combined_lanes<L: Lane>(op: ReduceOp, lanes: L::Vector) -> Option<L::Vector>
     Some(lanes)
 }
 
-/// Lane 0.
+/// The element in lane 0.
 fn first_lane<L: Lane>(lanes: L::Vector) -> L
     requires { L.lane lanes 0 < 2 ^ bits L.width }
     ensures { L.value result ≡ L.lane lanes 0 }
@@ -62,7 +63,8 @@ fn first_lane<L: Lane>(lanes: L::Vector) -> L
     L::load(&bytes, 0)
 }
 
-/// What the active elements of each lane give, of so many chunks.
+/// A vector whose lanes together combine to the result for the active elements of the first `chunks` chunks, or
+/// `None` if SIMD instructions don't compute it.
 fn lanes_of_chunks<L: Lane>(
     op: ReduceOp,
     elements: &[u8],
@@ -86,7 +88,8 @@ fn lanes_of_chunks<L: Lane>(
     Some(lanes)
 }
 
-/// The active elements of the whole chunks, combined with a first number.
+/// The combination of `first` with the active elements of the whole chunks, or `None` if SIMD instructions don't
+/// compute it.
 pub(crate) fn reduce_chunks<L: Lane>(
     op: ReduceOp,
     first: L,
@@ -101,7 +104,7 @@ pub(crate) fn reduce_chunks<L: Lane>(
     let chunks = (elements.len() / 32).min(body.end().div_ceil(L::count()));
     let lanes = lanes_of_chunks::<L>(op, elements, body, chunks)?;
     let number = first_lane::<L>(combined_lanes::<L>(op, lanes)?);
-    let first = L::low_bits(first.number()); // itself, known to be below 2 to the width
+    let first = L::low_bits(first.number()); // for the proof alone: the number is below 2 to the width
     Some(Combined {
         number: apply(combining(op), first, number),
         count: L::count() * chunks,

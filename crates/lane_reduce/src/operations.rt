@@ -1,4 +1,4 @@
-//! The operations of reductions ("V" Vector Extension 1.0, sections 14.1 and 14.2).
+//! Operations of reductions ("V" Vector Extension 1.0, sections 14.1 and 14.2).
 ghost use Rattle.std.specs.Prelude.{◌≡◌};
 ghost use Rattle.rv_model.specs.elements.Formulas.{formula, wide_source_formula, wrap};
 ghost use Rattle.rv_model.specs.elements.Reductions.{combining, widening_combining};
@@ -8,13 +8,13 @@ use crate::lanes::reduce_chunks;
 use lane_arith::{Body, Lane, apply, apply_wide};
 use rv_model::instructions::operations::{BinaryOp, ReduceOp, WideSourceOp, WidenReduceOp};
 
-/// A reduction to a result of the elements' width.
+/// A reduction whose result has the width of the elements.
 #[derive(Clone, Copy)]
 pub struct Reduction {
     pub op: ReduceOp,
 }
 
-/// The operation by which a reduction combines.
+/// The operation with which a reduction combines two elements.
 pub(crate) fn combining(op: ReduceOp) -> BinaryOp
     ensures { result ≡ combining op }
 {
@@ -42,13 +42,13 @@ impl<L: Lane> Combine<L, L> for Reduction {
     }
 }
 
-/// A sum of twice the elements' width.
+/// A sum with twice the width of the elements.
 #[derive(Clone, Copy)]
 pub struct WideningReduction {
     pub op: WidenReduceOp,
 }
 
-/// The operation by which a reduction to twice the width combines.
+/// The operation with which a widening reduction combines a sum and an element.
 fn widening_combining(op: WidenReduceOp) -> WideSourceOp
     ensures { result ≡ widening_combining op }
 {

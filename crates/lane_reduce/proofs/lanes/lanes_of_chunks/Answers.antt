@@ -9,7 +9,7 @@ use Rattle.lane_reduce.proofs.Laws.{any_order}
 use Rattle.lane_reduce.proofs.MovedLanes.{element_below}
 use Rattle.lane_reduce.proofs.lanes.lanes_of_chunks.Goals as goal
 
--- one of two numbers below a bound
+-- a selection of two numbers below a bound is below the bound
 one_below : (b : Bool) (x y p : ℕ) → x < p → y < p → cond b x y < p
 one_below true x y p h k = h
 one_below false x y p h k = k
