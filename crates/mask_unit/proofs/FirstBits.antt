@@ -1,11 +1,11 @@
--- The first number that passes a test, found by words of 32 bits.
+-- The first index that satisfies a condition, searched in 32-bit words.
 use Rattle.std.proofs.Common.{ℕ, zero, suc, ◌+◌, ◌-◌, ◌*◌, ◌/◌, ◌%◌, ◌^◌, ◌<◌, ◌≡◌, ◌==◌, Bool, true, false, not, Some, None, refl, sym, ap, ◌∙◌, arith, inl, inr, w64}
 use Rattle.std.proofs.lemmas.Bool.{cases_lt}
 use Rattle.std.proofs.lemmas.Nat.Bits.{bit_at-trailing_zeros, bit_at-zero, bit_at_above}
 use Rattle.std.specs.Int.{trailing_zeros}
 use Rattle.std.specs.List.{find, range_with_len}
 
--- the first of the numbers from one on
+-- the first index in the range that starts at `from`
 found_from : (p : ℕ → Bool) (from n j : ℕ) → j < n → p (from + j) ≡ true → ((i : ℕ) → i < j → p (from + i) ≡ false)
     → find p (range_with_len from n) ≡ Some (from + j)
 found_from p from zero j h is before = absurd (omega (arith, h))
@@ -36,7 +36,7 @@ none_from p from (suc n) fails =
 pub none_found : (p : ℕ → Bool) (n : ℕ) → ((i : ℕ) → i < n → p i ≡ false) → find p (range_with_len 0 n) ≡ None
 none_found p n fails = none_from p 0 n (λ i l. let at : 0 + i ≡ i = omega arith in ap p at ∙ fails i l)
 
--- what a bit tells
+-- the meaning of a set bit
 told_true : (x : ℕ) (b : Bool) → x ≡ 1 → (x == 0) ≡ not b → b ≡ true
 told_true x true one told = refl
 told_true x false one told = let not_none = rw one at told in absurd (cc)
@@ -45,9 +45,9 @@ told_false : (x : ℕ) (b : Bool) → x ≡ 0 → (x == 0) ≡ not b → b ≡ f
 told_false x false none told = refl
 told_false x true none told = let some = rw none at told in absurd (cc)
 
--- the numbers of which a word tells by its bits
+-- bit i of a word says whether the condition holds for index 32 * w + i
 module _ (p : ℕ → Bool) (w set : ℕ) (told : (i : ℕ) → i < 32 → (set / 2 ^ i % 2 == 0) ≡ not (p (32 * w + i))) where
-  -- in none of its bits is one
+  -- if the word is 0, no index of the word satisfies the condition
   pub none_in_word : set ≡ 0 → ((i : ℕ) → i < 32 * w → p i ≡ false) → (i : ℕ) → i < 32 * (w + 1) → p i ≡ false
   none_in_word empty before i h = elim (cases_lt i (32 * w)) [
     | inl low ↦ before i low
@@ -57,7 +57,7 @@ module _ (p : ℕ → Bool) (w set : ℕ) (told : (i : ℕ) → i < 32 → (set 
         (rw empty (bit_at-zero (i - 32 * w))) (told (i - 32 * w) (omega (arith, h, high)))
   ]
 
-  -- the first that passes is at the lowest one
+  -- the lowest set bit is the first index that satisfies the condition
   pub first_in_word : 0 < set → set < 2 ^ 32 → ((i : ℕ) → i < 32 * w → p i ≡ false)
       → (p (32 * w + trailing_zeros w64 set) ≡ true) × ((i : ℕ) → i < 32 * w + trailing_zeros w64 set → p i ≡ false)
   first_in_word some few before =

@@ -1,4 +1,4 @@
--- How many bits of a mask are set.
+-- The number of set bits of a mask.
 use Rattle.std.proofs.Common.{◌≡◌, ℕ, zero, suc, ◌+◌, ◌-◌, ◌*◌, ◌/◌, ◌%◌, ◌^◌, ◌<◌, ◌≤◌, ◌==◌, Bool, true, false, Fits, List, [], ◌∷◌, bit_and, get_or, length, map, refl, ap, ◌∙◌, sym, arith, inl, inr, mod-eq_of_lt, zero-add}
 use Rattle.std.proofs.lemmas.Bool.{cases_lt}
 use Rattle.std.proofs.lemmas.Simd.{get_or-put_chunk_at, get_or-put_chunk_below}
@@ -13,7 +13,7 @@ use lib.Lanes.{Each1, fold_l, put_chunk, sum_l}
 use Rattle.rv_model.specs.elements.Elements.{mask_bit}
 use Rattle.rv_model.proofs.element_lemmas.Ranges.{count_more, count_most}
 
--- one bit more
+-- one more bit
 ones_more : (x m : ℕ) → count_ones (x % 2 ^ (m + 1)) ≡ count_ones (x % 2 ^ m) + count_ones (x / 2 ^ m % 2)
 ones_more x m =
     let turn : m + 1 ≡ 1 + m = omega arith in
@@ -28,11 +28,11 @@ one_bit (suc zero) true h e = refl
 one_bit (suc zero) false h e = absurd (grind (arith, nat_tests))
 one_bit (suc (suc b)) t h e = absurd (omega (arith, h))
 
--- how many numbers below another pass a test
+-- the number of indices below n that satisfy a condition
 abbrev pub passing : (ℕ → Bool) → ℕ → ℕ
 passing test n = length (filter test (range_with_len 0 n))
 
--- a number whose bits tell which of the next numbers pass
+-- a number whose bit i says whether the condition holds for index from + i
 pub ones_counted : (test : ℕ → Bool) (x from n m : ℕ) → m ≤ n → ((i : ℕ) → i < n → (x / 2 ^ i % 2 == 1) ≡ test (from + i))
     → passing test from + count_ones (x % 2 ^ m) ≡ passing test (from + m)
 unfolding count_ones
@@ -49,7 +49,7 @@ ones_counted test x from n (suc m) h told =
     let more : passing test (from + m + 1) ≡ passing test (from + m) + from_bool (test (from + m)) = count_more test (from + m) in
     rw (next, place) (omega (arith, ones_more x m, was, bit, more))
 
--- bytes whose bits tell it
+-- bytes whose bit i says whether the condition holds for index from + i
 pub bytes_counted : (test : ℕ → Bool) (xs : List ℕ) (from : ℕ) → Each1 (Fits w8) xs → ((i : ℕ) → i < 8 * length xs → mask_bit xs i ≡ test (from + i))
     → passing test from + sum_l (map count_ones xs) ≡ passing test (from + 8 * length xs)
 bytes_counted test [] from f told = let here : from + 8 * 0 ≡ from = omega arith in rw here (omega arith)
@@ -75,7 +75,7 @@ bytes_counted test (x ∷ xs) from f told =
     let end : from + 8 + 8 * length xs ≡ from + 8 * suc (length xs) = omega arith in
     omega (arith, first, rest, ap (passing test) end)
 
--- how many of the lower bits are set, at each of 8 places of a byte
+-- the number of set bits below each of the 8 bits of a byte
 lower_count : (x n j : ℕ) → n + 8 ≤ 256 → j < 8 → (n + count_ones (bit_and x (2 ^ j - 1))) % 256 ≡ n + count_ones (x % 2 ^ j)
 lower_count x n j few l =
     let most : count_ones (x % 2 ^ j) ≤ j = ones-le j (x % 2 ^ j) (mod-lt x (pow_pos j)) in
@@ -88,7 +88,7 @@ pub lower_counted : (x n i : ℕ) → n + 8 ≤ 256 → i < 8
 lower_counted x n (suc (suc (suc (suc (suc (suc (suc (suc j)))))))) few l = absurd (omega (arith, l))
 lower_counted x n i few l = lower_count x n i few l
 
--- how many bits of each byte are set, in bytes and in lanes of 16 bits
+-- the number of set bits of each byte, in lanes of 8 and of 16 bits
 pub ones_fit : (xs : List ℕ) → Each1 (Fits w8) xs → Each1 (Fits w8) (map count_ones xs)
 ones_fit [] f = tt
 ones_fit (x ∷ xs) f = (record { fits = omega (arith, ones-le 8 x f.0.fits) }, ones_fit xs f.1)
@@ -97,7 +97,7 @@ pub ones_fit_16 : (xs : List ℕ) → Each1 (Fits w8) xs → Each1 (Fits w16) (m
 ones_fit_16 [] f = tt
 ones_fit_16 (x ∷ xs) f = (record { fits = omega (arith, ones-le 8 x f.0.fits) }, ones_fit_16 xs f.1)
 
--- their sum, which doesn't wrap
+-- the sum of these numbers, which doesn't overflow 16 bits
 sum_in_16 : (xs : List ℕ) (a : ℕ) → a + sum_l (map count_ones xs) < 2 ^ 16
     → fold_l (λ s x. (s + x) % 2 ^ 16) a (map (λ x. x) (map (λ x. x) (map count_ones xs))) ≡ a + sum_l (map count_ones xs)
 sum_in_16 [] a h = omega arith
@@ -105,7 +105,7 @@ sum_in_16 (x ∷ xs) a h =
     let here : (a + count_ones x) % 2 ^ 16 ≡ a + count_ones x = mod-eq_of_lt (omega (arith, h)) in
     ap (λ s. fold_l (λ s x. (s + x) % 2 ^ 16) s (map (λ x. x) (map (λ x. x) (map count_ones xs)))) here ∙ sum_in_16 xs (a + count_ones x) (omega (arith, h)) ∙ omega arith
 
--- so many numbers pass
+-- the sum is the number of indices that satisfy the condition
 pub all_counted : (test : ℕ → Bool) (xs : List ℕ) (n : ℕ) → n ≡ 8 * length xs → n < 2 ^ 16 → Each1 (Fits w8) xs → ((i : ℕ) → i < n → mask_bit xs i ≡ test i)
     → fold_l (λ s x. (s + x) % 2 ^ 16) 0 (map (λ x. x) (map (λ x. x) (map count_ones xs))) ≡ passing test n
 all_counted test xs n is few f told =
@@ -117,7 +117,7 @@ all_counted test xs n is few f told =
     let most : passing test n ≤ n = count_most test n in
     sum_in_16 xs 0 (omega (arith, sum, most, few)) ∙ zero-add (sum_l (map count_ones xs)) ∙ sum
 
--- tests that agree
+-- equal conditions
 pub passing_same : (p q : ℕ → Bool) (n : ℕ) → ((i : ℕ) → i < n → p i ≡ q i) → passing p n ≡ passing q n
 passing_same p q zero same = refl
 passing_same p q (suc n) same =
@@ -126,7 +126,7 @@ passing_same p q (suc n) same =
     let one : from_bool (p n) ≡ from_bool (q n) = ap from_bool (same n (omega arith)) in
     ap (passing p) next ∙ count_more p n ∙ omega (arith, was, one) ∙ sym (count_more q n) ∙ sym (ap (passing q) next)
 
--- numbers of which none pass
+-- a range in which no index satisfies the condition
 pub none_counted : (test : ℕ → Bool) (from m : ℕ) → ((i : ℕ) → from ≤ i → test i ≡ false) → passing test (from + m) ≡ passing test from
 none_counted test from zero fails = ap (passing test) (let e : from + 0 ≡ from = omega arith in e)
 none_counted test from (suc m) fails =
@@ -135,7 +135,7 @@ none_counted test from (suc m) fails =
     let more : passing test (from + m + 1) ≡ passing test (from + m) + from_bool (test (from + m)) = count_more test (from + m) in
     ap (passing test) place ∙ omega (arith, more, off_here, none_counted test from m fails)
 
--- the counts below 8 more places, of a mask's next byte
+-- the counts below 8 more elements, for a mask's next byte
 module _ (set : List ℕ) (q : ℕ) where
   of_byte : (i : ℕ) → i < 8 → (get_or set q 0 / 2 ^ i % 2 == 1) ≡ mask_bit set (8 * q + i)
   of_byte i h =

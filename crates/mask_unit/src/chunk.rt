@@ -1,5 +1,5 @@
-//! Whole mask registers: their 32 bytes as a SIMD vector, with a bit for each of 256 elements, and what they become
-//! ("V" Vector Extension 1.0, sections 15.1 and 15.2).
+//! Operations on whole mask registers, as SIMD vectors of 32 bytes with a bit for each of 256 elements ("V" Vector
+//! Extension 1.0, sections 15.1 and 15.2).
 ghost use Rattle.std.specs.Prelude.{◌≡◌, ◌<◌, ◌&&◌, ℕ, length};
 ghost use Rattle.std.specs.List.{filter, range_with_len};
 ghost use Rattle.rv_model.specs.declared.vector.sizes.TheConstants.{GROUP_BYTES};
@@ -9,7 +9,7 @@ ghost use Rattle.rv_model.specs.elements.Masks.{mask_logic_formula};
 use rv_model::instructions::operations::MaskLogicOp;
 use std::simd::prelude::*;
 
-/// The results of an operation on the bits of `a`, those of vs2, and of `b`, those of vs1.
+/// The results of an operation on `a`, the bits of vs2, and `b`, the bits of vs1.
 pub(crate) fn logic(op: MaskLogicOp, a: u8x32, b: u8x32) -> u8x32
     ensures { (i : ℕ) → i < GROUP_BYTES → mask_bit result i ≡ mask_logic_formula op (mask_bit a i) (mask_bit b i) }
 {
@@ -25,7 +25,7 @@ pub(crate) fn logic(op: MaskLogicOp, a: u8x32, b: u8x32) -> u8x32
     }
 }
 
-/// How many bits are set in both.
+/// The number of bits, 0 to 256, that are set in both registers.
 pub(crate) fn set_in_both(a: u8x32, b: u8x32) -> u16
     ensures { result ≡ length (filter (λ i. mask_bit a i && mask_bit b i) (range_with_len 0 GROUP_BYTES)) }
 {

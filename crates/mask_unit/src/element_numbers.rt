@@ -1,5 +1,5 @@
-//! Elements that count: the bits set below each, and their own indices ("V" Vector Extension 1.0, sections
-//! 15.8 and 15.9).
+//! Elements that count: the number of set bits below each element, and element indices ("V" Vector Extension 1.0,
+//! sections 15.8 and 15.9).
 ghost use Rattle.std.specs.Prelude.{◌≡◌, ◌%◌, ◌^◌, ◌<◌, ℕ, slice_index};
 ghost use mir.Val.{bits};
 ghost use Rattle.rv_model.specs.declared.vector.sizes.TheConstants.{GROUP_BYTES};
@@ -7,7 +7,7 @@ ghost use Rattle.rv_model.specs.declared.vector.sizes.TheConstants.{GROUP_BYTES}
 use lane_arith::{Lane, Results};
 use rv_model::GROUP_BYTES;
 
-/// The counts below each element, as `counts_below` gives them (viota.m).
+/// The results of `viota.m`: the counts below each element, as `counts_below` returns them.
 #[derive(Clone, Copy)]
 pub struct Iota<'a> {
     pub counts: &'a [u8; GROUP_BYTES],
@@ -23,7 +23,7 @@ impl<'a, L: Lane> Results<L> for Iota<'a> {
     }
 }
 
-/// The index of each element (vid.v).
+/// The results of `vid.v`: the index of each element, modulo 2 to the width.
 #[derive(Clone, Copy)]
 pub struct Index;
 

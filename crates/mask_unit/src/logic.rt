@@ -1,4 +1,4 @@
-//! Logic on two masks ("V" Vector Extension 1.0, section 15.1).
+//! Logical operations on two masks ("V" Vector Extension 1.0, section 15.1).
 ghost use Rattle.std.specs.Prelude.{◌≡◌, ◌<◌, ℕ};
 ghost use Rattle.rv_model.specs.declared.vector.sizes.TheConstants.{GROUP_BYTES};
 ghost use Rattle.rv_model.specs.elements.Elements.{mask_bit};
@@ -10,7 +10,7 @@ use rv_model::VLENB;
 use rv_model::instructions::operations::MaskLogicOp;
 use std::simd::prelude::*;
 
-/// An operation on the bits of `a`, those of vs2, and of `b`, those of vs1.
+/// An operation on `a`, the bits of vs2, and `b`, the bits of vs1.
 #[derive(Clone, Copy)]
 pub struct MaskLogic<'a> {
     pub op: MaskLogicOp,

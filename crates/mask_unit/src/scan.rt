@@ -1,4 +1,5 @@
-//! Bits around the first one that is set in another mask ("V" Vector Extension 1.0, sections 15.4 to 15.6).
+//! Masks of the elements before, at or up to the first set bit of another mask ("V" Vector Extension 1.0, sections
+//! 15.4 to 15.6).
 ghost use Rattle.std.specs.Prelude.{◌≡◌, ◌<◌, ℕ};
 ghost use Rattle.rv_model.specs.declared.vector.sizes.TheConstants.{GROUP_BYTES};
 ghost use Rattle.rv_model.specs.elements.Elements.{in_range, mask_bit};
@@ -9,15 +10,15 @@ use rv_model::instructions::operations::MaskScanOp;
 use rv_model::{GROUP_BYTES, VLENB};
 use std::simd::prelude::*;
 
-/// The bits before the first one that is set, those up to it, or it alone (vmsbf.m, vmsif.m, vmsof.m);
-/// `first` is its index, if there is one.
+/// The results of `vmsbf.m`, `vmsif.m` or `vmsof.m`: the bits before the first set bit, those up to and including
+/// it, or only that bit. `first` is its index, or `None` if no bit is set.
 #[derive(Clone, Copy)]
 pub struct MaskScan {
     pub op: MaskScanOp,
     pub first: Option<usize>,
 }
 
-/// One bit of the result; where no bit is set, each is before the first one.
+/// One bit of the result. If no bit is set, each bit counts as before the first set bit.
 fn apply(op: MaskScanOp, first: Option<usize>, index: usize) -> bool
     ensures { result ≡ mask_scan_formula op first index }
 {
@@ -28,7 +29,7 @@ fn apply(op: MaskScanOp, first: Option<usize>, index: usize) -> bool
     }
 }
 
-/// A bit for each of 256 elements, set from one index up to another.
+/// A mask with 256 bits, set from `start` up to `end`, excluding `end`.
 fn range(start: usize, end: usize) -> u8x32
     ensures { (i : ℕ) → i < GROUP_BYTES → mask_bit result i ≡ in_range start end i }
 {

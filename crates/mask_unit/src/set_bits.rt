@@ -1,5 +1,5 @@
-//! The active elements whose bit of a mask is set: how many there are, and the first of them ("V" Vector
-//! Extension 1.0, sections 15.2, 15.3 and 15.8).
+//! The active elements whose bit of a mask is set: their number, and the first of them ("V" Vector Extension 1.0,
+//! sections 15.2, 15.3 and 15.8).
 ghost use Rattle.std.specs.Prelude.{
   ◌≡◌,
   ◌+◌,
@@ -26,10 +26,10 @@ use rv_model::instructions::operations::MaskLogicOp;
 use rv_model::{GROUP_BYTES, VLENB};
 use std::simd::prelude::*;
 
-// The bits of a byte below each place.
+// For each bit of a byte, a mask of the bits below it.
 const LOWER_BITS: [u8; 8] = [0, 1, 3, 7, 15, 31, 63, 127];
 
-/// How many active elements have their bit set (vcpop.m).
+/// Return the number of active elements whose bit is set (`vcpop.m`), 0 to 256.
 pub fn count(body: &Body<'_>, bits: &[u8; VLENB]) -> usize
     ensures { result ≡ set_count body.now bits.now body.now.end }
 {
@@ -39,7 +39,8 @@ pub fn count(body: &Body<'_>, bits: &[u8; VLENB]) -> usize
     usize::from(set_in_both(active_bytes(body), set))
 }
 
-/// A bit for each of 32 elements, set where the element is active and its bit is set.
+/// A bit for each of the 32 elements starting at index 32 * `word`, set if the element is active and its bit is
+/// set.
 fn set_word(body: &Body<'_>, bits: &[u8; VLENB], word: usize) -> u64
     requires room { 32 * word + 32 ≤ GROUP_BYTES }
     ensures value { (i : ℕ) → i < 32 → (result / 2 ^ i % 2 == 0) ≡ not (is_set body.now bits.now (32 * word + i)) }
@@ -49,7 +50,7 @@ fn set_word(body: &Body<'_>, bits: &[u8; VLENB], word: usize) -> u64
     (active & mask_bits(bits, 32 * word, 32)) % (1 << 32)
 }
 
-/// The first active element that has its bit set (vfirst.m).
+/// Return the index of the first active element whose bit is set, or `None` if there is none (`vfirst.m`).
 pub fn first(body: &Body<'_>, bits: &[u8; VLENB]) -> Option<usize>
     ensures { result ≡ first_set body.now bits.now }
 {
@@ -62,7 +63,7 @@ pub fn first(body: &Body<'_>, bits: &[u8; VLENB]) -> Option<usize>
     None
 }
 
-/// A bit for each element of the body, and for those before it, set where the element is active and its bit is set.
+/// A bit for each element below the end of the body, set if the element is active and its bit is set.
 fn set_bytes(body: &Body<'_>, bits: &[u8; VLENB]) -> [u8; VLENB]
     ensures { (i : ℕ) → i < body.now.end → mask_bit result i ≡ is_set body.now bits.now i }
 {
@@ -73,7 +74,7 @@ fn set_bytes(body: &Body<'_>, bits: &[u8; VLENB]) -> [u8; VLENB]
     logic(MaskLogicOp::Vmand, active_bytes(body), set).to_array()
 }
 
-/// The counts below each of 8 elements: how many of the lower bits of the byte are set, and those before it.
+/// The counts below each of 8 elements: `before` plus the number of set bits in the lower bits of the byte.
 fn counts_in_byte(byte: u8, before: u8) -> u8x8
     requires { before + 8 ≤ 256 }
     ensures value { (i : ℕ) → i < 8 → slice_index result i ≡ before + count_ones (byte % 2 ^ i) }
@@ -83,14 +84,14 @@ fn counts_in_byte(byte: u8, before: u8) -> u8x8
     u8x8::splat(before) + lower.count_ones()
 }
 
-/// How many bits of a byte are set.
+/// The number of set bits in a byte.
 fn set_in_byte(byte: u8) -> usize
     ensures { result ≡ count_ones (byte % 2 ^ 8) }
 {
     byte.count_ones() as usize
 }
 
-/// Writes the counts of 8 elements, from the index `at` on.
+/// Write the counts of 8 elements, starting at index `at`.
 fn put_counts(made: u8x8, at: usize, counts: &mut [u8])
     requires { at + 8 ≤ length counts.old }
     ensures { counts.new ≡ put_chunk at counts.old made }
@@ -98,8 +99,8 @@ fn put_counts(made: u8x8, at: usize, counts: &mut [u8])
     made.copy_to_slice(&mut counts[at..]);
 }
 
-/// For each element of the body, and for those before it, how many active elements below it have their
-/// bit set (viota.m). There are at most 255 of them.
+/// For each element below the end of the body, write the number of active elements below it whose bit is set
+/// (`viota.m`). Each count is at most 255. Other elements of `counts` are unspecified.
 pub fn counts_below(body: &Body<'_>, bits: &[u8; VLENB], counts: &mut [u8; GROUP_BYTES])
     ensures { (i : ℕ) → i < body.now.end → slice_index counts.new i ≡ set_count body.now bits.now i }
 {
