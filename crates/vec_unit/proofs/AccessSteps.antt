@@ -1,4 +1,4 @@
--- The step of a legal load or store, by its run and by what it fills.
+-- The step of a legal load or store, from its memory accesses and the elements that it fills.
 use Rattle.std.specs.Option.{option_and_then, option_map, option_map_or}
 use Rattle.std.specs.Prelude.{IfSome, Option, Some, None}
 use Rattle.std.proofs.Common.{ℕ, ◌+◌, ◌*◌, ◌≡◌, ◌≤◌, ◌&&◌, Bool, true, false, if◌then◌else◌, List, not, refl, sym, ap, ap₂, subst, ◌∙◌, arith}
@@ -35,7 +35,7 @@ use Rattle.vec_unit.specs.MemoryInstructions.{direction_of, filled_by, filled_un
 use Rattle.vec_unit.specs.declared.memory_instructions.Filled.{Filled}
 use Rattle.vec_unit.specs.declared.tails.Fields.{Fields}
 
--- ---- what legality tells
+-- ---- facts from legality
 
 -- a legal access that needs a vector type has one
 typed : (i : AccessInstr) (o : Option VType) (vstart : ℕ) → is_typed_access (instr.Access i) ≡ true
@@ -45,11 +45,11 @@ typed i (Some t) vstart needs legal = (t, refl)
 typed (UnitStride op width nf vd rs1 vm) None vstart needs legal = absurd (cc)
 typed _ None vstart needs legal = absurd (cc)
 
--- groups of elements as wide as SEW are those of the vector type
+-- groups of elements of width SEW are those of the vector type
 sew_groups : (t : VType) → groups_of (record { vd = 0; nf = 0; sew = t.sew; emul = emul (sew_bits t.sew) t }) ≡ group_type t
 sew_groups t = ap (λ e. record { width = sew_width t.sew; emul = e }) (emul-sew t.sew (lmul_eighths t.lmul))
 
--- tails that are filled are inside the registers
+-- filled tails are inside the register file
 abbrev IsInside : ℕ → Fields → Type 0
 IsInside vl f = SegmentsInside (groups_of f) f.vd f.nf vl
 
@@ -70,13 +70,13 @@ tails_inside i policy v =
     (λ t e length legal. of_either (λ (o : Option Fields). IfSome o (IsInside v.conf.vl)) (fills_tail policy t (body_of (is_unmasked i) v) && reads_memory (direction_of i))
     (tail_fields i t) None (fields_inside i t v.vstart v.conf.vl legal length.1) tt)
 
--- ---- what is filled
+-- ---- filled elements
 
--- nothing, under the policy that keeps
+-- no elements, under the policy `Keep`
 pub keeps : (i : AccessInstr) (v : VState) → filled_by i Keep v ≡ nothing
 keeps i v = of_option v.conf.vtype (λ o. option_map_or (filled_under i Keep v) o nothing ≡ nothing) (λ e. refl) (λ t e. refl)
 
--- nothing, where no element is masked off and there is no tail that is filled
+-- no elements, if the access is unmasked and has no tail that is filled
 pub fills_nothing : (i : AccessInstr) (policy : Policy) (v : VState) → is_unmasked i ≡ true → ((t : VType) → tail_fields i t ≡ None)
     → filled_by i policy v ≡ nothing
 fills_nothing i policy v unmasked tails =
@@ -86,7 +86,7 @@ fills_nothing i policy v unmasked tails =
     masked : (b c d : Bool) → d ≡ true → (b && (c && not d)) ≡ false
     masked b c d h = grind (arith, common_steps, h)
 
--- the access that an instruction is fills what is said by the instruction
+-- an instruction's access fills the elements that `filled_by` returns for the instruction
 record Fills (i : AccessInstr) (s : HartState) (a : VectorAccess) : Type 0 where
   access : access_of i s.vector s.scalar ≡ Some a
   direction : a.direction ≡ direction_of i
@@ -94,7 +94,7 @@ record Fills (i : AccessInstr) (s : HartState) (a : VectorAccess) : Type 0 where
   tails : (end : MemEnd) (file : List ℕ)
       → with_tails (filled_type i a s) a end file ≡ with_filled (filled_by i s.policy s.vector).tails s.vector.conf.vl end file
 
--- the same of each part, where the tails under each vector type are so
+-- the same for each field of the record, if the tails are equal under each vector type
 of_access : (i : AccessInstr) (s : HartState) (a : VectorAccess) → access_of i s.vector s.scalar ≡ Some a → a.direction ≡ direction_of i
     → a.body.unmasked ≡ is_unmasked i
     → ((t : VType) (end : MemEnd) (file : List ℕ)
@@ -113,7 +113,7 @@ of_access i s a access direction unmasked tails = record {
       ≡ with_filled (option_map_or (filled_under i s.policy s.vector) o nothing).tails s.vector.conf.vl end file) (λ e. refl) (λ t e. tails t end file);
 }
 
--- the tails of fields, if they are filled
+-- tails of fields, if they are filled
 fields : (reads fills : Bool) (a : VectorAccess) (f : Fields) (g : GroupType) (vl : ℕ) (end : MemEnd) (file : List ℕ)
     → groups_of f ≡ g → a.register ≡ f.vd → a.fields ≡ f.nf + 1 → a.body.end ≡ vl
     → with_tails (if reads && fills then Some g else None) a end file ≡ with_filled (if fills && reads then Some f else None) vl end file
@@ -121,14 +121,14 @@ fields true true a f g vl memory_end.Done file same register count length = rw (
 fields false true a f g vl end file same register count length = refl
 fields _ _ a f g vl end file same register count length = refl
 
--- no tails, whether others would be filled or not
+-- no tails, whether or not tails are filled
 none : (b c : Bool) (a : VectorAccess) (vl : ℕ) (end : MemEnd) (file : List ℕ)
     → with_tails (if b then None else None) a end file ≡ with_filled (if c then None else None) vl end file
 none true true a vl end file = refl
 none _ true a vl end file = refl
 none _ _ a vl end file = refl
 
--- the same of one that needs a vector type, by the access that each makes of it
+-- the same for an instruction that needs a vector type, which determines its access
 of_typed : (i : AccessInstr) (s : HartState) (make : VType → VectorAccess) → is_typed_access (instr.Access i) ≡ true → is_legal (instr.Access i) s.vector.conf.vtype s.vector.vstart ≡ true
     → access_of i s.vector s.scalar ≡ option_map make s.vector.conf.vtype → ((u : VType) → (make u).direction ≡ direction_of i) → ((u : VType) → (make u).body.unmasked ≡ is_unmasked i)
     → ((u t : VType) (end : MemEnd) (file : List ℕ)
@@ -139,7 +139,7 @@ of_typed i s make needs legal access direction unmasked tails =
     let (u, is) = typed i s.vector.conf.vtype s.vector.vstart needs legal in
     (make u, of_access i s (make u) (access ∙ ap (option_map make) is) (direction u) (unmasked u) (tails u))
 
--- each legal one does
+-- each legal load or store satisfies `Fills`
 fills : (i : AccessInstr) (s : HartState) → is_legal (instr.Access i) s.vector.conf.vtype s.vector.vstart ≡ true
     → (a : VectorAccess) × Fills i s a
 fills (UnitStride op width nf vd rs1 vm) s legal =
@@ -162,7 +162,7 @@ fills (MaskAccess direction vd rs1) s legal =
 -- ---- the step
 
 module _ (limit : ℕ) (i : AccessInstr) (s : HartState) (filled : Filled) (end : MemEnd) (reached : ℕ) (v : VState) (m : Memory) (file : List ℕ) where
-  -- by what it fills, its run, and the registers after its tails are filled
+  -- from the elements that it fills, its memory accesses, and the registers after its tails are filled
   pub access_performed : (d : Direction) (result : VEnd) → is_legal (instr.Access i) s.vector.conf.vtype s.vector.vstart ≡ true
       → filled_by i s.policy s.vector ≡ filled
       → access_run limit filled.masked_off i s.vector s.scalar s.memory ≡ runs_to end reached v m

@@ -1,17 +1,17 @@
--- Copies of operands stand for the operands.
+-- Operations on copies of operands have the same results as on the operands.
 use Rattle.std.proofs.Common.{ℕ, ◌<◌, ◌≡◌, ◌∙◌, ap, List}
 use Rattle.rv_model.specs.elements.Arithmetic.{group_element}
 use Rattle.rv_model.specs.vector.Groups.{GroupType, width_bytes, group_of}
 use Rattle.rv_model.specs.elements.Elements.{element}
 
--- what is made of an element of a copy of a group, and of a number that is told
+-- a function of an element of a copy of a group, and of a known number
 pub told_second : {A : Type 0} (u : GroupType) (made : ℕ → ℕ → A) (first file : List ℕ) (vs2 i number told : ℕ)
     → first ≡ group_of file vs2 u.emul → number ≡ told
     → made (element (width_bytes u.width) first i) number ≡ made (group_element u file vs2 i) told
 told_second u made first file vs2 i number told copied same =
     ap (λ bytes. made (element (width_bytes u.width) bytes i) number) copied ∙ ap (made (group_element u file vs2 i)) same
 
--- what is made of an element of each of two copies, the first of a group and the second of elements that are told
+-- a function of an element of each of two copies, the first of a group and the second of known elements
 pub two_operands : {A : Type 0} (u v : GroupType) (made : ℕ → ℕ → A) (first second file : List ℕ) (vs2 end : ℕ) (told : ℕ → ℕ)
     → first ≡ group_of file vs2 u.emul
     → ((i : ℕ) → i < end → element (width_bytes v.width) second i ≡ told i)

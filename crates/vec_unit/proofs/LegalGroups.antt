@@ -1,4 +1,4 @@
--- What a legal instruction and a vector length that its type allows tell of the groups, for the tactics.
+-- Facts about groups, for the tactics, from a legal instruction and a vector length that its vector type allows.
 use Rattle.std.proofs.Common.{arith}
 use Rattle.std.proofs.Math.Bool.{or-false}
 use Rattle.rv_model.specs.declared.vector.types.VType.{VType}
@@ -37,22 +37,22 @@ use Rattle.rv_model.proofs.legality_lemmas.Moves.{compress_inside, whole_move_in
 pub all_have_room : (t : VType) → HasRoom (sew_width t.sew) (lmul_eighths t.lmul) (vlmax t)
 all_have_room t = record { most = multiplier_fits t.lmul; room = length_fits t (vlmax t) (omega arith) }
 
--- of an operation with a line of its own in the manual's table, but for those of one width on two operands; most never saturate
+-- operations of the funct6 table, except those on two operands of the same width; most never saturate
 pub ruleset operation_groups =
     (or-false, multiply_add_inside, compare_inside, carry_out_inside, widen_inside, wide_source_inside, widen_multiply_add_inside, narrow_shift_inside, fixed_point_inside, clip_inside, reduce_inside, widen_reduce_inside, permute_inside, all_have_room)
 
--- of one without such a line that takes the vector type; an extension never saturates
+-- operations outside of the funct6 table that need a vector type; an extension never saturates
 pub ruleset typed_groups =
     (or-false, carry_inside, move_inside, extension_inside, index_inside, length_below, compress_inside, whole_move_inside)
 
--- of one on a mask
+-- operations on a mask
 pub ruleset mask_groups = (length_below, iota_inside)
 
 -- a destination or a source of twice the width
 pub ruleset wide_groups = (wide_groups_have_room, groups_have_room, length_below)
 
--- a source of a part of the width
+-- a source with a half, a quarter or an eighth of the width
 pub ruleset extended_groups = (groups_have_room, part_groups_have_room, length_below)
 
--- a source whose elements come to one
+-- a source whose elements are reduced to one
 pub ruleset reduced_groups = (groups_have_room, length_below)

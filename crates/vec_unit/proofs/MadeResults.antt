@@ -1,4 +1,4 @@
--- Results that are made on a copy of the destination.
+-- Results that are written to a copy of the destination.
 use Rattle.std.proofs.Common.{ℕ, ◌*◌, ◌<◌, ◌≡◌, ◌∙◌, List, length, Bool, true, false, cond, ◌&&◌, ◌||◌, nat_le, refl, ap, sym, min, arith, inl, inr}
 use Rattle.std.proofs.lemmas.Bool.{cases_lt}
 use Rattle.std.proofs.lemmas.Bool.Decides.{nat_tests}
@@ -15,7 +15,7 @@ use Rattle.rv_model.proofs.element_lemmas.Sets.{active_end}
 use Rattle.rv_model.proofs.element_lemmas.Writes.{writes_same, writes_then}
 use Rattle.vec_unit.specs.Agnostic.{is_agnostic}
 
--- ---- the agnostic elements, filled at once
+-- ---- filling of all agnostic elements at once
 
 from_least : (s e n f i : ℕ) → i < n → f ≡ min s e → (in_range f n i) ≡ (in_range s e i || nat_le e i)
 from_least s e n f i h is = elim (cases_lt s e) [
@@ -52,7 +52,7 @@ agnostic_filled k n size body fill_masked_off fill_tail end low count from to on
 
 -- ---- results
 
--- the results, told another way, are written to the active elements alone
+-- only the active elements become results, where `told` and `result` are equal functions
 pub active_written : (k : ℕ) (body : Body) (told result : ℕ → ℕ) (ones : ℕ) (old new : List ℕ) → ((i : ℕ) → i < body.end → told i ≡ result i)
     → Writes k (is_changed body false false) (result_or_ones body told ones) old new → Writes k (is_active body) result old new
 active_written k body told result ones old new same was =
@@ -62,11 +62,11 @@ active_written k body told result ones old new same was =
     let active : is_active body e ≡ true = rw (sym (or-false (is_active body e))) h in
     rw active (rw (same e (active_end body e active)) refl))
 
--- agnostic ones before, active ones after
+-- agnostic elements are filled before results are written to active ones
 in_order : (m b l r : Bool) → ((b && l) || ((m && (b && not l)) || r)) ≡ (((m && b) || r) || (b && l))
 in_order m b l r = grind (arith, nat_tests)
 
--- a copy of a group whose agnostic elements were filled before the results were written
+-- a copy of a group whose agnostic elements are filled before the results are written
 pub made_results : (g : GroupType) (vd : ℕ) (body : Body) (fill_masked_off fill_tail : Bool) (result : ℕ → ℕ) (file mid new : List ℕ)
     → Writes (width_bytes g.width) (is_agnostic body fill_masked_off fill_tail) (λ i. ones g.width) (group_of file vd g.emul) mid
     → Writes (width_bytes g.width) (is_active body) result mid new

@@ -1,4 +1,4 @@
--- Registers that are replaced in turn.
+-- Replacement of registers one after another.
 use Rattle.std.proofs.Common.{ℕ, suc, ◌+◌, ◌-◌, ◌*◌, ◌/◌, ◌%◌, ◌^◌, ◌<◌, ◌≤◌, ◌≡◌, List, length, get_or, Bool, true, false, cond, ◌&&◌, ◌||◌, nat_lt, nat_le, refl, sym, ap, ◌∙◌, arith, inl, inr, le-leb, le-ltb, not, eqb}
 use Rattle.std.proofs.lemmas.Bool.{and_parts, and_right, leb-true, lt-leb}
 use Rattle.std.proofs.lemmas.Bool.Decides.{nat_tests}
@@ -16,7 +16,7 @@ use Rattle.rv_model.proofs.element_lemmas.Writes.{ends}
 use Rattle.lane_arith.proofs.ChunkWrites.{chunk_more, place, step_any}
 use Rattle.vec_unit.specs.InTurn.{IsReadFirst, SourceHasRegisters, SourceIsReadFirst, number_from, second_in, test_from}
 
--- ---- where the elements of a register of a group stand
+-- ---- indices of the elements of a group's register
 
 pub at_register : (n vd r i : ℕ) → n * (vd + r) + i ≡ n * vd + (n * r + i)
 at_register n vd r i = omega (arith, mul-add n vd r)
@@ -29,11 +29,11 @@ from_first n vd r i = omega (arith, mul-add n vd r)
 
 -- ---- tests
 
--- of those in the body, those at which the mask is enabled change anyway
+-- enabled elements of the body change anyway
 either_way : (m b l : Bool) → ((b && l) || ((m && (b && not l)) || false)) ≡ ((b && l) || ((m && b) || false))
 either_way m b l = grind (arith, nat_tests)
 
--- an element that isn't replaced
+-- an element that isn't replaced is unchanged
 kept_element : (k : ℕ) (V : ℕ → Bool) (F : ℕ → ℕ) (old new : List ℕ) (e : ℕ) → Writes k V F old new → V e ≡ false → k * e + k ≤ length old
     → element k new e ≡ element k old e
 kept_element k V F old new e w stays fits =
@@ -55,7 +55,7 @@ module _ (k n vd registers : ℕ) (body : Body) (fill : Bool) (result : ℕ → 
   abbrev numbers : ℕ → ℕ
   numbers e = number_from (n * vd) (result_or_ones body result ones) e
 
-  -- the first r registers are done
+  -- the first r registers are replaced
   abbrev Done : ℕ → List ℕ → Type 0
   Done r bytes = Writes k (λ e. changes e && nat_lt e (n * (vd + r))) numbers old bytes
 
@@ -104,7 +104,7 @@ module _ (k n vd registers : ℕ) (body : Body) (fill : Bool) (result : ℕ → 
       let before : n * read + (n * r + i) < n * vd = omega (arith, mul-add n read registers, mul-suc n r) in
       rw (lt-leb (n * vd) (n * read + (n * r + i)) before) refl
 
-  -- the operands are those that there were
+  -- the operands' elements are unchanged when they are read
   pub operand : (r read i : ℕ) (mid : List ℕ) → k * n ≡ 32 → r < registers → i < n → IsReadFirst read vd registers
       → 32 * (read + registers) ≤ length old → Done r mid
       → element k mid (n * read + (n * r + i)) ≡ element k old (n * read + (n * r + i))

@@ -1,4 +1,4 @@
--- The step of an operation that takes the vector type.
+-- The step of an operation that needs a vector type.
 use Rattle.std.proofs.Common.{◌≡◌, refl, true}
 use Rattle.rv_model.specs.declared.instructions.vector.VectorInstr.{VectorInstr}
 use Rattle.rv_model.specs.declared.instructions.vector.VectorInstr.TheVariants.{Arith, SetIvli, SetVl, SetVli}

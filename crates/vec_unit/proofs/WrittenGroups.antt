@@ -1,4 +1,4 @@
--- Groups that are written as elements of the list of all registers' bytes.
+-- Groups that are written as elements in the list of all registers' bytes.
 use Rattle.std.proofs.Common.{ℕ, suc, ◌+◌, ◌-◌, ◌*◌, ◌/◌, ◌%◌, ◌^◌, ◌<◌, ◌≤◌, ◌≡◌, List, length, get_or, Bool, true, false, ◌&&◌, ◌||◌, nat_le, not, refl, sym, ap, ◌∙◌, arith, inl, inr, le-leb, append-nil, min}
 use Rattle.std.proofs.lemmas.Bool.{cases_lt, false_from_ne_true, lt-leb}
 use Rattle.std.proofs.lemmas.Grind.{div_ceil_times, same_number_lists}
@@ -55,7 +55,7 @@ result_is g n op vs2 from number file x i is e h =
     ∙ ap (λ c. wrap g.width (formula op g.width (element k (group_of file vs2 g.emul) i) c))
     (ap (λ z. second_in k n from (z % 2 ^ bits g.width) file i) is ∙ second_is g n (has_unsigned_immediate op) from file x i e h)
 
--- ---- how many registers hold the body
+-- ---- the number of registers that contain the body
 
 pub few_elements : (k n size : ℕ) → 0 < k → k * n ≡ 32 → size ≤ 8 → n * size ≤ 256
 few_elements k n size some e small =
@@ -88,7 +88,7 @@ all_covered k n size end count some e whole is =
     let least : n * size ≤ end = le_of_mul-le-mul_left full some in
     omega (arith, covers, least)
 
--- ---- what is written
+-- ---- written elements
 
 module _ (k n vd count : ℕ) (changes : ℕ → Bool) (number : ℕ → ℕ) (file new : List ℕ) (e : k * n ≡ 32) (room : 32 * (vd + count) ≤ length file)
     (was : Writes k (test_from (n * vd) changes) (number_from (n * vd) number) file new) where
@@ -117,7 +117,7 @@ module _ (k n vd count : ℕ) (changes : ℕ → Bool) (number : ℕ → ℕ) (f
         (rw (starts, back) at told);
   }
 
-  -- a byte of no element of the group
+  -- a byte outside of the changed elements is unchanged
   kept : (j : ℕ) → 0 < k → j < length file → test_from (n * vd) changes (j / k) ≡ false → get_or new j 0 ≡ get_or file j 0
   kept j some l stays =
       let at_j : k * (j / k) + j % k ≡ j = div-add-mod j k in
@@ -156,14 +156,14 @@ module _ (k n vd count : ℕ) (changes : ℕ → Bool) (number : ℕ → ℕ) (f
         ]
       ])
 
--- no tail is filled, or none is left
+-- the tail isn't filled, or there is no tail
 same_tail : (a fill o : Bool) (end n i : ℕ) → (fill ≡ true → end ≡ n) → i < n → (a || (o || (fill && nat_le end i))) ≡ (a || (o || (false && nat_le end i)))
 same_tail a false o end n i h l = refl
 same_tail a true o end n i h l =
     let e : end ≡ n = h refl in
     rw (lt-leb end i (omega (arith, e))) refl
 
--- nothing past the body changes where the tail doesn't
+-- no element past the body changes if the tail isn't filled
 unchanged : (body : Body) (fill_masked_off : Bool) (i : ℕ) → body.end ≤ i → is_changed body fill_masked_off false i ≡ false
 unchanged body fill_masked_off i h =
     false_from_ne_true (is_changed body fill_masked_off false i)
@@ -171,7 +171,7 @@ unchanged body fill_masked_off i h =
     let inside = changed_inside (in_body body i) (is_enabled body i) fill_masked_off (nat_le body.end i) changes in
     absurd (omega (arith, h, to_end body.start body.end i inside)))
 
--- ---- the whole
+-- ---- all results
 
 pub turned_results : (g : GroupType) (n vd number : ℕ) (op : BinaryOp) (vs2 : ℕ) (from : Source) (x : Scalar) (body : Body)
     (fill_masked_off fill_tail : Bool) (count : ℕ) (file new : List ℕ)

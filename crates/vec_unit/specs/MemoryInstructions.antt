@@ -1,4 +1,4 @@
--- What vector loads and stores fill with ones, by the instruction ("V" Vector Extension 1.0, sections 3.4.3 and 5.4).
+-- The elements that vector loads and stores fill with ones ("V" Vector Extension 1.0, sections 3.4.3 and 5.4).
 use Rattle.std.specs.Prelude.{ℕ, ◌+◌, ◌&&◌, Bool, true, false, List, Option, Some, None, if◌then◌else◌}
 use Rattle.std.specs.Option.{option_map_or}
 use Rattle.rv_model.specs.declared.instructions.access.AccessInstr.{AccessInstr}
@@ -33,11 +33,11 @@ is_unmasked (Strided direction width nf vd rs1 rs2 vm) = vm
 is_unmasked (Indexed direction order width nf vd rs1 vs2 vm) = vm
 is_unmasked _ = true
 
--- the fields of segments with elements of a width, under a vector type
+-- the fields of segments with elements of SEW `sew`, under a vector type
 abbrev fields_of : ℕ → ℕ → Sew → VType → Fields
 fields_of nf vd sew t = record { vd = vd; nf = nf; sew = sew; emul = emul (sew_bits sew) t }
 
--- the fields of an access, unless it has no tail that is filled
+-- the fields of an access whose tails are filled, if there are any
 abbrev pub tail_fields : AccessInstr → VType → Option Fields
 tail_fields (UnitStride op width nf vd rs1 vm) t = Some (fields_of nf vd (element_width width) t)
 tail_fields (Strided direction width nf vd rs1 rs2 vm) t = Some (fields_of nf vd (element_width width) t)
@@ -47,7 +47,7 @@ tail_fields _ t = None
 abbrev pub groups_of : Fields → GroupType
 groups_of f = record { width = sew_width f.sew; emul = f.emul }
 
--- what an access fills under a policy and a vector type
+-- the elements that an access fills under a policy and a vector type
 abbrev pub filled_under : AccessInstr → Policy → VState → VType → Filled
 filled_under i policy v t =
     let body = body_of (is_unmasked i) v in
@@ -59,11 +59,11 @@ filled_under i policy v t =
 abbrev pub nothing : Filled
 nothing = record { masked_off = false; tails = None }
 
--- the same, under the vector type that there is, if there is one
+-- the same under the state's vector type; nothing if there is none
 abbrev pub filled_by : AccessInstr → Policy → VState → Filled
 filled_by i policy v = option_map_or (filled_under i policy v) v.conf.vtype nothing
 
--- the registers after these tails are filled from an element on, which they are once the access is done
+-- the registers after an access: if it is complete, these tails are filled from element vl on
 abbrev pub with_filled : Option Fields → ℕ → MemEnd → List ℕ → List ℕ
 with_filled (Some f) vl Done file = tails_filled (groups_of f) f.vd (f.nf + 1) vl file
 with_filled _ vl end file = file

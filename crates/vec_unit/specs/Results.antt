@@ -1,4 +1,4 @@
--- What vector instructions write to groups of elements ("V" Vector Extension 1.0, sections 3.4.3, 5.3 and 5.4).
+-- Results of vector instructions in groups of elements ("V" Vector Extension 1.0, sections 3.4.3, 5.3 and 5.4).
 use Rattle.std.specs.Prelude.{ℕ, ◌||◌, Bool, List}
 use Rattle.std.specs.Int.{Width}
 use Rattle.rv_model.specs.declared.scalar.Scalar.{Scalar}
@@ -10,41 +10,40 @@ use Rattle.vec_unit.specs.declared.destination.Agnostic.{Agnostic}
 use Rattle.vec_unit.specs.declared.destination.Destination.{Destination}
 use Rattle.vec_unit.specs.declared.destination.Target.{Target}
 
--- the bytes of all registers, with these numbers in the group of this type from a register on, where this becomes of agnostic
--- elements
+-- the bytes of all registers, with these numbers in the group of this type that starts with vd, and this treatment of agnostic elements
 abbrev pub with_elements : ℕ → Agnostic → GroupType → Body → (ℕ → ℕ) → List ℕ → List ℕ
 with_elements vd agnostic t body number file = with_results t vd body agnostic.fill_masked_off agnostic.fill_tail number file
 
--- what becomes of the agnostic elements of a destination
+-- the treatment of a destination's agnostic elements
 abbrev pub agnostic_in : Destination → Agnostic
 agnostic_in destination = record { fill_masked_off = destination.fill_masked_off; fill_tail = destination.fill_tail }
 
--- the same, as elements of this width in the destination's group
+-- the bytes of all registers, with these numbers as elements of width w in the destination's group
 abbrev pub with_written : Width → Destination → Body → (ℕ → ℕ) → List ℕ → List ℕ
 with_written w destination body number file =
     with_elements destination.vd (agnostic_in destination) (record { width = w; emul = destination.emul }) body number file
 
--- what becomes of the agnostic elements of a body, under a target's policy and type
+-- the treatment of a body's agnostic elements, under a target's policy and vector type
 abbrev pub agnostic_of : Target → Body → Agnostic
 agnostic_of target body = record {
   fill_masked_off = fills_masked_off target.policy target.vtype body;
   fill_tail = fills_tail target.policy target.vtype body;
 }
 
--- a state, with these numbers in the target's group of this type; the flag says whether a result saturated
+-- a state with these numbers in the target's group of this type; the flag says whether a result saturated
 abbrev pub carried_out : GroupType → Target → (ℕ → ℕ) → Bool → VState → VState
 carried_out t target number saturates state = record state {
   file = with_elements target.vd (agnostic_of target (body_of target.unmasked state)) t (body_of target.unmasked state) number state.file;
   vxsat = state.vxsat || saturates;
 }
 
--- a state, with the results of an operation of two widths in the target's group of the first type
+-- a state with the results of an operation of two widths in the target's group of the first type
 abbrev pub performed : (GroupType → GroupType → List ℕ → Scalar → ℕ → ℕ) → (GroupType → GroupType → List ℕ → Scalar → Body → Bool)
     → GroupType → GroupType → Target → Scalar → VState → VState
 performed number saturates t u target x state =
     carried_out t target (number t u state.file x) (saturates t u state.file x (body_of target.unmasked state)) state
 
--- a state, with the registers that an operation leaves under the target's type
+-- a state with the registers after an operation under the target's vector type
 abbrev pub registers_left : (ℕ → Agnostic → GroupType → Body → List ℕ → Scalar → List ℕ) → Target → Scalar → VState → VState
 registers_left written target x state =
     let body = body_of target.unmasked state in

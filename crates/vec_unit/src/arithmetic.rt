@@ -1,4 +1,4 @@
-//! Arithmetic instructions, once they are known to be legal ("V" Vector Extension 1.0, chapter 11).
+//! Execution of arithmetic instructions after the test of legality ("V" Vector Extension 1.0, chapter 11).
 ghost use Rattle.std.specs.Prelude.{◌≡◌, ◌≢◌, ◌≤◌, IsTrue, Some, not, ℕ};
 ghost use Rattle.rv_model.specs.vector.Groups.{group_type, vlmax, wide_type};
 ghost use Rattle.rv_model.specs.legality.Legality.{is_legal};
@@ -17,8 +17,7 @@ use rv_model::{
     ArithOperation, Instr, Policy, Scalar, Source, VEnd, VReg, VState, VType, VectorInstr,
 };
 
-/// Performs a legal operation with a line of its own in the manual's table, but for vstart, and not one of one width
-/// on two operands.
+/// Execute a legal operation of the funct6 table other than `VectorOp::Binary`. The caller clears vstart.
 #[tactic(auto, using(crate::proofs::LegalGroups::operation_groups))]
 #[inline(never)]
 fn perform_rest(
@@ -74,7 +73,7 @@ fn perform_rest(
     }
 }
 
-/// Performs a legal operation with a line of its own in the manual's table.
+/// Execute a legal operation of the funct6 table.
 #[tactic(auto, using(rv_model::proofs::legality_lemmas::Bounds::binary_inside))]
 #[inline(always)]
 pub(crate) fn perform_arith(
@@ -103,7 +102,8 @@ pub(crate) fn perform_arith(
             perform(&on(op, vs2, source), target, state, scalar);
         }
         _ => {
-            // One by one, since a target that is handed on out of line is kept in memory.
+            // These are separate arguments: a `Target` passed to a function that isn't inlined would be stored in
+            // memory.
             let ArithOperation { vd, unmasked, .. } = operation;
             let sources = Sources { vs2, source };
             perform_rest(op, sources, vd, unmasked, vtype, policy, state, scalar);

@@ -1,5 +1,5 @@
-//! Operations of one width on two operands ("V" Vector Extension 1.0, chapter 11): on copies of the operands, or,
-//! faster, register by register in turn (`in_turn`).
+//! Operations on two operands whose elements and results have the same width ("V" Vector Extension 1.0, chapter
+//! 11). They run on copies of the operands or, faster, one register after another (`in_turn`).
 ghost use Rattle.rv_model.specs.elements.Arithmetic.{binary_result};
 ghost use Rattle.rv_model.specs.elements.Formulas.{has_unsigned_immediate};
 ghost use Rattle.rv_model.specs.lending.GroupBounds.{HoldsBody, IsInside, SourceIsInside};
@@ -15,7 +15,7 @@ use reg_groups::{group_copy, registers};
 use rv_model::instructions::operations::BinaryOp;
 use rv_model::{GROUP_BYTES, Scalar, VFile};
 
-/// Whether the immediate of an operation is unsigned.
+/// Whether the immediate of an operation is unsigned: true of shifts.
 pub(crate) fn has_unsigned_immediate(op: BinaryOp) -> bool
     ensures { result ≡ has_unsigned_immediate op }
 {
@@ -23,7 +23,7 @@ pub(crate) fn has_unsigned_immediate(op: BinaryOp) -> bool
 }
 
 impl WithSources<BinaryOp> {
-    /// Writes the results of copied operands to a destination of any size.
+    /// Copy the operands, and write the results to a destination of any size.
     #[inline(never)]
     fn write_copied<L: Lane>(
         self,
@@ -59,7 +59,7 @@ impl Operation for WithSources<BinaryOp> {
     ghost inside = { λ o vd g end. IsInside vd g.emul × IsInside o.vs2 g.emul
         × SourceIsInside o.source g.emul };
 
-    // The elements of a body that begins with the first one and isn't masked are in line.
+    // The case of an unmasked body that starts with element 0 is inlined.
     #[inline(always)]
     fn write<L: Lane>(&self, to: Destination, body: &Body<'_>, file: &mut VFile, scalar: &Scalar) {
         let has_tail = to.fill_tail && body.end() != to.count;

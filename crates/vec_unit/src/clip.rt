@@ -1,4 +1,4 @@
-//! Clips of a source of twice the width ("V" Vector Extension 1.0, section 12.5).
+//! Narrowing clips of a source of twice the width ("V" Vector Extension 1.0, section 12.5).
 ghost use Rattle.rv_model.specs.elements.Arithmetic.{clip_result, clip_saturates_at};
 ghost use Rattle.rv_model.specs.elements.Elements.{some_active};
 ghost use Rattle.rv_model.specs.lending.GroupBounds.{IsInside, SourceIsInside};

@@ -1,4 +1,5 @@
-//! Comparisons, and carries and borrows as masks ("V" Vector Extension 1.0, sections 11.4 and 11.8).
+//! Comparisons, and operations that write carries or borrows to a mask ("V" Vector Extension 1.0, sections 11.4 and
+//! 11.8).
 ghost use Rattle.rv_model.specs.elements.Arithmetic.{carry_out_result, compare_result, with_mask_results};
 ghost use Rattle.rv_model.specs.lending.GroupBounds.{IsInside, SourceIsInside};
 
@@ -28,7 +29,7 @@ impl Operation for WithSources<CompareOp> {
     }
 }
 
-/// Carries or borrows; a bit of v0 comes in for each unless `alone`.
+/// An operation that writes carries or borrows. Unless `alone`, the bits of v0 are the incoming carries or borrows.
 #[derive(Clone, Copy)]
 pub(crate) struct Carried {
     pub op: CarryOutOp,

@@ -1,4 +1,4 @@
-//! Compressions ("V" Vector Extension 1.0, section 16.5).
+//! `vcompress.vm` ("V" Vector Extension 1.0, section 16.5).
 ghost use Rattle.std.specs.Prelude.{◌≡◌, ◌*◌, ◌≤◌, length};
 ghost use Rattle.rv_model.specs.elements.Arithmetic.{group_element};
 ghost use Rattle.rv_model.specs.vector.Groups.{register_of, width_bytes};
@@ -16,8 +16,8 @@ use lane_permute::compress;
 use reg_groups::{group_copy_mut, group_mut, register_copy};
 use rv_model::{GROUP_BYTES, Scalar, VFile, VLENB, VReg};
 
-/// Packs elements into the bytes of a destination of `count` elements, and fills its tail. The elements
-/// between the two keep.
+/// Pack the selected elements into the bytes of a destination of `count` elements, and fill its tail, from element
+/// `end` on. The elements between the two are unchanged.
 fn compress_filled<L: Lane>(
     a: &[u8],
     select: &[u8; VLENB],
@@ -42,7 +42,7 @@ fn compress_filled<L: Lane>(
     }
 }
 
-/// The sources of a compression: the bits of `vs1` say which elements of `vs2` are packed.
+/// The sources of `vcompress.vm`: the bits of `vs1` select the elements of `vs2` that are packed.
 #[derive(Clone, Copy)]
 pub(crate) struct CompressOperation {
     pub vs1: VReg,

@@ -1,5 +1,5 @@
-//! The destination of an element-wise instruction: lent to a kernel, and then filled ("V" Vector Extension
-//! 1.0, sections 3.4.3, 5.3 and 5.4).
+//! The destination of an element-wise instruction: a kernel borrows it for its results, then agnostic elements are
+//! filled ("V" Vector Extension 1.0, sections 3.4.3, 5.3 and 5.4).
 ghost use Rattle.std.specs.Prelude.{◌≡◌, ◌*◌, ◌<◌, ◌≤◌, ℕ, false, if◌then◌else◌, length, true};
 ghost use Rattle.rv_model.specs.elements.Arithmetic.{fills_masked_off, fills_tail, with_results};
 ghost use Rattle.rv_model.specs.elements.Elements.{is_changed, result_or_ones};
@@ -13,8 +13,8 @@ use lane_arith::{Body, Lane, Results, fill, write_results};
 use reg_groups::{group_mut, registers};
 use rv_model::{GROUP_BYTES, Policy, VFile, VLENB, VReg, VType};
 
-/// What an instruction writes, whether it is unmasked, and the type and the policy under which it is carried
-/// out.
+/// The destination register of an instruction, whether the instruction is unmasked, and the vector type and policy
+/// of its execution.
 #[derive(Clone, Copy)]
 pub(crate) struct Target {
     pub vd: VReg,
@@ -24,7 +24,7 @@ pub(crate) struct Target {
 }
 
 impl Target {
-    /// What an instruction writes, under a vector type and a policy.
+    /// Return the target with these fields.
     pub(crate) fn new(vd: VReg, unmasked: bool, vtype: VType, policy: Policy) -> Target
         ensures { result ≡ record { vd = vd; unmasked = unmasked; vtype = vtype; policy = policy } }
     {
@@ -36,7 +36,8 @@ impl Target {
         }
     }
 
-    /// Where it writes the elements of a body; its count is that of its registers.
+    /// Return the destination for a body. Its `count` is the number of registers, which the caller multiplies by
+    /// the number of elements in a register.
     #[inline(always)]
     pub(crate) fn destination(self, body: &Body<'_>) -> Destination
         ensures { result ≡ record {
@@ -58,7 +59,7 @@ impl Target {
         }
     }
 
-    /// The same, unmasked.
+    /// Return the same target, unmasked.
     pub(crate) fn whole_body(self) -> Target
         ensures { result ≡ record self { unmasked = true } }
     {
@@ -69,15 +70,15 @@ impl Target {
     }
 }
 
-/// What becomes of agnostic elements: whether those of the body that are masked off, and those of the tail,
-/// become all ones (section 3.4.3).
+/// The treatment of agnostic elements: whether the masked-off elements of the body, and the tail, become all ones
+/// (section 3.4.3).
 #[derive(Clone, Copy)]
 pub(crate) struct Agnostic {
     pub fill_masked_off: bool,
     pub fill_tail: bool,
 }
 
-/// What becomes of agnostic elements under a policy.
+/// Return the treatment of agnostic elements under a policy and a vector type.
 pub(crate) fn agnostic_under(policy: Policy, vtype: VType, body: &Body<'_>) -> Agnostic
     ensures { result ≡ record {
       fill_masked_off = fills_masked_off policy vtype body.now;
@@ -94,9 +95,10 @@ pub(crate) fn agnostic_under(policy: Policy, vtype: VType, body: &Body<'_>) -> A
     }
 }
 
-/// Where an operation writes: its first register, the multiplier of its groups in eighths of a register, how many
-/// elements the registers of a group hold, and whether those of the body that are masked off, and those of the tail, become
-/// all ones. These two aren't a struct of their own, since its bytes would be put together to be handed on.
+/// The destination of an operation: its first register, the multiplier of its groups in eighths of a register, and
+/// the number of elements in a group. The flags say whether the masked-off elements of the body, and the tail,
+/// become all ones. The flags aren't in a struct of their own, since the compiler would combine its bytes to pass
+/// it on.
 #[derive(Clone, Copy)]
 pub(crate) struct Destination {
     pub vd: VReg,
@@ -107,7 +109,7 @@ pub(crate) struct Destination {
 }
 
 impl Destination {
-    /// The same, whose elements that are masked off keep.
+    /// Return the same destination with masked-off elements unchanged.
     #[inline(always)]
     pub(crate) fn keeping(self) -> Destination
         ensures { result ≡ record self { fill_masked_off = false } }
@@ -119,7 +121,7 @@ impl Destination {
     }
 }
 
-/// Where elements are filled from or up to: the end of the body, unless its flag is set.
+/// A bound of the filled elements: `filled` if the flag is set, else the end of the body.
 #[inline(always)]
 fn bound(is_filled: bool, filled: usize, end: usize) -> usize
     ensures { result ≡ (if is_filled then filled else end) }
@@ -127,7 +129,7 @@ fn bound(is_filled: bool, filled: usize, end: usize) -> usize
     if is_filled { filled } else { end }
 }
 
-/// Fills the agnostic elements of a group: those of the body, if they are, before results are written to the active
+/// Fill the agnostic elements of a group with ones: those of the body, before results are written to the active
 /// ones, and those of the tail.
 #[inline(always)]
 pub(crate) fn fill_agnostic<L: Lane>(
@@ -148,7 +150,7 @@ pub(crate) fn fill_agnostic<L: Lane>(
     fill(L::all_ones(), from, to, group);
 }
 
-/// Writes results to the bytes of a group, and fills it.
+/// Write results to the bytes of a group, and fill its agnostic elements.
 #[inline(always)]
 fn write_filled<L: Lane, R: Results<L>>(
     results: &R,
@@ -169,7 +171,7 @@ fn write_filled<L: Lane, R: Results<L>>(
     }
 }
 
-/// Writes results to a group, and fills it.
+/// Write results to a group, and fill its agnostic elements.
 #[inline(always)]
 pub(crate) fn write_group<L: Lane, R: Results<L>>(
     results: &R,

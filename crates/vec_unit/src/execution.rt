@@ -1,4 +1,4 @@
-//! One vector instruction, carried out.
+//! Execution of one vector instruction.
 ghost use Rattle.std.specs.Prelude.{◌≡◌, ◌≢◌, ◌≤◌, IsTrue, List, ℕ};
 ghost use Rattle.rv_model.specs.step.Hart.{hart_state};
 ghost use Rattle.rv_model.specs.step.Resumes.{InstructionGoesOn};
@@ -15,7 +15,7 @@ use reg_groups::{legal_arith, legal_irregular};
 use rv_model::{ArithOperation, Instr, Policy, RequestedLength, Scalar, VEnd, VState, VectorInstr};
 use vector_memory::UserBytes;
 
-/// Performs a legal vector operation that has no line of its own in the manual's table.
+/// Execute a legal vector operation outside of the funct6 table.
 #[tactic(auto, unfolding(rv_model::specs::step::Step::operation_step), using(crate::proofs::TypedSteps::by_type))]
 #[inline(always)]
 fn perform_irregular(
@@ -54,8 +54,8 @@ fn perform_irregular(
     VEnd::Done
 }
 
-/// Carries out a vector operation of a user that has a line of its own in the manual's table, by its operands: the same
-/// as `exec` of the instruction.
+/// Execute a vector operation of the funct6 table for a user, passed as its operands, if it is legal. The result
+/// and all effects are the same as those of `exec`.
 #[tactic(auto, unfolding(rv_model::specs::step::Step::vector_executed))]
 #[inline(always)]
 pub fn exec_arith(
@@ -68,10 +68,10 @@ pub fn exec_arith(
         (Instr.Vector (VectorInstr.Arith operation.arith operation.vd operation.vs2 operation.unmasked)))
         policy scalar.now state.old result scalar.now state.new }
 
-    // What the illegal instruction finds is what it leaves.
+    // An illegal instruction leaves the state unchanged.
     ensures illegal_state { result ≡ VEnd.Illegal → state.new ≡ state.old }
 
-    // It ends at once.
+    // It is never stopped before its last element.
     ensures uncut { (index : ℕ) → result ≢ VEnd.Cut index }
 {
     let ArithOperation {
@@ -86,8 +86,8 @@ pub fn exec_arith(
     perform_arith(operation, state, scalar, policy)
 }
 
-/// Carries out a vector operation of a user that has no line of its own in the manual's table: the same as `exec` of
-/// the instruction.
+/// Execute a vector operation outside of the funct6 table for a user, if it is legal. The result and all effects
+/// are the same as those of `exec`.
 #[tactic(auto, unfolding(rv_model::specs::step::Step::vector_executed))]
 #[inline(always)]
 pub fn exec_operation(
@@ -100,7 +100,7 @@ pub fn exec_operation(
     ensures model { (limit : ℕ) → Performs (vector_executed limit (Instr.Vector operation.now))
         policy scalar.old state.old result scalar.new state.new }
 
-    // What the illegal instruction finds is what it leaves.
+    // An illegal instruction leaves the state unchanged.
     ensures illegal_state { result ≡ VEnd.Illegal → state.new ≡ state.old }
     ensures illegal_scalar { result ≡ VEnd.Illegal → scalar.new ≡ scalar.old }
 {
@@ -110,8 +110,8 @@ pub fn exec_operation(
     perform_irregular(operation, state, scalar, policy)
 }
 
-/// Carries out a vector instruction of a user, of at most `limit` indices where it is a load or store. The
-/// program counter stays on it.
+/// Execute a vector instruction of a user, if it is legal. A load or store accesses the elements of at most `limit`
+/// indices. The program counter is unchanged. Return how the instruction ended.
 #[inline(never)]
 pub fn exec<M: UserBytes>(
     instr: &Instr,
@@ -127,15 +127,16 @@ pub fn exec<M: UserBytes>(
         → vector_executed limit instr.now (hart_state scalar.old state.old (M.memory memory.old) policy output)
         ≡ vector_ends result (hart_state scalar.new state.new (M.memory memory.new) policy output) }
 
-    // If it is cut or faults, it goes on from there, any number of times, in memories that may grow.
+    // If it stops at the limit or faults, it can be restarted there, any number of times, also in memories that
+    // have grown.
     ensures restarts { (output : List ℕ)
         → InstructionGoesOn limit instr.now (hart_state scalar.old state.old (M.memory memory.old) policy output)
         (vector_ends result (hart_state scalar.new state.new (M.memory memory.new) policy output)) }
 
-    // All else that the user's bytes hold stays.
+    // All other parts of the user's bytes are unchanged.
     ensures memory { memory.new ≡ M.with_memory memory.old (M.memory memory.new) }
 
-    // What the illegal instruction finds is what it leaves.
+    // An illegal instruction leaves the state unchanged.
     ensures illegal_state { result ≡ VEnd.Illegal → state.new ≡ state.old }
     ensures illegal_scalar { result ≡ VEnd.Illegal → scalar.new ≡ scalar.old }
     ensures illegal_memory { result ≡ VEnd.Illegal → memory.new ≡ memory.old }

@@ -1,4 +1,5 @@
-//! Extensions of elements of a part of the width ("V" Vector Extension 1.0, section 11.3).
+//! Integer extensions of elements of a half, a quarter or an eighth of the width ("V" Vector Extension 1.0, section
+//! 11.3).
 ghost use Rattle.std.specs.Prelude.{◌≡◌, ◌/◌, ◌≤◌, false};
 ghost use Rattle.rv_model.specs.elements.Arithmetic.{extend_result};
 ghost use Rattle.rv_model.specs.vector.Groups.{group_type, lmul_eighths, sew_bits, sew_width, vlmax};
@@ -14,7 +15,7 @@ use rv_model::instructions::operations::ExtendOp;
 use rv_model::{Scalar, Sew, VFile, VReg, VState};
 use std::marker::PhantomData;
 
-/// An extension and its source.
+/// An extension and its source register.
 #[derive(Clone, Copy)]
 pub(crate) struct ExtendOperation {
     pub op: ExtendOp,
@@ -46,7 +47,7 @@ impl TwoWidths for ExtendOperation {
     }
 }
 
-/// Performs an extension to elements of a width from those of a part of it.
+/// Execute an extension to elements of SEW from elements of SEW divided by 2, 4 or 8.
 fn perform_part(
     operation: ExtendOperation,
     sew: Sew,
@@ -92,7 +93,7 @@ fn perform_part(
 }
 
 impl ExtendOperation {
-    /// Performs the extension to a group of the vector type.
+    /// Execute the extension to a group of the vector type.
     #[tactic(auto, using(crate::proofs::LegalGroups::extended_groups))]
     pub(crate) fn perform(&self, target: Target, state: &mut VState, scalar: &Scalar)
         requires source { IsInside self.now.vs2 (lmul_eighths target.vtype.lmul / extension_divisor self.now.op) }

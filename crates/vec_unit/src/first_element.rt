@@ -1,4 +1,4 @@
-//! One number, written to element 0 of a register ("V" Vector Extension 1.0, chapter 14 and section 16.1).
+//! Writing of one number to element 0 of a register ("V" Vector Extension 1.0, chapter 14 and section 16.1).
 ghost use Rattle.std.specs.Prelude.{◌≡◌, ⊤, nat_lt, true};
 ghost use Rattle.rv_model.specs.elements.Arithmetic.{with_first_result};
 
@@ -6,7 +6,7 @@ use crate::destination::{Destination, write_group};
 use lane_arith::{Body, Lane, Results};
 use rv_model::VFile;
 
-/// One number for each element.
+/// The same number for each element.
 #[derive(Clone, Copy, Drop)]
 struct Same<L> {
     number: L,
@@ -22,8 +22,8 @@ impl<L: Lane> Results<L> for Same<L> {
     }
 }
 
-/// Writes a number to element 0 of the destination's first register, where the body has an element, and fills the tail of
-/// that register.
+/// Write a number to element 0 of the destination's first register, if the body has an element, and fill the tail
+/// of that register.
 pub(crate) fn write_first<L: Lane>(number: L, to: Destination, body: &Body<'_>, file: &mut VFile)
     requires tail { to.fill_tail ≡ true → nat_lt body.now.start body.now.end ≡ true }
     ensures { file.new ≡ with_first_result L.width to.vd body.now to.fill_tail (L.value number) file.old }

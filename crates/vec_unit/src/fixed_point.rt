@@ -1,4 +1,4 @@
-//! Fixed-point operations of one width ("V" Vector Extension 1.0, chapter 12).
+//! Fixed-point operations whose operands and results have the same width ("V" Vector Extension 1.0, chapter 12).
 ghost use Rattle.std.specs.Prelude.{◌≡◌};
 ghost use Rattle.rv_model.specs.elements.Arithmetic.{fixed_point_result, saturates_at};
 ghost use Rattle.rv_model.specs.elements.Elements.{some_active};
@@ -13,7 +13,7 @@ use reg_groups::group;
 use rv_model::instructions::operations::FixedPointOp;
 use rv_model::{GROUP_BYTES, Scalar, VFile};
 
-/// Whether the immediate of an operation is unsigned.
+/// Whether the immediate of an operation is unsigned: true of shifts.
 fn has_unsigned_shift(op: FixedPointOp) -> bool
     ensures { result ≡ has_unsigned_shift op }
 {

@@ -1,5 +1,5 @@
-//! A faster path for operations of one width: register by register in turn, without copies of the operands ("V" Vector
-//! Extension 1.0, sections 3.4.2, 5.2 and chapter 11).
+//! A faster path for operations whose operands and results have the same width: one register after another, without
+//! copies of the operands ("V" Vector Extension 1.0, sections 3.4.2, 5.2 and chapter 11).
 ghost use Rattle.std.specs.Prelude.{◌≡◌, ◌+◌, ◌*◌, ◌%◌, ◌^◌, ◌<◌, ◌/◌, ◌≤◌, ◌==◌, IsTrue, ℕ, false, length, not, true};
 ghost use Rattle.lane_arith.specs.SimdOperations.{is_simd};
 ghost use Rattle.rv_model.specs.elements.Elements.{is_active, is_changed, result_or_ones};
@@ -28,8 +28,8 @@ use reg_groups::{group_mut, registers};
 use rv_model::instructions::operations::BinaryOp;
 use rv_model::{FILE_BYTES, GROUP_BYTES, Scalar, Source, VECTOR_REGISTERS, VFile, VLENB, VReg};
 
-/// Whether each of so many registers from one on is read before it is written, where those from `written` on are
-/// written in turn.
+/// Whether each of the `registers` registers starting at `read` is read before it is written, if those starting at
+/// `written` are written one after another.
 #[inline(always)]
 pub(crate) fn is_read_first(read: VReg, written: VReg, registers: u32) -> bool
     requires { registers ≤ VECTOR_REGISTERS }
@@ -39,7 +39,7 @@ pub(crate) fn is_read_first(read: VReg, written: VReg, registers: u32) -> bool
     written <= read || read + registers <= written
 }
 
-/// The same of a second operand.
+/// The same test for the registers of a second operand, if it is a vector.
 #[inline(always)]
 pub(crate) fn is_source_read_first(source: Source, written: VReg, registers: u32) -> bool
     requires { registers ≤ VECTOR_REGISTERS }
@@ -51,7 +51,7 @@ pub(crate) fn is_source_read_first(source: Source, written: VReg, registers: u32
     }
 }
 
-/// `active_bits`; where `all`, the elements lie in the body, and only the mask is asked.
+/// `active_bits`. If `all`, the elements are in the body, and only the mask is tested.
 #[inline(always)]
 fn active_in_turn(all: bool, body: &Body<'_>, first: usize, count: usize) -> u64
     requires all { all ≡ true → (body.now.start ≡ 0) × (first + count ≤ body.now.end) }
@@ -67,8 +67,8 @@ fn active_in_turn(all: bool, body: &Body<'_>, first: usize, count: usize) -> u64
     }
 }
 
-/// An operation on the group from `vs2` on and a second operand, whose number is `number` where it is a scalar or an
-/// immediate, to the group from `vd` on.
+/// An operation on the group that starts with `vs2` and a second operand, to the group that starts with `vd`.
+/// `number` is the second operand if it is a scalar or an immediate.
 #[derive(Clone, Copy)]
 pub(crate) struct InTurn {
     pub op: BinaryOp,
@@ -96,8 +96,9 @@ impl InTurn {
         }
     }
 
-    /// Writes the results to the first `registers` registers from `vd` on, of the bytes of all registers: in turn, so
-    /// that those of the operands are read before they are written. Where `all`, the body is all their elements.
+    /// Write the results to the `registers` registers starting at `vd`, one after another, so that each register of
+    /// the operands is read before it is written. `bytes` are those of all registers. If `all`, the body is all
+    /// elements of these registers.
     #[inline(always)]
     pub(crate) fn write<L: Lane>(
         &self,
@@ -137,8 +138,8 @@ impl InTurn {
 }
 
 impl WithSources<BinaryOp> {
-    /// Whether the results can be written in turn to so many registers from `vd` on: they are made by SIMD, and no
-    /// register of the operands is written before it is read.
+    /// Whether the results can be written to the `size` registers starting at `vd` one after another: SIMD
+    /// instructions compute them, and each register of the operands is read before it is written.
     #[inline(always)]
     pub(crate) fn is_in_turn(&self, vd: VReg, size: u32) -> bool
         requires { size ≤ VECTOR_REGISTERS }
@@ -151,7 +152,7 @@ impl WithSources<BinaryOp> {
             && is_source_read_first(self.source, vd, size)
     }
 
-    /// Writes the results in turn. Where `all`, the body is all elements of the destination.
+    /// Write the results one register after another. If `all`, the body is all elements of the destination.
     #[inline(always)]
     fn write_in_turn<L: Lane>(
         &self,
@@ -184,7 +185,7 @@ impl WithSources<BinaryOp> {
         operation.write::<L>(used, body, all, fill_masked_off, bytes);
     }
 
-    /// Writes the results in turn, of any body.
+    /// Write the results one register after another, for any body.
     #[inline(never)]
     fn write_part_in_turn<L: Lane>(
         self,
@@ -199,8 +200,8 @@ impl WithSources<BinaryOp> {
         self.write_in_turn::<L>(false, destination, body, file, scalar);
     }
 
-    /// Writes the results in turn, of a body that is masked and is all elements of the destination; those that are
-    /// masked off keep.
+    /// Write the results one register after another, for a masked body that is all elements of the destination.
+    /// Masked-off elements are unchanged.
     #[inline(never)]
     fn write_masked_in_turn<L: Lane>(
         self,
@@ -219,8 +220,9 @@ impl WithSources<BinaryOp> {
         self.write_in_turn::<L>(true, destination.keeping(), &all, file, scalar);
     }
 
-    /// Writes the results in turn; where all elements of the destination are active, in line. What is out of line is
-    /// handed copies, so that the destination and the body themselves need no place in memory.
+    /// Write the results one register after another. The case in which all elements of the destination are active
+    /// is inlined. Functions that aren't inlined get copies, so that the destination and the body themselves need
+    /// no place in memory.
     #[inline(always)]
     pub(crate) fn write_all<L: Lane>(
         &self,

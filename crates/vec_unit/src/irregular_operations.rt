@@ -1,5 +1,5 @@
-//! Operations without a line of their own in the manual's table, under the vector type that they need, once they are
-//! known to be legal ("V" Vector Extension 1.0, sections 11.4, 11.15 and 11.16, and chapters 15 and 16).
+//! Execution of operations outside of the funct6 table that need a vector type, after the test of legality ("V"
+//! Vector Extension 1.0, sections 11.4, 11.15 and 11.16, and chapters 15 and 16).
 ghost use Rattle.std.specs.Prelude.{◌≤◌, IsTrue, Some};
 ghost use Rattle.rv_model.specs.vector.Groups.{vlmax};
 ghost use Rattle.rv_model.specs.legality.Legality.{is_legal};
@@ -21,7 +21,7 @@ use crate::whole_moves::perform_whole_move;
 use rv_model::instructions::operations::MaskUnaryOp;
 use rv_model::{GROUP_BYTES, Instr, Policy, Scalar, VEnd, VReg, VState, VType, VectorInstr};
 
-/// Performs a legal operation on one mask, but for vstart.
+/// Execute a legal operation on one mask. The caller clears vstart.
 #[tactic(auto, using(crate::proofs::LegalGroups::mask_groups))]
 #[inline(never)]
 fn perform_mask_unary(
@@ -47,8 +47,8 @@ fn perform_mask_unary(
     }
 }
 
-/// Performs a legal operation under its vector type, but for vstart. What is out of line is handed operands one by one, so that no
-/// target needs a place in memory.
+/// Execute a legal operation under its vector type. The caller clears vstart. Functions that aren't inlined get
+/// their operands as separate arguments, so that no `Target` needs a place in memory.
 #[tactic(auto, using(crate::proofs::LegalGroups::typed_groups))]
 #[inline(always)]
 pub(crate) fn perform_typed(

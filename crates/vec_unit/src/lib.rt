@@ -1,7 +1,8 @@
-//! One vector instruction of one user.
+//! Execution of one vector instruction of one user.
 //!
-//! Read `execution` first, then `arithmetic`, `operation` and `destination`, and `memory_instructions`; each other
-//! module is a family of operations. `in_turn` is a faster path of `binary`, which leaves what the copies there leave.
+//! Read `execution` first, then `arithmetic`, `operation` and `destination`, and `memory_instructions`. Each other
+//! module is a family of operations. `in_turn` is a faster path of `binary`, with the same results as its path with
+//! copies.
 #![tactic(auto)]
 
 mod arithmetic;

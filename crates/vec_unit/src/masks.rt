@@ -17,7 +17,7 @@ use reg_groups::{mask_register, register_copy};
 use rv_model::instructions::operations::{MaskLogicOp, MaskScanOp, MaskToScalarOp};
 use rv_model::{GROUP_BYTES, Scalar, VFile, VReg, VState};
 
-/// Performs logic on two masks.
+/// Execute a logical operation on two masks.
 pub(crate) fn perform_logic(op: MaskLogicOp, vd: VReg, vs1: VReg, vs2: VReg, state: &mut VState)
     ensures { state.new ≡ record state.old {
       file =
@@ -36,7 +36,7 @@ pub(crate) fn perform_logic(op: MaskLogicOp, vd: VReg, vs1: VReg, vs2: VReg, sta
     set_mask(&bits, vd, &mut state.file);
 }
 
-/// Sets bits by the first active bit of `vs2` that is set.
+/// Execute `vmsbf.m`, `vmsif.m` or `vmsof.m`, by the first active bit of `vs2` that is set.
 pub(crate) fn perform_scan(op: MaskScanOp, vd: VReg, vs2: VReg, unmasked: bool, state: &mut VState)
     ensures { state.new ≡ record state.old {
       file =
@@ -57,7 +57,8 @@ pub(crate) fn perform_scan(op: MaskScanOp, vd: VReg, vs2: VReg, unmasked: bool, 
     set_mask(&written, vd, &mut state.file);
 }
 
-/// What a scalar register takes: how many active bits of `vs2` are set, or the index of the first, or -1.
+/// Return the result of `vcpop.m` or `vfirst.m`: the number of active bits of `vs2` that are set, or the index of
+/// the first one, or -1 if there is none.
 pub(crate) fn scalar_of_mask(op: MaskToScalarOp, vs2: VReg, unmasked: bool, state: &VState) -> u64
     ensures { result ≡ mask_to_scalar_formula op (body_of unmasked state.now) (register_of state.now.file vs2) }
 {
@@ -73,7 +74,7 @@ pub(crate) fn scalar_of_mask(op: MaskToScalarOp, vs2: VReg, unmasked: bool, stat
     }
 }
 
-/// Counts for each element how many active bits of `vs2` below it are set.
+/// For each element below vl, count the active bits of `vs2` below it that are set.
 pub(crate) fn count_mask(vs2: VReg, unmasked: bool, state: &VState, counts: &mut [u8; GROUP_BYTES])
     ensures { (i : ℕ) → i < state.now.conf.vl
         → slice_index counts.new i ≡ set_count (body_of unmasked state.now) (register_of state.now.file vs2) i }
@@ -83,7 +84,7 @@ pub(crate) fn count_mask(vs2: VReg, unmasked: bool, state: &VState, counts: &mut
     counts_below(&body, &register_copy(&state.file, vs2), counts);
 }
 
-/// The counts of bits below each element, as elements.
+/// `viota.m`, with the counts that `count_mask` returns.
 #[derive(Clone, Copy)]
 pub(crate) struct IotaOperation<'a> {
     pub counts: &'a [u8; GROUP_BYTES],
@@ -103,7 +104,7 @@ impl<'a> Operation for IotaOperation<'a> {
     }
 }
 
-/// The indices of the elements.
+/// `vid.v`: the indices of the elements.
 #[derive(Clone, Copy)]
 pub(crate) struct IndexOperation;
 

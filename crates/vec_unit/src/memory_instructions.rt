@@ -1,5 +1,5 @@
-//! Vector loads and stores: whether they are legal, what they fill, and their ends. What they move is
-//! `vector_memory`'s ("V" Vector Extension 1.0, sections 3.4.3, 3.7, 5.4 and chapter 7).
+//! Vector loads and stores: legality, filling of agnostic elements, and the end of the instruction. `vector_memory`
+//! accesses the memory ("V" Vector Extension 1.0, sections 3.4.3, 3.7, 5.4 and chapter 7).
 ghost use Rattle.std.specs.Prelude.{◌≡◌, ◌≢◌, ◌≤◌, IfSome, IsTrue, false, true};
 ghost use Rattle.rv_model.specs.lending.GroupBounds.{SegmentsInside};
 ghost use Rattle.rv_model.specs.legality.Legality.{is_legal};
@@ -24,7 +24,7 @@ use rv_model::instructions::operations::{Direction, UnitOp};
 use rv_model::{AccessInstr, Instr, MemEnd, Policy, Scalar, Sew, VEnd, VFile, VState, VType};
 use vector_memory::UserBytes;
 
-/// The direction of an access.
+/// The direction of an access: load or store.
 #[inline(always)]
 fn direction_of(access: &AccessInstr) -> Direction
     ensures { result ≡ direction_of access.now }
@@ -42,7 +42,7 @@ fn direction_of(access: &AccessInstr) -> Direction
     }
 }
 
-/// How the instruction ends whose access ends so.
+/// The end of the instruction, for the end of its memory access.
 #[inline(always)]
 fn access_end(access: &AccessInstr, end: MemEnd) -> VEnd
     ensures value { result ≡ access_end (direction_of access.now) end }
@@ -58,7 +58,7 @@ fn access_end(access: &AccessInstr, end: MemEnd) -> VEnd
     }
 }
 
-/// Performs a legal load or store that fills nothing, and answers how it ended.
+/// Execute a legal load or store that fills no elements. Return how it ended.
 #[inline(always)]
 fn perform_unfilled<M: UserBytes>(
     access: &AccessInstr,
@@ -79,7 +79,7 @@ fn perform_unfilled<M: UserBytes>(
     access_end(access, end)
 }
 
-/// Whether no element of an access is masked off.
+/// Whether an access is unmasked.
 fn is_unmasked(access: &AccessInstr) -> bool
     ensures { result ≡ is_unmasked access.now }
 {
@@ -91,7 +91,7 @@ fn is_unmasked(access: &AccessInstr) -> bool
     }
 }
 
-/// The fields of an access, unless it is one of whole registers or of a mask, which has no tail that is filled.
+/// The fields of an access whose tails are filled; `None` for an access of whole registers or of a mask.
 fn tail_fields(access: &AccessInstr, vtype: VType) -> Option<Fields>
     ensures { result ≡ tail_fields access.now vtype }
 {
@@ -109,14 +109,15 @@ fn tail_fields(access: &AccessInstr, vtype: VType) -> Option<Fields>
     })
 }
 
-/// What an access fills with ones: whether its elements that are masked off, and the fields whose tails.
+/// The elements that an access fills with ones: whether it fills the masked-off ones, and the fields whose tails it
+/// fills.
 #[derive(Clone, Copy)]
 struct Filled {
     masked_off: bool,
     tails: Option<Fields>,
 }
 
-/// What an access fills under a policy.
+/// The elements that an access fills under a policy.
 fn filled_by(access: &AccessInstr, state: &VState, policy: Policy) -> Filled
     ensures { result ≡ filled_by access.now policy state.now }
 {
@@ -140,8 +141,8 @@ fn filled_by(access: &AccessInstr, state: &VState, policy: Policy) -> Filled
     }
 }
 
-/// Whether it is known that an access fills nothing, whatever state it finds. Whole registers and masks have no tail, for
-/// which it isn't looked where `UNIT_STRIDE`.
+/// Whether an access fills no elements in any state. Accesses of whole registers and of masks never do; if
+/// `UNIT_STRIDE`, the function omits the test for these.
 #[inline(always)]
 fn fills_nothing<const UNIT_STRIDE: bool>(access: &AccessInstr, policy: Policy) -> bool
     ensures { (state : VState) → result ≡ true → filled_by access.now policy state ≡ nothing }
@@ -157,7 +158,7 @@ fn fills_nothing<const UNIT_STRIDE: bool>(access: &AccessInstr, policy: Policy) 
     }
 }
 
-/// Fills the tails of these fields, from the length on that the access found, once it is done.
+/// Fill the tails of these fields, from `length` on, which is vl before the access, if the access is complete.
 fn fill_when_done(tails: Option<Fields>, length: usize, end: MemEnd, file: &mut VFile)
     requires { IfSome tails (λ f. SegmentsInside (groups_of f) f.vd f.nf length) }
     ensures { file.new ≡ with_filled tails length end file.old }
@@ -169,7 +170,7 @@ fn fill_when_done(tails: Option<Fields>, length: usize, end: MemEnd, file: &mut 
     }
 }
 
-/// Performs a legal load or store, of at most `limit` indices, under a policy, and answers how it ended.
+/// Execute a legal load or store under a policy, for at most `limit` indices. Return how it ended.
 #[inline(never)]
 fn perform_access<M: UserBytes>(
     access: &AccessInstr,
@@ -195,8 +196,9 @@ fn perform_access<M: UserBytes>(
     access_end(access, end)
 }
 
-/// Carries out a vector load or store of a user, of at most `limit` indices, and answers how it ended: in fewer steps
-/// where `UNIT_STRIDE` is as it is. So there is a copy for each of two callers, and each is taken in line.
+/// Execute a vector load or store of a user, if it is legal, for at most `limit` indices. Return how it ended.
+/// `UNIT_STRIDE` is set by the caller with unit-stride accesses only, which saves a test; the result doesn't depend
+/// on it. Each of the two callers inlines its own instance.
 #[tactic(auto, unfolding(rv_model::specs::step::Step::vector_executed))]
 #[inline(always)]
 pub fn exec_access<M: UserBytes, const UNIT_STRIDE: bool>(
@@ -211,10 +213,10 @@ pub fn exec_access<M: UserBytes, const UNIT_STRIDE: bool>(
     ensures model { Accesses (vector_executed limit (Instr.Access access.now)) policy scalar.now
         state.old (M.memory memory.old) result state.new (M.memory memory.new) }
 
-    // All else that the user's bytes hold stays.
+    // All other parts of the user's bytes are unchanged.
     ensures memory { memory.new ≡ M.with_memory memory.old (M.memory memory.new) }
 
-    // What the illegal instruction finds is what it leaves.
+    // An illegal instruction leaves the state unchanged.
     ensures illegal_state { result ≡ VEnd.Illegal → state.new ≡ state.old }
     ensures illegal_memory { result ≡ VEnd.Illegal → memory.new ≡ memory.old }
 {
@@ -224,7 +226,7 @@ pub fn exec_access<M: UserBytes, const UNIT_STRIDE: bool>(
     if fills_nothing::<UNIT_STRIDE>(access, policy) {
         return perform_unfilled(access, state, scalar, memory, limit);
     }
-    // A copy of its own for the other function, so that the operands need no place in memory before.
+    // The other function gets a copy, so that the operands need no place in memory before.
     let copy = *access;
     perform_access(&copy, state, scalar, memory, limit, policy)
 }

@@ -10,7 +10,7 @@ use crate::operation::Operation;
 use lane_arith::{Body, Copies, Lane};
 use rv_model::{GROUP_BYTES, Scalar, Source, VFile};
 
-/// A move from a source.
+/// A move from a vector register, a scalar register or an immediate.
 #[derive(Clone, Copy)]
 pub(crate) struct Move {
     pub source: Source,

@@ -1,4 +1,4 @@
-//! Products that a third operand is added to ("V" Vector Extension 1.0, section 11.13).
+//! Products that are added to a third operand, or subtracted from it ("V" Vector Extension 1.0, section 11.13).
 ghost use Rattle.rv_model.specs.elements.Arithmetic.{multiply_add_result};
 ghost use Rattle.rv_model.specs.lending.GroupBounds.{IsInside, SourceIsInside};
 ghost use Rattle.vec_unit.specs.Results.{with_elements};

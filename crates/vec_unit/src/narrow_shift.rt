@@ -1,4 +1,4 @@
-//! Shifts of a source of twice the width ("V" Vector Extension 1.0, section 11.7).
+//! Narrowing shifts of a source of twice the width ("V" Vector Extension 1.0, section 11.7).
 ghost use Rattle.rv_model.specs.elements.Arithmetic.{narrow_shift_result};
 ghost use Rattle.rv_model.specs.lending.GroupBounds.{IsInside, SourceIsInside};
 ghost use Rattle.std.specs.Prelude.{false};

@@ -14,7 +14,7 @@ use lane_arith::{Lane, SecondElements, fill};
 use reg_groups::{group, group_copy};
 use rv_model::{Field, GROUP_BYTES, RoundingMode, Scalar, Source, VFile, VLENB, VReg};
 
-/// An operation on a group and a second operand.
+/// An operation on the group at `vs2` and a second operand.
 #[derive(Clone, Copy)]
 pub(crate) struct WithSources<O> {
     pub op: O,
@@ -22,14 +22,14 @@ pub(crate) struct WithSources<O> {
     pub source: Source,
 }
 
-/// A group and a second operand.
+/// The group at `vs2` and a second operand.
 #[derive(Clone, Copy)]
 pub(crate) struct Sources {
     pub vs2: VReg,
     pub source: Source,
 }
 
-/// An operation on a group and a second operand.
+/// An operation on the group at `vs2` and a second operand.
 #[inline(always)]
 pub(crate) fn on<O: Copy>(op: O, vs2: VReg, source: Source) -> WithSources<O>
     ensures { result ≡ record { op = op; vs2 = vs2; source = source } }
@@ -37,14 +37,14 @@ pub(crate) fn on<O: Copy>(op: O, vs2: VReg, source: Source) -> WithSources<O>
     WithSources { op, vs2, source }
 }
 
-/// An operation, and how it rounds.
+/// An operation and its rounding mode.
 #[derive(Clone, Copy)]
 pub(crate) struct Rounded<O> {
     pub op: O,
     pub mode: RoundingMode,
 }
 
-/// The number of an immediate: as it is where it is unsigned, else sign-extended.
+/// The number of a 5-bit immediate, zero-extended if `unsigned`, else sign-extended.
 pub(crate) fn immediate_value(unsigned: bool, imm: Field<5>) -> u64
     ensures { result ≡ immediate_value unsigned imm }
 {
@@ -56,7 +56,7 @@ pub(crate) fn immediate_value(unsigned: bool, imm: Field<5>) -> u64
     }
 }
 
-/// The number of a second operand that is a scalar or an immediate.
+/// The number of a second operand that is a scalar or an immediate; 0 if it is a vector.
 #[inline(always)]
 pub(crate) fn second_number(unsigned: bool, source: Source, scalar: &Scalar) -> u64
     ensures { result ≡ second_number unsigned source scalar.now }
@@ -68,7 +68,7 @@ pub(crate) fn second_number(unsigned: bool, source: Source, scalar: &Scalar) -> 
     }
 }
 
-/// The low bits of a number, `count` times.
+/// The low bits of a number as each of `count` elements.
 fn repeated<L: Lane>(number: u64, count: usize, copy: &mut [u8; GROUP_BYTES]) -> &[u8]
     requires room { width_bytes L.width * count ≤ GROUP_BYTES }
     requires count { count ≤ GROUP_BYTES }
@@ -79,8 +79,7 @@ fn repeated<L: Lane>(number: u64, count: usize, copy: &mut [u8; GROUP_BYTES]) ->
     copy
 }
 
-/// A second operand: where it stands, whether an immediate is unsigned, and the multiplier of its group in eighths of a
-/// register.
+/// A second operand, whether its immediate is unsigned, and the multiplier of its group in eighths of a register.
 #[derive(Clone, Copy)]
 pub(crate) struct SecondOperand {
     pub source: Source,
@@ -99,7 +98,7 @@ pub(crate) fn signed_operand(source: Source, emul: u32) -> SecondOperand
     }
 }
 
-/// The elements of a second operand, where they stand, or its one number.
+/// The elements of a second operand, borrowed from the register file, or its one number.
 pub(crate) fn second_elements<'a>(
     operand: SecondOperand,
     file: &'a VFile,
@@ -119,7 +118,7 @@ pub(crate) fn second_elements<'a>(
     }
 }
 
-/// A copy of the elements of a second operand, `count` of them.
+/// A copy of the first `count` elements of a second operand.
 pub(crate) fn second_copy<'a, L: Lane>(
     operand: SecondOperand,
     count: usize,
@@ -143,7 +142,8 @@ pub(crate) fn second_copy<'a, L: Lane>(
     }
 }
 
-/// The elements of a second operand, `count` of them: where they stand, or else copies of one number.
+/// The first `count` elements of a second operand: borrowed from the register file if it is a vector, else copies
+/// of its number.
 pub(crate) fn second_in_place<'a, L: Lane>(
     operand: SecondOperand,
     count: usize,

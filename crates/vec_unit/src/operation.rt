@@ -15,15 +15,16 @@ use rv_model::{Policy, Scalar, Sew, VFile, VLENB, VReg, VState, VType};
 
 /// An operation and its operands.
 pub(crate) trait Operation {
-    // The operands and the destination lie inside the file, by its first register, the type of the groups and the end of
-    // the body.
+    // The groups of the operands and the destination are inside the register file. Arguments: the destination's
+    // first register, the type of the groups, and the end of the body.
     ghost inside: { Self → ℕ → GroupType → ℕ → Type 0 };
 
-    // The bytes of all registers that it leaves, by the destination's first register, what becomes of its agnostic
-    // elements, the type of the groups, the body, and what the registers hold.
+    // The bytes of all registers after the operation. Arguments: the destination's first register, the treatment of
+    // its agnostic elements, the type of the groups, the body, and the old contents of the vector and scalar
+    // registers.
     ghost written: { Self → ℕ → AgnosticElements → GroupType → BodyOf → List ℕ → ScalarRegisters → List ℕ };
 
-    /// Writes the results; the mask of the body is v0.
+    /// Write the results to the destination; the mask of the body is v0.
     fn write<L: Lane>(&self, to: Destination, body: &Body<'_>, file: &mut VFile, scalar: &Scalar)
         requires operands { inside self.now to.vd (record { width = L.width; emul = to.emul })
             body.now.end }
@@ -34,7 +35,7 @@ pub(crate) trait Operation {
             (record { width = L.width; emul = to.emul }) body.now file.old scalar.now };
 }
 
-/// Performs an operation on groups of the vector type.
+/// Execute an operation on groups of the vector type.
 #[tactic(auto, using(rv_model::proofs::legality_lemmas::Bounds::groups_hold_body))]
 #[inline(always)]
 pub(crate) fn perform<O: Operation>(
@@ -72,7 +73,7 @@ pub(crate) fn perform<O: Operation>(
     }
 }
 
-/// The same, out of line, and unmasked or masked.
+/// Execute an operation on groups of the vector type, without inlining. `UNMASKED` says whether it is unmasked.
 #[inline(never)]
 pub(crate) fn perform_apart<O: Operation, const UNMASKED: bool>(
     operation: &O,

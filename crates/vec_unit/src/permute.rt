@@ -23,7 +23,7 @@ use rv_model::instructions::operations::PermuteOp;
 use rv_model::{GROUP_BYTES, Scalar, Source, VFile};
 use std::marker::PhantomData;
 
-/// The scalar operand: all of `rs1`, or the immediate, which is unsigned.
+/// The scalar operand: all 64 bits of `rs1`, or the immediate, which is unsigned; 0 if the operand is a vector.
 fn scalar_operand(source: Source, scalar: &Scalar) -> u64
     ensures { result ≡ scalar_operand source scalar.now }
 {
@@ -34,7 +34,8 @@ fn scalar_operand(source: Source, scalar: &Scalar) -> u64
     }
 }
 
-/// How many elements of a width groups of a multiplier, in eighths of a register, have: of those of the vector type, VLMAX.
+/// The number of elements in a group with a multiplier in eighths of a register; VLMAX for a group of the vector
+/// type.
 #[inline(always)]
 fn element_count<L: Lane>(emul: u32) -> usize
     ensures { result ≡ element_count (record { width = L.width; emul = emul }) }
@@ -42,7 +43,7 @@ fn element_count<L: Lane>(emul: u32) -> usize
     L::count() * emul as usize / 8
 }
 
-/// A gather from the elements of `a`, those of vs2, of which there are `limit`, and where its indices come from.
+/// A gather from `a`, the `limit` elements of vs2, and the source of its indices.
 #[derive(Clone, Copy)]
 struct GatherOperation<'a> {
     a: &'a [u8],
@@ -51,8 +52,8 @@ struct GatherOperation<'a> {
 }
 
 impl<'a> GatherOperation<'a> {
-    /// Writes the results to a destination; indices that stand in registers have the width of `I`, and `emul` is
-    /// the multiplier of their group.
+    /// Write the results to a destination. Indices in registers have the width of `I`, and `emul` is the multiplier
+    /// of their group.
     fn write<L: Lane, I: Lane>(
         &self,
         emul: u32,

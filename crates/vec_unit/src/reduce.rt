@@ -37,8 +37,8 @@ impl Operation for WithSources<ReduceOp> {
 }
 
 impl WithSources<WidenReduceOp> {
-    /// Writes the result to element 0 of the destination's first register, of elements of the width of `W`; its
-    /// multiplier is that of `vs2`, whose elements have the width of `N`.
+    /// Write the result, of the width of `W`, to element 0 of the destination's first register. The elements of
+    /// `vs2` have the width of `N`; the destination's multiplier is that of `vs2`.
     fn write<N: Lane, W: Lane>(
         &self,
         to: Destination,
@@ -63,7 +63,7 @@ impl WithSources<WidenReduceOp> {
         write_first(number, to, body, file);
     }
 
-    /// Performs the reduction of a group of the vector type to twice its width.
+    /// Execute the reduction of a group of the vector type to twice its width.
     #[tactic(auto, using(crate::proofs::LegalGroups::reduced_groups))]
     pub(crate) fn perform(&self, target: Target, state: &mut VState, scalar: &Scalar)
         requires first { IsInside self.now.vs2 (lmul_eighths target.vtype.lmul) }

@@ -25,7 +25,7 @@ fn first_extended<L: Lane>(bytes: &[u8]) -> u64
     L::load(bytes, 0).signed_number().cast_unsigned()
 }
 
-/// What a scalar register takes: element 0 of `vs2`, sign-extended, whatever `vl` is.
+/// Return the result of `vmv.x.s`: element 0 of `vs2`, sign-extended to 64 bits, for each vl.
 #[tactic(auto, using(crate::proofs::TypedSteps::signs), unfolding(rv_model::specs::vector::Groups::register_of))]
 pub(crate) fn scalar_of_first(vs2: VReg, vtype: VType, file: &VFile) -> u64
     ensures { result ≡ moved_to_scalar vtype vs2 file.now }
@@ -39,7 +39,7 @@ pub(crate) fn scalar_of_first(vs2: VReg, vtype: VType, file: &VFile) -> u64
     }
 }
 
-/// A move of the low bits of `rs1` to element 0.
+/// `vmv.s.x`: a move of the low bits of `rs1` to element 0.
 #[derive(Clone, Copy)]
 pub(crate) struct MoveToVector {
     pub rs1: Reg,

@@ -1,4 +1,4 @@
-//! The tails of the fields of a load ("V" Vector Extension 1.0, sections 3.4.3, 5.4 and 7.8).
+//! Filling of the tails of a load's fields ("V" Vector Extension 1.0, sections 3.4.3, 5.4 and 7.8).
 ghost use Rattle.std.specs.Prelude.{◌≡◌, ◌+◌, ◌*◌, ◌≤◌};
 ghost use Rattle.rv_model.specs.lending.GroupBounds.{HoldsBody, IsInside, SegmentsInside};
 ghost use Rattle.rv_model.specs.step.MemoryStep.{tail_filled, tails_filled};
@@ -8,8 +8,8 @@ use lane_arith::{Lane, fill};
 use reg_groups::{group_mut, registers};
 use rv_model::{Field, Sew, VECTOR_REGISTERS, VFile, VLENB, VReg};
 
-/// The fields of segments: `nf` + 1 groups that follow one another from `vd` on, each with elements of a
-/// width and with a multiplier in eighths of a register.
+/// The fields of segments: `nf` + 1 consecutive groups that start at `vd`. Each has elements of `sew` and the
+/// multiplier `emul`, in eighths of a register.
 #[derive(Clone, Copy)]
 pub(crate) struct Fields {
     pub vd: VReg,
@@ -18,7 +18,7 @@ pub(crate) struct Fields {
     pub emul: u32,
 }
 
-/// Fills a group of `count` elements with ones, from element `start` on.
+/// Fill a group of `count` elements with ones, from element `start` on.
 fn fill_tail<L: Lane>(vd: VReg, emul: u32, start: usize, count: usize, file: &mut VFile)
     requires inside { IsInside vd emul }
     requires holds { HoldsBody L.width emul count start }
@@ -28,7 +28,7 @@ fn fill_tail<L: Lane>(vd: VReg, emul: u32, start: usize, count: usize, file: &mu
     fill(L::all_ones(), start, count, group);
 }
 
-/// Fills the group of each field, which has `count` elements.
+/// Fill the group of each field, which has `count` elements, with ones, from element `start` on.
 fn fill_each_tail<L: Lane>(fields: Fields, start: usize, count: usize, file: &mut VFile)
     requires inside { fields.vd + (fields.nf + 1) * registers fields.emul ≤ VECTOR_REGISTERS }
     requires holds { HoldsBody L.width fields.emul count start }
@@ -42,7 +42,7 @@ fn fill_each_tail<L: Lane>(fields: Fields, start: usize, count: usize, file: &mu
     }
 }
 
-/// Fills the tail of each field with ones, from element `start` on.
+/// Fill the tail of each field with ones, from element `start` on.
 pub(crate) fn fill_tails(fields: Fields, start: usize, file: &mut VFile)
     requires { SegmentsInside (record { width = sew_width fields.sew; emul = fields.emul }) fields.vd fields.nf start }
     ensures { file.new ≡ tails_filled (record { width = sew_width fields.sew; emul = fields.emul }) fields.vd

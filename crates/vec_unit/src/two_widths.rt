@@ -1,5 +1,5 @@
-//! Instructions whose operands have two widths, and whose results may saturate ("V" Vector Extension
-//! 1.0, sections 3.9, 5.2, 11.2, 11.7, 11.12 and 11.14, and chapter 12).
+//! Instructions whose operands have two widths, or whose results may saturate ("V" Vector Extension 1.0, sections
+//! 3.9, 5.2, 11.2, 11.7, 11.12 and 11.14, and chapter 12).
 ghost use Rattle.std.specs.Prelude.{◌≡◌, ◌*◌, ◌≤◌, Bool, List, length, ℕ};
 ghost use Rattle.rv_model.specs.declared.scalar.Scalar.{Scalar as ScalarRegisters};
 ghost use Rattle.rv_model.specs.vector.Groups.{GroupType, group_type, lmul_eighths, sew_bits, vlmax};
@@ -17,19 +17,19 @@ use rv_model::{GROUP_BYTES, Scalar, Sew, VFile, VLENB, VState};
 
 /// An operation and its operands, of two widths or of one.
 pub(crate) trait TwoWidths {
-    // The number for an element, by the types of the destination's groups and of the others, and what the registers
-    // hold.
+    // The result for an element, as an unsigned number. Arguments: the types of the destination's groups and of the
+    // other groups, and the contents of the vector and scalar registers.
     ghost number: { Self → GroupType → GroupType → List ℕ → ScalarRegisters → ℕ → ℕ };
 
-    // Whether the exact number for an active element of a body is another.
+    // Whether the result for an active element of a body saturates.
     ghost saturates: { Self → GroupType → GroupType → List ℕ → ScalarRegisters → BodyOf → Bool };
 
-    // The operands lie inside the file, by the multipliers of the destination and of the others, in eighths of a
-    // register.
+    // The groups of the operands are inside the register file. Arguments: the multipliers of the destination and of
+    // the other groups, in eighths of a register.
     ghost inside: { Self → ℕ → ℕ → Type 0 };
 
-    /// Writes the results to a copy of the destination, with elements of the width of `D`, and says whether an active
-    /// element saturates; `O` is the other width.
+    /// Write the results to a copy of the destination, with elements of the width of `D`; `O` is the other width.
+    /// Return whether an active element saturates.
     fn write<D: Lane, O: Lane>(
         &self,
         groups: Groups,
@@ -49,15 +49,15 @@ pub(crate) trait TwoWidths {
             (record { width = O.width; emul = groups.other }) file.now scalar.now body.now };
 }
 
-/// The multipliers of the destination's groups and of those of the other width, in eighths of a register.
+/// The multipliers of the destination's groups and of the groups of the other width, in eighths of a register.
 #[derive(Clone, Copy)]
 pub(crate) struct Groups {
     pub emul: u32,
     pub other: u32,
 }
 
-/// Performs an operation whose destination has elements of the width of `D`, and sets `vxsat` where an active
-/// element saturates; `O` is the other width.
+/// Execute an operation whose destination has elements of the width of `D`, and set vxsat if an active element
+/// saturates; `O` is the other width.
 pub(crate) fn perform_at<D: Lane, O: Lane, T: TwoWidths>(
     operation: &T,
     groups: Groups,
@@ -84,7 +84,7 @@ pub(crate) fn perform_at<D: Lane, O: Lane, T: TwoWidths>(
     state.vxsat = state.vxsat || saturated;
 }
 
-/// Performs an operation whose destination has twice the vector type's width.
+/// Execute an operation whose destination has twice the vector type's width.
 #[tactic(auto, using(crate::proofs::LegalGroups::wide_groups))]
 pub(crate) fn perform_widening<T: TwoWidths>(
     operation: &T,
@@ -111,7 +111,7 @@ pub(crate) fn perform_widening<T: TwoWidths>(
     }
 }
 
-/// Performs an operation with a source of twice the vector type's width.
+/// Execute an operation with a source of twice the vector type's width.
 #[tactic(auto, using(crate::proofs::LegalGroups::wide_groups))]
 pub(crate) fn perform_narrowing<T: TwoWidths>(
     operation: &T,
@@ -138,7 +138,7 @@ pub(crate) fn perform_narrowing<T: TwoWidths>(
     }
 }
 
-/// Performs an operation on groups of the vector type.
+/// Execute an operation on groups of the vector type.
 #[tactic(auto, using(crate::proofs::LegalGroups::wide_groups))]
 pub(crate) fn perform_single<T: TwoWidths>(
     operation: &T,

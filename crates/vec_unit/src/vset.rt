@@ -6,7 +6,8 @@ ghost use Rattle.rv_model.specs.vector.TypeRules.{requested};
 
 use rv_model::{Reg, RequestedLength, Scalar, VState, VectorRequest};
 
-/// The length that the registers ask for: that of `rs1`, unless it is x0.
+/// The vector length that the instruction requests: the value of `rs1`, the maximum if `rs1` is x0, or the old
+/// length if `rd` is x0 too.
 pub(crate) fn requested_length(rd: Reg, rs1: Reg, scalar: &Scalar) -> RequestedLength
     ensures { result ≡ requested_length rd rs1 scalar.now }
 {
@@ -19,8 +20,7 @@ pub(crate) fn requested_length(rd: Reg, rs1: Reg, scalar: &Scalar) -> RequestedL
     }
 }
 
-/// Takes the length and type that a request leaves, and answers the length in `rd`. The next vector
-/// instruction begins with the first element.
+/// Set the vector length and type for a request, write the new length to `rd`, and set vstart to 0.
 pub(crate) fn configure(
     rd: Reg,
     vtype: u64,

@@ -11,7 +11,7 @@ use reg_groups::{group_copy, mask_register, register_count};
 use rv_model::instructions::operations::RegisterCount;
 use rv_model::{GROUP_BYTES, Sew, VFile, VLENB, VReg, VState, VType};
 
-/// A move of whole registers; `emul` is how many, in eighths of a register.
+/// A move of whole registers; `emul` is their number, in eighths of a register.
 #[derive(Clone, Copy)]
 struct WholeMoveOperation {
     vd: VReg,
@@ -20,7 +20,7 @@ struct WholeMoveOperation {
 }
 
 impl WholeMoveOperation {
-    /// Moves the elements from `start` on, of `count` that the registers hold.
+    /// Move the elements from `start` on; `count` is the number of elements in the registers.
     fn write<L: Lane>(&self, start: usize, count: usize, file: &mut VFile)
         requires destination { IsInside self.now.vd self.now.emul }
         requires source { IsInside self.now.vs2 self.now.emul }
@@ -44,7 +44,7 @@ impl WholeMoveOperation {
     }
 }
 
-/// Performs a move of whole registers, of elements of SEW, whatever `vl` is.
+/// Execute a move of whole registers, with elements of SEW, for each vl.
 #[tactic(auto, using(rv_model::proofs::legality_lemmas::Moves::whole_groups_hold_body))]
 pub(crate) fn perform_whole_move(
     count: RegisterCount,

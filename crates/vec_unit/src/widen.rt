@@ -15,7 +15,7 @@ use rv_model::instructions::operations::{WideSourceOp, WidenMultiplyAddOp, Widen
 use rv_model::{GROUP_BYTES, Scalar, VFile, VLENB, VReg};
 use std::marker::PhantomData;
 
-/// The operations, by the numbers that their loops are compiled for.
+/// The operations; their indices are the const generics of `write_one`.
 const OPERATIONS: [WidenOp; 7] = [
     WidenOp::Vwaddu,
     WidenOp::Vwadd,
@@ -26,7 +26,8 @@ const OPERATIONS: [WidenOp; 7] = [
     WidenOp::Vwmul,
 ];
 
-/// Writes the results of one operation on these sources: its loop tests neither which it is nor whether it is masked.
+/// Write the results of one operation on these sources. The loop of each instance tests neither the operation nor
+/// whether it is masked.
 fn write_one<D: Lane, O: Lane, const NUMBER: usize>(
     sources: &WithSources<WidenOp>,
     groups: Groups,
@@ -112,7 +113,7 @@ impl TwoWidths for WithSources<WideSourceOp> {
     }
 }
 
-/// Products that are added to the group at `vd`.
+/// An operation that adds products to the group at `vd`.
 #[derive(Clone, Copy)]
 pub(crate) struct Added {
     pub op: WidenMultiplyAddOp,

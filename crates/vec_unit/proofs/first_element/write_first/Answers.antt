@@ -6,7 +6,7 @@ use Rattle.rv_model.specs.declared.vector.types.VType.{VType}
 use Rattle.rv_model.proofs.element_lemmas.Tails.{first_result_is}
 use Rattle.vec_unit.proofs.first_element.write_first.Goals as goal
 
--- a tail that is filled only where the body has an element
+-- the tail is filled only if the body has an element
 some_tail : (fill some : Bool) → (fill ≡ true → some ≡ true) → (fill && some) ≡ fill
 some_tail true some h = h refl
 some_tail false some h = refl
