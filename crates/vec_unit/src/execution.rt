@@ -71,7 +71,7 @@ pub fn exec_arith(
     // An illegal instruction leaves the state unchanged.
     ensures illegal_state { result ≡ VEnd.Illegal → state.new ≡ state.old }
 
-    // It is never stopped before its last element.
+    // It never ends with `Cut`, since it isn't a load or store.
     ensures uncut { (index : ℕ) → result ≢ VEnd.Cut index }
 {
     let ArithOperation {
