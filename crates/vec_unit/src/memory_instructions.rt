@@ -196,8 +196,8 @@ fn perform_access<M: UserBytes>(
     access_end(access, end)
 }
 
-/// Execute a vector load or store of a user, if it is legal, for at most `limit` indices. Return how it ended.
-/// `UNIT_STRIDE` is set by the caller with unit-stride accesses only, which saves a test; the result doesn't depend
+/// Execute a vector load or store of a user, if it is legal, for at most `limit` indices. Return how it ended. The
+/// caller that executes only unit-stride accesses sets `UNIT_STRIDE`, which saves a test; the result doesn't depend
 /// on it. Each of the two callers inlines its own instance.
 #[tactic(auto, unfolding(rv_model::specs::step::Step::vector_executed))]
 #[inline(always)]
