@@ -1,4 +1,4 @@
-//! What a word means as an argument of a command.
+//! Parsers for the arguments of a command. Each returns `None` if the argument isn't of its form.
 ghost use Rattle.std.specs.Prelude.{◌≡◌, ◌≤◌, ◌^◌, IfSome, Some};
 ghost use Rattle.rv_model.specs.commands.Arguments.{
   decimal_number,
@@ -18,10 +18,10 @@ ghost use Rattle.rv_model.specs.lending.Text.{capped};
 use rv_model::text::digits;
 use rv_model::{Count, Permissions, Policy, Reg, Sew, USER_COUNT, User, VReg};
 
-/// Larger numbers are read as this one, which no argument takes.
+/// Larger numbers are parsed as this value, which every parser rejects.
 const CAP: u128 = 1 << 64;
 
-/// A decimal number without a leading zero, or [`CAP`] in place of a larger one.
+/// Return the value of a decimal number without leading zeros, or [`CAP`] for a larger one.
 fn decimal_number(word: &[u8]) -> Option<u128>
     ensures { result ≡ capped (2 ^ 64) (decimal_number word.now) }
 {
@@ -31,7 +31,7 @@ fn decimal_number(word: &[u8]) -> Option<u128>
     digits(10, CAP, word)
 }
 
-/// A decimal number from low to high.
+/// Return the value of a decimal number from `low` to `high`.
 fn number(low: usize, high: usize, word: &[u8]) -> Option<usize>
     ensures value { result ≡ number_between low high word.now }
     ensures bound { IfSome result (λ n. n ≤ high) }
@@ -44,7 +44,7 @@ fn number(low: usize, high: usize, word: &[u8]) -> Option<usize>
     }
 }
 
-/// A decimal number from 1 to `MAX`.
+/// Return the value of a decimal number from 1 to `MAX`.
 pub fn count<const MAX: usize>(word: &[u8]) -> Option<Count<MAX>>
     ensures { result ≡ number_between 1 MAX word.now }
 {
@@ -52,7 +52,7 @@ pub fn count<const MAX: usize>(word: &[u8]) -> Option<Count<MAX>>
     Some(Count::new(count))
 }
 
-/// A user's number, 1 to `USER_COUNT`.
+/// Return a user's number, a decimal number from 1 to `USER_COUNT`.
 pub fn user(word: &[u8]) -> Option<User>
     ensures { result ≡ number_between 1 user_count word.now }
 {
@@ -60,7 +60,7 @@ pub fn user(word: &[u8]) -> Option<User>
     User::new(number as u8)
 }
 
-/// An address of 1 to 16 hexadecimal digits.
+/// Return the address written as 1 to 16 hexadecimal digits.
 pub fn address(word: &[u8]) -> Option<u64>
     ensures { result ≡ address word.now }
 {
@@ -75,7 +75,7 @@ pub fn address(word: &[u8]) -> Option<u64>
     }
 }
 
-/// An address that is divisible by 4.
+/// Return an address, written as in [`address`], that is divisible by 4.
 pub fn instruction_address(word: &[u8]) -> Option<u64>
     ensures { result ≡ instruction_address word.now }
 {
@@ -83,7 +83,7 @@ pub fn instruction_address(word: &[u8]) -> Option<u64>
     if addr % 4 == 0 { Some(addr) } else { None }
 }
 
-/// One of `x1` to `x31`.
+/// Return the scalar register named `x1` to `x31`.
 pub fn scalar_register(word: &[u8]) -> Option<Reg>
     ensures { result ≡ scalar_register word.now }
 {
@@ -94,7 +94,7 @@ pub fn scalar_register(word: &[u8]) -> Option<Reg>
     Some(Reg::new(register as u32))
 }
 
-/// One of `v0` to `v31`.
+/// Return the vector register named `v0` to `v31`.
 pub fn vector_register(word: &[u8]) -> Option<VReg>
     ensures { result ≡ vector_register word.now }
 {
@@ -105,7 +105,7 @@ pub fn vector_register(word: &[u8]) -> Option<VReg>
     Some(VReg::new(register as u32))
 }
 
-/// The width of an element in bits: `8`, `16`, `32` or `64`.
+/// Return the element width of `8`, `16`, `32` or `64` bits.
 pub fn element_width(word: &[u8]) -> Option<Sew>
     ensures { result ≡ sew_argument word.now }
 {
@@ -124,7 +124,7 @@ pub fn element_width(word: &[u8]) -> Option<Sew>
     None
 }
 
-/// What becomes of agnostic elements: `keep` or `ones`.
+/// Return the policy for agnostic elements: `keep` preserves them, `ones` fills them with ones.
 pub fn policy(word: &[u8]) -> Option<Policy>
     ensures { result ≡ policy_word word.now }
 {
@@ -137,7 +137,7 @@ pub fn policy(word: &[u8]) -> Option<Policy>
     None
 }
 
-/// What pages of these permissions allow a program.
+/// Return the permissions of a page that a program may read, write or execute.
 fn allowing(read: bool, write: bool, execute: bool) -> Option<Permissions>
     ensures { result ≡ Some (allowing read write execute) }
 {
@@ -148,7 +148,7 @@ fn allowing(read: bool, write: bool, execute: bool) -> Option<Permissions>
     })
 }
 
-/// One of `r`, `w`, `x`, `rw`, `rx`, `wx`, `rwx`.
+/// Return the permissions `r`, `w`, `x`, `rw`, `rx`, `wx` or `rwx` of a page.
 pub fn permissions(word: &[u8]) -> Option<Permissions>
     ensures { result ≡ permissions word.now }
 {

@@ -1,4 +1,4 @@
-//! Text of one line: reads words and arguments; prints numbers and stops into a reply.
+//! Text of one line: splits command lines and parses their arguments; prints numbers and stops into a reply.
 #![tactic(auto)]
 
 mod arguments;

@@ -1,4 +1,4 @@
-//! Numbers in text.
+//! Numbers printed into a reply.
 ghost use Rattle.std.specs.Prelude.{◌≡◌, ◌++◌, ◌+◌, ◌*◌, ◌≤◌, length, decimal, flat_map};
 ghost use Rattle.hex.specs.Hex.{encode_lower};
 ghost use Rattle.rv_model.specs.commands.Printing.{hex8, hex16, listed};
@@ -6,7 +6,7 @@ ghost use Rattle.rv_model.specs.commands.Printing.{hex8, hex16, listed};
 use crate::reply::Reply;
 use itoa::Buffer;
 
-/// Adds 16 hexadecimal digits in lower case, the highest first.
+/// Append `number` as 16 lowercase hexadecimal digits, most significant first.
 #[tactic(auto, unfolding(rv_model::specs::commands::Printing::hex16))]
 pub fn push_hex16(reply: &mut Reply, number: u64)
     requires { length reply.old + 16 ≤ 4096 }
@@ -18,7 +18,7 @@ pub fn push_hex16(reply: &mut Reply, number: u64)
     reply.push(&digits);
 }
 
-/// Adds 8 hexadecimal digits in lower case, the highest first.
+/// Append a 32-bit word as 8 lowercase hexadecimal digits, most significant first.
 #[tactic(auto, unfolding(rv_model::specs::commands::Printing::hex8))]
 pub fn push_hex8(reply: &mut Reply, word: u32)
     requires { length reply.old + 8 ≤ 4096 }
@@ -30,7 +30,7 @@ pub fn push_hex8(reply: &mut Reply, word: u32)
     reply.push(&word_digits);
 }
 
-/// Adds a decimal number.
+/// Append a decimal number of at most 20 digits.
 pub fn push_decimal(reply: &mut Reply, number: u64)
     requires { length reply.old + 20 ≤ 4096 }
     ensures text { reply.new ≡ reply.old ++ decimal number }
@@ -39,7 +39,7 @@ pub fn push_decimal(reply: &mut Reply, number: u64)
     reply.push(Buffer::new().format(number).as_bytes());
 }
 
-/// Adds at most 1,024 bytes, two hexadecimal digits each.
+/// Append at most 1,024 bytes, each as two lowercase hexadecimal digits.
 pub fn push_bytes(reply: &mut Reply, bytes: &[u8])
     requires few { length bytes.now ≤ 1024 }
     requires room { length reply.old + 2 * length bytes.now ≤ 4096 }
@@ -52,7 +52,7 @@ pub fn push_bytes(reply: &mut Reply, bytes: &[u8])
     reply.push(&digits[..size]);
 }
 
-/// Adds addresses, each after a space.
+/// Append addresses, each as a space and 16 hexadecimal digits.
 #[tactic(auto, unfolding(rv_model::specs::commands::Printing::listed))]
 pub fn push_addresses(reply: &mut Reply, addresses: &[u64])
     requires { length reply.old + 17 * length addresses.now ≤ 4096 }

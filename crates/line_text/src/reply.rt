@@ -1,4 +1,4 @@
-//! A line or a reply that is built piece by piece.
+//! A buffer for a reply or a line of text.
 ghost use Rattle.std.specs.Prelude.{◌≡◌, ◌+◌, ◌≤◌, [], ◌++◌, length};
 
 use arrayvec::ArrayVec;
@@ -19,7 +19,7 @@ impl Model for Reply {
 }
 
 impl Reply {
-    /// An empty reply.
+    /// Return an empty reply.
     pub fn new() -> Reply
         ensures { result ≡ [] }
     {
@@ -28,14 +28,14 @@ impl Reply {
         }
     }
 
-    /// Empties the reply.
+    /// Remove all bytes.
     pub fn clear(&mut self)
         ensures { self.new ≡ [] }
     {
         self.bytes.clear();
     }
 
-    /// The bytes of the reply.
+    /// Return the bytes of the reply.
     pub fn as_slice(&self) -> &[u8]
         ensures value { result.now ≡ self.now }
         ensures bound { length result.now ≤ 4096 }
@@ -43,7 +43,7 @@ impl Reply {
         self.bytes.as_slice()
     }
 
-    /// Adds bytes at the end.
+    /// Append `bytes`, for which the reply must have room.
     pub fn push(&mut self, bytes: &[u8])
         requires { length self.old + length bytes.now ≤ 4096 }
         ensures { self.new ≡ self.old ++ bytes.now }

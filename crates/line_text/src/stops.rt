@@ -1,4 +1,4 @@
-//! How a program stops, and where it stands then.
+//! Messages for the stop of a program, with its cause and program counter.
 ghost use Rattle.std.specs.Prelude.{◌≡◌, ◌++◌, ◌+◌, ◌≤◌, length, codes, decimal};
 ghost use Rattle.rv_model.specs.step.Hart.{cause_number};
 ghost use Rattle.rv_model.specs.commands.Printing.{hex16, stop_line};
@@ -7,7 +7,7 @@ use crate::numerals::{push_decimal, push_hex16};
 use crate::reply::Reply;
 use rv_model::{Cause, Stop};
 
-/// Adds where a program stands.
+/// Append the program counter: ` pc=` and 16 hexadecimal digits.
 pub fn push_pc(reply: &mut Reply, pc: u64)
     requires { length reply.old + 20 ≤ 4096 }
     ensures text { reply.new ≡ reply.old ++ codes " pc=" ++ hex16 pc }
@@ -17,7 +17,7 @@ pub fn push_pc(reply: &mut Reply, pc: u64)
     push_hex16(reply, pc);
 }
 
-/// Adds the address or the word that caused a fault.
+/// Append the value of a fault: the faulting address or the 32-bit instruction word.
 fn push_value(reply: &mut Reply, value: u64)
     requires { length reply.old + 23 ≤ 4096 }
     ensures text { reply.new ≡ reply.old ++ codes " value=" ++ hex16 value }
@@ -27,7 +27,7 @@ fn push_value(reply: &mut Reply, value: u64)
     push_hex16(reply, value);
 }
 
-/// Adds why an instruction faults.
+/// Append the cause number of a fault, in decimal.
 fn push_cause(reply: &mut Reply, cause: Cause)
     requires { length reply.old + 32 ≤ 4096 }
     ensures text { reply.new ≡ reply.old ++ codes "fault cause=" ++ decimal (cause_number cause) }
@@ -37,7 +37,7 @@ fn push_cause(reply: &mut Reply, cause: Cause)
     push_decimal(reply, u64::from(cause.number()));
 }
 
-/// Adds the status that a program ends with.
+/// Append the exit status of a program, in decimal.
 fn push_exit(reply: &mut Reply, status: u8)
     requires { length reply.old + 25 ≤ 4096 }
     ensures text { reply.new ≡ reply.old ++ codes "exit " ++ decimal status }
@@ -47,7 +47,7 @@ fn push_exit(reply: &mut Reply, status: u8)
     push_decimal(reply, u64::from(status));
 }
 
-/// Adds words, and the address where a program stands.
+/// Append a text and the program counter, in 16 hexadecimal digits.
 fn push_place(reply: &mut Reply, words: &[u8], pc: u64)
     requires { length reply.old + length words.now + 16 ≤ 4096 }
     ensures text { reply.new ≡ reply.old ++ (words.now ++ hex16 pc) }
@@ -57,7 +57,7 @@ fn push_place(reply: &mut Reply, words: &[u8], pc: u64)
     push_hex16(reply, pc);
 }
 
-/// Adds why a program stopped.
+/// Append the message for a stop at `pc`. It has at most 75 bytes.
 #[tactic(auto, unfolding(rv_model::specs::commands::Printing::stop_line))]
 pub fn push_stop(reply: &mut Reply, pc: u64, stop: Stop)
     requires { length reply.old + 75 ≤ 4096 }

@@ -1,4 +1,4 @@
-//! The words of a command line.
+//! The arguments of a command line.
 ghost use Rattle.std.specs.Prelude.{◌≡◌, ◌∷◌, [], length, ◌<◌, position, IfSome, MatchOption};
 ghost use Rattle.rv_model.specs.commands.Reading.{done};
 ghost use Rattle.rv_model.specs.text.Words.{words, is_space};
@@ -6,7 +6,7 @@ ghost use Rattle.rv_model.specs.lending.Text.{with_piece};
 
 use std::marker::Model;
 
-/// The words of a line that are still to be read. Words stand between spaces (byte 20).
+/// The remaining arguments of a line, separated by spaces (byte 0x20).
 #[derive(Drop)]
 pub struct Words<'a> {
     rest: &'a [u8],
@@ -22,14 +22,14 @@ impl<'a> Model for Words<'a> {
 }
 
 impl<'a> Words<'a> {
-    /// All words of a line.
+    /// Return all arguments of a line.
     pub fn new(line: &'a [u8]) -> Words<'a>
         ensures { result ≡ words line.now }
     {
         Words { rest: line }
     }
 
-    /// The next word, if one is left.
+    /// Remove and return the next argument, or return `None` at the end of the line.
     pub fn next_word(&mut self) -> Option<&'a [u8]>
         ensures { MatchOption result (self.old ≡ []) (λ word. self.old ≡ word.now ∷ self.new) }
     {
@@ -38,7 +38,7 @@ impl<'a> Words<'a> {
         Some(word)
     }
 
-    /// The words that are left, as they stand in the line.
+    /// Return the rest of the line, which contains the remaining arguments and the spaces between them.
     pub fn rest(&self) -> &'a [u8]
         ensures { words result.now ≡ self.now }
     {
@@ -46,7 +46,7 @@ impl<'a> Words<'a> {
     }
 }
 
-/// The command, if no word is left.
+/// Return `command` if no argument remains, else `None`.
 pub fn done<C: Drop>(mut words: Words<'_>, command: C) -> Option<C>
     ensures { result ≡ done command words.entry }
 {
@@ -56,7 +56,7 @@ pub fn done<C: Drop>(mut words: Words<'_>, command: C) -> Option<C>
     }
 }
 
-/// The place of the first space, if there is one.
+/// Return the index of the first space, if there is one.
 fn first_space(line: &[u8]) -> Option<usize>
     ensures first { result ≡ position is_space line.now }
     ensures bound { IfSome result (λ end. end < length line.now) }
@@ -64,7 +64,7 @@ fn first_space(line: &[u8]) -> Option<usize>
     line.iter().position(|byte| *byte == b' ')
 }
 
-/// What stands before the first space, and what follows that space.
+/// Return the bytes before the first space and those after it. Without a space, the first part is the whole line.
 #[tactic(auto, using(crate::proofs::WordLaws::words_with_a_space, crate::proofs::WordLaws::words_without_a_space))]
 fn cut(line: &[u8]) -> (&[u8], &[u8])
     ensures words { words line.now ≡ with_piece result.0.now (words result.1.now) }
@@ -76,7 +76,7 @@ fn cut(line: &[u8]) -> (&[u8], &[u8])
     }
 }
 
-/// The first word and what follows it.
+/// Return the first argument and the rest of the line after it.
 #[tactic(auto, using(crate::proofs::WordLaws::empty_line_has_no_words))]
 fn first_word(line: &[u8]) -> Option<(&[u8], &[u8])>
     ensures { MatchOption result (words line.now ≡ [])
