@@ -1,8 +1,8 @@
--- What a device gave or took, and how a write ended.
+-- Bytes that a device returned or accepted, and the result of a write
 use Rattle.std.proofs.Common.{◌≡◌, ℕ, List, subst, Result, Ok, Err}
 use Rattle.std.specs.Result.{OnErr}
 
--- the same bytes, written otherwise
+-- equal lists of bytes are interchangeable
 pub moved : {D : Type 0} (R : D → List ℕ → D → Type 0) (a b : D) (xs ys : List ℕ) → xs ≡ ys → R a xs b → R a ys b
 moved R a b xs ys e h = subst (λ (l : List ℕ). R a l b) e h
 

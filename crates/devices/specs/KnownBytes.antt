@@ -1,6 +1,6 @@
--- Bytes of a file or of standard input, where they are known.
+-- Bytes of a file or of standard input, if they are specified
 use Rattle.std.specs.Prelude.{◌≡◌, ℕ, List, Option, IfSome}
 
--- the bytes are the known ones, where they are known
+-- the bytes are equal to the known ones, if there are known ones
 abbrev pub AreKnownAs : Option (List ℕ) → List ℕ → Type 0
 AreKnownAs known bytes = IfSome known (λ xs. bytes ≡ xs)

@@ -1,28 +1,28 @@
-//! Where a script comes from, and where the output goes.
+//! Sources of bytes and sinks for bytes: the devices that scripts come from and output goes to.
 ghost use Rattle.std.specs.Prelude.{◌≡◌, ℕ, ◌<◌, ◌≤◌, List, [], ◌++◌, length, take, IfOk, OnErr};
 ghost use Rattle.devices.specs.Device.{Counts};
 
 use thiserror::Error;
 
-/// A read or a write failed.
+/// The error of a failed read or write.
 #[derive(Debug, Drop, Error)]
 #[error("device failure")]
 pub struct DeviceFault;
 
-/// A device that gives bytes in order.
+/// A device that returns bytes in order.
 pub trait Source {
-    /// Whether these bytes may have been given between two states. A device of which nothing is
-    /// known allows any.
+    /// Whether a read may have returned these bytes between two states. If the device's content is unspecified, any
+    /// bytes are allowed.
     ghost gave: { Self → List ℕ → Self → Type 0 };
 
-    /// Whether the last read that had room for a byte found the end.
+    /// Whether the last read into a buffer with room for at least one byte reached the end.
     ghost ended: { Self → Type 0 };
 
-    /// How often it failed, up to 2^64 - 1.
+    /// The number of failed reads, up to 2^64 - 1, where it saturates.
     ghost failures: { Self → ℕ };
 
-    /// Reads the next bytes into the front of `buffer` and answers their number. A read of 0 bytes
-    /// into a buffer that isn't empty is the end; a failed read gives no byte.
+    /// Read the next bytes to the start of `buffer` and return their number. If `buffer` isn't empty, 0 bytes mean the
+    /// end. A failed read consumes no byte.
     fn read(&mut self, buffer: &mut [u8]) -> Result<usize, DeviceFault>
         ensures bound { IfOk result (λ n. n ≤ length buffer.new) }
         ensures bytes { IfOk result (λ n. gave self.old (take n buffer.new) self.new) }
@@ -31,25 +31,25 @@ pub trait Source {
         ensures more { IfOk result (λ n. 0 < n → ¬ (ended self.new)) }
         ensures count { Counts (failures self.old) (failures self.new) result };
 
-    /// No byte may have been given at once.
+    /// Reading no bytes may leave the state unchanged.
     ghost gave_none: { (s : Self) → gave s [] s };
 
-    /// Bytes that were given one after another, without an end between them.
+    /// Two consecutive reads, with no end between them, return the bytes of both in order.
     ghost gave_more: { (a b c : Self) (xs ys : List ℕ) → gave a xs b → ¬ (ended b) → gave b ys c
         → gave a (xs ++ ys) c };
 }
 
-/// A device that takes bytes in order.
+/// A device that accepts bytes in order.
 pub trait Sink {
-    /// Whether these bytes may have been taken between two states. A device of which nothing is
-    /// known allows any.
+    /// Whether the device may have accepted these bytes between two states. If the device's content is unspecified, any
+    /// bytes are allowed.
     ghost took: { Self → List ℕ → Self → Type 0 };
 
-    /// How often it failed, up to 2^64 - 1.
+    /// The number of failed writes, up to 2^64 - 1, where it saturates.
     ghost failures: { Self → ℕ };
 
-    /// Takes some bytes from the front, at least one where there are any, and answers their number.
-    /// A failed write takes none.
+    /// Write a prefix of `bytes` and return its length, at least 1 unless `bytes` is empty. A failed write accepts no
+    /// byte.
     fn write(&mut self, bytes: &[u8]) -> Result<usize, DeviceFault>
         ensures bound { IfOk result (λ n. n ≤ length bytes.now) }
         ensures some { IfOk result (λ n. 0 < length bytes.now → 0 < n) }
@@ -57,9 +57,9 @@ pub trait Sink {
         ensures kept { OnErr result (took self.old [] self.new) }
         ensures count { Counts (failures self.old) (failures self.new) result };
 
-    /// No byte may have been taken at once.
+    /// Writing no bytes may leave the state unchanged.
     ghost took_none: { (s : Self) → took s [] s };
 
-    /// Bytes that were taken one after another.
+    /// Two consecutive writes accept the bytes of both in order.
     ghost took_more: { (a b c : Self) (xs ys : List ℕ) → took a xs b → took b ys c → took a (xs ++ ys) c };
 }

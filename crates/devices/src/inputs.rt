@@ -1,4 +1,4 @@
-//! Where a program reads: files by their paths, and standard input.
+//! Inputs of a program: files by path, and standard input.
 ghost use Rattle.std.specs.Prelude.{ℕ, List, Option, None, IfOk};
 ghost use Rattle.std.specs.Io.KnownBytes.{Keeps};
 
@@ -7,30 +7,30 @@ use std::fs;
 use std::io::Read;
 use std::rt::Files;
 
-/// Files by their paths, and standard input. What they give may be known or not.
+/// Files by path, and standard input. An implementation specifies their bytes, or leaves them unspecified.
 pub trait Inputs {
     /// An open file.
     type File: Read + Drop;
 
-    /// Standard input.
+    /// A reader of standard input.
     type StandardInput: Read + Drop;
 
-    /// The bytes of the file at a path, where they are known.
+    /// The bytes of the file at a path, or `None` if they are unspecified.
     ghost file_bytes: { Self → List ℕ → Option (List ℕ) };
 
-    /// The bytes of standard input, where they are known.
+    /// The bytes of standard input, or `None` if they are unspecified.
     ghost input_bytes: { Self → Option (List ℕ) };
 
-    /// Opens the file at a path, to be read from its start.
+    /// Open the file at a path for reading from its start.
     fn open(&self, path: &str) -> Result<Self::File, DeviceFault>
         ensures { IfOk result (λ file. Keeps (file_bytes self.now path.now) (Self.File.remaining file)) };
 
-    /// Standard input, from where it stands.
+    /// Return a reader of standard input that continues at the current position.
     fn standard_input(&self) -> Self::StandardInput
         ensures { Keeps (input_bytes self.now) (Self.StandardInput.remaining result) };
 }
 
-/// The files and the input of a process. Nothing is known of them.
+/// The files and the standard input of a process. Their bytes are unspecified.
 impl<R: Files + Input> Inputs for R {
     type File = R::File;
 

@@ -1,4 +1,4 @@
-//! What programs read and write: devices that give and take bytes, files by their paths, standard input, arguments.
+//! Input and output of programs: devices for reading and writing bytes, files by path, standard input, and arguments.
 #![tactic(auto)]
 
 mod device;

@@ -4,15 +4,15 @@ use std::env;
 use std::io::ErrorKind;
 use std::rt::Env;
 
-/// Why the arguments can't be read.
+/// The error of reading the arguments.
 #[derive(Clone, Copy, Debug, PartialEq, Eq)]
 pub enum ArgumentFault {
     NoMemory,
-    /// An argument isn't UTF-8.
+    /// An argument isn't valid UTF-8.
     NoText,
 }
 
-/// The arguments of the process, the program's name first.
+/// Return the arguments of the process; the first is the program's name.
 pub fn arguments<R: Env + Alloc<A = Global>>(rt: &R) -> Result<Vec<String>, ArgumentFault> {
     let words = match env::args(rt) {
         Ok(words) => words.collect(rt.alloc()),

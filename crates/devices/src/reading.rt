@@ -1,4 +1,4 @@
-//! Files that are read.
+//! Files read into memory.
 ghost use Rattle.std.specs.Prelude.{◌≡◌, ◌≤◌, ◌<◌, IfErr, IfOk, length};
 ghost use Rattle.std.specs.Io.KnownBytes.{Consumes, IsAtEnd};
 ghost use Rattle.devices.specs.KnownBytes.{AreKnownAs};
@@ -7,10 +7,10 @@ use crate::inputs::Inputs;
 use std::alloc::{AllocError, Allocator};
 use std::io::Read;
 
-/// Why a file isn't read.
+/// The error of reading a file.
 #[derive(Clone, Copy, Debug, PartialEq, Eq)]
 pub enum ReadFault {
-    /// It can't be opened or read.
+    /// The file can't be opened or read.
     Unreadable,
     NoMemory,
 }
@@ -25,11 +25,11 @@ impl From<AllocError> for ReadFault {
     }
 }
 
-/// The most bytes of a read.
+/// The largest number of bytes in one read.
 const PIECE: usize = 4096;
 
-/// The bytes that a file gives, up to its end or up to `most`. A read that fails isn't tried again,
-/// not even one that was interrupted.
+/// Return the bytes of `file` up to its end, at most `most`. The first failed read is an error, even if it was
+/// interrupted.
 fn read_bytes<F: Read, A: Allocator>(
     file: &mut F,
     alloc: A,
@@ -58,8 +58,8 @@ fn read_bytes<F: Read, A: Allocator>(
     Ok(bytes)
 }
 
-/// The bytes of the file at a path, or the first `most` of them. Refused where it can't be opened
-/// or read, and for want of memory.
+/// Return the bytes of the file at `path`, at most the first `most`. It fails if the file can't be opened or read, or
+/// if memory runs out.
 pub fn read_file<I: Inputs, A: Allocator>(
     inputs: &I,
     alloc: A,

@@ -1,5 +1,4 @@
-//! A reader as a source, and a writer as a sink. Of a file or a terminal nothing is known, and it
-//! may give and take any bytes.
+//! Adapters: a reader as a source, and a writer as a sink. The bytes of a file or a terminal are unspecified.
 ghost use Rattle.std.specs.Prelude.{◌≡◌, ℕ, true};
 ghost use Rattle.std.specs.Io.KnownBytes.{Appends, Consumes, IsAtEnd};
 ghost use Rattle.std.proofs.KnownBytes.{Appends-nil, Appends-trans, Consumes-nil, Consumes-trans};
@@ -16,7 +15,7 @@ pub struct ReaderSource<R> {
 }
 
 impl<R> ReaderSource<R> {
-    /// A source of what the reader gives, which hasn't failed yet.
+    /// Return a source for the bytes of `reader`, with a failure count of 0.
     pub fn new(reader: R) -> Self
         ensures reader { result.reader ≡ reader }
         ensures count { result.failures ≡ 0 }
@@ -63,7 +62,7 @@ pub struct WriterSink<W> {
 }
 
 impl<W> WriterSink<W> {
-    /// A sink into the writer, which hasn't failed yet.
+    /// Return a sink that writes to `writer`, with a failure count of 0.
     pub fn new(writer: W) -> Self
         ensures writer { result.writer ≡ writer }
         ensures count { result.failures ≡ 0 }

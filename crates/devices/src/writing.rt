@@ -1,10 +1,10 @@
-//! Bytes that are written whole.
+//! Complete writes.
 ghost use Rattle.std.specs.Prelude.{◌≡◌, ℕ, ◌<◌, length, take, OnOk, OnErr};
 ghost use Rattle.devices.specs.Device.{Rose};
 
 use crate::device::{DeviceFault, Sink};
 
-/// Writes all the bytes.
+/// Write all bytes, or fail after accepting a proper prefix of them.
 pub fn write_all<K: Sink>(sink: &mut K, bytes: &[u8]) -> Result<(), DeviceFault>
     ensures ok { OnOk result (K.took sink.old bytes.now sink.new) }
     ensures unfailed { OnOk result (K.failures sink.new ≡ K.failures sink.old) }

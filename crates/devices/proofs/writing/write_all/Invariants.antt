@@ -1,7 +1,7 @@
 use Rattle.std.proofs.Common.{length, ◌-◌, ◌≡◌, ◌≤◌, take}
 use Rattle.devices.proofs.writing.write_all.Given as goal
 
--- the sink took the front that was written
+-- the sink has accepted the first `at` bytes
 abbrev pub invariant-loop-at : goal.invariant-loop-at
 invariant-loop-at g l = record {
   front : g.K.Sink.took l.fn.sink (take l.at l.bytes) l.sink;
