@@ -66,7 +66,7 @@ owners_when_given_back f start free new t s i d same lt e h =
     sum_given_back (times_free f new) (cond (nat_eq (get_or t i d).frame f) 1 0) (times_free f start) (times_used f (take i t)) (times_used f (take (i + 1) t)) (times_free f free)
     (times_free-popped f new free (get_or t i d).frame here) h (ap (times_used f) (take_more t i d lt) ∙ times_used-append f (take i t) (get_or t i d))
 
--- ---- all frames free, one after another
+-- ---- all frames free, in ascending order
 
 below_next : (f n k : ℕ) → k ≡ cond (nat_lt f n) 1 0 → k + cond (nat_eq n f) 1 0 ≡ cond (nat_lt f (n + 1)) 1 0
 below_next f n k e = grind (arith, nat_tests)

@@ -1,4 +1,4 @@
--- What a new entry changes
+-- Changes by a new entry
 use Rattle.std.proofs.Common.{◌≡◌, ◌≢◌, ℕ, zero, suc, ◌+◌, ◌*◌, ◌/◌, ◌%◌, ◌<◌, ◌≤◌, Bool, cond, List, [], ◌∷◌, get_or, Option, Some, None, refl, sym, ◌∙◌, ap, ◌⊎◌, inl, inr, arith, ne_eqb, eq-eqb}
 use Rattle.std.specs.Prelude.{nat_eq}
 use Rattle.std.specs.List.{insert}
@@ -13,7 +13,7 @@ use Rattle.user_mem.specs.Table.{entry_at, memory_of, AreBelow}
 use Rattle.user_mem.proofs.TableLaws.{cell_of_page, get-memory_of, memory_of_same}
 use Rattle.user_mem.specs.Frames.{times_used}
 
--- the look-up after an entry of a new page was put anywhere
+-- the lookup after inserting the entry of a new page at any index
 pub entry_at-insert : (es : List Entry) (i : ℕ) (e : Entry) (p : ℕ) → entry_at es e.page ≡ None → entry_at (insert es i e) p ≡ cond (nat_eq e.page p) (Some e) (entry_at es p)
 entry_at-insert es zero e p h = refl
 entry_at-insert [] (suc i) e p h = refl
@@ -40,7 +40,7 @@ pub times_used-cons : (f : ℕ) (x : Entry) (xs : List Entry) → times_used f (
 unfolding times_used
 times_used-cons f x xs = sum_by-append (λ e. cond (nat_eq e.frame f) 1 0) (x ∷ []) xs ∙ omega arith
 
--- a page that is there uses its frame
+-- the frame of a page's entry is used
 pub entry_is_used : (es : List Entry) (p : ℕ) (e : Entry) → entry_at es p ≡ Some e → 0 < times_used e.frame es
 entry_is_used [] p e h = absurd (cc)
 entry_is_used (x ∷ xs) p e h = elim (cases_eq x.page p) [
@@ -55,7 +55,7 @@ entry_is_used (x ∷ xs) p e h = elim (cases_eq x.page p) [
       let more = entry_is_used xs p e rest in omega (arith, times_used-cons e.frame x xs)
 ]
 
--- a table that does not use the frame means what it did
+-- changing a frame that a table doesn't use leaves the table's memory unchanged
 pub memory_of-unused_frame : (frames after : List ℕ) (f : ℕ) (es : List Entry)
     → ((i : ℕ) → ((i < page_size * f) ⊎ (page_size * f + page_size ≤ i)) → get_or after i 0 ≡ get_or frames i 0)
     → times_used f es ≡ 0 → memory_of after es ≡ memory_of frames es
@@ -68,7 +68,7 @@ memory_of-unused_frame frames after f es kept unused = memory_of_same frames aft
       | inr above ↦ let more : f < e.frame = omega arith in inr (omega arith)
     ]
 
--- a page of zeros
+-- adding a page of zeros
 pub memory_of-page : (frames after : List ℕ) (es new : List Entry) (e : Entry)
     → ((p : ℕ) → entry_at new p ≡ cond (nat_eq e.page p) (Some e) (entry_at es p))
     → ((k : ℕ) → k < page_size → get_or after (page_size * e.frame + k) 0 ≡ 0)
@@ -100,13 +100,13 @@ memory_of-page frames after es new e looked_up zeros kept unused = same_memory _
         ∙ ap (λ (m : Memory). get m x) (memory_of-unused_frame frames after e.frame es kept unused)
         ∙ sym (get-add_cells_outside (memory_of frames es) (page_size * e.page) page_size (λ _. record { byte = 0; permissions = e.permissions }) x (beside x n))
 
--- a page added below the limit leaves all pages below it
+-- adding a page below the limit keeps all pages below it
 pub AreBelow-added : (es new : List Entry) (e : Entry) → e.page < page_limit → AreBelow es → ((p : ℕ) → entry_at new p ≡ cond (nat_eq e.page p) (Some e) (entry_at es p)) → AreBelow new
 AreBelow-added es new e low below looked_up p f h = elim (cases_eq e.page p) [
   | inl same ↦ omega arith
   | inr differ ↦ below p f (ap (λ (b : Bool). cond b (Some e) (entry_at es p)) (sym (ne_eqb e.page p differ)) ∙ sym (looked_up p) ∙ h)
 ]
 
--- and the look-up of a higher page as it was
+-- adding a page leaves the lookup of a higher page unchanged
 pub entry_at-elsewhere : (es new : List Entry) (e : Entry) (p : ℕ) → e.page < p → ((p : ℕ) → entry_at new p ≡ cond (nat_eq e.page p) (Some e) (entry_at es p)) → entry_at new p ≡ entry_at es p
 entry_at-elsewhere es new e p above looked_up = looked_up p ∙ ap (λ (b : Bool). cond b (Some e) (entry_at es p)) (ne_eqb e.page p (λ same. omega arith))

@@ -1,4 +1,4 @@
--- Which pages a table maps, and how many
+-- The mapped pages of a table, and their number
 use Rattle.std.proofs.Common.{◌≡◌, ℕ, suc, ◌+◌, ◌*◌, ◌/◌, List, [], ◌∷◌, length, Option, Some, None, refl, ◌∙◌, ap, arith}
 use Rattle.std.specs.Prelude.{is_some}
 use Rattle.std.specs.Ordering.{nat_cmp}
@@ -11,7 +11,7 @@ use Rattle.user_mem.specs.Table.{entry_at, cell_of_entry, memory_of, IsSorted}
 use Rattle.user_mem.proofs.TableLaws.{cell_of_page, get-memory_of}
 use Rattle.user_mem.proofs.SearchLaws.{entry_at_none}
 
--- a page's first address is mapped exactly where the page has an entry
+-- a page's first address is mapped if and only if the page has an entry
 pub contains_key-memory_of : (frames : List ℕ) (es : List Entry) (p : ℕ) → contains_key (memory_of frames es) (page_size * p) ≡ is_some (entry_at es p)
 contains_key-memory_of frames es p =
     let page : page_size * p / page_size ≡ p = omega arith in
@@ -22,14 +22,14 @@ contains_key-memory_of frames es p =
     through None = refl
     through (Some e) = refl
 
--- the first page of a sorted table is in no later entry
+-- the first page of a sorted table has no later entry
 first_is_alone : (x : Entry) (es : List Entry) → IsSorted (x ∷ es) → entry_at es x.page ≡ None
 first_is_alone x es sorted = entry_at_none es x.page (λ j d lt same. omega (arith, sorted 0 (suc j) d (omega arith) (omega arith)))
 
 tail_is_sorted : (x : Entry) (es : List Entry) → IsSorted (x ∷ es) → IsSorted es
 tail_is_sorted x es sorted i j d lt in_range = sorted (suc i) (suc j) d (omega arith) (omega arith)
 
--- each entry maps the addresses of a page
+-- each entry maps `page_size` addresses
 pub len-memory_of : (frames : List ℕ) (es : List Entry) → IsSorted es → len (memory_of frames es) ≡ page_size * length es
 unfolding memory_of
 len-memory_of frames [] sorted = len-empty nat_cmp Cell

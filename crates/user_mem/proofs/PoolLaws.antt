@@ -1,4 +1,4 @@
--- What follows from the pool's invariant, and what keeps it
+-- Consequences of the pool's invariant, and its preservation
 use Rattle.std.proofs.Common.{◌≡◌, ◌≢◌, ℕ, zero, suc, ◌+◌, ◌*◌, ◌<◌, ◌≤◌, Bool, true, false, cond, List, [], ◌∷◌, length, get_or, set, Some, refl, sym, ◌∙◌, ap, subst, inl, inr, arith, ne_eqb, eq-eqb, rules, get_or-set_same, get_or-set_other, length-set}
 use Rattle.std.specs.Prelude.{nat_lt}
 use Rattle.std.specs.List.{sum_by}
@@ -20,7 +20,7 @@ at_most_one : (b : Bool) → ◌≤◌ (cond b 1 0) 1
 at_most_one true = omega arith
 at_most_one false = omega arith
 
--- a frame is free wherever one user has room
+-- if one user is below the quota, a frame is free
 pub room_left : (xs : List (List Entry)) (u : ℕ) → u < length xs → ((v : ℕ) → length (get_or xs v []) ≤ page_quota) → used_in_all xs + page_quota ≤ page_quota * length xs + length (get_or xs u [])
 unfolding used_in_all
 room_left [] u h few = absurd (omega arith)
@@ -40,7 +40,7 @@ pub used_in_all-set : (tables : List (List Entry)) (u : ℕ) (t : List Entry) �
 unfolding used_in_all
 used_in_all-set tables u t h = sum_by-set (λ t. length t) tables u t [] h
 
--- a frame that is free or used is one of the bytes' frames
+-- a frame that is free or used is within the bytes
 owned_frame_fits : (tables : List (List Entry)) (free frames : List ℕ) (f : ℕ) → IsPool tables free frames → 0 < owners f free tables → page_size * f + page_size ≤ length frames
 owned_frame_fits tables free frames f p some = fits (nat_lt f frame_count) refl
   where
@@ -48,7 +48,7 @@ owned_frame_fits tables free frames f p some = fits (nat_lt f frame_count) refl
     fits true e = let s = p.size in let l : f < frame_count = search rules in omega arith
     fits false e = let o : owners f free tables ≡ 0 = p.once f ∙ ap (λ (b : Bool). cond b 1 0) e in absurd (omega arith)
 
--- what a user's table owes to the pool
+-- a user's table and the list of free frames share no frame
 pub pool_shares_no_frame : (tables : List (List Entry)) (free frames : List ℕ) (u : ℕ) → IsPool tables free frames → u < user_count → ShareNoFrame free (length frames) (table_at tables u)
 unfolding owners
 pool_shares_no_frame tables free frames u p h = record {
@@ -67,7 +67,7 @@ unfolding used_in_all
 room_to_give_back tables free frames u p h =
     let at = get_or-le-sum_by (λ (t : List Entry). length t) tables u [] (omega (arith, p.users)) in let t = p.total in omega arith
 
--- a fact of all tables, after one of them is another one
+-- a predicate of all tables holds after replacing one of them with a table that satisfies it
 tables_keep : (P : List Entry → Type 0) (tables : List (List Entry)) (u : ℕ) (t : List Entry) → u < length tables → P t → ((v : ℕ) → P (table_at tables v)) → (v : ℕ) → P (table_at (set tables u t) v)
 tables_keep P tables u t h here all v = elim (cases_eq v u) [
   | inl e ↦
@@ -76,7 +76,7 @@ tables_keep P tables u t h here all v = elim (cases_eq v u) [
   | inr n ↦ subst P (sym (get_or-set_other tables u v t [] n)) (all v)
 ]
 
--- what a user's table has to keep by itself
+-- the part of the invariant that concerns a single table
 pub record IsTable (t : List Entry) : Type 0 where
   pub few : length t ≤ page_quota
   pub sorted : IsSorted t
@@ -85,7 +85,7 @@ pub record IsTable (t : List Entry) : Type 0 where
 pub no_table : IsTable []
 no_table = record { few = omega arith; sorted = λ i j d l h. absurd (omega arith); below = λ p e h. absurd (cc) }
 
--- a user's table is another one, and the free frames are those that it left
+-- replacing a user's table preserves the invariant if the counts of free and used frames agree
 pub IsPool-set : (tables : List (List Entry)) (free after frames now : List ℕ) (u : ℕ) (t : List Entry) → IsPool tables free frames → u < user_count
     → length now ≡ length frames → IsTable t
     → ((f : ℕ) → times_free f after + times_used f t ≡ times_free f free + times_used f (table_at tables u))
@@ -103,7 +103,7 @@ IsPool-set tables free after frames now u t p h same own_table own len =
       total = let s = used_in_all-set tables u t within in let old = p.total in omega arith;
     }
 
--- other bytes in the frames
+-- replacing the frames' bytes preserves the invariant
 pub IsPool-written : (tables : List (List Entry)) (free frames now : List ℕ) → IsPool tables free frames → length now ≡ length frames → IsPool tables free now
 IsPool-written tables free frames now p same = record {
   users = p.users;
@@ -171,7 +171,7 @@ tables_are_apart tables free frames u v pool l m n = λ p q e g h k s.
     let none = times_used-none e.frame in
     omega arith
 
--- ---- the memories of all
+-- ---- the memories of all users
 
 memories_of-same : (frames now : List ℕ) (tables : List (List Entry)) → ((v : ℕ) → v < length tables → memory_of now (table_at tables v) ≡ memory_of frames (table_at tables v)) → memories_of now tables ≡ memories_of frames tables
 memories_of-same frames now [] e = refl
@@ -179,7 +179,7 @@ memories_of-same frames now (x ∷ xs) e =
     let here : memory_of now x ≡ memory_of frames x = e 0 (omega arith) in
     let rest : memories_of now xs ≡ memories_of frames xs = memories_of-same frames now xs (λ v l. e (suc v) (omega arith)) in cc
 
--- one table is another one, and all others mean what they did
+-- replacing one table replaces that user's memory; those of all other users are unchanged
 pub memories_of-set : (frames now : List ℕ) (tables : List (List Entry)) (u : ℕ) (t : List Entry) (m : Memory) → u < length tables
     → ((v : ℕ) → v < length tables → v ≢ u → memory_of now (table_at tables v) ≡ memory_of frames (table_at tables v)) → memory_of now t ≡ m
     → memories_of now (set tables u t) ≡ set (memories_of frames tables) u m
@@ -190,7 +190,7 @@ memories_of-set frames now (x ∷ xs) (suc u) t m l others e =
     let here : memory_of now x ≡ memory_of frames x = others 0 (omega arith) (λ q. omega arith) in
     let rest : memories_of now (set xs u t) ≡ set (memories_of frames xs) u m = memories_of-set frames now xs u t m (omega arith) (λ v l n. others (suc v) (omega arith) (λ q. n (omega arith))) e in cc
 
--- what was written in one user's pages leaves those of the others
+-- a write to one user's pages leaves the memories of all other users unchanged
 pub memories_of-written : (tables : List (List Entry)) (free frames now : List ℕ) (u : ℕ) (t : List Entry) (m : Memory) → IsPool tables free frames → u < user_count → t ≡ table_at tables u
     → ((other : List Entry) → AreApart t other → memory_of now other ≡ memory_of frames other) → memory_of now t ≡ m → memories_of now tables ≡ set (memories_of frames tables) u m
 memories_of-written tables free frames now u t m pool low table others written =
@@ -199,7 +199,7 @@ memories_of-written tables free frames now u t m pool low table others written =
     (λ v within other. others (table_at tables v) (rw table (tables_are_apart tables free frames u v pool low (omega (arith, pool.users)) (λ q. other (sym q)))))
     (ap (memory_of now) (sym table) ∙ written)
 
--- a table that was dropped
+-- emptying a user's table empties the user's memory
 pub memories_of-dropped : (tables : List (List Entry)) (frames : List ℕ) (u : ℕ) → memories_of frames (set tables u []) ≡ set (memories_of frames tables) u empty
 unfolding memory_of
 memories_of-dropped tables frames u = map-set (λ t. memory_of frames t) tables u []

@@ -1,4 +1,4 @@
--- The bytes of one page from an address on: one frame holds them, one after another
+-- The bytes of one page from an address on: consecutive bytes of one frame
 use Rattle.std.proofs.Common.{◌≡◌, ℕ, ◌+◌, ◌-◌, ◌*◌, ◌/◌, ◌%◌, ◌<◌, ◌≤◌, true, false, List, length, get_or, take, drop, Option, Some, None, refl, sym, ◌∙◌, ap, ◌⊎◌, inl, inr, arith}
 use Rattle.std.proofs.Math.Seq.{take-add}
 use Rattle.std.specs.Option.{option_map_or}
@@ -14,7 +14,7 @@ use Rattle.user_mem.specs.declared.entry.Entry.{Entry}
 use Rattle.user_mem.specs.Table.{entry_at, memory_of, AreSeparate, AreApart}
 use Rattle.user_mem.proofs.TableLaws.{cell_of_page, get-memory_of, is_allowed-memory_of, byte_at-memory_of, memory_of_same, entry_from_allowed}
 
--- a part of a list, as code takes it
+-- the length of a slice, as the code takes it
 pub part_length : (xs : List ℕ) (s n : ℕ) → s + n ≤ length xs → length (take ((s + n) - s) (drop s xs)) ≡ n
 part_length xs s n h =
     let count : (s + n) - s ≡ n = omega arith in
@@ -29,14 +29,14 @@ part_is xs s n = let count : (s + n) - s ≡ n = omega arith in ap (λ (j : ℕ)
 same_page : (x k : ℕ) → x % page_size + k < page_size → (x + k) / page_size ≡ x / page_size
 same_page x k l = omega arith
 
--- all bytes of a page are allowed alike
+-- all bytes of a page have the same permissions
 pub is_allowed_in_page : (access : Access) (frames : List ℕ) (es : List Entry) (x k : ℕ) → x % page_size + k < page_size → can_access_byte access (memory_of frames es) (x + k) ≡ can_access_byte access (memory_of frames es) x
 is_allowed_in_page access frames es x k l =
     is_allowed-memory_of access frames es (x + k)
     ∙ ap (λ (p : ℕ). option_map_or (λ e. permits access e.permissions) (entry_at es p) false) (same_page x k l)
     ∙ sym (is_allowed-memory_of access frames es x)
 
--- where the next byte is allowed, so are those that follow it in its page
+-- if the access to the next byte is allowed, so are those to the bytes after it in its page
 pub allowed_more : (access : Access) (frames : List ℕ) (es : List Entry) (a done next n : ℕ) → next ≡ a + done → next % page_size + n ≤ page_size → can_access_byte access (memory_of frames es) next ≡ true
     → ((j : ℕ) → j < done → can_access_byte access (memory_of frames es) (a + j) ≡ true) → (j : ℕ) → j < done + n → can_access_byte access (memory_of frames es) (a + j) ≡ true
 allowed_more access frames es a done next n here fits ok before j l = elim (cases_lt j done) [
@@ -46,7 +46,7 @@ allowed_more access frames es a done next n here fits ok before j l = elim (case
       ap (can_access_byte access (memory_of frames es)) place ∙ is_allowed_in_page access frames es next (j - done) (omega arith) ∙ ok
 ]
 
--- a byte read in the page
+-- reading one byte of the page
 run_read : (access : Access) (frames : List ℕ) (es : List Entry) (x k i : ℕ) → x % page_size + k < page_size → can_access_byte access (memory_of frames es) x ≡ true
     → ((e : Entry) → entry_at es (x / page_size) ≡ Some e → i ≡ page_size * e.frame + x % page_size) → get_or frames (i + k) 0 ≡ memory_byte (memory_of frames es) (x + k)
 run_read access frames es x k i l ok place =
@@ -55,7 +55,7 @@ run_read access frames es x k i l ok place =
     let index : i + k ≡ page_size * some.0.frame + (x + k) % page_size = omega arith in
     ap (λ (j : ℕ). get_or frames j 0) index ∙ sym (byte_at-memory_of frames es (x + k) some.0 (ap (entry_at es) (same_page x k l) ∙ some.1))
 
--- a run read into a buffer after what was read before it
+-- reading a run of bytes into a buffer, after the bytes read before
 pub read_more : (frames : List ℕ) (es : List Entry) (a done next start n : ℕ) (part buffer after : List ℕ) → next ≡ a + done → next % page_size + n ≤ page_size → can_access_byte Monitor (memory_of frames es) next ≡ true
     → ((e : Entry) → entry_at es (next / page_size) ≡ Some e → start ≡ page_size * e.frame + next % page_size)
     → length part ≡ n → ((k : ℕ) → k < n → get_or part k 0 ≡ get_or frames (start + k) 0)
@@ -73,14 +73,14 @@ read_more frames es a done next start n part buffer after here fits ok place lon
       ∙ run_read Monitor frames es next (j - done) start (omega arith) ok place ∙ ap (memory_byte (memory_of frames es)) address
 ]
 
--- a part of a frame is the bytes of the memory
+-- a slice of a frame contains the bytes of the memory
 pub page_read : (access : Access) (frames : List ℕ) (es : List Entry) (a start n : ℕ) (part : List ℕ) → a % page_size + n ≤ page_size → can_access_byte access (memory_of frames es) a ≡ true
     → ((e : Entry) → entry_at es (a / page_size) ≡ Some e → start ≡ page_size * e.frame + a % page_size)
     → length part ≡ n → ((k : ℕ) → k < n → get_or part k 0 ≡ get_or frames (start + k) 0) → part ≡ bytes_at (memory_of frames es) a n
 page_read access frames es a start n part fits ok place long same =
     bytes_read (memory_of frames es) a n part long (λ k l. same k l ∙ run_read access frames es a k start (omega arith) ok place)
 
--- where a run lies, all that is another frame's or another offset's lies beside it
+-- a byte in another frame or at an offset outside the run is outside the run's bytes
 beside : (f e start o a n : ℕ) → start ≡ page_size * e + a → a + n ≤ page_size → o < page_size → (f ≡ e → ((o < a) ⊎ (a + n ≤ o))) → ((page_size * f + o < start) ⊎ (start + n ≤ page_size * f + o))
 beside f e start o a n place fits small apart = elim (cases_eq f e) [
   | inl same ↦ elim (apart same) [ inl l ↦ inl (omega arith) | inr g ↦ inr (omega arith) ]
@@ -119,7 +119,7 @@ module _ (frames after : List ℕ) (es : List Entry) (a start : ℕ) (bs : List 
       get-memory_of after es x ∙ outside x far (entry_at es (x / page_size)) refl ∙ sym (get-memory_of frames es x)
       ∙ sym (get-put_bytes_outside (memory_of frames es) a bs x far)
 
-  -- bytes written to a frame are bytes written to the memory
+  -- writing bytes to a frame writes them to the memory
   run_written_at : memory_of after es ≡ put_bytes (memory_of frames es) a bs
   run_written_at = same_memory _ _ (λ x. elim (cases_lt x a) [
     | inl below ↦ beyond x (inl below)
@@ -138,7 +138,7 @@ run_written access frames after es a start bs separate ok place fits pasted kept
     let some = entry_from_allowed access frames es a ok in
     run_written_at frames after es a start bs some.0 separate some.1 (place some.0 some.1) fits pasted kept
 
--- and no table that shares no frame means anything else
+-- the memory of a table that shares no frame is unchanged
 pub others_unwritten : (access : Access) (frames after : List ℕ) (es other : List Entry) (a start n : ℕ) → AreApart es other → can_access_byte access (memory_of frames es) a ≡ true
     → ((e : Entry) → entry_at es (a / page_size) ≡ Some e → start ≡ page_size * e.frame + a % page_size) → a % page_size + n ≤ page_size
     → ((i : ℕ) → ((i < start) ⊎ (start + n ≤ i)) → get_or after i 0 ≡ get_or frames i 0)
@@ -148,7 +148,7 @@ others_unwritten access frames after es other a start n apart ok place fits kept
     memory_of_same frames after other (λ p f k q l.
     kept (page_size * f.frame + k) (beside f.frame some.0.frame start k (a % page_size) n (place some.0 some.1) fits l (λ same. absurd (apart (a / page_size) p some.0 f some.1 q (sym same)))))
 
--- a run written after what was written before it
+-- writing a run of bytes, after the bytes written before
 pub put_bytes_run : (m : Memory) (a done n : ℕ) (bs part : List ℕ) → done ≤ length bs → part ≡ take n (drop done bs) → put_bytes m a (take (done + n) bs) ≡ put_bytes (put_bytes m a (take done bs)) (a + done) part
 put_bytes_run m a done n bs part l e =
     ap (put_bytes m a) (take-add done n bs) ∙ put_bytes-append m a (take done bs) (take n (drop done bs))

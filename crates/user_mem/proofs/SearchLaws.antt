@@ -1,4 +1,4 @@
--- What a binary search finds in a sorted table, and what an entry added at its place leaves.
+-- The result of a binary search in a sorted table, and the table after inserting an entry at its index
 use Rattle.std.proofs.Common.{◌≡◌, ◌≢◌, ℕ, zero, suc, ◌+◌, ◌-◌, ◌<◌, ◌≤◌, Bool, false, cond, List, [], ◌∷◌, length, get_or, Some, None, Result, Ok, Err, IfOk, IfErr, refl, sym, ◌∙◌, ap, subst, arith, ne_eqb, eq-eqb}
 use Rattle.std.specs.List.{insert}
 use Rattle.std.specs.List.Sorted.{IsSearchInRange, IsBinarySearchResult, IsNonDecreasingBy}
@@ -9,18 +9,18 @@ use Rattle.std.proofs.lemmas.List.Edits.{length-insert, get_or-insert_below, get
 use Rattle.user_mem.specs.declared.entry.Entry.{Entry}
 use Rattle.user_mem.specs.Table.{entry_at, IsSorted, IsAt, IsGapFor}
 
--- an entry to name where a list may be too short
+-- a default entry, for an index past the end of a list
 abbrev pub no_entry : Entry
 no_entry = record { page = 0; frame = 0; permissions = record { read = false; write = false; execute = false } }
 
 module _ (l : List Entry) (sorted : IsSorted l) (page : ℕ) where
-  -- the comparisons with a page rise along the table, as a binary search asks
+  -- the results of comparing with a page are non-decreasing along the table, as the binary search requires
   comparisons_rise : IsNonDecreasingBy (λ e. ordering_index (nat_cmp e.page page)) l
   comparisons_rise i j d le in_range =
       let pages_rise : (get_or l i d).page ≤ (get_or l j d).page = grind (arith, sorted i j d, λ (same : i ≡ j). ap (λ (n : ℕ). (get_or l n d).page) same) in
       grind (arith, nat_tests)
 
-  -- a search by page ends at the page's entry, or at the gap for it
+  -- a search for a page returns the index of its entry, or the index to insert it at
   pub searched : (r : Result ℕ ℕ) → IsSearchInRange r (length l) → IsBinarySearchResult (λ e. nat_cmp e.page page) l r → record { found : IfOk r (IsAt l page); absent : IfErr r (IsGapFor l page) }
   searched (Ok at) in_range equal = record { found = record { in_range = in_range; has_page = λ d. ranked _ page _ (sym (equal d)) }; absent = tt }
   searched (Err at) in_range parted = record {
@@ -32,14 +32,14 @@ module _ (l : List Entry) (sorted : IsSorted l) (page : ℕ) where
     };
   }
 
--- a page that no entry has is not found
+-- the lookup of a page without an entry returns `None`
 pub entry_at_none : (l : List Entry) (page : ℕ) → ((j : ℕ) (d : Entry) → j < length l → (get_or l j d).page ≢ page) → entry_at l page ≡ None
 entry_at_none [] page differs = refl
 entry_at_none (x ∷ l) page differs =
     ap (λ (b : Bool). cond b (Some x) (entry_at l page)) (ne_eqb x.page page (differs 0 x (omega arith)))
     ∙ entry_at_none l page (λ j d lt. differs (suc j) d (omega arith))
 
--- the first entry of a page is found
+-- the lookup of a page returns its first entry
 pub entry_at_first : (l : List Entry) (page i : ℕ) (d : Entry) → i < length l → (get_or l i d).page ≡ page → ((j : ℕ) → j < i → (get_or l j d).page ≢ page) → entry_at l page ≡ Some (get_or l i d)
 entry_at_first [] page i d lt same differs = absurd (omega arith)
 entry_at_first (x ∷ l) page zero d lt same differs = ap (λ (b : Bool). cond b (Some x) (entry_at l page)) (eq-eqb x.page page same)
@@ -54,7 +54,7 @@ entry_at_place l page i d sorted at =
 pub entry_at_gap : (l : List Entry) (page i : ℕ) → IsGapFor l page i → entry_at l page ≡ None
 entry_at_gap l page i gap = entry_at_none l page (λ j d lt same. grind (arith, gap.lower_before j d, gap.higher_after j d))
 
--- an entry added at its gap keeps the order
+-- inserting an entry at its index preserves the order
 pub sorted_insert : (l : List Entry) (e : Entry) (at : ℕ) → IsGapFor l e.page at → IsSorted l → IsSorted (insert l at e)
 sorted_insert l e at gap sorted i j d lt in_range =
     let new = insert l at e in

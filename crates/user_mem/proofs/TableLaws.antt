@@ -1,4 +1,4 @@
--- What a table means at one address, and what a write to a frame does to it
+-- The memory of a table at one address, and the effect of a write to a frame
 use Rattle.std.proofs.Common.{◌≡◌, ◌≢◌, ℕ, ◌+◌, ◌*◌, ◌/◌, ◌%◌, ◌<◌, ◌≤◌, Bool, true, false, cond, List, [], ◌∷◌, get_or, Option, Some, None, refl, sym, ◌∙◌, ap, ◌⊎◌, inl, inr, arith, ne_eqb, eq-eqb}
 use Rattle.std.specs.Ordering.{nat_cmp}
 use Rattle.std.specs.Option.{option_map, option_map_or}
@@ -45,13 +45,13 @@ is_allowed-memory_of access frames entries x =
     through None = refl
     through (Some e) = refl
 
--- the byte that an entry's frame has
+-- a mapped byte is the byte of its entry's frame
 pub byte_at-memory_of : (frames : List ℕ) (entries : List Entry) (x : ℕ) (e : Entry) → entry_at entries (x / page_size) ≡ Some e → memory_byte (memory_of frames entries) x ≡ get_or frames (page_size * e.frame + x % page_size) 0
 unfolding memory_byte
 byte_at-memory_of frames entries x e h =
     ap (λ (o : Option Cell). option_map_or (λ c. c.byte) o 0) (get-memory_of frames entries x ∙ ap (cell_of_page frames x) h)
 
--- bytes that no frame of the table holds do not matter
+-- bytes outside the table's frames don't affect the memory
 pub memory_of_same : (frames other : List ℕ) (entries : List Entry) → ((p : ℕ) (e : Entry) (k : ℕ) → entry_at entries p ≡ Some e → k < page_size → get_or other (page_size * e.frame + k) 0 ≡ get_or frames (page_size * e.frame + k) 0) → memory_of other entries ≡ memory_of frames entries
 memory_of_same frames other entries h = same_memory _ _ (λ x.
     get-memory_of other entries x ∙ at x (entry_at entries (x / page_size)) refl ∙ sym (get-memory_of frames entries x))
@@ -75,7 +75,7 @@ some_or_none : {X : Type 0} (o : Option X) → ((e : X) × (o ≡ Some e)) ⊎ (
 some_or_none None = inr refl
 some_or_none (Some e) = inl (e, refl)
 
--- an allowed address has an entry
+-- an address that may be accessed has an entry
 pub entry_from_allowed : (access : Access) (frames : List ℕ) (entries : List Entry) (x : ℕ) → can_access_byte access (memory_of frames entries) x ≡ true → (e : Entry) × (entry_at entries (x / page_size) ≡ Some e)
 entry_from_allowed access frames entries x h = elim (some_or_none (entry_at entries (x / page_size))) [
   | inl some ↦ some

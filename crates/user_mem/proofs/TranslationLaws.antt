@@ -1,4 +1,4 @@
--- What it means that bytes lie in one page, and that a user's translations say so
+-- Consequences of `LiesAt`, and updates of a user's translations
 use Rattle.std.proofs.Common.{◌≡◌, ◌≢◌, ℕ, ◌+◌, ◌*◌, ◌/◌, ◌%◌, ◌<◌, ◌≤◌, true, List, length, get_or, set, replicate, Some, refl, sym, ◌∙◌, ap, subst, inl, inr, arith, get_or-set_same, get_or-set_other}
 use Rattle.std.proofs.lemmas.Bool.{cases_eq}
 use Rattle.std.proofs.lemmas.List.{get_or-replicate, length-replicate}
@@ -21,18 +21,18 @@ module _ (es : List Entry) (access : Access) (a n at : ℕ) (lies : LiesAt es ac
   pub lies_allowed : (frames : List ℕ) → can_access_byte access (memory_of frames es) a ≡ true
   lies_allowed frames = sym (allowed_by_entry access frames es a lies.entry lies.there) ∙ lies.permitted
 
-  -- where it begins, by the entry of its page
+  -- the index of the first byte, from the entry of its page
   pub lies_from : (e : Entry) → entry_at es (a / page_size) ≡ Some e → at ≡ page_size * e.frame + a % page_size
   lies_from e here =
       let same : Some lies.entry ≡ Some e = sym lies.there ∙ here in
       let entry : lies.entry ≡ e = cc in
       lies.place ∙ ap (λ (x : Entry). page_size * x.frame + a % page_size) entry
 
-  -- all of it is allowed
+  -- all bytes may be accessed
   pub lies_accessed : (frames : List ℕ) → can_access access (memory_of frames es) a n ≡ true
   lies_accessed frames = can_access_from access (memory_of frames es) a n (λ k less. is_allowed_in_page access frames es a k (omega (arith, lies.one_page)) ∙ lies_allowed frames)
 
-  -- and so do the first of them
+  -- the same is true of the first k bytes
   pub lies_first : (k : ℕ) → k ≤ n → LiesAt es access a k at
   lies_first k few = record {
     entry = lies.entry;
@@ -43,15 +43,15 @@ module _ (es : List Entry) (access : Access) (a n at : ℕ) (lies : LiesAt es ac
     fits = omega (arith, lies.fits);
   }
 
-  -- and in the frames
+  -- the bytes are within the frames
   pub lies_within : (size : ℕ) → FitIn es size → at + n ≤ size
   lies_within size fit = omega (arith, fit (a / page_size) lies.entry lies.there, lies.place, lies.one_page)
 
--- a page whose place is another one
+-- a page satisfies the invariant in any slot but its own
 elsewhere : (es : List Entry) (access : Access) (page : Translation) (number place : ℕ) → page.first ≡ page_size * number → number < place_count → number ≢ place → IsTranslated es access place page
 elsewhere es access page number place first low other = record { begins = omega arith; lies = λ same. absurd (other (omega arith)) }
 
--- no page at any place
+-- empty slots satisfy the invariant
 pub none_translated : (es : List Entry) (access : Access) (zero one : Translation) → zero.first ≡ 0 → one.first ≡ page_size → AreTranslated es access (set (replicate place_count zero) 0 one)
 none_translated es access zero one low high i d within = elim (cases_eq i 0) [
   | inl same ↦
@@ -62,11 +62,11 @@ none_translated es access zero one low high i d within = elim (cases_eq i 0) [
       subst (λ (p : Translation). IsTranslated es access i p) (sym there) (elsewhere es access zero 0 i (omega arith) (omega arith) (λ bad. other (sym bad)))
 ]
 
--- each entry of a sorted table is that of its page
+-- the lookup of an entry's page in a sorted table returns that entry
 pub entry_there : (es : List Entry) (i : ℕ) (d : Entry) → IsSorted es → i < length es → entry_at es (get_or es i d).page ≡ Some (get_or es i d)
 entry_there es i d sorted within = entry_at_first es (get_or es i d).page i d within refl (λ j less same. omega (arith, sorted j i d less within))
 
--- a page of the table, at its place
+-- a page of the table that permits the access satisfies the invariant in any slot
 pub entry_lies : (es : List Entry) (access : Access) (e : Entry) (page : Translation) → entry_at es e.page ≡ Some e → e.page < page_limit → page_size * e.frame + page_size ≤ page_size * frame_count
     → permits access e.permissions ≡ true → page.first ≡ page_size * e.page → page.start ≡ page_size * e.frame → (place : ℕ) → IsTranslated es access place page
 entry_lies es access e page there below fits permitted first start place =
@@ -83,7 +83,7 @@ entry_lies es access e page there below fits permitted first start place =
       };
     }
 
--- another page at its place
+-- putting such a page into a slot preserves the invariant
 pub more_translated : (es : List Entry) (access : Access) (pages : List Translation) (place : ℕ) (page : Translation) → length pages ≡ place_count → place < place_count → IsTranslated es access place page
     → AreTranslated es access pages → AreTranslated es access (set pages place page)
 more_translated es access pages place page long low here before i d within = elim (cases_eq i place) [
@@ -91,7 +91,7 @@ more_translated es access pages place page long low here before i d within = eli
   | inr other ↦ subst (λ (p : Translation). IsTranslated es access i p) (sym (get_or-set_other pages place i page d other)) (before i d within)
 ]
 
--- a user's pages are translated anew
+-- rebuilding one user's translations preserves the invariant
 pub all_translate_one : (tables : List (List Entry)) (all : List Translations) (user : ℕ) (now : Translations) → length all ≡ user_count → user < user_count → Translates (table_at tables user) now
     → ((u : ℕ) (d : Translations) → u < user_count → u ≢ user → Translates (table_at tables u) (get_or all u d)) → AllTranslate tables (set all user now)
 all_translate_one tables all user now long low here others u d within = elim (cases_eq u user) [

@@ -1,19 +1,19 @@
--- One user's memory is replaced among those of all
+-- Replacing one user's memory in the memories of all users
 use Rattle.std.proofs.Common.{◌≡◌, ℕ, ◌-◌, ◌<◌, List, length, arith, get_or-set_same, get_or-set_other}
 use Rattle.std.specs.FinMap.{empty}
 use Rattle.std.proofs.lemmas.List.{set-set, set-get_or}
 use Rattle.rv_model.specs.memory.Memory.{Memory}
 use Rattle.user_mem.specs.Users.{ReplacesOwn, KeepsOthers, memory_of_user, with_memory}
 
--- a user's memory put back changes nothing
+-- replacing a user's memory with itself changes nothing
 pub same_memory : (memories : List Memory) (user : ℕ) → with_memory memories user (memory_of_user memories user) ≡ memories
 same_memory memories user = set-get_or memories (user - 1) empty
 
--- of two memories put there, the later one stays
+-- the later of two replacements prevails
 pub later_memory : (memories : List Memory) (user : ℕ) (one two : Memory) → with_memory (with_memory memories user one) user two ≡ with_memory memories user two
 later_memory memories user one two = set-set memories (user - 1) one two
 
--- a user's memory that was put there is there
+-- after replacing a user's memory, the user's memory is the new one
 pub memory_there : (memories : List Memory) (user : ℕ) (memory : Memory) → user - 1 < length memories → memory_of_user (with_memory memories user memory) user ≡ memory
 memory_there memories user memory within = get_or-set_same memories (user - 1) memory empty within
 

@@ -1,4 +1,4 @@
--- The memories that callers see, and the tables and frames below them
+-- The memories in the crate's contracts, and the tables and frames that implement them
 use Rattle.std.proofs.Common.{Option, Some, None, Result, Ok, Err, ◌≡◌, ℕ, zero, suc, ◌-◌, ◌*◌, ◌<◌, ◌≤◌, List, [], cond, length, get_or, replicate, refl, sym, ◌∙◌, ap, subst, add-zero}
 use Rattle.std.specs.Prelude.{nat_lt, ◌↔◌, OnOk}
 use Rattle.std.specs.FinMap.{empty}
@@ -14,7 +14,7 @@ use Rattle.user_mem.specs.Pool.{IsPool, owners, used_in_all, table_at, memories_
 use Rattle.user_mem.specs.Users.{no_memories, memory_of_user}
 use Rattle.user_mem.proofs.PoolLaws.{no_table}
 
--- a user's memory is what the user's table means
+-- a user's memory is the memory of the user's table
 pub memory_of_table : (frames : List ℕ) (tables : List (List Entry)) (user i : ℕ) (memories : List Memory)
     → memories_of frames tables ≡ memories → i ≡ user - 1 → i < length tables → memory_of_user memories user ≡ memory_of frames (table_at tables i)
 memory_of_table frames tables user i memories view place h =
@@ -22,7 +22,7 @@ memory_of_table frames tables user i memories view place h =
     ∙ ap (λ (j : ℕ). get_or (memories_of frames tables) j empty) (sym place)
     ∙ get_or-map (λ t. memory_of frames t) tables i [] empty h
 
--- the same, of the entries and the bytes that code has
+-- the same for the entries and bytes in the code
 pub memory_at : (frames bytes : List ℕ) (tables : List (List Entry)) (user i : ℕ) (es : List Entry) (memories : List Memory)
     → memories_of frames tables ≡ memories → i ≡ user - 1 → i < length tables → es ≡ table_at tables i → bytes ≡ frames → memory_of_user memories user ≡ memory_of bytes es
 memory_at frames bytes tables user i es memories view place h e same =
@@ -35,7 +35,7 @@ no_table_at zero v = refl
 no_table_at (suc n) zero = refl
 no_table_at (suc n) (suc v) = no_table_at n v
 
--- tables with no page over frames that are all free
+-- empty tables over free frames satisfy the invariant
 pub fresh_pool : (tables : List (List Entry)) (free frames : List ℕ) → tables ≡ replicate user_count [] → length frames ≡ page_size * frame_count
     → ((f : ℕ) → times_free f free ≡ cond (nat_lt f frame_count) 1 0) → length free ≡ frame_count → IsPool tables free frames
 unfolding owners times_used used_in_all
@@ -53,14 +53,14 @@ pub fresh_memories : (tables : List (List Entry)) (frames : List ℕ) → tables
 unfolding memory_of
 fresh_memories tables frames e = ap (λ (ts : List (List Entry)). memories_of frames ts) e
 
--- what follows from a fact of a call that succeeded
+-- an implication applies to the condition of a successful result
 pub if_done : {X E P Q : Type 0} (r : Result X E) → (P → Q) → OnOk r P → OnOk r Q
 if_done (Ok _) follows fact = follows fact
 if_done (Err _) follows fact = tt
 
--- ---- why pages can't be mapped
+-- ---- refusals of `map`
 
--- the refusal in an answer of `map`
+-- the refusal in a result of `map`
 pub refusal_of : Result (Unit {0}) MapRefusal → Option MapRefusal
 refusal_of (Ok _) = None
 refusal_of (Err r) = Some r

@@ -1,4 +1,4 @@
--- What the pool keeps: all users' tables over the frames, of which each is free or used, once.
+-- The invariant of the pool: each frame is either free or used by one entry of all users' tables
 use Rattle.std.specs.Prelude.{◌≡◌, ℕ, ◌+◌, ◌*◌, ◌≤◌, cond, nat_lt, List, [], length, map, slice_index_or}
 use Rattle.std.specs.List.{sum_by}
 use Rattle.user_mem.specs.declared.entry.Entry.{Entry}
@@ -9,11 +9,11 @@ use Rattle.rv_model.specs.machine.Setup.{user_count}
 use Rattle.user_mem.specs.Table.{memory_of, IsSorted, AreBelow}
 use Rattle.user_mem.specs.Frames.{times_free, times_used}
 
--- how often a frame is free or used
+-- the number of times that frame f is free or used
 unfoldable pub owners : ℕ → List ℕ → List (List Entry) → ℕ
 owners f free tables = times_free f free + sum_by (times_used f) tables
 
--- how many frames are used
+-- the number of used frames
 unfoldable pub used_in_all : List (List Entry) → ℕ
 used_in_all tables = sum_by (λ t. length t) tables
 
@@ -21,15 +21,15 @@ used_in_all tables = sum_by (λ t. length t) tables
 abbrev pub entries_of : List (ArrayVec Entry) → List (List Entry)
 entries_of tables = map (λ t. t.items) tables
 
--- the table of the user at place u
+-- the table of the user at index u
 abbrev pub table_at : List (List Entry) → ℕ → List Entry
 table_at tables u = slice_index_or tables u []
 
--- the memories that the tables give over the frames' bytes
+-- the memories of all users, from their tables and the frames' bytes
 abbrev pub memories_of : List ℕ → List (List Entry) → List Memory
 memories_of frames tables = map (λ t. memory_of frames t) tables
 
--- what holds of the tables, the free frames and the frames' bytes
+-- the invariant of the tables, the free frames and the frames' bytes
 pub record IsPool (tables : List (List Entry)) (free frames : List ℕ) : Type 0 where
   pub users : length tables ≡ user_count
   pub size : length frames ≡ page_size * frame_count

@@ -1,5 +1,5 @@
-//! Accesses of a user's bytes. One that lies in one page takes one copy, if the page has its place among the user's
-//! translations; all others go from page to page.
+//! Accesses to a user's bytes. An access within one page is a single copy if the page is cached in the user's
+//! translations; all others proceed page by page.
 ghost use Rattle.std.specs.Prelude.{◌≡◌, ℕ, List, ◌≤◌, ◌↔◌, false, true, IsOk, IfErr, OnOk, OnErr, length};
 ghost use Rattle.rv_model.specs.memory.Memory.{can_access, bytes_at, put_bytes};
 ghost use Rattle.user_mem.specs.declared.entry.Entry.{Entry};
@@ -12,7 +12,7 @@ use crate::table::is_access_allowed;
 use crate::translations::Translations;
 use rv_model::{Access, Fault};
 
-/// Whether all bytes of an access are allowed.
+/// Whether the access to all `len` bytes from `addr` on is allowed.
 #[inline(always)]
 pub(crate) fn is_allowed(
     entries: &[Entry],
@@ -33,7 +33,7 @@ pub(crate) fn is_allowed(
     }
 }
 
-/// Reads bytes from an address on, if they may be read and lie in a page that has its place. Answers whether they do.
+/// Read bytes from `addr` on if a single cached page contains them and permits the access; return whether it does.
 #[inline(always)]
 pub(crate) fn read_at_once(
     entries: &[Entry],
@@ -58,7 +58,8 @@ pub(crate) fn read_at_once(
     false
 }
 
-/// Reads bytes from an address on page by page, until the buffer is full.
+/// Read bytes from `addr` on, page by page, until the buffer is full. If a byte's access isn't allowed, return a fault
+/// with `addr`.
 pub(crate) fn read_pages(
     entries: &[Entry],
     frames: &[u8],
@@ -83,8 +84,8 @@ pub(crate) fn read_pages(
     Ok(())
 }
 
-/// How many bytes from its address on a write of so many looks for in one page: eight for a number of any width, so
-/// that this is known before its width is.
+/// Return how many bytes from its address on a write looks up in one page: at least 8, so that the lookup of a number
+/// is independent of its width.
 #[inline(always)]
 fn room_of(len: usize) -> usize
     ensures { len ≤ result }
@@ -92,8 +93,7 @@ fn room_of(len: usize) -> usize
     if len < 8 { 8 } else { len }
 }
 
-/// Writes bytes from an address on, if they may be written and have room in a page that has its place. Answers whether
-/// they do.
+/// Write bytes from `addr` on if a single cached page has room for them and permits the access; return whether it does.
 #[inline(always)]
 pub(crate) fn write_at_once(
     entries: &[Entry],
@@ -123,7 +123,8 @@ pub(crate) fn write_at_once(
     false
 }
 
-/// Writes bytes from an address on page by page.
+/// Write bytes from `addr` on, page by page. If a byte's access isn't allowed, return a fault with `addr`, and write
+/// nothing.
 pub(crate) fn write_pages(
     entries: &[Entry],
     frames: &mut [u8],

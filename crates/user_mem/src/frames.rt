@@ -1,4 +1,4 @@
-//! The bytes of all frames, each of which holds a page: reads and writes through a user's table.
+//! The bytes of all frames, one page each: reads and writes through a user's page table.
 ghost use Rattle.std.specs.Prelude.{◌≡◌, ℕ, List, ◌≤◌, ◌<◌, ◌+◌, ◌*◌, ◌/◌, ◌%◌, ◌^◌, ◌⊎◌, cond, nat_eq, true, Some};
 ghost use Rattle.std.specs.Prelude.{None, length, slice_index};
 ghost use Rattle.arrayvec.specs.ArrayVec.{array_vec_len};
@@ -12,10 +12,10 @@ use crate::entry::Entry;
 use crate::table::{Table, add_entry, bytes_in_page, locate};
 use rv_model::{Access, PAGE_SIZE, Permissions};
 
-/// The bytes of a frame.
+/// The size of a frame in bytes, equal to the page size.
 pub(crate) const FRAME_SIZE: usize = PAGE_SIZE as usize;
 
-/// Where the byte at an address lies, in the frame that holds its page.
+/// Return the index, in the bytes of all frames, of the byte at `addr`, whose page is in `frame`.
 #[inline(always)]
 pub(crate) fn index_in(frame: usize, addr: u64) -> usize
     requires { page_size * frame + page_size < 2 ^ 64 }
@@ -24,7 +24,7 @@ pub(crate) fn index_in(frame: usize, addr: u64) -> usize
     FRAME_SIZE * frame + addr as usize % FRAME_SIZE
 }
 
-/// Where the byte of a mapped address lies.
+/// Return the index, in the bytes of all frames, of the byte at a mapped address.
 fn index_of(entries: &[Entry], frames: &[u8], addr: u64) -> usize
     requires sorted { IsSorted entries.now }
     requires fit { FitIn entries.now (length frames.now) }
@@ -39,7 +39,7 @@ fn index_of(entries: &[Entry], frames: &[u8], addr: u64) -> usize
     }
 }
 
-/// Copies `N` bytes over a part of others, in line.
+/// Copy `N` bytes to `target` from index `at` on. The constant length lets the compiler inline the copy.
 #[inline(always)]
 fn paste_known<const N: usize>(target: &mut [u8], at: usize, bytes: &[u8])
     requires within { at + N ≤ length target.old }
@@ -53,7 +53,7 @@ fn paste_known<const N: usize>(target: &mut [u8], at: usize, bytes: &[u8])
     target[at..at + N].copy_from_slice(&bytes[..N]);
 }
 
-/// Copies bytes over a part of others: those of a number in line.
+/// Copy bytes to `target` from index `at` on. Copies of 1, 2, 4 and 8 bytes, the widths of a number, are inlined.
 #[inline(always)]
 pub(crate) fn paste(target: &mut [u8], at: usize, bytes: &[u8])
     requires { at + length bytes.now ≤ length target.old }
@@ -72,7 +72,7 @@ pub(crate) fn paste(target: &mut [u8], at: usize, bytes: &[u8])
     }
 }
 
-/// Copies the bytes from an address on.
+/// Copy a user's bytes from `addr` on to `buffer`.
 pub(crate) fn copy_out(entries: &[Entry], frames: &[u8], addr: u64, buffer: &mut [u8])
     requires sorted { IsSorted entries.now }
     requires below { AreBelow entries.now }
@@ -91,7 +91,7 @@ pub(crate) fn copy_out(entries: &[Entry], frames: &[u8], addr: u64, buffer: &mut
     }
 }
 
-/// Writes bytes from an address on.
+/// Write a user's bytes from `addr` on.
 pub(crate) fn copy_in(entries: &[Entry], frames: &mut [u8], addr: u64, bytes: &[u8])
     requires sorted { IsSorted entries.now }
     requires below { AreBelow entries.now }
@@ -115,7 +115,7 @@ pub(crate) fn copy_in(entries: &[Entry], frames: &mut [u8], addr: u64, bytes: &[
     }
 }
 
-/// Fills a frame with zeros.
+/// Fill a frame with zeros.
 fn zero_frame(frames: &mut [u8], frame: usize)
     requires { page_size * frame + page_size ≤ length frames.old }
     ensures size { length frames.new ≡ length frames.old }
@@ -128,7 +128,7 @@ fn zero_frame(frames: &mut [u8], frame: usize)
     }
 }
 
-/// Maps one page of zeros in a frame that nobody uses.
+/// Map one page of zeros, in a frame that the table doesn't use.
 pub(crate) fn map_page(
     table: &mut Table,
     frames: &mut [u8],

@@ -1,4 +1,4 @@
-//! The list of free frames: pages take frames from it, and a table gives its frames back.
+//! The list of free frames: mapping pages removes frames from it, and dropping a table returns its frames.
 ghost use Rattle.std.specs.Prelude.{◌≡◌, ℕ, ◌<◌, ◌≤◌, ◌+◌, cond, nat_lt, [], None, List, length};
 ghost use Rattle.rv_model.specs.memory.Memory.{with_pages};
 ghost use Rattle.rv_model.specs.memory.Sizes.{page_quota, frame_count, page_limit};
@@ -11,10 +11,10 @@ use crate::table::Table;
 use arrayvec::ArrayVec;
 use rv_model::{FRAME_COUNT, Permissions};
 
-/// The numbers of the frames that no page has.
+/// The numbers of the frames that hold no page.
 pub(crate) type FreeFrames = ArrayVec<usize, FRAME_COUNT>;
 
-/// All frames.
+/// Return the numbers of all frames.
 pub(crate) fn all_free() -> FreeFrames
     ensures once { (f : ℕ) → times_free f result.items ≡ cond (nat_lt f frame_count) 1 0 }
     ensures len { length result.items ≡ frame_count }
@@ -26,7 +26,7 @@ pub(crate) fn all_free() -> FreeFrames
     free
 }
 
-/// Maps one page of zeros in a free frame.
+/// Map one page of zeros in a free frame.
 fn take_page(
     table: &mut Table,
     free: &mut FreeFrames,
@@ -60,7 +60,7 @@ fn take_page(
     }
 }
 
-/// Maps pages of zeros in free frames.
+/// Map `count` pages of zeros, from `page` on, in free frames.
 pub(crate) fn take_pages(
     table: &mut Table,
     free: &mut FreeFrames,
@@ -93,7 +93,7 @@ pub(crate) fn take_pages(
     }
 }
 
-/// Gives the frames of a table back, and leaves it empty.
+/// Return all frames of a table to the free list, and empty the table.
 pub(crate) fn give_back(table: &mut Table, free: &mut FreeFrames)
     requires { length free.old.items + length table.old.items ≤ frame_count }
     ensures empty { table.new.items ≡ [] }

@@ -1,7 +1,7 @@
-//! What it means that a call changes one user's memory alone.
+//! Isolation: a call changes the memory of one user only.
 ghost use Rattle.user_mem.specs.Users.{ReplacesOwn, KeepsOthers};
 
-/// A memory that is replaced is its user's, and every other user's stays as it was.
+/// Replacing a user's memory sets that memory and leaves those of all other users unchanged.
 pub fn isolation_law()
     ensures own { ReplacesOwn }
     ensures others { KeepsOthers }

@@ -1,5 +1,5 @@
-//! The memory of all users in one pool of frames. A user's memory is a map from addresses to
-//! bytes with permissions, which no call for another user changes.
+//! The memory of all users, in one pool of frames. A user's memory is a map from addresses to bytes with permissions;
+//! calls for other users leave it unchanged.
 #![tactic(auto)]
 
 mod access;

@@ -23,17 +23,17 @@ use rv_model::{Access, FRAME_COUNT, Fault, MapRefusal, Permissions, USER_COUNT, 
 use std::alloc::{AllocError, Allocator, Global};
 use std::marker::Model;
 
-/// There is no memory for the pool.
+/// The error if the pool's frames can't be allocated.
 #[derive(Clone, Copy, Debug, PartialEq, Eq)]
 pub struct NoMemory;
 
-/// The frames of all users, the pages that each has in them, and the frames that are free.
+/// The frames of all users, each user's mapped pages, and the free frames.
 ///
-/// A page has `PAGE_SIZE` bytes. A user has at most `PAGE_QUOTA` pages, and the `FRAME_COUNT` frames
-/// are enough for all users to have that many each. Only `new` takes memory.
+/// A page has `PAGE_SIZE` bytes. A user has at most `PAGE_QUOTA` pages, and the `FRAME_COUNT` frames are enough for the
+/// quotas of all users. Only `new` allocates memory.
 ///
-/// A page may be read, written and executed as its permissions say, which are those of a leaf entry
-/// of a page table (Privileged Architecture, section 4.3.1). The monitor may look at any mapped page.
+/// A page's permissions to read, write and execute are those of a leaf page-table entry (Privileged Architecture,
+/// section 4.3.1). The monitor may access any mapped page.
 #[derive(Drop)]
 pub struct Pool<A: Allocator = Global> {
     tables: Tables,
@@ -61,7 +61,7 @@ impl<A: Allocator> Model for Pool<A> {
 }
 
 impl<A: Allocator> Pool<A> {
-    /// A memory with no page for each user.
+    /// Return a pool in which each user's memory is empty.
     pub fn new(alloc: A) -> Result<Self, NoMemory>
         ensures { IfOk result (λ pool. pool ≡ no_memories) }
     {
@@ -76,11 +76,11 @@ impl<A: Allocator> Pool<A> {
         })
     }
 
-    /// Maps `count` pages of zeros for a user, from the page numbered `page` on (page p begins at
-    /// address `PAGE_SIZE` p). The pages end at or below `ADDRESS_END`.
+    /// Map `count` pages of zeros for a user, starting with page number `page` (page p starts at address `PAGE_SIZE`
+    /// times p). The pages must end at or below `ADDRESS_END`.
     ///
-    /// `Quota` where the user would have more than `PAGE_QUOTA` pages, else `AlreadyMapped` where one of the
-    /// pages is there. Then nothing has changed.
+    /// Return `Quota` if the user would have more than `PAGE_QUOTA` pages, else `AlreadyMapped` if one of the pages is
+    /// mapped. After an error, the pool is unchanged.
     pub fn map(
         &mut self,
         user: User,
@@ -122,7 +122,7 @@ impl<A: Allocator> Pool<A> {
         Ok(())
     }
 
-    /// Unmaps all pages of a user.
+    /// Unmap all pages of a user.
     pub fn drop_user(&mut self, user: User)
         ensures users { length self.old ≡ user_count }
         ensures dropped { self.new ≡ with_memory self.old user empty }
@@ -137,7 +137,7 @@ impl<A: Allocator> Pool<A> {
         translate_user(&mut self.translations, &self.tables, user);
     }
 
-    /// How many pages a user has, at most `PAGE_QUOTA`.
+    /// Return the number of a user's pages, at most `PAGE_QUOTA`.
     pub fn pages(&self, user: User) -> usize
         ensures users { length self.now ≡ user_count }
         ensures value { result ≡ page_count (memory_of_user self.now user) }
@@ -145,8 +145,8 @@ impl<A: Allocator> Pool<A> {
         user_entries(&self.tables, user.index()).len()
     }
 
-    /// Checks that each of `len` bytes from an address on may be accessed so. A fault names the
-    /// address of the first. An access of no bytes is allowed anywhere.
+    /// Check that the access to each of `len` bytes from `addr` on is allowed; otherwise return a fault with the
+    /// address `addr`. An access to no bytes is allowed at any address.
     #[inline(always)]
     pub fn check(&self, user: User, addr: u64, len: usize, access: Access) -> Result<(), Fault>
         ensures users { length self.now ≡ user_count }
@@ -163,7 +163,7 @@ impl<A: Allocator> Pool<A> {
         }
     }
 
-    /// Reads as `read` does, if that takes one look at the user's translations. Answers whether it does.
+    /// Read as `read` does if a single lookup in the user's translations suffices; return whether it does.
     #[inline(always)]
     pub fn read_at_once(&self, user: User, addr: u64, access: Access, buffer: &mut [u8]) -> bool
         ensures users { length self.now ≡ user_count }
@@ -186,8 +186,8 @@ impl<A: Allocator> Pool<A> {
         )
     }
 
-    /// Reads a user's bytes from an address on, until the buffer is full. After a fault, as of
-    /// `check`, the buffer is as it was.
+    /// Read a user's bytes from `addr` on until the buffer is full. If `check` would fail, return its fault, and leave
+    /// the buffer unchanged.
     #[inline(always)]
     pub fn read(
         &self,
@@ -213,7 +213,7 @@ impl<A: Allocator> Pool<A> {
         read_pages(entries, frames, access, addr, buffer)
     }
 
-    /// Writes as `write` does, if that takes one look at the user's translations. Answers whether it does.
+    /// Write as `write` does if a single lookup in the user's translations suffices; return whether it does.
     #[inline(always)]
     pub fn write_at_once(&mut self, user: User, addr: u64, access: Access, bytes: &[u8]) -> bool
         ensures users { length self.old ≡ user_count }
@@ -233,7 +233,7 @@ impl<A: Allocator> Pool<A> {
         )
     }
 
-    /// Writes bytes of a user from an address on. After a fault, as of `check`, nothing has changed.
+    /// Write a user's bytes from `addr` on. If `check` would fail, return its fault, and leave the memory unchanged.
     #[inline(always)]
     pub fn write(
         &mut self,
@@ -267,14 +267,14 @@ impl<A: Allocator> Pool<A> {
     }
 }
 
-/// So many zeros.
+/// Return `count` zeros.
 fn zeros<A: Allocator>(alloc: A, count: usize) -> Result<Vec<u8, A>, AllocError>
     ensures { IfOk result (λ bytes. length bytes.items ≡ count) }
 {
     vec![in alloc; 0; count]
 }
 
-/// A table with no page for each user.
+/// Return an empty table for each user.
 fn no_tables() -> Tables
     ensures { entries_of result ≡ replicate user_count [] }
 {

@@ -1,4 +1,4 @@
-//! A user's page table: entries in the order of their pages, found by binary search.
+//! A user's page table: entries in ascending order of page number, looked up by binary search.
 ghost use Rattle.std.specs.Prelude.{◌≡◌, ℕ, List, ◌≤◌, ◌<◌, ◌+◌, ◌-◌, ◌/◌, ◌%◌, min, cond, nat_eq, false, Some, None};
 ghost use Rattle.std.specs.Prelude.{IfOk, IfErr, IfNone, length};
 ghost use Rattle.arrayvec.specs.ArrayVec.{array_vec_len};
@@ -12,10 +12,10 @@ use crate::entry::Entry;
 use arrayvec::ArrayVec;
 use rv_model::{Access, MapRefusal, PAGE_QUOTA, PAGE_SIZE};
 
-/// A user's mapped pages, by rising page.
+/// A user's mapped pages, in ascending order of page number.
 pub(crate) type Table = ArrayVec<Entry, PAGE_QUOTA>;
 
-/// Where the entry of a page is, or where it would go.
+/// Return the index of a page's entry, or as an error the index to insert it at.
 pub(crate) fn search(entries: &[Entry], page: u64) -> Result<usize, usize>
     requires { IsSorted entries.now }
     ensures found { IfOk result (IsAt entries.now page) }
@@ -24,7 +24,7 @@ pub(crate) fn search(entries: &[Entry], page: u64) -> Result<usize, usize>
     entries.binary_search_by_key(&page, |entry| entry.page)
 }
 
-/// The entry of a page.
+/// Return the entry of a page, if it is mapped.
 pub(crate) fn locate(entries: &[Entry], page: u64) -> Option<Entry>
     requires { IsSorted entries.now }
     ensures { result ≡ entry_at entries.now page }
@@ -35,7 +35,7 @@ pub(crate) fn locate(entries: &[Entry], page: u64) -> Option<Entry>
     }
 }
 
-/// Whether the byte at an address may be accessed.
+/// Whether the access to the byte at an address is allowed.
 fn is_byte_allowed(entries: &[Entry], access: Access, addr: u64) -> bool
     requires { IsSorted entries.now }
     ensures { (frames : List ℕ) → result ≡ can_access_byte access (memory_of frames entries.now) addr }
@@ -46,7 +46,7 @@ fn is_byte_allowed(entries: &[Entry], access: Access, addr: u64) -> bool
     }
 }
 
-/// How many of the next `left` bytes from an address on lie in its page.
+/// Return how many of the next `left` bytes from `addr` on are in its page.
 #[inline(always)]
 pub(crate) fn bytes_in_page(addr: u64, left: usize) -> usize
     ensures { result ≡ min left (page_size - addr % page_size) }
@@ -54,7 +54,7 @@ pub(crate) fn bytes_in_page(addr: u64, left: usize) -> usize
     left.min((PAGE_SIZE - addr % PAGE_SIZE) as usize)
 }
 
-/// Whether all bytes of an access are allowed.
+/// Whether the access to all `len` bytes from `addr` on is allowed.
 pub(crate) fn is_access_allowed(entries: &[Entry], access: Access, addr: u64, len: usize) -> bool
     requires sorted { IsSorted entries.now }
     requires below { AreBelow entries.now }
@@ -74,7 +74,7 @@ pub(crate) fn is_access_allowed(entries: &[Entry], access: Access, addr: u64, le
     true
 }
 
-/// Whether any of these pages is mapped.
+/// Whether any of `count` pages from `page` on is mapped.
 fn is_any_mapped(entries: &[Entry], page: u64, count: usize) -> bool
     requires sorted { IsSorted entries.now }
     requires ends { page + count ≤ page_limit }
@@ -91,7 +91,7 @@ fn is_any_mapped(entries: &[Entry], page: u64, count: usize) -> bool
     false
 }
 
-/// Why these pages can't be mapped, where they can't.
+/// Return the reason why `count` pages from `page` on can't be mapped, or `None` if they can be.
 pub(crate) fn refusal(entries: &[Entry], page: u64, count: usize) -> Option<MapRefusal>
     requires few { length entries.now ≤ page_quota }
     requires sorted { IsSorted entries.now }
@@ -111,7 +111,7 @@ pub(crate) fn refusal(entries: &[Entry], page: u64, count: usize) -> Option<MapR
     None
 }
 
-/// Adds the entry of a page that has none.
+/// Insert the entry of an unmapped page.
 pub(crate) fn add_entry(table: &mut Table, entry: Entry)
     requires room { array_vec_len table.old < page_quota }
     requires sorted { IsSorted table.old.items }

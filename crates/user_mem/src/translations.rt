@@ -1,6 +1,6 @@
-//! Where a user's pages lie in the frames, as a processor's translation lookaside buffer has it: for each way of access
-//! a place for each page, by its number modulo `PLACES`. An access in one page asks the table only where another page
-//! has that place.
+//! A direct-mapped cache of page translations, like a processor's translation lookaside buffer. For each kind of
+//! access, a page's slot is its number modulo `PLACES`. An access within one page searches the page table only if the
+//! slot doesn't hold that page.
 ghost use Rattle.std.specs.Prelude.{◌≡◌, ◌+◌, ◌*◌, ◌%◌, ◌<◌, ◌≤◌, IfSome, List, Some};
 ghost use Rattle.rv_model.specs.memory.Sizes.{page_size, page_limit, frame_count};
 ghost use Rattle.user_mem.specs.declared.entry.Entry.{Entry};
@@ -11,20 +11,21 @@ use crate::entry::Entry;
 use crate::frames::FRAME_SIZE;
 use rv_model::{Access, PAGE_SIZE};
 
-/// Pages whose numbers are equal modulo this share a place.
+/// The number of slots. Pages whose numbers are equal modulo this share a slot.
 const PLACES: usize = 256;
 
-/// A page: its first address, and where its bytes begin in the frames. At the place of another page it stands for none.
+/// A page: its first address, and the index of its first byte in the frames. A slot that holds another slot's page is
+/// empty.
 #[derive(Clone, Copy)]
 pub(crate) struct Translation {
     pub first: u64,
     pub start: usize,
 }
 
-/// The pages that may be accessed in one way, each at its place.
+/// The cached pages for one kind of access, by slot.
 type Pages = [Translation; PLACES];
 
-/// The pages of a user, by how they may be accessed.
+/// A user's cached pages, for each kind of access.
 #[derive(Clone, Copy)]
 pub(crate) struct Translations {
     pub fetch: Pages,
@@ -33,7 +34,7 @@ pub(crate) struct Translations {
     pub monitor: Pages,
 }
 
-/// Which place is that of a page.
+/// Return the slot of a page.
 #[inline(always)]
 fn place_of(page: u64) -> usize
     ensures { result ≡ page % place_count }
@@ -41,7 +42,7 @@ fn place_of(page: u64) -> usize
     (page % PLACES as u64) as usize
 }
 
-/// No page at any place.
+/// Return empty slots: each holds a page of another slot, page 1 in slot 0 and page 0 in all others.
 fn no_pages() -> Pages
     ensures { (entries : List Entry) (access : Access) → AreTranslated entries access result }
 {
@@ -53,7 +54,7 @@ fn no_pages() -> Pages
     pages
 }
 
-/// Puts the page of an entry at its place, if it may be accessed so.
+/// Put an entry's page into its slot if its permissions permit the access.
 fn put_page(pages: &mut Pages, entry: Entry, access: Access)
     requires below { entry.page < page_limit }
     requires fits { page_size * entry.frame + page_size ≤ page_size * frame_count }
@@ -68,7 +69,8 @@ fn put_page(pages: &mut Pages, entry: Entry, access: Access)
     }
 }
 
-/// Puts the pages of a table that may be accessed so at their places, and no page at any other.
+/// Replace the cached pages with those pages of a table that permit the access. Of pages that share a slot, the last one
+/// is cached.
 fn set_pages(pages: &mut Pages, entries: &[Entry], access: Access)
     requires sorted { IsSorted entries.now }
     requires below { AreBelow entries.now }
@@ -81,7 +83,8 @@ fn set_pages(pages: &mut Pages, entries: &[Entry], access: Access)
     }
 }
 
-/// Where the bytes of an access lie in the frames, if they lie in a page that has its place.
+/// Return the index, in the bytes of all frames, of the first byte of an access, if one cached page contains all `len`
+/// bytes.
 #[inline(always)]
 fn look_up(pages: &Pages, addr: u64, len: usize) -> Option<usize>
     ensures { (entries : List Entry) (access : Access) → AreTranslated entries access pages.now
@@ -97,7 +100,7 @@ fn look_up(pages: &Pages, addr: u64, len: usize) -> Option<usize>
 }
 
 impl Translations {
-    /// No page.
+    /// Return translations without pages.
     pub(crate) fn none() -> Translations
         ensures { (entries : List Entry) → Translates entries result }
     {
@@ -109,7 +112,7 @@ impl Translations {
         }
     }
 
-    /// Takes the pages of a table, in place of those that were there.
+    /// Replace the cached pages with those of a table.
     pub(crate) fn set(&mut self, entries: &[Entry])
         requires sorted { IsSorted entries.now }
         requires below { AreBelow entries.now }
@@ -122,7 +125,7 @@ impl Translations {
         set_pages(&mut self.monitor, entries, Access::Monitor);
     }
 
-    /// The pages that may be accessed so.
+    /// Return the cached pages for one kind of access.
     #[inline(always)]
     fn pages(&self, access: Access) -> &Pages
         ensures { (entries : List Entry) → Translates entries self.now → AreTranslated entries access result.now }
@@ -135,7 +138,8 @@ impl Translations {
         }
     }
 
-    /// Where the bytes of an access lie in the frames, if they lie in a page that has its place and may be accessed so.
+    /// Return the index, in the bytes of all frames, of the first byte of an access, if one cached page contains all
+    /// `len` bytes and permits the access.
     #[inline(always)]
     pub(crate) fn place(&self, access: Access, addr: u64, len: usize) -> Option<usize>
         ensures { (entries : List Entry) → Translates entries self.now

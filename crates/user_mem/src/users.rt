@@ -1,4 +1,4 @@
-//! The tables of all users over the pool's frames.
+//! The page tables of all users over the pool's frames. Here users are indices from 0.
 ghost use Rattle.std.specs.Prelude.{◌≡◌, ◌≢◌, List, ℕ, ◌<◌, ◌≤◌, ◌+◌, ◌↔◌, [], None, false, true, length};
 ghost use Rattle.std.specs.Prelude.{IsOk, IfErr, OnOk, OnErr, slice_index_or, slice_set};
 ghost use Rattle.rv_model.specs.memory.Memory.{can_access, put_bytes, with_pages};
@@ -16,20 +16,20 @@ use crate::table::Table;
 use crate::translations::Translations;
 use rv_model::{Access, Fault, Permissions, USER_COUNT};
 
-/// The tables of all users, user 1 first.
+/// The page tables of all users, user 1 first.
 pub(crate) type Tables = [Table; USER_COUNT];
 
-/// The translations of the pages of all users, user 1 first.
+/// The page translations of all users, user 1 first.
 pub(crate) type AllTranslations = [Translations; USER_COUNT];
 
-/// Pages that follow one another: the number of the first, and how many they are.
+/// A range of consecutive pages: the number of the first page, and the number of pages.
 #[derive(Clone, Copy)]
 pub(crate) struct PageRange {
     pub first: u64,
     pub count: usize,
 }
 
-/// The entries of the pages of the user at a place.
+/// Return the page-table entries of the user at an index.
 #[inline(always)]
 pub(crate) fn user_entries(tables: &Tables, user: usize) -> &[Entry]
     requires { user < user_count }
@@ -38,7 +38,7 @@ pub(crate) fn user_entries(tables: &Tables, user: usize) -> &[Entry]
     tables[user].as_slice()
 }
 
-/// Maps pages of zeros for the user at a place.
+/// Map pages of zeros for the user at an index.
 pub(crate) fn map_user(
     tables: &mut Tables,
     user: usize,
@@ -71,7 +71,7 @@ pub(crate) fn map_user(
     );
 }
 
-/// Translates the pages of the user at a place anew, after they changed.
+/// Rebuild the translations of the user at an index after a change of the user's pages.
 pub(crate) fn translate_user(all: &mut AllTranslations, tables: &Tables, user: usize)
     requires user { user < user_count }
     requires pool { (free frames : List ℕ) × IsPool (entries_of tables.now) free frames }
@@ -82,7 +82,7 @@ pub(crate) fn translate_user(all: &mut AllTranslations, tables: &Tables, user: u
     all[user].set(user_entries(tables, user));
 }
 
-/// Unmaps all pages of the user at a place.
+/// Unmap all pages of the user at an index.
 pub(crate) fn drop_pages(tables: &mut Tables, user: usize, free: &mut FreeFrames, frames: &[u8])
     requires user { user < user_count }
     requires pool { IsPool (entries_of tables.old) free.old.items frames.now }
@@ -92,15 +92,15 @@ pub(crate) fn drop_pages(tables: &mut Tables, user: usize, free: &mut FreeFrames
     give_back(&mut tables[user], free);
 }
 
-/// The address where an access begins, and what kind of access it is.
+/// The kind and the first address of an access.
 #[derive(Clone, Copy)]
 pub(crate) struct Target {
     pub access: Access,
     pub addr: u64,
 }
 
-/// Writes bytes of the user at a place, if they may be written and their page has its place among the user's
-/// translations. Answers whether it has.
+/// Write bytes of the user at an index if a single cached page has room for them and permits the access; return whether
+/// it does.
 #[inline(always)]
 pub(crate) fn write_user_at_once(
     tables: &Tables,
@@ -133,7 +133,7 @@ pub(crate) fn write_user_at_once(
     )
 }
 
-/// Writes bytes of the user at a place page by page.
+/// Write bytes of the user at an index, page by page.
 pub(crate) fn write_user(
     tables: &Tables,
     user: usize,

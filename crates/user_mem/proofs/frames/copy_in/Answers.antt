@@ -16,7 +16,7 @@ pub overflow_add-next : goal.overflow_add-next
 overflow_add-next c =
     let near = access_below Monitor c.args.frames.now c.args.entries.now c.args.addr (length c.args.bytes.now) c.loop-done.done c.requires.below c.requires.mapped (omega arith) in omega arith
 
--- the next byte is mapped as it was at the start, since bytes alone were written
+-- the next byte is still mapped, because only bytes were written
 mapped : goal.index_of-start-requires-clause-mapped
 mapped c =
     let next = c.args.addr + c.loop-done.done in

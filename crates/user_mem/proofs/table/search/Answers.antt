@@ -3,7 +3,7 @@ use Rattle.std.proofs.lemmas.List.Sorted.{answers_always}
 use Rattle.user_mem.proofs.SearchLaws.{searched}
 use Rattle.user_mem.proofs.table.search.Goals as goal
 
--- the closure gives an entry's page
+-- the closure returns the entry's page number
 pub returns : goal.returns
 returns c =
     let facts = c.binary_search_by_key.ensures in

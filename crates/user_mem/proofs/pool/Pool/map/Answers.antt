@@ -9,7 +9,7 @@ use Rattle.user_mem.proofs.pool.Pool.map.Goals as goal
 pub refusal-requires-clause-sorted : goal.refusal-requires-clause-sorted
 refusal-requires-clause-sorted g c = rw c.user_entries.ensures (c.self.invariant.0.sorted c.index-user.result)
 
--- the refusal of the table is that of the memory
+-- a refusal of the table is the refusal of the memory
 refused : goal.returns-in-Some-clause-refused
 refused g c =
     let seen = memory_at c.self.inside.frames.items c.self.inside.frames.items (map (λ t. t.items) c.self.inside.tables) c.args.user c.index-user.result c.user_entries.result.now c.args.self.now c.self.view_is c.index-user.ensures.value (omega (arith, c.self.invariant.0.users)) c.user_entries.ensures refl in
@@ -32,7 +32,7 @@ returns-in-Some-clause-already_mapped g c =
 pub translate_user-requires-clause-others : goal.translate_user-requires-clause-others
 translate_user-requires-clause-others g c = λ u d within other. rw (c.map_user.ensures.others u other) (c.self.invariant.1 u d within)
 
--- no refusal of the table is none of the memory
+-- if the table has no refusal, neither has the memory
 accepted : goal.returns-clause-accepted
 accepted g c =
     let seen = memory_at c.self.inside.frames.items c.self.inside.frames.items (map (λ t. t.items) c.self.inside.tables) c.args.user c.index-user.result c.user_entries.result.now c.args.self.now c.self.view_is c.index-user.ensures.value (omega (arith, c.self.invariant.0.users)) c.user_entries.ensures refl in
