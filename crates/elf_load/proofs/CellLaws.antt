@@ -1,4 +1,4 @@
--- An image's memory by address, and its pages by address
+-- The cell at each address of an image's memory, and the pages by their addresses
 use Rattle.std.proofs.Common.{◌≡◌, ℕ, ◌+◌, ◌*◌, ◌/◌, ◌<◌, ◌≤◌, min, max, Bool, true, false, List, Some, None, sym, ◌∙◌, ap, inl, inr, arith}
 use Rattle.std.specs.Prelude.{if◌then◌else◌}
 use Rattle.std.proofs.lemmas.Bool.{cases_eq, cases_lt}
@@ -41,7 +41,7 @@ holds_its_cells image sound x = elim (cases_lt x (page_size * all_pages)) [
       ∙ sym (no_cell image x (untouched_past image (x / page_size) sound (omega (arith, all_pages_is_page_limit))))
 ]
 
--- ---- pages by their addresses
+-- ---- pages and their addresses
 
 touched_means : (header : ProgramHeader) (page : ℕ) → touches_page page header ≡ true
     → (header.kind ≡ 1) × (max header.address (page_size * page) < min (header.address + header.memory_size) (page_size * page + page_size))

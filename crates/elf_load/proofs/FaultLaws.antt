@@ -1,4 +1,4 @@
--- What follows from the faults that an image hasn't
+-- Properties of an image without a fault
 use Rattle.std.proofs.Common.{◌≡◌, ℕ, zero, suc, ◌+◌, ◌*◌, ◌%◌, ◌<◌, ◌≤◌, Bool, true, false, List, [], ◌∷◌, ◌++◌, length, get_or, cond, Option, Some, None, refl, sym, ◌∙◌, ap, arith}
 use Rattle.std.specs.Prelude.{find}
 use Rattle.std.specs.Option.{option_or}
@@ -10,7 +10,7 @@ use Rattle.rv_model.specs.images.Faults.{has_fault, all_faults, first_fault}
 use Rattle.elf_load.specs.Headers.{HasHeaders}
 use Rattle.elf_load.specs.Parts.{header_has, any_header_has, file_faults, table_faults, segment_faults}
 
--- ---- the first that passes
+-- ---- the first element that passes a test
 
 past : {X : Type 0} (b : Bool) (x : X) (rest : Option X) → cond b (Some x) rest ≡ None → (b ≡ false) × (rest ≡ None)
 past true x rest e = absurd (cc)
@@ -21,7 +21,7 @@ none_found p [] i d e l = absurd (omega arith)
 none_found p (x ∷ xs) zero d e l = (past (p x) x (find p xs) e).0
 none_found p (x ∷ xs) (suc i) d e l = none_found p xs i d (past (p x) x (find p xs) e).1 (omega arith)
 
--- ---- the first fault, part by part
+-- ---- the first fault, by part
 
 pub first_of_parts : (image : List ℕ) (file table segment : Option ElfFault) (bad : Bool) → file ≡ find (has_fault image) file_faults → table ≡ find (has_fault image) table_faults
     → segment ≡ find (has_fault image) segment_faults → has_fault image BadEntry ≡ bad → first_fault image ≡ option_or file (option_or table (option_or segment (cond bad (Some BadEntry) None)))
@@ -39,7 +39,7 @@ pub entry_is_good : (image : List ℕ) (entry : ℕ) → entry ≡ entry_of imag
 unfolding has_fault
 entry_is_good image entry e even = grind (arith, even, e)
 
--- ---- an image with no fault
+-- ---- an image without a fault
 
 pub sound_headers : (image : List ℕ) → first_fault image ≡ None → HasHeaders image
 unfolding first_fault has_fault

@@ -28,7 +28,7 @@ any_more p image number =
     ∙ list_any-append p (first_headers image number) (program_header image number ∷ [])
     ∙ ap (λ (b : Bool). list_any p (first_headers image number) || b) (or-false (p (program_header image number)))
 
--- one header that passes
+-- if one header passes a test, some header passes it
 pub any_at : (p : ProgramHeader → Bool) (image : List ℕ) (number : ℕ) → number < header_count image → p (program_header image number) ≡ true → list_any p (program_headers image) ≡ true
 unfolding program_headers
 any_at p image number l h =
@@ -37,7 +37,7 @@ any_at p image number l h =
     (let size = length-map-range_with_len (program_header image) 0 (header_count image) in omega arith)
     (ap p here ∙ h)
 
--- where none passes
+-- if no header passes a test, each one fails it
 pub none_at : (p : ProgramHeader → Bool) (image : List ℕ) (number : ℕ) → number < header_count image → list_any p (program_headers image) ≡ false → p (program_header image number) ≡ false
 none_at p image number l h = false_from_ne_true _ (λ e. true≢false (sym (any_at p image number l e) ∙ h))
 
@@ -48,6 +48,6 @@ none_below p image (suc number) h =
     ap (λ (n : ℕ). list_any p (first_headers image n)) next ∙ any_more p image number
     ∙ ap (λ (b : Bool). b || p (program_header image number)) (none_below p image number (λ k l. h k (omega arith))) ∙ h number (omega arith)
 
--- where each of them fails
+-- if each header fails a test, no header passes it
 pub none_of_all : (p : ProgramHeader → Bool) (image : List ℕ) → ((k : ℕ) → k < header_count image → p (program_header image k) ≡ false) → list_any p (program_headers image) ≡ false
 none_of_all p image h = ap (list_any p) (sym (first_headers_all image (header_count image) refl)) ∙ none_below p image (header_count image) h

@@ -1,4 +1,4 @@
--- How many pages the memory has that an image describes
+-- The number of pages of an image's memory
 use Rattle.std.proofs.Common.{◌≡◌, ℕ, zero, suc, ◌+◌, ◌*◌, ◌/◌, ◌≤◌, Bool, true, false, cond, List, Option, Some, None, refl, sym, ◌∙◌, ap, arith}
 use Rattle.std.specs.Prelude.{is_some, if◌then◌else◌}
 use Rattle.std.specs.Cmp.{nat_cmp_total}
@@ -12,7 +12,7 @@ use Rattle.rv_model.specs.memory.Sizes.{page_size, page_limit}
 use Rattle.elf_load.specs.Pages.{pages_below}
 use Rattle.elf_load.proofs.PageLaws.{pages_below_skipped, pages_below_le}
 
--- ---- how many addresses it has
+-- ---- the number of addresses
 
 len-with_cell : (m : Memory) (a : ℕ) (o : Option Cell) → get m a ≡ None → len (with_cell m a o) ≡ len m + cond (is_some o) 1 0
 len-with_cell m a None e = omega arith
@@ -23,7 +23,7 @@ len-memory_below : (cells : ℕ → Option Cell) (n : ℕ) → len (memory_below
 unfolding memory_below
 len-memory_below cells n = len-with_cell (memory_below cells n) n (cells n) (get-memory_below_outside cells n n (omega arith))
 
--- of one page
+-- the number of addresses in one page
 len_in_page : (cells : ℕ → Option Cell) (t : ℕ → Bool) → ((x : ℕ) → is_some (cells x) ≡ t (x / page_size)) → (n k : ℕ) → k ≤ page_size
     → len (memory_below cells (page_size * n + k)) ≡ len (memory_below cells (page_size * n)) + cond (t n) k 0
 len_in_page cells t same n zero l =
@@ -51,27 +51,27 @@ pub is_some-when : (b : Bool) (c : Cell) → is_some (if b then Some c else None
 is_some-when true c = refl
 is_some-when false c = refl
 
--- an image's memory has the pages that it touches
+-- an image's memory has the pages that the image touches
 pub page_count-image : (image : List ℕ) → page_count (memory_of_image image) ≡ pages_below (is_touched (placed_headers image)) all_pages
 unfolding memory_of_image page_count cell_of
 page_count-image image =
     let size = len-memory_below_pages (cell_of image) (is_touched (placed_headers image)) (λ x. is_some-when (is_touched (placed_headers image) (x / page_size)) _) all_pages in
     omega (arith, size)
 
--- ---- counted page by page
+-- ---- counting page by page
 
 pub pages_below_none : (t : ℕ → Bool) → pages_below t 0 ≡ 0
 unfolding pages_below
 pages_below_none t = refl
 
--- no page is left
+-- if no page is left, the count is the number of all pages
 pub counted_all : (image image' : List ℕ) (from count : ℕ) → image ≡ image' → ((q : ℕ) → from ≤ q → is_touched (placed_headers image) q ≡ false) → from ≤ page_limit → pages_below (is_touched (placed_headers image)) from ≡ count
     → count ≡ page_count (memory_of_image image')
 counted_all image image' from count same none bound counted =
     sym counted ∙ sym (pages_below_skipped (is_touched (placed_headers image)) from all_pages (omega (arith, all_pages_is_page_limit)) (λ q l m. none q l))
     ∙ sym (page_count-image image) ∙ ap (λ (xs : List ℕ). page_count (memory_of_image xs)) same
 
--- more pages than these
+-- the number of pages counted so far is at most that of all pages
 pub counted_many : (image image' : List ℕ) (from : ℕ) → image ≡ image' → from ≤ page_limit → pages_below (is_touched (placed_headers image)) from ≤ page_count (memory_of_image image')
 counted_many image image' from same bound =
     let le = pages_below_le (is_touched (placed_headers image)) from all_pages (omega (arith, all_pages_is_page_limit)) in

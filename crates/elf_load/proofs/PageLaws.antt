@@ -1,4 +1,4 @@
--- The pages that segments touch, and how many they are
+-- The pages that segments touch, and their number
 use Rattle.std.proofs.Common.{◌≡◌, ℕ, zero, suc, ◌+◌, ◌-◌, ◌*◌, ◌/◌, ◌<◌, ◌≤◌, min, max, Bool, true, false, List, ◌∷◌, ◌||◌, length, cond, Option, Some, None, IfSome, lit≤, sym, ◌∙◌, ap, subst, arith, inl, inr}
 use Rattle.std.specs.List.{list_any}
 use Rattle.std.proofs.Math.Bool.{or-false, or_assoc}
@@ -88,7 +88,7 @@ IsFirstIfAny-same t u from (Some page) same f = record {
   skipped = λ q l m. sym (same q) ∙ f.skipped q l m;
 }
 
--- ---- how many
+-- ---- the number of pages
 
 pub pages_below_skipped : (t : ℕ → Bool) (from page : ℕ) → from ≤ page → ((q : ℕ) → from ≤ q → q < page → t q ≡ false) → pages_below t page ≡ pages_below t from
 unfolding pages_below
@@ -138,7 +138,7 @@ earlier_below None b n f g = g
 earlier_below (Some x) None n f g = f
 earlier_below (Some x) (Some y) n f g = omega (arith, f, g)
 
--- one more program header
+-- the first page after adding a program header
 pub next_page-more : (image : List ℕ) (number from : ℕ) (a b : Option ℕ) → IsFirstIfAny (is_touched (first_placed image number)) from a → IsFirstIfAny (λ p. touches_page p (program_header image number)) from b
     → IsFirstIfAny (is_touched (first_placed image (number + 1))) from (earlier a b)
 next_page-more image number from a b f g =
@@ -152,7 +152,7 @@ next_page-stack image from a f = IsFirstIfAny-same (λ p. touches_page p stack) 
 pub next_page-all : (image : List ℕ) (number from : ℕ) (a : Option ℕ) → number ≡ header_count image → IsFirstIfAny (is_touched (first_placed image number)) from a → IsFirstIfAny (is_touched (placed_headers image)) from a
 next_page-all image number from a e f = subst (λ (hs : List ProgramHeader). IsFirstIfAny (is_touched hs) from a) (first_placed_all image number e) f
 
--- ---- where segments end
+-- ---- the ends of segments
 
 pub stack_ends : EndsInMemory stack
 unfolding stack
@@ -162,7 +162,7 @@ pub header_ends : (image : List ℕ) (number : ℕ) → first_fault image ≡ No
 unfolding header_has
 header_ends image number sound l = λ kind. (let ends = none_at (header_has (length image) BadAddress) image number l (no_bad_header image sound).2 in grind (arith, ends, kind))
 
--- ---- flags
+-- ---- segment flags
 
 pub is_allowed_by-stack : (image : List ℕ) (flag page : ℕ) → grants flag page stack ≡ true → is_allowed_by flag (placed_headers image) page ≡ true
 unfolding is_allowed_by

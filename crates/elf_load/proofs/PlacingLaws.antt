@@ -1,4 +1,4 @@
--- How the memory of an image grows page by page and is filled segment by segment
+-- How mapping pages and loading segments change the memory of an image
 use Rattle.std.proofs.Common.{◌≡◌, ◌≢◌, ℕ, zero, suc, ◌+◌, ◌-◌, ◌*◌, ◌/◌, ◌<◌, ◌≤◌, Bool, true, false, cond, List, [], ◌∷◌, ◌++◌, length, get_or, reverse, Option, Some, None, refl, sym, ◌∙◌, ap, ◌⊎◌, inl, inr, arith}
 use Rattle.std.specs.Prelude.{find, is_some, nat_lt, ◌&&◌, if◌then◌else◌}
 use Rattle.std.specs.FinMap.{empty, get, contains_key, get-empty}
@@ -23,7 +23,7 @@ use Rattle.elf_load.proofs.PageLaws.{first_placed_all, pages_below_next, pages_b
 use Rattle.rv_model.proofs.image_lemmas.Cells.{get-memory_below, get-memory_below_outside, is_memory_below}
 use Rattle.elf_load.proofs.ImageLaws.{len-memory_below_pages, is_some-when, page_count-image}
 
--- ---- cells and memories with them
+-- ---- cells, and memories with these cells
 
 cell_if : List ℕ → (ℕ → ℕ) → ℕ → Bool → Option Cell
 cell_if image bytes x b = if b then Some (record { byte = bytes x; permissions = permissions_of (placed_headers image) (x / page_size) }) else None
@@ -38,7 +38,7 @@ past_end end page t l = grind (arith, l)
 before_end : (end page : ℕ) (t : Bool) → page < end → (nat_lt page end && t) ≡ t
 before_end end page t l = grind (arith, l)
 
--- of two ends, where no page between them is touched
+-- two ends give the same cells if no page between them is touched
 either_end : (from end page : ℕ) (t : Bool) → from ≤ end → (from ≤ page → page < end → t ≡ false) → (nat_lt page from && t) ≡ (nat_lt page end && t)
 either_end from end page t l none = elim (cases_lt page from) [
   | inl low ↦ before_end from page t low ∙ sym (before_end end page t (omega arith))
@@ -57,7 +57,7 @@ get-memory_with image bytes end x l = elim (cases_lt x (page_size * all_pages)) 
       ∙ sym (cells_with-is image bytes end x false (past_end end (x / page_size) _ (omega arith)))
 ]
 
--- a memory that holds these cells is that one
+-- a memory with these cells is `memory_with`
 is_memory_with : (m : Memory) (image : List ℕ) (bytes : ℕ → ℕ) (end : ℕ) → end ≤ all_pages → ((x : ℕ) → get m x ≡ cells_with image bytes end x) → m ≡ memory_with image bytes end
 is_memory_with m image bytes end l h = same_memory m (memory_with image bytes end) (λ x. h x ∙ sym (get-memory_with image bytes end x l))
 
@@ -68,7 +68,7 @@ unfolding cell_if
 blank_none image = is_memory_with empty image (λ _. 0) 0 (omega arith) (λ x.
     get-empty nat_cmp x ∙ sym (cells_with-is image (λ _. 0) 0 x false (past_end 0 (x / page_size) _ (omega arith))))
 
--- no page is left up to another
+-- the memory is the same for two ends if no page between them is touched
 pub blank_same : (image : List ℕ) (from end : ℕ) → from ≤ end → end ≤ all_pages → ((q : ℕ) → from ≤ q → q < end → is_touched (placed_headers image) q ≡ false)
     → blank_memory image from ≡ blank_memory image end
 blank_same image from end l m none = is_memory_with (blank_memory image from) image (λ _. 0) end m (λ x.
@@ -87,7 +87,7 @@ get-with_page_other m page permissions x e =
     get-add_cells_outside m (page_size * page) (page_size * 1) (λ _. record { byte = 0; permissions = permissions }) x
     (elim (cases_lt x (page_size * page)) [ inl low ↦ inl low | inr high ↦ inr (omega arith) ])
 
--- one more page
+-- mapping one more page
 blank_next : (image : List ℕ) (page : ℕ) → page < all_pages → is_touched (placed_headers image) page ≡ true
     → with_pages (blank_memory image page) page 1 (permissions_of (placed_headers image) page) ≡ blank_memory image (page + 1)
 unfolding cell_if
@@ -110,7 +110,7 @@ blank_more image from page l first =
     ap (λ (m : Memory). with_pages m page 1 (permissions_of (placed_headers image) page)) (blank_same image from page first.start (omega arith) first.skipped)
     ∙ blank_next image page l first.passes
 
--- ---- no page is refused
+-- ---- mapping a page succeeds
 
 same_pages : (t u : ℕ → Bool) (n : ℕ) → ((q : ℕ) → q < n → t q ≡ u q) → pages_below t n ≡ pages_below u n
 unfolding pages_below
@@ -169,12 +169,12 @@ pub byte_after : (image : List ℕ) (number x : ℕ)
 byte_after image number x =
     ap (λ (hs : List ProgramHeader). image_byte image hs x) (first_placed_more image number) ∙ byte_of_more image (first_placed image number) (program_header image number) x
 
--- the stack alone has zeros
+-- before the first segment, all bytes are zero
 byte_in_stack : (image : List ℕ) (x : ℕ) → image_byte image (first_placed image 0) x ≡ 0
 unfolding first_placed first_headers image_byte byte_in stack
 byte_in_stack image x = of_bool (covers x stack) (λ b. option_map_or (byte_in image x) (cond b (Some stack) None) 0 ≡ 0) (λ e. grind arith) (λ e. refl)
 
--- bytes that are the same everywhere
+-- equal bytes give equal cells
 same_cell : (image : List ℕ) (bytes other : ℕ → ℕ) (x : ℕ) → bytes x ≡ other x → cells_with image bytes all_pages x ≡ cells_with image other all_pages x
 unfolding cells_with
 same_cell image bytes other x e =
@@ -197,7 +197,7 @@ memory_after_all image number e =
     ∙ ap (λ (hs : List ProgramHeader). cell_if image (image_byte image hs) x (is_touched (placed_headers image) (x / page_size))) (first_placed_all image number e))
     (λ x g. get-memory_below_outside (cells_with image (image_byte image (first_placed image number)) all_pages) (page_size * all_pages) x g)
 
--- bytes written
+-- writing bytes
 pub put_with : (image : List ℕ) (bytes other : ℕ → ℕ) (a : ℕ) (bs : List ℕ) → ((k : ℕ) → k < length bs → other (a + k) ≡ get_or bs k 0)
     → ((x : ℕ) → ((x < a) ⊎ (a + length bs ≤ x)) → other x ≡ bytes x) → put_bytes (memory_with image bytes all_pages) a bs ≡ memory_with image other all_pages
 unfolding cells_with cell_if
@@ -222,7 +222,7 @@ put_with image bytes other a bs inside outside = is_memory_with (put_bytes (memo
     replaced x n true e = ap (λ (v : ℕ). Some (record { byte = v; permissions = permissions_of (placed_headers image) (x / page_size) })) (sym e)
     replaced x n false e = refl
 
--- a mapped byte may be written
+-- the monitor may access each mapped byte
 pub monitor_is_allowed : (image : List ℕ) (bytes : ℕ → ℕ) (x : ℕ) → x < page_size * all_pages → is_touched (placed_headers image) (x / page_size) ≡ true → can_access_byte Monitor (memory_with image bytes all_pages) x ≡ true
 unfolding can_access_byte cell_if
 monitor_is_allowed image bytes x l touched =

@@ -1,4 +1,4 @@
--- A user's memory in the pool while an image is placed
+-- A user's memory in the pool while an image is loaded
 use Rattle.std.proofs.Common.{◌≡◌, ℕ, ◌+◌, ◌-◌, ◌<◌, ◌≤◌, List, length, take, drop, replicate, None, true, false, refl, sym, ◌∙◌, ap, subst, arith}
 use Rattle.std.specs.FinMap.{empty}
 use Rattle.rv_model.specs.declared.images.ProgramHeader.{ProgramHeader}
@@ -19,7 +19,7 @@ use Rattle.elf_load.proofs.SegmentLaws.{file_size_fits, file_part_there, may_wri
 use Rattle.user_mem.proofs.UserLaws.{later_memory, same_memory}
 use Rattle.elf_load.proofs.UserLaws.{memory_of_user-after, with_memory-after}
 
--- ---- its pages
+-- ---- the image's pages
 
 pub mapped_none : (memories : List Memory) (user : ℕ) (image : List ℕ) → memory_of_user memories user ≡ empty → memories ≡ with_memory memories user (blank_memory image 0)
 mapped_none memories user image free = sym (ap (with_memory memories user) (sym (free ∙ blank_none image)) ∙ same_memory memories user)
@@ -42,9 +42,9 @@ pub mapped_all : (memories pool : List Memory) (user : ℕ) (image : List ℕ) (
     → ((q : ℕ) → from ≤ q → is_touched (placed_headers image) q ≡ false) → pool ≡ with_memory memories user (blank_memory image all_pages)
 mapped_all memories pool user image from before low none = before ∙ ap (with_memory memories user) (blank_same image from all_pages (omega (arith, all_pages_is_page_limit)) (omega arith) (λ q m k. none q m))
 
--- ---- a segment
+-- ---- one segment
 
--- what is known of a loadable one in an image with no fault
+-- properties of a loadable segment in an image without a fault
 pub record IsSegment (image : List ℕ) (number : ℕ) (header : ProgramHeader) : Type 0 where
   pub fits : header.file_size ≤ header.memory_size
   pub ends : EndsInMemory header
@@ -71,7 +71,7 @@ pub may_write_file_part : (memories : List Memory) (user : ℕ) (image : List �
 may_write_file_part memories user image number header bs before it size =
     ap (λ (m : Memory). can_access Monitor m header.address (length bs)) before ∙ it.may_write (length bs) (omega (arith, size, it.fits))
 
--- the memory once the file's part is written
+-- the memory after writing the segment's bytes from the file
 part_written : (memories pool : List Memory) (user : ℕ) (image : List ℕ) (number : ℕ) (header : ProgramHeader) (bs : List ℕ) → user - 1 < length memories → memory_of_user memories user ≡ memory_after image number
     → pool ≡ with_memory memories user (put_bytes (memory_of_user memories user) header.address bs) → memory_of_user pool user ≡ put_bytes (memory_after image number) header.address bs
 part_written memories pool user image number header bs known before after =

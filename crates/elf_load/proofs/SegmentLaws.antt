@@ -1,4 +1,4 @@
--- One segment's bytes written over those of the segments before it, and zeros past them
+-- Writing a segment's bytes from the file over those of the segments before it, and the zeros after them
 use Rattle.std.proofs.Common.{◌≡◌, ℕ, ◌+◌, ◌-◌, ◌/◌, ◌<◌, ◌≤◌, Bool, true, false, cond, List, length, get_or, take, drop, replicate, None, refl, sym, ◌∙◌, ap, ◌⊎◌, inl, inr, arith}
 use Rattle.std.specs.Prelude.{nat_lt}
 use Rattle.std.proofs.lemmas.List.{get_or-take, get_or-drop, length-replicate, get_or-replicate, take-replicate, replicate-append-replicate}
@@ -22,7 +22,7 @@ use Rattle.elf_load.proofs.PageLaws.{touches_at, header_ends}
 use Rattle.rv_model.proofs.image_lemmas.Cells.{all_pages_is_page_limit}
 use Rattle.elf_load.proofs.PlacingLaws.{byte_after, put_with, same_bytes, monitor_is_allowed}
 
--- ---- what a sound image says of a segment
+-- ---- properties of a segment in an image without a fault
 
 pub file_size_fits : (image : List ℕ) (number : ℕ) → first_fault image ≡ None → number < header_count image → (program_header image number).kind ≡ 1
     → (program_header image number).file_size ≤ (program_header image number).memory_size
@@ -34,7 +34,7 @@ pub file_part_there : (image : List ℕ) (number : ℕ) → first_fault image �
 unfolding header_has
 file_part_there image number sound l kind some = let inside = none_at (header_has (length image) BadOutside) image number l (no_bad_header image sound).1 in grind (arith, inside, kind, some)
 
--- ---- its addresses may be written
+-- ---- access to a segment's addresses
 
 touched_at : (image : List ℕ) (number x : ℕ) → number < header_count image → (program_header image number).kind ≡ 1 → (program_header image number).address ≤ x
     → x < (program_header image number).address + (program_header image number).memory_size → is_touched (placed_headers image) (x / page_size) ≡ true
@@ -50,13 +50,13 @@ may_write image bytes number a n sound l kind low high =
     can_access_from Monitor (memory_with image bytes all_pages) a n (λ k m.
     monitor_is_allowed image bytes (a + k) (let ends = header_ends image number sound l kind in omega (arith, ends, all_pages_is_page_limit)) (touched_at image number (a + k) l kind (omega arith) (omega arith)))
 
--- what may be written may be written in parts, one after the other
+-- if the access to bytes is allowed, so is the access to a part of them after a write
 pub may_write_part : (access : Access) (m : Memory) (a n i k : ℕ) (bs : List ℕ) → can_access access m a n ≡ true → i + k ≤ n → can_access access (put_bytes m a bs) (a + i) k ≡ true
 may_write_part access m a n i k bs ok fits =
     can_access_from access (put_bytes m a bs) (a + i) k (λ j l.
     is_allowed-put_bytes access m a bs (a + i + j) ∙ can_access-at access m a n (i + j) (a + i + j) ok (omega arith) (omega arith))
 
--- zeros and more zeros
+-- writing zeros, then more zeros after them
 pub put_zeros_more : (m : Memory) (a done size t limit : ℕ) → size ≤ limit → t ≡ done + size
     → put_bytes (put_bytes m a (replicate done 0)) (a + done) (take size (replicate limit 0)) ≡ put_bytes m a (replicate t 0)
 put_zeros_more m a done size t limit l e =
@@ -69,7 +69,7 @@ pub put_no_zeros : (m : Memory) (a : ℕ) → m ≡ put_bytes m a (replicate 0 0
 unfolding put_bytes
 put_no_zeros m a = refl
 
--- ---- its bytes
+-- ---- the bytes of a segment
 
 pub covers_within : (x : ℕ) (header : ProgramHeader) → header.kind ≡ 1 → header.address ≤ x → x < header.address + header.memory_size → covers x header ≡ true
 unfolding covers
@@ -103,14 +103,14 @@ byte_outside image number x e =
     byte_after image number x
     ∙ ap (λ (b : Bool). cond b (byte_in image x (program_header image number)) (image_byte image (first_placed image number) x)) e
 
--- another program header changes nothing
+-- a program header that isn't loadable changes nothing
 pub memory_after_other : (image : List ℕ) (number : ℕ) → ((program_header image number).kind ≡ 1 → ⊥) → memory_after image number ≡ memory_after image (number + 1)
 unfolding memory_after
 memory_after_other image number other =
     same_bytes image (image_byte image (first_placed image number)) (image_byte image (first_placed image (number + 1)))
     (λ x. sym (byte_outside image number x (covers_other x (program_header image number) other)))
 
--- the bytes once the file's part is written
+-- the bytes after writing the segment's bytes from the file, before its zeros
 halfway : List ℕ → ℕ → ℕ → ℕ
 halfway image number x =
     cond (nat_lt x ((program_header image number).address + (program_header image number).file_size))
@@ -157,7 +157,7 @@ rest_cleared image number a n kind from end =
       | inr high ↦ byte_outside image number x (covers_outside x (program_header image number) (inr (omega arith))) ∙ sym (halfway_high image number x (omega arith))
     ])
 
--- both
+-- writing the bytes from the file and then the zeros
 pub segment_written : (image : List ℕ) (number a n : ℕ) (bs : List ℕ) → (program_header image number).kind ≡ 1 → (program_header image number).file_size ≤ (program_header image number).memory_size
     → bs ≡ take (program_header image number).file_size (drop (program_header image number).offset image) → length bs ≡ (program_header image number).file_size
     → a ≡ (program_header image number).address + (program_header image number).file_size → a + n ≡ (program_header image number).address + (program_header image number).memory_size

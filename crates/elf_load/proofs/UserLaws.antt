@@ -1,4 +1,4 @@
--- One user's memory replaced again and again
+-- Consecutive replacements of one user's memory
 use Rattle.std.proofs.Common.{◌≡◌, ℕ, ◌+◌, ◌-◌, ◌<◌, ◌≤◌, List, length, take, replicate, true, refl, sym, ◌∙◌, ap, arith}
 use Rattle.std.proofs.lemmas.List.{length-take-le, length-replicate}
 use Rattle.rv_model.specs.declared.memory.Access.TheVariants.{Monitor}
@@ -7,11 +7,11 @@ use Rattle.user_mem.specs.Users.{memory_of_user, with_memory}
 use Rattle.user_mem.proofs.UserLaws.{later_memory, memory_there, same_memory}
 use Rattle.elf_load.proofs.SegmentLaws.{put_zeros_more, put_no_zeros, may_write_part}
 
--- the user's memory in a pool that is known
+-- the user's memory in a pool after replacing it
 pub memory_of_user-after : (memories pool : List Memory) (user : ℕ) (m : Memory) → user - 1 < length memories → pool ≡ with_memory memories user m → memory_of_user pool user ≡ m
 memory_of_user-after memories pool user m l e = ap (λ (ms : List Memory). memory_of_user ms user) e ∙ memory_there memories user m l
 
--- a step from one memory of the user to the next
+-- two consecutive replacements
 pub with_memory-after : (memories pool new : List Memory) (user : ℕ) (m n k : Memory) → user - 1 < length memories → pool ≡ with_memory memories user m → new ≡ with_memory pool user n → n ≡ k → new ≡ with_memory memories user k
 with_memory-after memories pool new user m n k l before after same =
     after ∙ ap (λ (ms : List Memory). with_memory ms user n) before ∙ later_memory memories user m n ∙ ap (with_memory memories user) same

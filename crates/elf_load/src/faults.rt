@@ -25,19 +25,19 @@ const EXECUTABLE: u16 = 2;
 /// `EM_RISCV` (RISC-V ELF psABI, "File header").
 const RISC_V: u16 = 243;
 
-/// The bytes of the file header.
+/// The size of the file header in bytes.
 const FILE_HEADER_SIZE: usize = 64;
 
-/// The bytes of a program header.
+/// The size of a program header in bytes.
 const PROGRAM_HEADER_SIZE: u16 = 56;
 
-/// `PT_LOAD`, a segment that is placed in memory.
+/// `PT_LOAD`, a segment to load into memory.
 pub(crate) const LOAD: u32 = 1;
 
 /// `PT_INTERP`, the path of an interpreter.
 const INTERPRETER: u32 = 3;
 
-/// The first fault of the file header.
+/// Return the first fault of the file header.
 #[tactic(auto, unfolding(rv_model::specs::images::Faults::has_fault))]
 fn file_fault(image: &[u8]) -> Option<ElfFault>
     ensures { result ≡ find (has_fault image.now) file_faults }
@@ -63,7 +63,7 @@ fn file_fault(image: &[u8]) -> Option<ElfFault>
     None
 }
 
-/// The first fault of the program header table.
+/// Return the first fault of the program header table.
 #[tactic(auto, unfolding(rv_model::specs::images::Faults::has_fault))]
 fn table_fault(image: &[u8]) -> Option<ElfFault>
     requires { 64 ≤ length image.now }
@@ -81,7 +81,7 @@ fn table_fault(image: &[u8]) -> Option<ElfFault>
     None
 }
 
-/// Whether a program header by itself has a fault, in a file of `size` bytes.
+/// Whether a program header on its own has a fault, in a file of `size` bytes.
 #[tactic(auto, unfolding(crate::specs::Parts::header_has))]
 fn header_has(header: ProgramHeader, fault: ElfFault, size: usize) -> bool
     ensures { result ≡ header_has size fault header }
@@ -102,7 +102,7 @@ fn header_has(header: ProgramHeader, fault: ElfFault, size: usize) -> bool
     }
 }
 
-/// Whether some program header has a fault by itself.
+/// Whether some program header on its own has a fault.
 fn any_header_has(image: &[u8], fault: ElfFault) -> bool
     requires { HasHeaders image.now }
     ensures { result ≡ any_header_has image.now fault }
@@ -115,7 +115,7 @@ fn any_header_has(image: &[u8], fault: ElfFault) -> bool
     false
 }
 
-/// The first fault of the program headers.
+/// Return the first fault of the program headers, each tested over all of them.
 #[tactic(auto, unfolding(rv_model::specs::images::Faults::has_fault, crate::specs::Parts::header_has))]
 fn segment_fault(image: &[u8]) -> Option<ElfFault>
     requires { HasHeaders image.now }
@@ -136,7 +136,7 @@ fn segment_fault(image: &[u8]) -> Option<ElfFault>
     None
 }
 
-/// The first fault of an image.
+/// Return the first fault of an image.
 #[tactic(auto, unfolding(rv_model::specs::images::Faults::has_fault))]
 pub(crate) fn first_fault(image: &[u8]) -> Option<ElfFault>
     ensures { result ≡ first_fault image.now }

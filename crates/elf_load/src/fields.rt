@@ -1,4 +1,4 @@
-//! The fields of an image's headers.
+//! The fields of an image's headers, at their byte offsets.
 ghost use Rattle.std.specs.Prelude.{◌≡◌, ◌+◌, ◌*◌, ◌≤◌, length};
 ghost use Rattle.rv_model.specs.images.Fields.{number_in_file, entry_of, table_offset, header_count, header_at};
 ghost use Rattle.rv_model.specs.images.Fields.{program_header};
@@ -6,7 +6,7 @@ ghost use Rattle.rv_model.specs.images.Fields.{program_header};
 use byteorder::{ByteOrder, LittleEndian};
 use rv_model::ProgramHeader;
 
-/// The number in the two bytes at an offset, little-endian.
+/// Return the little-endian number in the two bytes at `offset`.
 #[tactic(auto, unfolding(rv_model::specs::images::Fields::number_in_file))]
 fn number16(image: &[u8], offset: usize) -> u16
     requires { offset + 2 ≤ length image.now }
@@ -15,7 +15,7 @@ fn number16(image: &[u8], offset: usize) -> u16
     LittleEndian::read_u16(&image[offset..])
 }
 
-/// The number in the four bytes at an offset, little-endian.
+/// Return the little-endian number in the four bytes at `offset`.
 #[tactic(auto, unfolding(rv_model::specs::images::Fields::number_in_file))]
 fn number32(image: &[u8], offset: usize) -> u32
     requires { offset + 4 ≤ length image.now }
@@ -24,7 +24,7 @@ fn number32(image: &[u8], offset: usize) -> u32
     LittleEndian::read_u32(&image[offset..])
 }
 
-/// The number in the eight bytes at an offset, little-endian.
+/// Return the little-endian number in the eight bytes at `offset`.
 #[tactic(auto, unfolding(rv_model::specs::images::Fields::number_in_file))]
 fn number64(image: &[u8], offset: usize) -> u64
     requires { offset + 8 ≤ length image.now }
@@ -33,7 +33,7 @@ fn number64(image: &[u8], offset: usize) -> u64
     LittleEndian::read_u64(&image[offset..])
 }
 
-/// The kind of file: `e_type`.
+/// Return the type of the file: `e_type`.
 pub(crate) fn file_type(image: &[u8]) -> u16
     requires { 64 ≤ length image.now }
     ensures { result ≡ number_in_file 16 2 image.now }
@@ -41,7 +41,7 @@ pub(crate) fn file_type(image: &[u8]) -> u16
     number16(image, 16)
 }
 
-/// The machine that the file is for: `e_machine`.
+/// Return the machine that the file is for: `e_machine`.
 pub(crate) fn machine(image: &[u8]) -> u16
     requires { 64 ≤ length image.now }
     ensures { result ≡ number_in_file 18 2 image.now }
@@ -49,7 +49,7 @@ pub(crate) fn machine(image: &[u8]) -> u16
     number16(image, 18)
 }
 
-/// The address of the program's first instruction: `e_entry`.
+/// Return the address of the program's first instruction: `e_entry`.
 pub(crate) fn entry(image: &[u8]) -> u64
     requires { 64 ≤ length image.now }
     ensures { result ≡ entry_of image.now }
@@ -57,7 +57,7 @@ pub(crate) fn entry(image: &[u8]) -> u64
     number64(image, 24)
 }
 
-/// Where the program header table begins in the file: `e_phoff`.
+/// Return the offset of the program header table in the file: `e_phoff`.
 pub(crate) fn table_offset(image: &[u8]) -> u64
     requires { 64 ≤ length image.now }
     ensures { result ≡ table_offset image.now }
@@ -65,7 +65,7 @@ pub(crate) fn table_offset(image: &[u8]) -> u64
     number64(image, 32)
 }
 
-/// The bytes of a program header: `e_phentsize`.
+/// Return the size of a program header in bytes: `e_phentsize`.
 pub(crate) fn header_size(image: &[u8]) -> u16
     requires { 64 ≤ length image.now }
     ensures { result ≡ number_in_file 54 2 image.now }
@@ -73,7 +73,7 @@ pub(crate) fn header_size(image: &[u8]) -> u16
     number16(image, 54)
 }
 
-/// How many program headers there are: `e_phnum`.
+/// Return the number of program headers: `e_phnum`.
 pub(crate) fn header_count(image: &[u8]) -> u16
     requires { 64 ≤ length image.now }
     ensures { result ≡ header_count image.now }
@@ -81,7 +81,7 @@ pub(crate) fn header_count(image: &[u8]) -> u16
     number16(image, 56)
 }
 
-/// The program header at an offset.
+/// Return the program header at `offset`.
 #[tactic(auto, unfolding(rv_model::specs::images::Fields::header_at))]
 fn header_at(image: &[u8], offset: usize) -> ProgramHeader
     requires { offset + 56 ≤ length image.now }
@@ -97,7 +97,7 @@ fn header_at(image: &[u8], offset: usize) -> ProgramHeader
     }
 }
 
-/// The program header of a number, from 0.
+/// Return the program header at index `number`, counted from 0.
 #[tactic(auto, unfolding(rv_model::specs::images::Fields::program_header))]
 pub(crate) fn program_header(image: &[u8], number: usize) -> ProgramHeader
     requires file { 64 ≤ length image.now }

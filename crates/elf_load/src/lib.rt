@@ -1,5 +1,4 @@
-//! ELF-64 images: what is wrong with one, the pages that it takes, and its bytes placed in a user's
-//! memory.
+//! ELF-64 images: validation, the pages that an image needs, and loading it into a user's memory.
 #![tactic(auto)]
 
 mod faults;

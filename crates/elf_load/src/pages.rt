@@ -1,4 +1,4 @@
-//! The pages that an image touches, one after the other.
+//! The pages that an image touches, in ascending order.
 ghost use Rattle.std.specs.Prelude.{◌≡◌, ◌+◌, ◌<◌, None, IfSome};
 ghost use Rattle.rv_model.specs.images.Faults.{first_fault};
 ghost use Rattle.rv_model.specs.images.Image.{stack, placed_headers, touches_page, is_touched};
@@ -9,7 +9,7 @@ use crate::faults::LOAD;
 use crate::fields::{header_count, program_header};
 use rv_model::{PAGE_SIZE, ProgramHeader};
 
-/// The stack as a segment.
+/// Return the stack as a loadable segment: readable and writable, four pages.
 #[tactic(auto, unfolding(rv_model::specs::images::Image::stack))]
 pub(crate) fn stack() -> ProgramHeader
     ensures { result ≡ stack }
@@ -24,7 +24,7 @@ pub(crate) fn stack() -> ProgramHeader
     }
 }
 
-/// The first page from a page on that a segment touches.
+/// Return the first page, from page number `from` on, that a segment touches.
 fn first_touched(header: ProgramHeader, from: u64) -> Option<u64>
     requires { EndsInMemory header }
     ensures first { IsFirstIfAny (λ page. touches_page page header) from result }
@@ -41,7 +41,7 @@ fn first_touched(header: ProgramHeader, from: u64) -> Option<u64>
     if first <= last { Some(first) } else { None }
 }
 
-/// The lesser of two pages that may be there.
+/// Return the lower of two optional pages.
 fn earlier(first: Option<u64>, second: Option<u64>) -> Option<u64>
     ensures { result ≡ earlier first second }
 {
@@ -52,7 +52,7 @@ fn earlier(first: Option<u64>, second: Option<u64>) -> Option<u64>
     }
 }
 
-/// The first page from a page on that an image touches.
+/// Return the first page, from page number `from` on, that an image or its stack touches.
 pub(crate) fn next_page(image: &[u8], from: u64) -> Option<u64>
     requires { first_fault image.now ≡ None }
     ensures first { IsFirstIfAny (is_touched (placed_headers image.now)) from result }

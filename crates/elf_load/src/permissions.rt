@@ -1,4 +1,4 @@
-//! What the pages of an image may be used for.
+//! The permissions of an image's pages.
 ghost use Rattle.std.specs.Prelude.{◌≡◌, ◌<◌, ◌&&◌, None};
 ghost use Rattle.rv_model.specs.images.Faults.{first_fault};
 ghost use Rattle.rv_model.specs.images.Image.{placed_headers, touches_page, is_allowed_by, permissions_of};
@@ -10,16 +10,16 @@ use crate::fields::{header_count, program_header};
 use crate::pages::stack;
 use rv_model::{PAGE_SIZE, Permissions, ProgramHeader};
 
-/// `PF_X`.
+/// `PF_X`, the flag of executable segments.
 const EXECUTE: u32 = 1;
 
-/// `PF_W`.
+/// `PF_W`, the flag of writable segments.
 const WRITE: u32 = 2;
 
-/// `PF_R`.
+/// `PF_R`, the flag of readable segments.
 const READ: u32 = 4;
 
-/// Whether one of a page's addresses is one of a segment's.
+/// Whether a loadable segment has an address in a page.
 #[tactic(auto, unfolding(rv_model::specs::images::Image::touches_page))]
 fn touches_page(header: ProgramHeader, page: u64) -> bool
     requires ends { EndsInMemory header }
@@ -43,7 +43,7 @@ fn grants(header: ProgramHeader, flag: u32, page: u64) -> bool
     touches_page(header, page) && header.flags & flag != 0
 }
 
-/// Whether a segment of an image touches a page and has a flag.
+/// Whether a segment of an image, or its stack, touches a page and has a flag.
 fn is_allowed_by(image: &[u8], flag: u32, page: u64) -> bool
     requires sound { first_fault image.now ≡ None }
     requires low { page < page_limit }
@@ -60,7 +60,7 @@ fn is_allowed_by(image: &[u8], flag: u32, page: u64) -> bool
     false
 }
 
-/// What a page of an image may be used for.
+/// Return the permissions of an image's page: the flags of all segments that touch it.
 pub(crate) fn permissions_of(image: &[u8], page: u64) -> Permissions
     requires sound { first_fault image.now ≡ None }
     requires low { page < page_limit }

@@ -1,4 +1,4 @@
-//! An image placed in a user's memory.
+//! Loading an image into a user's memory.
 ghost use Rattle.std.specs.Prelude.{◌≡◌, ◌+◌, ◌-◌, ◌<◌, ◌≤◌, None, true, length, take, drop, replicate};
 ghost use Rattle.std.specs.FinMap.{empty};
 ghost use Rattle.rv_model.specs.declared.memory.Access.TheVariants.{Monitor};
@@ -18,10 +18,10 @@ use rv_model::{Access, PAGE_SIZE, ProgramHeader, USER_COUNT, User};
 use std::alloc::Allocator;
 use user_mem::Pool;
 
-/// Zeros are written so many at a time.
+/// The largest number of zeros in one write.
 const ZERO_COUNT: usize = PAGE_SIZE as usize;
 
-/// Writes bytes of a user, all of which are mapped.
+/// Write a user's bytes from `addr` on, all of them mapped.
 fn write_mapped<A: Allocator>(pool: &mut Pool<A>, user: User, addr: u64, bytes: &[u8])
     requires { can_access Monitor (memory_of_user pool.old user) addr (length bytes.now) ≡ true }
     ensures { pool.new ≡ with_memory pool.old user
@@ -32,7 +32,7 @@ fn write_mapped<A: Allocator>(pool: &mut Pool<A>, user: User, addr: u64, bytes: 
     };
 }
 
-/// Writes zeros to bytes of a user, all of which are mapped.
+/// Write `count` zeros to a user's bytes from `addr` on, all of them mapped.
 fn clear_mapped<A: Allocator>(pool: &mut Pool<A>, user: User, addr: u64, count: u64)
     requires known { user - 1 < length pool.old }
     requires mapped { can_access Monitor (memory_of_user pool.old user) addr count ≡ true }
@@ -49,7 +49,7 @@ fn clear_mapped<A: Allocator>(pool: &mut Pool<A>, user: User, addr: u64, count: 
     }
 }
 
-/// A segment's bytes in the file.
+/// Return a segment's bytes in the file.
 fn file_part(image: &[u8], header: ProgramHeader) -> &[u8]
     requires { (header.file_size ≡ 0 → ⊥) → header.offset + header.file_size ≤ length image.now }
     ensures value { result.now ≡ take header.file_size (drop header.offset image.now) }
@@ -63,7 +63,7 @@ fn file_part(image: &[u8], header: ProgramHeader) -> &[u8]
     part
 }
 
-/// Maps the pages of an image, with zeros, for a user who has none.
+/// Map the pages of an image, filled with zeros, for a user without pages.
 fn map_pages<A: Allocator>(image: &[u8], user: User, pool: &mut Pool<A>)
     requires sound { first_fault image.now ≡ None }
     requires known { user - 1 < length pool.old }
@@ -80,7 +80,7 @@ fn map_pages<A: Allocator>(image: &[u8], user: User, pool: &mut Pool<A>)
     }
 }
 
-/// Writes the bytes of a program header over those of the ones before it.
+/// Write the bytes of a program header's segment, which overwrite those of earlier segments.
 fn write_segment<A: Allocator>(image: &[u8], number: usize, user: User, pool: &mut Pool<A>)
     requires sound { first_fault image.now ≡ None }
     requires there { number < header_count image.now }
@@ -97,7 +97,7 @@ fn write_segment<A: Allocator>(image: &[u8], number: usize, user: User, pool: &m
     clear_mapped(pool, user, end, header.memory_size - header.file_size);
 }
 
-/// Writes the bytes of all program headers, where the image's pages have zeros.
+/// Write the bytes of all segments to the image's pages, which contain zeros.
 fn write_segments<A: Allocator>(image: &[u8], user: User, pool: &mut Pool<A>)
     requires sound { first_fault image.now ≡ None }
     requires known { user - 1 < length pool.old }
@@ -109,7 +109,7 @@ fn write_segments<A: Allocator>(image: &[u8], user: User, pool: &mut Pool<A>)
     }
 }
 
-/// Gives a user the memory of an image in place of the old one.
+/// Replace a user's memory with that of an image.
 pub(crate) fn place_image<A: Allocator>(image: &[u8], user: User, pool: &mut Pool<A>)
     requires sound { first_fault image.now ≡ None }
     requires few { page_count (memory_of_image image.now) ≤ page_quota }

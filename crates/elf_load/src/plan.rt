@@ -1,4 +1,4 @@
-//! An image that was checked, and its place in a user's memory.
+//! A validated image, and loading it into a user's memory.
 ghost use Rattle.std.specs.Prelude.{◌≡◌, ◌<◌, ◌≤◌, ◌↔◌, None, Some, Err, IsSome, IfSome, IfOk, IfErr, OnOk, OnErr};
 ghost use Rattle.rv_model.specs.images.Fields.{entry_of, header_count, program_header};
 ghost use Rattle.rv_model.specs.images.Faults.{first_fault};
@@ -16,9 +16,9 @@ use std::alloc::Allocator;
 use std::marker::Model;
 use user_mem::Pool;
 
-/// An image with no fault, ready to be placed.
+/// An image without a fault, ready to be loaded.
 ///
-/// It borrows the image's bytes, and contracts see it as these bytes.
+/// It borrows the image's bytes, and contracts represent it by these bytes.
 #[derive(Drop)]
 pub struct Plan<'a> {
     image: &'a [u8],
@@ -35,9 +35,8 @@ impl<'a> Model for Plan<'a> {
     ghost invariant = { λ p. first_fault p.image.now ≡ None };
 }
 
-/// Checks an ELF-64 image (ELF-64 Object File Format, "File header" and "Program header table"): its
-/// first fault in the order of `ElfFault`, each tested over all program headers, or the plan to
-/// place it.
+/// Check an ELF-64 image (ELF-64 Object File Format, "File header" and "Program header table"). Return the plan to load
+/// it, or its first fault in the order of `ElfFault`. Each fault is tested over all program headers before the next.
 pub fn check(image: &[u8]) -> Result<Plan<'_>, ElfFault>
     ensures fault { IfErr result (λ fault. first_fault image.now ≡ Some fault) }
     ensures sound { OnOk result (first_fault image.now ≡ None) }
@@ -50,21 +49,21 @@ pub fn check(image: &[u8]) -> Result<Plan<'_>, ElfFault>
 }
 
 impl Plan<'_> {
-    /// The address of the program's first instruction.
+    /// Return the address of the program's first instruction.
     pub fn entry(&self) -> u64
         ensures { result ≡ entry_of self.now }
     {
         entry(self.image)
     }
 
-    /// How many program headers the image has.
+    /// Return the number of program headers.
     pub fn header_count(&self) -> usize
         ensures { result ≡ header_count self.now }
     {
         usize::from(header_count(self.image))
     }
 
-    /// The program header of a number, from 0.
+    /// Return the program header at index `number`, counted from 0.
     pub fn program_header(&self, number: usize) -> ProgramHeader
         requires { number < header_count self.now }
         ensures { result ≡ program_header self.now number }
@@ -72,8 +71,8 @@ impl Plan<'_> {
         program_header(self.image, number)
     }
 
-    /// How many pages the image takes with its stack, and `None` above `PAGE_QUOTA`. It looks at one
-    /// more of them at most.
+    /// Return the number of pages that the image needs with its stack, or `None` above `PAGE_QUOTA`. It counts at most
+    /// one page more than `PAGE_QUOTA`.
     pub fn pages(&self) -> Option<usize>
         ensures count { IfSome result (λ count. count ≡ page_count (memory_of_image self.now)) }
         ensures few { IsSome result ↔ (page_count (memory_of_image self.now) ≤ page_quota) }
@@ -89,11 +88,10 @@ impl Plan<'_> {
     }
 }
 
-/// Gives a user the memory that an image describes in place of all the user's pages, and answers
-/// the entry.
+/// Replace all pages of a user with the memory that an image describes, and return the entry address.
 ///
-/// `Quota` where the image takes more than `PAGE_QUOTA` pages, and then nothing has changed. The user's old
-/// pages don't count.
+/// Return `Quota` if the image needs more than `PAGE_QUOTA` pages; the pool is unchanged then. The user's old pages
+/// don't count towards the quota.
 pub fn place<A: Allocator>(
     plan: &Plan<'_>,
     user: User,
