@@ -81,7 +81,7 @@ fn table_fault(image: &[u8]) -> Option<ElfFault>
     None
 }
 
-/// Whether a program header on its own has a fault, in a file of `size` bytes.
+/// Return whether a program header on its own has a fault, in a file of `size` bytes.
 #[tactic(auto, unfolding(crate::specs::Parts::header_has))]
 fn header_has(header: ProgramHeader, fault: ElfFault, size: usize) -> bool
     ensures { result ≡ header_has size fault header }
@@ -102,7 +102,7 @@ fn header_has(header: ProgramHeader, fault: ElfFault, size: usize) -> bool
     }
 }
 
-/// Whether some program header on its own has a fault.
+/// Return whether some program header on its own has a fault.
 fn any_header_has(image: &[u8], fault: ElfFault) -> bool
     requires { HasHeaders image.now }
     ensures { result ≡ any_header_has image.now fault }

@@ -19,7 +19,7 @@ const WRITE: u32 = 2;
 /// `PF_R`, the flag of readable segments.
 const READ: u32 = 4;
 
-/// Whether a loadable segment has an address in a page.
+/// Return whether a loadable segment has an address in a page.
 #[tactic(auto, unfolding(rv_model::specs::images::Image::touches_page))]
 fn touches_page(header: ProgramHeader, page: u64) -> bool
     requires ends { EndsInMemory header }
@@ -34,7 +34,7 @@ fn touches_page(header: ProgramHeader, page: u64) -> bool
     header.address.max(start) < end.min(start + PAGE_SIZE)
 }
 
-/// Whether a segment touches a page and has a flag.
+/// Return whether a segment touches a page and has a flag.
 fn grants(header: ProgramHeader, flag: u32, page: u64) -> bool
     requires ends { EndsInMemory header }
     requires low { page < page_limit }
@@ -43,7 +43,7 @@ fn grants(header: ProgramHeader, flag: u32, page: u64) -> bool
     touches_page(header, page) && header.flags & flag != 0
 }
 
-/// Whether a segment of an image, or its stack, touches a page and has a flag.
+/// Return whether a segment of an image, or its stack, touches a page and has a flag.
 fn is_allowed_by(image: &[u8], flag: u32, page: u64) -> bool
     requires sound { first_fault image.now ≡ None }
     requires low { page < page_limit }

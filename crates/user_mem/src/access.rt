@@ -12,7 +12,7 @@ use crate::table::is_access_allowed;
 use crate::translations::Translations;
 use rv_model::{Access, Fault};
 
-/// Whether the access to all `len` bytes from `addr` on is allowed.
+/// Return whether the access to all `len` bytes from `addr` on is allowed.
 #[inline(always)]
 pub(crate) fn is_allowed(
     entries: &[Entry],

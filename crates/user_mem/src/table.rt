@@ -35,7 +35,7 @@ pub(crate) fn locate(entries: &[Entry], page: u64) -> Option<Entry>
     }
 }
 
-/// Whether the access to the byte at an address is allowed.
+/// Return whether the access to the byte at an address is allowed.
 fn is_byte_allowed(entries: &[Entry], access: Access, addr: u64) -> bool
     requires { IsSorted entries.now }
     ensures { (frames : List ℕ) → result ≡ can_access_byte access (memory_of frames entries.now) addr }
@@ -54,7 +54,7 @@ pub(crate) fn bytes_in_page(addr: u64, left: usize) -> usize
     left.min((PAGE_SIZE - addr % PAGE_SIZE) as usize)
 }
 
-/// Whether the access to all `len` bytes from `addr` on is allowed.
+/// Return whether the access to all `len` bytes from `addr` on is allowed.
 pub(crate) fn is_access_allowed(entries: &[Entry], access: Access, addr: u64, len: usize) -> bool
     requires sorted { IsSorted entries.now }
     requires below { AreBelow entries.now }
@@ -74,7 +74,7 @@ pub(crate) fn is_access_allowed(entries: &[Entry], access: Access, addr: u64, le
     true
 }
 
-/// Whether any of `count` pages from `page` on is mapped.
+/// Return whether any of `count` pages from `page` on is mapped.
 fn is_any_mapped(entries: &[Entry], page: u64, count: usize) -> bool
     requires sorted { IsSorted entries.now }
     requires ends { page + count ≤ page_limit }
