@@ -1,4 +1,4 @@
--- The lines of words, printed one after another.
+-- The lines of a disassembly, printed one after another
 use Rattle.std.proofs.Common.{◌≡◌, ℕ, ◌+◌, ◌*◌, ◌%◌, ◌^◌, List, [], ◌∷◌, ◌++◌, refl, sym, ap, ap₂, ◌∙◌, append_assoc, append-nil, arith}
 use Rattle.std.specs.Int.{byte_at}
 use Rattle.std.specs.Prelude.{map}
@@ -9,7 +9,7 @@ use Rattle.rv_model.specs.commands.Programs.{asm_line, dis_line, dis_lines, word
 use Rattle.rv_model.specs.commands.Printing.{hex16}
 use Rattle.rv_model.specs.text.Lines.{tagged, text}
 
--- a number above 64 bits has the digits of its low 64 bits
+-- a number and its low 64 bits have the same lowest eight bytes
 byte_0_wraps : (n : ℕ) → byte_at 0 (n % 2 ^ 64) ≡ byte_at 0 n
 byte_0_wraps n = omega arith
 

@@ -1,10 +1,10 @@
--- The lines of registers, printed one after another.
+-- The lines of registers, printed one after another
 use Rattle.std.proofs.Common.{◌≡◌, ℕ, suc, ◌+◌, ◌-◌, ◌*◌, ◌<◌, List, ◌∷◌, ◌++◌, sym, ap, ◌∙◌, append_assoc, arith}
 use Rattle.rv_model.specs.declared.scalar.Scalar.{Scalar}
 use Rattle.rv_model.specs.commands.Registers.{register_line, register_lines}
 use Rattle.rv_model.specs.text.Lines.{tagged, text}
 
--- a line more is the first of those that were left
+-- printing the first of the remaining lines
 pub register_lines_left_after_one : (tag n : ℕ) (s : Scalar) (before after whole : List ℕ) → n < 8 → after ≡ before ++ tagged tag (register_line s (4 * n))
     → before ++ text tag (register_lines (8 - n) (4 * n) s) ≡ whole
     → after ++ text tag (register_lines (8 - (n + 1)) (4 * (n + 1)) s) ≡ whole

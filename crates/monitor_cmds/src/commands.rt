@@ -1,5 +1,4 @@
-//! A user's commands, by groups: the names of a group's commands, how their arguments are read, and
-//! what they answer.
+//! The commands of a user, by group: the names of a group's commands, parsers of their arguments, and their replies.
 pub mod breakpoints;
 pub mod entering;
 pub mod memory;

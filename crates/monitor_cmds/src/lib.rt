@@ -1,4 +1,4 @@
-//! The monitor's text: commands as they are read, and replies as they are printed.
+//! The text of the monitor: parsing of commands, and printing of replies.
 #![tactic(auto)]
 
 mod commands;

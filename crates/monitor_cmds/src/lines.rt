@@ -1,4 +1,4 @@
-//! Lines of a reply that are always the same.
+//! Lines of a reply without variable parts.
 ghost use Rattle.std.specs.Prelude.{◌≡◌, [], ◌∷◌, ◌++◌, ◌+◌, ◌≤◌, length, codes};
 ghost use Rattle.rv_model.specs.text.Lines.{text};
 ghost use Rattle.monitor_cmds.specs.Tag.{tag_byte};
@@ -6,7 +6,7 @@ ghost use Rattle.monitor_cmds.specs.Tag.{tag_byte};
 use crate::tag::Tag;
 use line_text::Reply;
 
-/// Adds a line.
+/// Append a line: the tag, a space, the text, and a newline.
 pub(crate) fn push_line(reply: &mut Reply, tag: Tag, line: &[u8])
     requires { length reply.old + (length line.now + 3) ≤ 4096 }
     ensures text { reply.new ≡ reply.old ++ text (tag_byte tag) (line.now ∷ []) }
@@ -17,7 +17,7 @@ pub(crate) fn push_line(reply: &mut Reply, tag: Tag, line: &[u8])
     reply.push(b"\n");
 }
 
-/// Adds the line `ok`, the answer to a command that shows nothing.
+/// Append the line `ok`, the reply to a command without output.
 pub fn ok(reply: &mut Reply, tag: Tag)
     requires { length reply.old + 5 ≤ 4096 }
     ensures text { reply.new ≡ reply.old ++ text (tag_byte tag) (codes "ok" ∷ []) }

@@ -19,8 +19,8 @@ ghost use Rattle.rv_model.specs.text.Words.{words};
 use line_text::{Reply, Words, count, done, push_decimal, user};
 use rv_model::{OperatorCommand, Refusal, Standing, Stats, USER_COUNT, User};
 
-/// The command of a name, by its arguments as they stand in the line. `None` where there is no such
-/// name, and `Some(None)` where the arguments are wrong.
+/// Return the command with a name and its arguments: `None` if the name is unknown, and `Some(None)` if the arguments
+/// are wrong.
 fn operator_named(name: &[u8], args: &[u8]) -> Option<Option<OperatorCommand>>
     ensures { result ≡ operator_named name.now (words args.now) }
 {
@@ -39,7 +39,7 @@ fn operator_named(name: &[u8], args: &[u8]) -> Option<Option<OperatorCommand>>
     None
 }
 
-/// `slices N`, with 1 to 1,000 slices.
+/// Parse the argument of `slices N`, 1 to 1,000 slices.
 #[tactic(auto, unfolding(rv_model::specs::commands::Reading::one_argument))]
 fn slices_args(args: &[u8]) -> Option<OperatorCommand>
     ensures { result ≡ one_argument Slices (number_between 1 1000) (words args.now) }
@@ -49,7 +49,7 @@ fn slices_args(args: &[u8]) -> Option<OperatorCommand>
     done(words, OperatorCommand::Slices(count))
 }
 
-/// `run U`, with a user's number.
+/// Parse the argument of `run U`, a user's number.
 #[tactic(auto, unfolding(rv_model::specs::commands::Reading::one_argument))]
 fn run_args(args: &[u8]) -> Option<OperatorCommand>
     ensures { result ≡ one_argument Run (number_between 1 user_count) (words args.now) }
@@ -59,11 +59,11 @@ fn run_args(args: &[u8]) -> Option<OperatorCommand>
     done(words, OperatorCommand::Run(user))
 }
 
-/// The command that a line of the operator spells: a name and its arguments, with one or more spaces
-/// (byte 20) between words. The line comes without the star and the space after it.
+/// Parse an operator's line, a name and its arguments separated by spaces (byte 0x20). `line` excludes the star and the
+/// space after it.
 ///
-/// Refused are a name that is no command's (E03), and then a wrong number of arguments or one out
-/// of its form or range (E04).
+/// Return `UnknownCommand` (E03) for an unknown name, else `Argument` (E04) if an argument is missing, superfluous,
+/// malformed or out of range.
 #[tactic(auto, unfolding(rv_model::specs::commands::Operator::operator_parse))]
 pub fn parse_operator(line: &[u8]) -> Result<OperatorCommand, Refusal>
     ensures { result ≡ operator_parse line.now }
@@ -78,7 +78,7 @@ pub fn parse_operator(line: &[u8]) -> Result<OperatorCommand, Refusal>
     }
 }
 
-/// Adds how many slices were granted, as `* granted 7`.
+/// Append the number of granted slices, for example `* granted 7`.
 #[tactic(auto, unfolding(rv_model::specs::commands::Operator::granted_line))]
 pub fn granted_line(reply: &mut Reply, count: usize)
     requires { length reply.old + 31 ≤ 4096 }
@@ -90,7 +90,7 @@ pub fn granted_line(reply: &mut Reply, count: usize)
     reply.push(b"\n");
 }
 
-/// What a user's program does, in a word.
+/// Return the state of a user's program as printed by `list`.
 fn standing_word(standing: Standing) -> &'static [u8]
     ensures value { result.now ≡ standing_word standing }
     ensures bound { length result.now ≤ 7 }
@@ -102,7 +102,7 @@ fn standing_word(standing: Standing) -> &'static [u8]
     }
 }
 
-/// Adds the user at a place of the table of all users.
+/// Append the state of the user at `index`, counted from 0.
 #[tactic(auto, unfolding(rv_model::specs::commands::Operator::listed_user))]
 fn push_user(reply: &mut Reply, standings: &[Standing; USER_COUNT], index: usize)
     requires within { index + 1 ≤ user_count }
@@ -116,7 +116,7 @@ fn push_user(reply: &mut Reply, standings: &[Standing; USER_COUNT], index: usize
     reply.push(standing_word(standings[index]));
 }
 
-/// Adds all users.
+/// Append the states of all users, user 1 first.
 fn push_users(reply: &mut Reply, standings: &[Standing; USER_COUNT])
     requires { length reply.old + 232 ≤ 4096 }
     ensures text { reply.new ≡ reply.old ++ flat_map (listed_user standings.now) users }
@@ -127,7 +127,7 @@ fn push_users(reply: &mut Reply, standings: &[Standing; USER_COUNT])
     }
 }
 
-/// Adds what each user's program does, as
+/// Append the reply to `list`, the state of each user's program, for example
 /// `* list 1:running 2:stopped 3:- 4:- 5:- 6:- 7:- 8:-`.
 #[tactic(auto, unfolding(rv_model::specs::commands::Operator::list_line))]
 pub fn list_line(reply: &mut Reply, standings: &[Standing; USER_COUNT])
@@ -140,7 +140,7 @@ pub fn list_line(reply: &mut Reply, standings: &[Standing; USER_COUNT])
     reply.push(b"\n");
 }
 
-/// The number of a user; 0 where there is none.
+/// Return a user's number, or 0 for no user.
 fn owner_number(owner: Option<User>) -> u64
     ensures { result ≡ unwrap_or owner 0 }
 {
@@ -150,7 +150,7 @@ fn owner_number(owner: Option<User>) -> u64
     }
 }
 
-/// Adds how the vector unit was used.
+/// Append the statistics of the vector unit.
 #[tactic(auto, unfolding(rv_model::specs::commands::Operator::stats_line))]
 fn push_stats(reply: &mut Reply, stats: &Stats)
     requires { length reply.old + 110 ≤ 4096 }
@@ -167,7 +167,8 @@ fn push_stats(reply: &mut Reply, stats: &Stats)
     push_decimal(reply, owner_number(stats.owner));
 }
 
-/// Adds how the vector unit was used, as `* saves 2 restores 1 inits 2 owner 1`; owner 0 is nobody.
+/// Append the reply to `stats`, the numbers of saves, restores and initialisations of vector states and the owner of
+/// the vector unit, for example `* saves 2 restores 1 inits 2 owner 1`. Owner 0 means that the unit has no owner.
 pub fn stats_line(reply: &mut Reply, stats: &Stats)
     requires { length reply.old + 113 ≤ 4096 }
     ensures text { reply.new ≡ reply.old ++ text 42 (stats_line stats.now ∷ []) }

@@ -1,4 +1,4 @@
-//! The command of a user that a line spells.
+//! Parsing of a user's commands.
 ghost use Rattle.std.specs.Prelude.{◌≡◌};
 ghost use Rattle.rv_model.specs.commands.Commands.{parse, named};
 ghost use Rattle.rv_model.specs.text.Words.{words};
@@ -13,8 +13,7 @@ use crate::trimming::after_two_words;
 use line_text::Words;
 use rv_model::{Cmd, Refusal};
 
-/// The command of a name, of its arguments as they stand in the line, and of what follows the first
-/// of them.
+/// Return the command with a name, its arguments, and the text after the first argument. Fail as [`parse`] does.
 #[tactic(auto, unfolding(rv_model::specs::commands::Commands::named))]
 fn named<'a>(name: &[u8], args: &'a [u8], text: &'a [u8]) -> Result<Cmd<'a>, Refusal>
     ensures { result ≡ named name.now (words args.now) text.now }
@@ -40,11 +39,11 @@ fn named<'a>(name: &[u8], args: &'a [u8], text: &'a [u8]) -> Result<Cmd<'a>, Ref
     Err(Refusal::UnknownCommand)
 }
 
-/// The command that a user's line spells: a name and its arguments, with one or more spaces (byte
-/// 20) between words. The line comes without the user's digit and the space after it.
+/// Parse a user's line, a name and its arguments separated by spaces (byte 0x20). `line` excludes the user's digit and
+/// the space after it.
 ///
-/// Refused are a name that is no command's (E03), and then a wrong number of arguments or one out
-/// of its form or range (E04).
+/// Return `UnknownCommand` (E03) for an unknown name, else `Argument` (E04) if an argument is missing, superfluous,
+/// malformed or out of range.
 #[tactic(auto, unfolding(rv_model::specs::commands::Commands::parse))]
 pub fn parse(line: &[u8]) -> Result<Cmd<'_>, Refusal>
     ensures { result ≡ parse line.now }

@@ -1,4 +1,4 @@
-//! Refusals of commands, and of lines that are nobody's command.
+//! Refusals of commands, and of lines without a valid prefix or length.
 ghost use Rattle.std.specs.Prelude.{◌≡◌, [], ◌∷◌, ◌++◌, ◌+◌, ◌≤◌, length, codes};
 ghost use Rattle.rv_model.specs.commands.Printing.{refused};
 ghost use Rattle.rv_model.specs.text.Lines.{text};
@@ -9,7 +9,7 @@ use crate::tag::Tag;
 use line_text::{Reply, push_decimal};
 use rv_model::Refusal;
 
-/// Adds the code of a refusal, and what it tells.
+/// Append the code of a refusal and its details.
 #[tactic(auto, unfolding(rv_model::specs::commands::Printing::refused))]
 fn push_refusal(reply: &mut Reply, refusal: Refusal)
     requires { length reply.old + 24 ≤ 4096 }
@@ -40,8 +40,8 @@ fn push_refusal(reply: &mut Reply, refusal: Refusal)
     }
 }
 
-/// Adds a line with the code of a refusal, as `E04`, and what goes with it: the name of an image's
-/// fault, as `E09 Short`, or the column of a text, as `E15 14`.
+/// Append a line with the code of a refusal, for example `E04`, and its details: the name of the fault of an image, for
+/// example `E09 Short`, or the column in an assembler text, for example `E15 14`.
 pub fn refused(reply: &mut Reply, tag: Tag, refusal: Refusal)
     requires { length reply.old + 27 ≤ 4096 }
     ensures text { reply.new ≡ reply.old ++ text (tag_byte tag) (refused refusal ∷ []) }
@@ -52,8 +52,8 @@ pub fn refused(reply: &mut Reply, tag: Tag, refusal: Refusal)
     reply.push(b"\n");
 }
 
-/// Adds the line `* E01`: a line of the script begins neither with a digit from 1 to 8 nor with a
-/// star, or no space follows.
+/// Append the line `* E01`: a line of the script starts neither with a digit from 1 to 8 nor with a star, or no space
+/// follows it.
 pub fn bad_prefix(reply: &mut Reply)
     requires { length reply.old + 6 ≤ 4096 }
     ensures text { reply.new ≡ reply.old ++ text 42 (codes "E01" ∷ []) }
@@ -62,7 +62,7 @@ pub fn bad_prefix(reply: &mut Reply)
     push_line(reply, Tag::Common, b"E01");
 }
 
-/// Adds the line `* E02`: a line of the script has more than 1,024 bytes.
+/// Append the line `* E02`: a line of the script has more than 1,024 bytes.
 pub fn line_too_long(reply: &mut Reply)
     requires { length reply.old + 6 ≤ 4096 }
     ensures text { reply.new ≡ reply.old ++ text 42 (codes "E02" ∷ []) }

@@ -1,12 +1,12 @@
-//! The byte that a line of output begins with.
+//! The first byte of a line of output.
 use rv_model::User;
 
-/// Whose a line of output is.
+/// The addressee of a line of output.
 #[derive(Clone, Copy)]
 pub enum Tag {
-    /// The user's own line: it begins with the user's digit.
+    /// One user: the line starts with the user's digit.
     User(User),
-    /// A line for everyone: it begins with a star.
+    /// All users: the line starts with a star.
     Common,
 }
 
@@ -14,7 +14,7 @@ impl Tag {
     ghost use Rattle.std.specs.Prelude.{◌≡◌};
     ghost use Rattle.monitor_cmds.specs.Tag.{tag_byte};
 
-    /// The byte that the line begins with.
+    /// Return the first byte of the line.
     pub(crate) fn byte(self) -> u8
         ensures { result ≡ tag_byte self }
     {

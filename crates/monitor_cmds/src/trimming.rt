@@ -1,8 +1,8 @@
-//! What follows the words of a line, with the spaces inside it.
+//! The rest of a line after its first tokens, with the spaces inside it.
 ghost use Rattle.std.specs.Prelude.{◌≡◌};
 ghost use Rattle.rv_model.specs.text.Words.{trim_start, trim_end, after_word, after_two_words};
 
-/// A line without the spaces at its start.
+/// Return a line without the spaces at its start.
 #[tactic(auto, unfolding(rv_model::specs::text::Words::trim_start))]
 fn trim_start(mut line: &[u8]) -> &[u8]
     ensures { result.now ≡ trim_start line.entry.now }
@@ -13,7 +13,7 @@ fn trim_start(mut line: &[u8]) -> &[u8]
     line
 }
 
-/// A line without the spaces at its end.
+/// Return a line without the spaces at its end.
 #[tactic(auto, unfolding(rv_model::specs::text::Words::trim_end))]
 fn trim_end(mut line: &[u8]) -> &[u8]
     ensures { result.now ≡ trim_end line.entry.now }
@@ -24,7 +24,7 @@ fn trim_end(mut line: &[u8]) -> &[u8]
     line
 }
 
-/// What follows the first word of a line.
+/// Return the text after the first space-separated token of a line.
 #[tactic(auto, unfolding(rv_model::specs::text::Words::after_word))]
 fn after_word(line: &[u8]) -> &[u8]
     ensures { result.now ≡ after_word line.now }
@@ -38,7 +38,7 @@ fn after_word(line: &[u8]) -> &[u8]
     rest
 }
 
-/// What follows the first two words of a line, without the spaces (byte 20) around it.
+/// Return the text after the first two tokens of a line, without spaces (byte 0x20) at its start and end.
 #[tactic(auto, unfolding(rv_model::specs::text::Words::after_two_words))]
 pub(crate) fn after_two_words(line: &[u8]) -> &[u8]
     ensures { result.now ≡ after_two_words line.now }

@@ -1,4 +1,4 @@
-//! The commands on breakpoints: `break`, `unbreak` and `breaks`.
+//! The commands for breakpoints: `break`, `unbreak` and `breaks`.
 ghost use Rattle.std.specs.Prelude.{◌≡◌, [], ◌∷◌, ◌++◌, ◌+◌, ◌≤◌, length};
 ghost use Rattle.rv_model.specs.declared.commands.breakpoints.BreakpointCommand.TheVariants.{Break, Unbreak};
 ghost use Rattle.rv_model.specs.commands.Arguments.{instruction_address};
@@ -12,8 +12,8 @@ use crate::tag::Tag;
 use line_text::{Reply, Words, done, instruction_address, push_addresses};
 use rv_model::BreakpointCommand;
 
-/// The command of a name, by its arguments as they stand in the line. `None` where the group has no
-/// such name, and `Some(None)` where the arguments are wrong.
+/// Return the group's command with a name and its arguments: `None` if the group has no command of this name, and
+/// `Some(None)` if the arguments are wrong.
 pub(crate) fn breakpoints_named(name: &[u8], args: &[u8]) -> Option<Option<BreakpointCommand>>
     ensures { result ≡ breakpoints_named name.now (words args.now) }
 {
@@ -29,7 +29,7 @@ pub(crate) fn breakpoints_named(name: &[u8], args: &[u8]) -> Option<Option<Break
     None
 }
 
-/// `break ADDR`
+/// Parse the argument of `break ADDR`.
 #[tactic(auto, unfolding(rv_model::specs::commands::Reading::one_argument))]
 fn break_args(args: &[u8]) -> Option<BreakpointCommand>
     ensures { result ≡ one_argument Break instruction_address (words args.now) }
@@ -39,7 +39,7 @@ fn break_args(args: &[u8]) -> Option<BreakpointCommand>
     done(words, BreakpointCommand::Break(addr))
 }
 
-/// `unbreak ADDR`
+/// Parse the argument of `unbreak ADDR`.
 #[tactic(auto, unfolding(rv_model::specs::commands::Reading::one_argument))]
 fn unbreak_args(args: &[u8]) -> Option<BreakpointCommand>
     ensures { result ≡ one_argument Unbreak instruction_address (words args.now) }
@@ -49,7 +49,7 @@ fn unbreak_args(args: &[u8]) -> Option<BreakpointCommand>
     done(words, BreakpointCommand::Unbreak(addr))
 }
 
-/// Adds the answer to `breaks`: at most 16 addresses, in rising order, as
+/// Append the reply to `breaks`: at most 16 addresses in ascending order, for example
 /// `breaks 0000000000010000 0000000000010008`.
 #[tactic(auto, unfolding(rv_model::specs::commands::Breakpoints::breaks_line))]
 pub fn breaks_line(reply: &mut Reply, tag: Tag, addresses: &[u64])

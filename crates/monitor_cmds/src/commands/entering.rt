@@ -1,4 +1,4 @@
-//! The commands that begin and end a user's machine: `enter` and `leave`.
+//! The commands that create and remove a user's machine: `enter` and `leave`.
 ghost use Rattle.std.specs.Prelude.{◌≡◌, [], ◌∷◌, ◌++◌, ◌+◌, ◌≤◌, length, codes};
 ghost use Rattle.rv_model.specs.commands.Entering.{entering_named};
 ghost use Rattle.rv_model.specs.text.Lines.{text};
@@ -10,8 +10,8 @@ use crate::tag::Tag;
 use line_text::{Reply, Words, done};
 use rv_model::EnteringCommand;
 
-/// The command of a name, by its arguments as they stand in the line. `None` where the group has no
-/// such name, and `Some(None)` where the arguments are wrong.
+/// Return the group's command with a name and its arguments: `None` if the group has no command of this name, and
+/// `Some(None)` if the arguments are wrong.
 pub(crate) fn entering_named(name: &[u8], args: &[u8]) -> Option<Option<EnteringCommand>>
     ensures { result ≡ entering_named name.now (words args.now) }
 {
@@ -24,7 +24,7 @@ pub(crate) fn entering_named(name: &[u8], args: &[u8]) -> Option<Option<Entering
     None
 }
 
-/// Adds the line `entered`, the answer to `enter`.
+/// Append the line `entered`, the reply to `enter`.
 pub fn entered(reply: &mut Reply, tag: Tag)
     requires { length reply.old + 10 ≤ 4096 }
     ensures text { reply.new ≡ reply.old ++ text (tag_byte tag) (codes "entered" ∷ []) }
@@ -33,7 +33,7 @@ pub fn entered(reply: &mut Reply, tag: Tag)
     push_line(reply, tag, b"entered");
 }
 
-/// Adds the line `left`, the answer to `leave`.
+/// Append the line `left`, the reply to `leave`.
 pub fn left(reply: &mut Reply, tag: Tag)
     requires { length reply.old + 7 ≤ 4096 }
     ensures text { reply.new ≡ reply.old ++ text (tag_byte tag) (codes "left" ∷ []) }

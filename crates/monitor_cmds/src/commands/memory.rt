@@ -1,4 +1,4 @@
-//! The commands on a user's memory: `map`, `poke` and `peek`.
+//! The commands for a user's memory: `map`, `poke` and `peek`.
 ghost use Rattle.std.specs.Prelude.{◌≡◌, [], ◌∷◌, ◌++◌, ◌+◌, ◌≤◌, length};
 ghost use Rattle.rv_model.specs.declared.commands.memory.MemoryCommand.TheVariants.{Poke, Peek};
 ghost use Rattle.rv_model.specs.commands.Arguments.{address, byte_string, number_between};
@@ -12,8 +12,8 @@ use crate::tag::Tag;
 use line_text::{Reply, Words, address, count, done, permissions, push_bytes, push_hex16};
 use rv_model::{ByteString, Count, MemoryCommand, PAGE_QUOTA, PageRange};
 
-/// The command of a name, by its arguments as they stand in the line. `None` where the group has no
-/// such name, and `Some(None)` where the arguments are wrong.
+/// Return the group's command with a name and its arguments: `None` if the group has no command of this name, and
+/// `Some(None)` if the arguments are wrong.
 pub(crate) fn memory_named(name: &[u8], args: &[u8]) -> Option<Option<MemoryCommand>>
     ensures { result ≡ memory_named name.now (words args.now) }
 {
@@ -29,7 +29,7 @@ pub(crate) fn memory_named(name: &[u8], args: &[u8]) -> Option<Option<MemoryComm
     None
 }
 
-/// `map ADDR PAGES PERM`, with 1 to `PAGE_QUOTA` pages.
+/// Parse the arguments of `map ADDR PAGES PERM`, with 1 to `PAGE_QUOTA` pages.
 #[tactic(auto, unfolding(rv_model::specs::commands::Memory::map_args))]
 fn map_args(args: &[u8]) -> Option<MemoryCommand>
     ensures { result ≡ map_args (words args.now) }
@@ -42,7 +42,7 @@ fn map_args(args: &[u8]) -> Option<MemoryCommand>
     done(words, MemoryCommand::Map { pages, permissions })
 }
 
-/// `poke ADDR HEX`
+/// Parse the arguments of `poke ADDR HEX`.
 #[tactic(auto, unfolding(rv_model::specs::commands::Reading::two_arguments))]
 fn poke_args(args: &[u8]) -> Option<MemoryCommand>
     ensures { result ≡ two_arguments Poke address byte_string (words args.now) }
@@ -53,7 +53,7 @@ fn poke_args(args: &[u8]) -> Option<MemoryCommand>
     done(words, MemoryCommand::Poke { addr, bytes })
 }
 
-/// `peek ADDR N`, with 1 to 256 bytes.
+/// Parse the arguments of `peek ADDR N`, with 1 to 256 bytes.
 #[tactic(auto, unfolding(rv_model::specs::commands::Reading::two_arguments))]
 fn peek_args(args: &[u8]) -> Option<MemoryCommand>
     ensures { result ≡ two_arguments Peek address (number_between 1 256) (words args.now) }
@@ -64,7 +64,7 @@ fn peek_args(args: &[u8]) -> Option<MemoryCommand>
     done(words, MemoryCommand::Peek { addr, count })
 }
 
-/// Adds the answer to `peek`: the address, and the 1 to 256 bytes from it on, as
+/// Append the reply to `peek`: the address, and 1 to 256 bytes from it on in hexadecimal, for example
 /// `peek 0000000000010000 00ff`.
 #[tactic(auto, unfolding(rv_model::specs::commands::Memory::peek_line))]
 pub fn peek_line(reply: &mut Reply, tag: Tag, addr: u64, bytes: &[u8])

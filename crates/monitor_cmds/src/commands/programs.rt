@@ -1,4 +1,4 @@
-//! The commands on programs in a user's memory: `load`, `asm` and `dis`.
+//! The commands for programs in a user's memory: `load`, `asm` and `dis`.
 ghost use Rattle.std.specs.Prelude.{Some, ◌≡◌, [], ◌∷◌, ◌++◌, ◌+◌, ◌*◌, ◌≤◌, length};
 ghost use Rattle.rv_model.specs.declared.commands.programs.ProgramCommand.TheVariants.{Load, Dis};
 ghost use Rattle.rv_model.specs.commands.Arguments.{instruction_address, number_between};
@@ -24,9 +24,8 @@ use line_text::{
 use rv_asm::{Text, text_of};
 use rv_model::{LinePart, ProgramCommand};
 
-/// The command of a name, by its arguments as they stand in the line, and by the text that follows
-/// the first of them. `None` where the group has no such name, and `Some(None)` where the arguments
-/// are wrong.
+/// Return the group's command with a name, its arguments, and the text after the first argument: `None` if the group
+/// has no command of this name, and `Some(None)` if the arguments are wrong.
 pub(crate) fn programs_named<'a>(
     name: &[u8],
     args: &'a [u8],
@@ -46,7 +45,7 @@ pub(crate) fn programs_named<'a>(
     None
 }
 
-/// `load NAME`
+/// Parse the argument of `load NAME`.
 #[tactic(auto, unfolding(rv_model::specs::commands::Reading::one_argument))]
 fn load_args<'a>(args: &'a [u8]) -> Option<ProgramCommand<'a>>
     ensures { result ≡ one_argument Load Some (words args.now) }
@@ -56,7 +55,7 @@ fn load_args<'a>(args: &'a [u8]) -> Option<ProgramCommand<'a>>
     done(words, ProgramCommand::Load(name))
 }
 
-/// `asm ADDR TEXT`, where the text is all that follows the address.
+/// Parse the arguments of `asm ADDR TEXT`, where `text` is the rest of the line after the address.
 #[tactic(auto, unfolding(rv_model::specs::commands::Programs::asm_args))]
 fn asm_args<'a>(args: &'a [u8], text: &'a [u8]) -> Option<ProgramCommand<'a>>
     ensures { result ≡ asm_args (words args.now) text.now }
@@ -70,7 +69,7 @@ fn asm_args<'a>(args: &'a [u8], text: &'a [u8]) -> Option<ProgramCommand<'a>>
     Some(ProgramCommand::Asm { addr, text })
 }
 
-/// `dis ADDR N`, with 1 to 16 words.
+/// Parse the arguments of `dis ADDR N`, with 1 to 16 words (32 bits).
 #[tactic(auto, unfolding(rv_model::specs::commands::Reading::two_arguments))]
 fn dis_args<'a>(args: &'a [u8]) -> Option<ProgramCommand<'a>>
     ensures { result ≡ two_arguments Dis instruction_address (number_between 1 16) (words args.now) }
@@ -81,7 +80,7 @@ fn dis_args<'a>(args: &'a [u8]) -> Option<ProgramCommand<'a>>
     done(words, ProgramCommand::Dis { addr, count })
 }
 
-/// Adds where a program begins, and how many pages it has.
+/// Append the entry address of a program and its number of pages.
 #[tactic(auto, unfolding(rv_model::specs::commands::Programs::loaded_line))]
 fn push_loaded(reply: &mut Reply, pc: u64, pages: usize)
     requires { length reply.old + 53 ≤ 4096 }
@@ -94,7 +93,7 @@ fn push_loaded(reply: &mut Reply, pc: u64, pages: usize)
     push_decimal(reply, pages as u64);
 }
 
-/// Adds the answer to `load`, as `loaded pc=0000000000010078 pages=5`.
+/// Append the reply to `load`, for example `loaded pc=0000000000010078 pages=5`.
 pub fn loaded_line(reply: &mut Reply, tag: Tag, pc: u64, pages: usize)
     requires { length reply.old + 57 ≤ 4096 }
     ensures text { reply.new ≡ reply.old ++ text (tag_byte tag) (loaded_line pc pages ∷ []) }
@@ -105,7 +104,7 @@ pub fn loaded_line(reply: &mut Reply, tag: Tag, pc: u64, pages: usize)
     reply.push(b"\n");
 }
 
-/// Adds an address and the word there.
+/// Append an address and the 32-bit word at it, both in hexadecimal.
 #[tactic(auto, unfolding(rv_model::specs::commands::Programs::asm_line))]
 fn push_word(reply: &mut Reply, addr: u64, word: u32)
     requires { length reply.old + 25 ≤ 4096 }
@@ -117,8 +116,7 @@ fn push_word(reply: &mut Reply, addr: u64, word: u32)
     push_hex8(reply, word);
 }
 
-/// Adds the answer to `asm`: the address and the word that was written, as
-/// `0000000000010004 022180d7`.
+/// Append the reply to `asm`: the address and the assembled word, for example `0000000000010004 022180d7`.
 pub fn asm_line(reply: &mut Reply, tag: Tag, addr: u64, word: u32)
     requires { length reply.old + 28 ≤ 4096 }
     ensures text { reply.new ≡ reply.old ++ text (tag_byte tag) (asm_line addr word ∷ []) }
@@ -129,7 +127,7 @@ pub fn asm_line(reply: &mut Reply, tag: Tag, addr: u64, word: u32)
     reply.push(b"\n");
 }
 
-/// Adds the canonical text of a word.
+/// Append the canonical assembly text of an instruction word.
 fn push_instruction(reply: &mut Reply, word: u32)
     requires { length reply.old + 160 ≤ 4096 }
     ensures text { reply.new ≡ reply.old ++ canonical word }
@@ -140,7 +138,7 @@ fn push_instruction(reply: &mut Reply, word: u32)
     reply.push(text.as_bytes());
 }
 
-/// Adds the line of a word: its address, the word and its text.
+/// Append the line for one instruction: its address, its word, and its assembly text.
 #[tactic(auto, unfolding(rv_model::specs::commands::Programs::dis_line))]
 fn push_dis_line(reply: &mut Reply, tag: &Tag, addr: u64, word: u32)
     requires { length reply.old + 189 ≤ 4096 }
@@ -154,7 +152,7 @@ fn push_dis_line(reply: &mut Reply, tag: &Tag, addr: u64, word: u32)
     reply.push(b"\n");
 }
 
-/// One of the words that bytes hold, least byte first.
+/// Return the little-endian 32-bit word at `index` of the words in `bytes`.
 fn word_in(bytes: &[u8], index: usize) -> u32
     requires { 4 * index + 4 ≤ length bytes.now }
     ensures { result ≡ word_in bytes.now index }
@@ -165,9 +163,8 @@ fn word_in(bytes: &[u8], index: usize) -> u32
     u32::from_le_bytes(word)
 }
 
-/// Adds the answer to `dis`: a line for each of 1 to 16 words, which are the bytes from an address
-/// on, with its address, the word and its canonical text, as
-/// `0000000000010004 022180d7 vadd.vv v1, v2, v3`.
+/// Append the reply to `dis`: for each of 1 to 16 words in `bytes`, a line with its address, the word, and its
+/// canonical assembly text, for example `0000000000010004 022180d7 vadd.vv v1, v2, v3`. The first word is at `addr`.
 #[tactic(auto, unfolding(rv_model::specs::commands::Programs::dis_lines))]
 pub fn dis_lines(reply: &mut Reply, tag: Tag, addr: u64, count: usize, bytes: &[u8])
     requires few { count ≤ 16 }

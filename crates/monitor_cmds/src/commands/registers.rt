@@ -1,5 +1,5 @@
-//! The commands on a user's registers, `set`, `regs`, `setpc`, `vreg`, `vset` and `vcsr`, and the one
-//! on what becomes of agnostic elements, `policy`.
+//! The commands for a user's registers, `set`, `regs`, `setpc`, `vreg`, `vset` and `vcsr`, and for agnostic elements,
+//! `policy`.
 ghost use Rattle.std.specs.Prelude.{◌≡◌, [], ◌∷◌, ◌++◌, ◌+◌, ◌*◌, ◌/◌, ◌<◌, ◌≤◌, length, codes, decimal, flat_map};
 ghost use Rattle.std.specs.List.{range_with_len};
 ghost use Rattle.rv_model.specs.declared.commands.registers.RegisterCommand.TheVariants.{
@@ -47,8 +47,8 @@ use rv_model::{
 };
 use vtype_rules::vtype_number;
 
-/// The command of a name, by its arguments as they stand in the line. `None` where the group has no
-/// such name, and `Some(None)` where the arguments are wrong.
+/// Return the group's command with a name and its arguments: `None` if the group has no command of this name, and
+/// `Some(None)` if the arguments are wrong.
 pub(crate) fn registers_named(name: &[u8], args: &[u8]) -> Option<Option<RegisterCommand>>
     ensures { result ≡ registers_named name.now (words args.now) }
 {
@@ -76,7 +76,7 @@ pub(crate) fn registers_named(name: &[u8], args: &[u8]) -> Option<Option<Registe
     None
 }
 
-/// `set xN HEX`
+/// Parse the arguments of `set xN HEX`.
 #[tactic(auto, unfolding(rv_model::specs::commands::Reading::two_arguments))]
 fn set_args(args: &[u8]) -> Option<RegisterCommand>
     ensures { result ≡ two_arguments Set scalar_register address (words args.now) }
@@ -87,7 +87,7 @@ fn set_args(args: &[u8]) -> Option<RegisterCommand>
     done(words, RegisterCommand::Set { register, value })
 }
 
-/// `setpc ADDR`
+/// Parse the argument of `setpc ADDR`.
 #[tactic(auto, unfolding(rv_model::specs::commands::Reading::one_argument))]
 fn setpc_args(args: &[u8]) -> Option<RegisterCommand>
     ensures { result ≡ one_argument SetPc instruction_address (words args.now) }
@@ -97,7 +97,7 @@ fn setpc_args(args: &[u8]) -> Option<RegisterCommand>
     done(words, RegisterCommand::SetPc(addr))
 }
 
-/// `vreg vN SEW`
+/// Parse the arguments of `vreg vN SEW`, with the element width in bits.
 #[tactic(auto, unfolding(rv_model::specs::commands::Reading::two_arguments))]
 fn vreg_args(args: &[u8]) -> Option<RegisterCommand>
     ensures { result ≡ two_arguments Vreg vector_register sew_argument (words args.now) }
@@ -108,7 +108,7 @@ fn vreg_args(args: &[u8]) -> Option<RegisterCommand>
     done(words, RegisterCommand::Vreg { register, width })
 }
 
-/// `vset vN HEX`, with 32 bytes.
+/// Parse the arguments of `vset vN HEX`, with 32 bytes.
 #[tactic(auto, unfolding(rv_model::specs::commands::Reading::two_arguments))]
 fn vset_args(args: &[u8]) -> Option<RegisterCommand>
     ensures { result ≡ two_arguments Vset vector_register register_bytes (words args.now) }
@@ -119,7 +119,7 @@ fn vset_args(args: &[u8]) -> Option<RegisterCommand>
     done(words, RegisterCommand::Vset { register, bytes })
 }
 
-/// `policy keep` or `policy ones`
+/// Parse the argument of `policy keep` or `policy ones`.
 #[tactic(auto, unfolding(rv_model::specs::commands::Reading::one_argument))]
 fn policy_args(args: &[u8]) -> Option<RegisterCommand>
     ensures { result ≡ one_argument SetPolicy policy_word (words args.now) }
@@ -129,7 +129,7 @@ fn policy_args(args: &[u8]) -> Option<RegisterCommand>
     done(words, RegisterCommand::SetPolicy(policy))
 }
 
-/// Adds a register's name and its value.
+/// Append a register's name and its value in 16 hexadecimal digits.
 #[tactic(auto, unfolding(rv_model::specs::commands::Registers::register_text))]
 fn push_register(reply: &mut Reply, scalar: &Scalar, number: usize)
     requires room { length reply.old + 38 ≤ 4096 }
@@ -143,7 +143,7 @@ fn push_register(reply: &mut Reply, scalar: &Scalar, number: usize)
     push_hex16(reply, scalar.x[number]);
 }
 
-/// Adds a line of four registers.
+/// Append a line with the four registers from `first` on.
 #[tactic(auto, unfolding(rv_model::specs::commands::Registers::register_line))]
 fn push_register_line(reply: &mut Reply, tag: &Tag, scalar: &Scalar, first: usize)
     requires room { length reply.old + 158 ≤ 4096 }
@@ -163,7 +163,7 @@ fn push_register_line(reply: &mut Reply, tag: &Tag, scalar: &Scalar, first: usiz
     reply.push(b"\n");
 }
 
-/// Adds the line of the program counter.
+/// Append the line with the program counter.
 fn push_pc_line(reply: &mut Reply, tag: Tag, pc: u64)
     requires { length reply.old + 22 ≤ 4096 }
     ensures text { reply.new ≡ reply.old ++ tagged (tag_byte tag) (codes "pc " ++ hex16 pc) }
@@ -175,8 +175,8 @@ fn push_pc_line(reply: &mut Reply, tag: Tag, pc: u64)
     reply.push(b"\n");
 }
 
-/// Adds the answer to `regs`: a line with the program counter, and eight lines of four registers,
-/// each value in 16 hexadecimal digits.
+/// Append the reply to `regs`: a line with the program counter, and eight lines with four registers each. Each value
+/// has 16 hexadecimal digits.
 #[tactic(auto, unfolding(rv_model::specs::commands::Registers::regs_lines))]
 pub fn registers(reply: &mut Reply, tag: Tag, scalar: &Scalar)
     requires { length reply.old + 1300 ≤ 4096 }
@@ -189,7 +189,7 @@ pub fn registers(reply: &mut Reply, tag: Tag, scalar: &Scalar)
     }
 }
 
-/// Adds an element of `size` bytes, the highest byte first.
+/// Append an element of `size` bytes (1, 2, 4 or 8) in hexadecimal, most significant byte first.
 #[tactic(auto, unfolding(rv_model::specs::commands::Registers::element_text))]
 fn push_element(reply: &mut Reply, register: &[u8], size: usize, index: usize)
     requires size { size ≤ 8 }
@@ -206,7 +206,7 @@ fn push_element(reply: &mut Reply, register: &[u8], size: usize, index: usize)
     push_bytes(reply, &element[..size]);
 }
 
-/// Adds all elements of a register, element 0 first.
+/// Append all elements of a register, element 0 first.
 fn push_elements(reply: &mut Reply, register: &[u8], width: Sew)
     requires register { length register.now ≡ 32 }
     requires room { length reply.old + 544 ≤ 4096 }
@@ -220,8 +220,8 @@ fn push_elements(reply: &mut Reply, register: &[u8], width: Sew)
     }
 }
 
-/// Adds the answer to `vreg`: the register's name and its elements, element 0 first, each in as
-/// many hexadecimal digits as it has half bytes.
+/// Append the reply to `vreg`: the register's name and its elements, element 0 first. Each byte of an element has two
+/// hexadecimal digits.
 #[tactic(auto, unfolding(rv_model::specs::commands::Registers::vreg_line))]
 pub fn vreg_line(reply: &mut Reply, tag: Tag, number: VReg, width: Sew, register: &[u8])
     requires register { length register.now ≡ 32 }
@@ -236,7 +236,7 @@ pub fn vreg_line(reply: &mut Reply, tag: Tag, number: VReg, width: Sew, register
     reply.push(b"\n");
 }
 
-/// Adds the vector length and type.
+/// Append the vector length `vl` and the vector type `vtype`.
 fn push_configuration(reply: &mut Reply, conf: VConf)
     requires { length reply.old + 46 ≤ 4096 }
     ensures text { reply.new ≡ reply.old
@@ -249,14 +249,14 @@ fn push_configuration(reply: &mut Reply, conf: VConf)
     push_hex16(reply, vtype_number(conf.vtype()));
 }
 
-/// The number of a flag.
+/// Return 1 for a flag that is set, else 0.
 fn flag_number(flag: bool) -> u64
     ensures { result ≡ flag_bit flag }
 {
     if flag { 1 } else { 0 }
 }
 
-/// Adds the fixed-point rounding mode and the saturation flag.
+/// Append the fixed-point rounding mode `vxrm` and the saturation flag `vxsat`.
 fn push_fixed_point(reply: &mut Reply, vxrm: RoundingMode, vxsat: bool)
     requires { length reply.old + 53 ≤ 4096 }
     ensures text { reply.new ≡ reply.old
@@ -269,7 +269,7 @@ fn push_fixed_point(reply: &mut Reply, vxrm: RoundingMode, vxsat: bool)
     push_decimal(reply, flag_number(vxsat));
 }
 
-/// Adds the vector control registers.
+/// Append the vector control registers.
 #[tactic(auto, unfolding(rv_model::specs::commands::Registers::vcsr_line))]
 fn push_control_registers(reply: &mut Reply, state: &VState)
     requires { length reply.old + 127 ≤ 4096 }
@@ -282,7 +282,7 @@ fn push_control_registers(reply: &mut Reply, state: &VState)
     push_fixed_point(reply, state.vxrm, state.vxsat);
 }
 
-/// Adds the answer to `vcsr`, as `vl=3 vtype=00000000000000d0 vstart=0 vxrm=0 vxsat=0`.
+/// Append the reply to `vcsr`, for example `vl=3 vtype=00000000000000d0 vstart=0 vxrm=0 vxsat=0`.
 pub fn vcsr_line(reply: &mut Reply, tag: Tag, state: &VState)
     requires { length reply.old + 130 ≤ 4096 }
     ensures text { reply.new ≡ reply.old ++ text (tag_byte tag) (vcsr_line state.now ∷ []) }

@@ -1,5 +1,5 @@
-//! The commands that run instructions, and that tell how far the program is and what it has put out:
-//! `step`, `go`, `stop`, `state`, `trace` and `out`.
+//! The commands that execute instructions, and those that print a program's state and output: `step`, `go`, `stop`,
+//! `state`, `trace` and `out`.
 ghost use Rattle.std.specs.Prelude.{◌≡◌, [], ◌∷◌, ◌++◌, ◌+◌, ◌*◌, ◌≤◌, length, codes, decimal, nat_lt, if◌then◌else◌};
 ghost use Rattle.hex.specs.Hex.{encode_lower};
 ghost use Rattle.rv_model.specs.declared.commands.running.RunningCommand.TheVariants.{Step};
@@ -26,8 +26,8 @@ use line_text::{
 };
 use rv_model::{RunningCommand, Stop};
 
-/// The command of a name, by its arguments as they stand in the line. `None` where the group has no
-/// such name, and `Some(None)` where the arguments are wrong.
+/// Return the group's command with a name and its arguments: `None` if the group has no command of this name, and
+/// `Some(None)` if the arguments are wrong.
 pub(crate) fn running_named(name: &[u8], args: &[u8]) -> Option<Option<RunningCommand>>
     ensures { result ≡ running_named name.now (words args.now) }
 {
@@ -52,7 +52,7 @@ pub(crate) fn running_named(name: &[u8], args: &[u8]) -> Option<Option<RunningCo
     None
 }
 
-/// `step N`, with 1 to 256 instructions.
+/// Parse the argument of `step N`, 1 to 256 instructions.
 #[tactic(auto, unfolding(rv_model::specs::commands::Reading::one_argument))]
 fn step_args(args: &[u8]) -> Option<RunningCommand>
     ensures { result ≡ one_argument Step (number_between 1 256) (words args.now) }
@@ -62,7 +62,7 @@ fn step_args(args: &[u8]) -> Option<RunningCommand>
     done(words, RunningCommand::Step(count))
 }
 
-/// Adds how many instructions were carried out, with the program counter.
+/// Append the number of executed instructions, and the program counter.
 fn stepped_line(reply: &mut Reply, tag: Tag, count: usize, pc: u64)
     requires { length reply.old + 51 ≤ 4096 }
     ensures text { reply.new ≡ reply.old
@@ -76,8 +76,8 @@ fn stepped_line(reply: &mut Reply, tag: Tag, count: usize, pc: u64)
     reply.push(b"\n");
 }
 
-/// Adds the answer to `step N`: the line that says that N instructions were carried out, as
-/// `stepped 3 pc=000000000001000c`, or the line that says why the program stopped.
+/// Append the reply to `step N`: the line for N executed instructions, for example
+/// `stepped 3 pc=000000000001000c`, or the line for a stop.
 #[tactic(auto, unfolding(rv_model::specs::commands::Running::step_line))]
 pub fn step_line(reply: &mut Reply, tag: Tag, count: usize, pc: u64, stop: Option<Stop>)
     requires { length reply.old + 80 ≤ 4096 }
@@ -90,7 +90,7 @@ pub fn step_line(reply: &mut Reply, tag: Tag, count: usize, pc: u64, stop: Optio
     }
 }
 
-/// Adds a line of a word and where the program stands.
+/// Append a line with a text and the program counter.
 fn place_line(reply: &mut Reply, tag: Tag, word: &[u8], pc: u64)
     requires { length reply.old + (length word.now + 23) ≤ 4096 }
     ensures text { reply.new ≡ reply.old
@@ -103,7 +103,7 @@ fn place_line(reply: &mut Reply, tag: Tag, word: &[u8], pc: u64)
     reply.push(b"\n");
 }
 
-/// Adds the answer to `go`, as `running pc=0000000000010000`.
+/// Append the reply to `go`, for example `running pc=0000000000010000`.
 #[tactic(auto, unfolding(rv_model::specs::commands::Running::running_line))]
 pub fn running_line(reply: &mut Reply, tag: Tag, pc: u64)
     requires { length reply.old + 30 ≤ 4096 }
@@ -113,7 +113,7 @@ pub fn running_line(reply: &mut Reply, tag: Tag, pc: u64)
     place_line(reply, tag, b"running", pc);
 }
 
-/// Adds the answer to `stop`, as `stopped pc=0000000000010000`.
+/// Append the reply to `stop`, for example `stopped pc=0000000000010000`.
 #[tactic(auto, unfolding(rv_model::specs::commands::Running::stopped_line))]
 pub fn stopped_line(reply: &mut Reply, tag: Tag, pc: u64)
     requires { length reply.old + 30 ≤ 4096 }
@@ -123,7 +123,7 @@ pub fn stopped_line(reply: &mut Reply, tag: Tag, pc: u64)
     place_line(reply, tag, b"stopped", pc);
 }
 
-/// How the answer to `state` begins.
+/// Return the start of the reply to `state`.
 fn state_words(running: bool) -> &'static [u8]
     ensures value { result.now ≡ (if running then codes "state running pc=" else codes "state stopped pc=") }
     ensures len { length result.now ≡ 17 }
@@ -135,7 +135,7 @@ fn state_words(running: bool) -> &'static [u8]
     }
 }
 
-/// Adds the answer to `state`, as `state stopped pc=0000000000010000`.
+/// Append the reply to `state`, for example `state stopped pc=0000000000010000`.
 #[tactic(auto, unfolding(rv_model::specs::commands::Running::state_line))]
 pub fn state_line(reply: &mut Reply, tag: Tag, running: bool, pc: u64)
     requires { length reply.old + 36 ≤ 4096 }
@@ -148,8 +148,9 @@ pub fn state_line(reply: &mut Reply, tag: Tag, running: bool, pc: u64)
     reply.push(b"\n");
 }
 
-/// Adds the answer to `trace`: the addresses of at most 16 instructions, the oldest first, in two
-/// runs, as `trace 0000000000010000 0000000000010004`.
+/// Append the reply to `trace`: the addresses of at most 16 instructions, oldest first, given in two slices, for
+/// example
+/// `trace 0000000000010000 0000000000010004`.
 #[tactic(auto, unfolding(rv_model::specs::commands::Running::trace_line), using(crate::proofs::PieceLaws::joined))]
 pub fn trace_line(reply: &mut Reply, tag: Tag, older: &[u64], newer: &[u64])
     requires few { length older.now + length newer.now ≤ 16 }
@@ -164,7 +165,7 @@ pub fn trace_line(reply: &mut Reply, tag: Tag, older: &[u64], newer: &[u64])
     reply.push(b"\n");
 }
 
-/// Adds bytes after a space; nothing where there are none.
+/// Append a space and the bytes in hexadecimal; append nothing if there are no bytes.
 fn push_spaced(reply: &mut Reply, bytes: &[u8])
     requires few { length bytes.now ≤ 1024 }
     requires room { length reply.old + 1 + 2 * length bytes.now ≤ 4096 }
@@ -179,8 +180,8 @@ fn push_spaced(reply: &mut Reply, bytes: &[u8])
     push_bytes(reply, bytes);
 }
 
-/// Adds the answer to `out`: how many bytes a program has put out, at most 1,024, and the bytes, as
-/// `out 2 00ff`.
+/// Append the reply to `out`: the number of bytes that the program has output, at most 1,024, and the bytes in
+/// hexadecimal, for example `out 2 00ff`.
 #[tactic(auto, unfolding(rv_model::specs::commands::Running::out_line))]
 pub fn out_line(reply: &mut Reply, tag: Tag, bytes: &[u8])
     requires few { length bytes.now ≤ 1024 }
