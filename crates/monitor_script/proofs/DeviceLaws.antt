@@ -1,4 +1,4 @@
--- What callers of a run make of its clauses.
+-- How callers of `run` use its clauses
 use Rattle.std.proofs.Common.{◌≡◌, refl, Result, Ok, Err}
 use Rattle.std.specs.Result.{OnOk}
 use Rattle.monitor_script.specs.declared.script.RunFault.{RunFault}

@@ -1,4 +1,4 @@
--- Bytes of a script come to the lines among them that have ended, and a last line so far.
+-- Processing bytes of a script executes the lines that end in them, and leaves an unfinished line
 use Rattle.std.proofs.Common.{◌≡◌, ℕ, ◌-◌, List, [], ◌∷◌, ◌++◌, length, length-append, take, refl, ap, ◌∙◌, sym, subst, append_assoc, append-nil, arith}
 use Rattle.std.proofs.lemmas.Bool.{eqb-true}
 use Rattle.std.proofs.Math.Seq.{take-append_seam}
@@ -13,7 +13,8 @@ use Rattle.monitor_script.specs.EndedLines.{ended_lines}
 use Rattle.monitor_script.specs.Feed.{Fed, longer, fed}
 use Rattle.monitor_script.proofs.Feeding.{after_lines, lines_output, and_then, feed_newline, feed_other, after_clipped, output_clipped, longer_clipped, is_line_push}
 
--- what bytes put out and leave, the line so far being a: the lines that end in them, and the line so far
+-- the effect of processing bytes s with the unfinished line a: the lines that end in them, and the unfinished line
+-- afterwards
 pub record Leaves (m : MachineState) (a s : List ℕ) (r : Fed) : Type 0 where
   pub before : List (List ℕ)
   pub last : List ℕ
@@ -78,7 +79,7 @@ leaves m a (b ∷ s) h =
 pub from_start_leaves : (m : MachineState) (s : List ℕ) → Leaves m [] s (fed m [] s)
 from_start_leaves m s = leaves m [] s refl
 
--- the lines before the last are those that have ended
+-- the lines before the last are the ended lines
 pub ended_are : (m : MachineState) (s : List ℕ) (r : Fed) (l : Leaves m [] s r) → ended_lines s ≡ l.before
 unfolding ended_lines
 ended_are m s r l =
@@ -101,7 +102,7 @@ told_all-push : (s : Setup) (w : World) (ls : List (List ℕ)) (l : List ℕ) �
 told_all-push s w ls l =
     told_all-append s w ls (l ∷ []) ∙ ap (λ (t : List ℕ). told_all s w ls ++ t) (append-nil (told s (after_all s w ls) l))
 
--- byte by byte and then the last line, a script comes to the same as line by line
+-- processing a script byte by byte and then its last line is the same as executing it line by line
 pub machine_of_all : (m : MachineState) (s : List ℕ) → after_line (fed m [] s).machine (fed m [] s).line ≡ after_lines m (pieces s)
 machine_of_all m s =
     let t = from_start_leaves m s in
@@ -113,7 +114,7 @@ output_of_all m s =
     let t = from_start_leaves m s in
     rw (t.line, output_clipped, t.machine, t.output) (sym (told_all-push m.setup m.world t.before t.last) ∙ ap (lines_output m) (sym t.all))
 
--- no text is without a piece
+-- each text has at least one piece
 pub some_piece : (m : MachineState) (s : List ℕ) → pieces s ≡ [] → ⊥
 some_piece m s none =
     let t = from_start_leaves m s in

@@ -1,4 +1,4 @@
--- A script that is taken byte by byte: what a clipped line means, and bytes in two parts.
+-- A script processed byte by byte: the meaning of a truncated line, and bytes in two parts
 use Rattle.std.proofs.Common.{◌≡◌, ℕ, ◌+◌, ◌<◌, inl, inr, List, [], ◌∷◌, ◌++◌, length, take, Bool, true, false, refl, ap, ◌∙◌, sym, append_assoc, arith, eqb, cond, get_or, drop, drop-cons, add-one}
 use Rattle.std.specs.Prelude.{nat_lt, not}
 use Rattle.std.proofs.lemmas.Bool.{cases_lt, lt-ltb, and_parts, and_from}
@@ -10,7 +10,7 @@ use Rattle.rv_model.proofs.text_lemmas.Newlines.{is_line, IsLine}
 use Rattle.rv_model.specs.machine.Script.{World, Kind, kind_of, prefixed, Long, events_of, common, after_events, told_by, told, after_all, told_all, world_after}
 use Rattle.monitor_script.specs.Feed.{Fed, longer, feed, fed}
 
--- a clipped line is of the same kind
+-- truncating a line preserves its kind
 kind_clipped : (a : List ℕ) → kind_of (take 1025 a) ≡ kind_of a
 unfolding kind_of
 kind_clipped a = elim (cases_lt (length a) 1025) [
@@ -47,14 +47,14 @@ is_line_push (c ∷ a) b h other =
     let two = and_parts (not (is_newline c)) (is_line a) h in
     and_from (not (is_newline c)) (is_line (a ++ b ∷ [])) two.0 (is_line_push a b two.1 other)
 
--- the machine after all lines, and what they print
+-- the machine after all lines, and their output
 abbrev pub after_lines : MachineState → List (List ℕ) → MachineState
 after_lines m lines = record m { world = after_all m.setup m.world lines }
 
 abbrev pub lines_output : MachineState → List (List ℕ) → List ℕ
 lines_output m lines = told_all m.setup m.world lines
 
--- one byte's step, and then those of the rest
+-- processing one byte, and then the others
 abbrev pub and_then : Fed → List ℕ → Fed
 and_then one s =
     let rest = fed one.machine one.line s in
@@ -86,16 +86,16 @@ fed-append m line (c ∷ a) b =
       output = ap (λ (t : List ℕ). one.output ++ t) ih.output ∙ sym (append_assoc one.output two.output (fed two.machine two.line b).output);
     }
 
--- a machine that has taken a front of some bytes takes more of them
+-- a machine that has processed a prefix of some bytes processes the following bytes
 pub goes_on : (m0 : MachineState) (line0 whole front read : List ℕ) (m : MachineState) (line : List ℕ) → whole ≡ front ++ read → m ≡ (fed m0 line0 front).machine → line ≡ (fed m0 line0 front).line → InTwo (fed m0 line0 whole) (fed m0 line0 front) (fed m line read)
 goes_on m0 line0 whole front read m line e p l = rw (e, p, l) (fed-append m0 line0 front read)
 
--- one byte more of some bytes
+-- one more byte of some bytes
 pub one_more : (m0 : MachineState) (line0 bytes : List ℕ) (i : ℕ) (m : MachineState) (line : List ℕ) → i < length bytes → m ≡ (fed m0 line0 (take i bytes)).machine → line ≡ (fed m0 line0 (take i bytes)).line → InTwo (fed m0 line0 (take (i + 1) bytes)) (fed m0 line0 (take i bytes)) (fed m line (get_or bytes i 0 ∷ []))
 one_more m0 line0 bytes i m line within p l =
     goes_on m0 line0 (take (i + 1) bytes) (take i bytes) (get_or bytes i 0 ∷ []) m line (take_more bytes i 0 within) p l
 
--- bytes fall into those before one of them, this one, and those after it
+-- a list of bytes is the bytes before an index, the byte at the index, and the bytes after it
 pub split_at_byte : (bytes : List ℕ) (i b : ℕ) → i < length bytes → get_or bytes i 0 ≡ b → bytes ≡ take i bytes ++ b ∷ drop (i + 1) bytes
 split_at_byte bytes i b within here =
     sym (take-append-drop i bytes)

@@ -1,4 +1,4 @@
--- What a line buffer of 1,025 bytes keeps.
+-- The contents of a line buffer of 1,025 bytes
 use Rattle.std.proofs.Common.{◌≡◌, ℕ, ◌≤◌, ◌++◌, [], ◌∷◌, List, length, ◌∙◌, sym, true, false, eqb, arith}
 use Rattle.std.proofs.lemmas.List.{take_all, take-append-le, length_push}
 use Rattle.std.proofs.lemmas.Bool.{eqb-true, eqb-false}

@@ -1,4 +1,5 @@
--- What a run has put out, however it ended, is a prefix of the whole output of what the source gave and what it may still give.
+-- However a run ends, its output is a prefix of the output of a whole script: the bytes that the source has returned,
+-- followed by those that it may still return
 use Rattle.std.proofs.Common.{◌≡◌, ℕ, ◌+◌, ◌-◌, suc, List, [], ◌∷◌, ◌++◌, length, length-append, take, drop, refl, ap, ◌∙◌, sym, subst, append_assoc, append-nil, arith}
 use Rattle.std.specs.Io.{StartsWith}
 use Rattle.std.proofs.lemmas.List.{take-append-drop, take_all}
@@ -16,9 +17,9 @@ use Rattle.monitor_script.proofs.Runs.{output_before_end}
 pub begins : (xs prefix rest : List ℕ) → xs ≡ prefix ++ rest → StartsWith xs prefix
 begins xs prefix rest e = ap (take (length prefix)) e ∙ take-append_seam prefix rest
 
--- ---- the lines that have ended
+-- ---- the ended lines
 
--- what comes after their output in the whole one
+-- the output after that of the ended lines
 after_ended : (m : MachineState) (text rest : List ℕ) → (more : List ℕ) × (whole_from m.setup m.world (text ++ rest) ≡ told_all m.setup m.world (ended_lines text) ++ more)
 unfolding whole_from
 after_ended m text rest =
@@ -35,7 +36,7 @@ after_ended m text rest =
 pub ended_begin : (m : MachineState) (text rest : List ℕ) → StartsWith (whole_from m.setup m.world (text ++ rest)) (told_all m.setup m.world (ended_lines text))
 ended_begin m text rest = let after = after_ended m text rest in begins _ _ after.0 after.1
 
--- the text as its first bytes and the others
+-- the first n bytes of the text, and its other bytes
 first_bytes : (n : ℕ) (text rest : List ℕ) → text ++ rest ≡ take n text ++ (drop n text ++ rest)
 first_bytes n text rest = ap (λ (t : List ℕ). t ++ rest) (sym (take-append-drop n text)) ∙ append_assoc (take n text) (drop n text) rest
 
@@ -44,9 +45,9 @@ first_begin m n text rest =
     subst (λ (t : List ℕ). StartsWith (whole_from m.setup m.world t) (told_all m.setup m.world (ended_lines (take n text))))
     (sym (first_bytes n text rest)) (ended_begin m (take n text) (drop n text ++ rest))
 
--- ---- an answer that was cut short
+-- ---- an incomplete reply
 
--- a part of an answer, before which all was put out
+-- a prefix of a reply, after the complete output before it
 part_begins : (xs before answer others rest : List ℕ) (n : ℕ) → xs ≡ (before ++ (answer ++ others)) ++ rest → StartsWith xs (before ++ take n answer)
 part_begins xs before answer others rest n e =
     let left : List ℕ = drop n answer ++ (others ++ rest) in
@@ -56,7 +57,7 @@ part_begins xs before answer others rest n e =
     ∙ ap (λ (t : List ℕ). before ++ t) (append_assoc answer others rest ∙ first_bytes n answer (others ++ rest))
     ∙ sym (append_assoc before (take n answer) left))
 
--- the lines that have ended, where one comes after this one
+-- the ended lines, if another line follows this one
 ended_with : (text line next : List ℕ) (before more : List (List ℕ)) → pieces text ≡ before ++ line ∷ next ∷ more → ended_lines text ≡ before ++ line ∷ take (length more) (next ∷ more)
 unfolding ended_lines
 ended_with text line next before more e =
@@ -66,7 +67,7 @@ ended_with text line next before more e =
     ∙ ap (λ (n : ℕ). take n (before ++ ps)) count
     ∙ take-append-add before ps (suc (length more))
 
--- a list is empty or not
+-- a list is empty or non-empty
 of_list : {X : Type 0} (xs : List X) (P : Type 0) → (xs ≡ [] → P) → ((y : X) (ys : List X) → xs ≡ y ∷ ys → P) → P
 of_list [] P none some = none refl
 of_list (y ∷ ys) P none some = some y ys refl

@@ -1,11 +1,11 @@
--- Reads of a source, one after another.
+-- Consecutive reads of a source
 use Rattle.std.proofs.Common.{◌≡◌, ℕ, ◌⊎◌, inl, inr, List, [], ◌++◌, subst, sym}
 
--- no read so far found the end: there was none, or the last gave bytes
+-- no read so far reached the end: there was no read, or the last one returned bytes
 abbrev pub HasNoEnd : {D : Type 0} → (D → Type 0) → D → List ℕ → D → Type 0
 HasNoEnd Ended before given now = ((now ≡ before) × (given ≡ [])) ⊎ (¬ (Ended now))
 
--- so one read more may be counted to them
+-- therefore one more read continues them
 pub one_read_more : {D : Type 0} (Gave : D → List ℕ → D → Type 0) (Ended : D → Type 0)
     → ((a b c : D) (xs ys : List ℕ) → Gave a xs b → ¬ (Ended b) → Gave b ys c → Gave a (xs ++ ys) c)
     → (a b c : D) (xs ys : List ℕ) → Gave a xs b → HasNoEnd Ended a xs b → Gave b ys c → Gave a (xs ++ ys) c

@@ -1,4 +1,4 @@
--- A run of a script from read to read, and at its end.
+-- A run of a script: each read, and the end
 use Rattle.std.proofs.Common.{◌≡◌, ℕ, ◌+◌, ◌-◌, ◌<◌, ◌≤◌, ◌++◌, [], ◌∷◌, List, length, length-append, take, ap, ◌∙◌, sym, append_assoc, append-nil, arith, None, refl, subst}
 use Rattle.std.proofs.lemmas.List.{get_or-replicate, take_all}
 use Rattle.std.proofs.Math.Seq.{take-append-add}
@@ -13,17 +13,17 @@ use Rattle.monitor_script.specs.Feed.{Fed, Cut, fed}
 use Rattle.monitor_script.proofs.EndedLaws.{from_start_leaves, ended_are, machine_of_all, output_of_all, some_piece}
 use Rattle.monitor_script.proofs.Feeding.{InTwo, goes_on, after_clipped, output_clipped}
 
--- a read of no byte
+-- a read of no bytes
 pub nothing_read : (front buffer : List ℕ) (n : ℕ) → n ≡ 0 → front ++ take n buffer ≡ front
 nothing_read front buffer n zero = ap (λ (k : ℕ). front ++ take k buffer) zero ∙ append-nil front
 
--- what was read has been taken, and left bytes more may come
+-- the bytes read so far have been processed, and at most `left` more may follow
 pub record SoFar (m0 : MachineState) (front : List ℕ) (m : MachineState) (l : List ℕ) (left : ℕ) : Type 0 where
   pub limit : length front + left ≡ 16777216
   pub machine : m ≡ (fed m0 [] front).machine
   pub line : l ≡ (fed m0 [] front).line
 
--- a piece more
+-- one more piece
 pub so_far_more : (m0 : MachineState) (front piece : List ℕ) (m m' : MachineState) (line line' : List ℕ) (left left' : ℕ) → SoFar m0 front m line left → left' + length piece ≡ left → m' ≡ (fed m line piece).machine → line' ≡ (fed m line piece).line → SoFar m0 (front ++ piece) m' line' left'
 so_far_more m0 front piece m m' line line' left left' s few p l =
     let on = goes_on m0 [] (front ++ piece) front piece m line refl s.machine s.line in
@@ -37,7 +37,7 @@ so_far_more m0 front piece m m' line line' left left' s few p l =
 pub output_more : (m0 : MachineState) (front piece : List ℕ) (m : MachineState) (line : List ℕ) (left : ℕ) → SoFar m0 front m line left → (fed m0 [] front).output ++ (fed m line piece).output ≡ (fed m0 [] (front ++ piece)).output
 output_more m0 front piece m line left s = sym (goes_on m0 [] (front ++ piece) front piece m line refl s.machine s.line).output
 
--- the first 16,777,216 bytes of what was read
+-- the first 16,777,216 of the bytes read
 pub first_limit : (front piece : List ℕ) (left : ℕ) → length front + left ≡ 16777216 → take 16777216 (front ++ piece) ≡ front ++ take left piece
 first_limit front piece left limit =
     ap (λ (k : ℕ). take k (front ++ piece)) (sym limit) ∙ take-append-add front piece left
@@ -70,7 +70,7 @@ output_before_end m0 text =
     let l = from_start_leaves m0 text in
     l.output ∙ ap (told_all m0.setup m0.world) (sym (ended_are m0 text (fed m0 [] text) l))
 
--- after too long a script
+-- if the script is too long
 pub world_too_long : (m0 : MachineState) (front piece : List ℕ) (m m' : MachineState) (line : List ℕ) (left : ℕ) → SoFar m0 front m line left → m' ≡ (fed m line (take left piece)).machine → m'.world ≡ after_all m0.setup m0.world (ended_lines (take 16777216 (front ++ piece)))
 world_too_long m0 front piece m m' line left s p =
     let text : List ℕ = take 16777216 (front ++ piece) in
@@ -83,7 +83,7 @@ output_too_long m0 front piece m line left s =
     let on = goes_on m0 [] text front (take left piece) m line (first_limit front piece left s.limit) s.machine s.line in
     sym on.output ∙ output_before_end m0 text
 
--- a line whose answer can't be written: whole is what was taken before the line's end
+-- a line whose reply can't be written; `whole` is the bytes processed before the line's end
 cut_at : (m0 : MachineState) (text whole : List ℕ) (more : List (List ℕ)) (Ended : Type 0) (m m' : MachineState) (line : List ℕ) (n : ℕ) (Took : List ℕ → Type 0)
     → pieces (take 16777216 text) ≡ (from_start_leaves m0 whole).before ++ (from_start_leaves m0 whole).last ∷ more → (more ≡ [] → Ended × (length text ≤ 16777216))
     → m ≡ (fed m0 [] whole).machine → line ≡ (fed m0 [] whole).line → m' ≡ after_line m line → n < length (line_output m line)
@@ -108,7 +108,7 @@ cut_at m0 text whole more Ended m m' line n Took ps last p l e less took =
           (ap (λ (x : List ℕ). (fed m0 [] whole).output ++ take n x) same ∙ ap (λ (x : List ℕ). x ++ take n (told m0.setup w t.last)) t.output) took;
     }
 
--- the last line's answer
+-- the reply to the last line
 pub cut_at_end : (m0 : MachineState) (text : List ℕ) (Ended : Type 0) (m m' : MachineState) (line : List ℕ) (left n : ℕ) (Took : List ℕ → Type 0)
     → SoFar m0 text m line left → Ended → m' ≡ after_line m line → n < length (line_output m line)
     → Took ((fed m0 [] text).output ++ take n (line_output m line)) → CutShort m0 text Ended m'.world Took
@@ -117,7 +117,7 @@ cut_at_end m0 text Ended m m' line left n Took s ended e less took =
     cut_at m0 text text [] Ended m m' line n Took
     (ap pieces (front_limit text left s.limit) ∙ (from_start_leaves m0 text).all) (λ none. (ended, omega (arith, limit))) s.machine s.line e less took
 
--- the answer to a line that ends in a piece
+-- the reply to a line that ends in a piece
 pub cut_in_piece : (m0 : MachineState) (front piece : List ℕ) (Ended : Type 0) (m m' : MachineState) (line : List ℕ) (left : ℕ) (Before Took : List ℕ → Type 0)
     → SoFar m0 front m line left → Cut m line (take left piece) Before m' → ((xs : List ℕ) → Before xs → Took ((fed m0 [] front).output ++ xs))
     → CutShort m0 (front ++ piece) Ended m'.world Took
@@ -134,7 +134,7 @@ cut_in_piece m0 front piece Ended m m' line left Before Took s cut joined =
     (ap pieces text ∙ t.more cut.back) (λ none. absurd (some_piece m0 cut.back none)) (sym on.machine) (sym on.line) cut.machine cut.less
     (subst Took (sym (append_assoc out one.output part) ∙ ap (λ (x : List ℕ). x ++ part) (sym on.output)) (joined (one.output ++ part) cut.output))
 
--- where eight machines are left there were eight
+-- executing a script preserves the number of users, 8
 pub eight_before : (m : MachineState) (now : World) (script : List ℕ) → now ≡ after_script m.setup m.world script → length now.parts ≡ 8 → length m.world.parts ≡ 8
 unfolding after_script
 eight_before m now script e eight = sym (length-after_all m.setup m.world (pieces script)) ∙ sym (ap (λ (w : World). length w.parts) e) ∙ eight
@@ -143,7 +143,7 @@ new_part : (u : ℕ) → 1 ≤ u → u ≤ 8 → user_machine u new_world ≡ No
 unfolding new_world
 new_part u low high = get_or-replicate 8 (u - 1) None None (omega arith)
 
--- the headline of a new machine
+-- the headline for a new machine
 pub new_headline : (m : MachineState) (script : List ℕ) → length m.world.parts ≡ 8 → m.world ≡ new_world → (u : ℕ) → 1 ≤ u → u ≤ 8 → lines u (whole_from m.setup m.world script) ≡ solo m.setup (own m.setup u script)
 new_headline m script eight new u low high =
     headline m.setup u m.world script low high eight

@@ -1,11 +1,12 @@
--- What stands after a write that failed in the middle of a script.
+-- The state and the output after a write that failed within a script
 use Rattle.std.specs.Prelude.{ℕ, ◌≡◌, ◌<◌, ◌≤◌, List, [], ◌∷◌, ◌++◌, length, take}
 use Rattle.monitor_machine.specs.MachineState.{MachineState}
 use Rattle.rv_model.specs.machine.Script.{World, after_all, told, told_all, world_after}
 use Rattle.rv_model.specs.text.Lines.{pieces}
 
--- Of the lines of a text's first 16,777,216 bytes, those before some line have been carried out and answered whole. That line has
--- been carried out, and less than its whole answer went out. It is the last one only where the source came to its end within them.
+-- One of the lines in a text's first 16,777,216 bytes has an incomplete reply. The lines before it have been executed,
+-- and their replies written completely. This line has also been executed, and a proper prefix of its reply written. It
+-- is the last of these lines only if the source reached its end within these bytes.
 pub record CutShort (machine : MachineState) (text : List ℕ) (ended : Type 0) (now : World) (took : List ℕ → Type 0) : Type 0 where
   pub before : List (List ℕ)
   pub line : List ℕ

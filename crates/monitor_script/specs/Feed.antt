@@ -1,25 +1,26 @@
--- A script taken byte by byte, as a machine gets it from a source. The contracts of inner functions cite this.
+-- A script processed byte by byte, as a machine reads it from a source. The contracts of internal functions use these
+-- definitions.
 use Rattle.std.specs.Prelude.{ℕ, ◌≡◌, ◌<◌, List, [], ◌∷◌, ◌++◌, length, take, if◌then◌else◌}
 use Rattle.monitor_machine.specs.MachineState.{MachineState, after_line, line_output}
 use Rattle.rv_model.specs.text.Lines.{is_newline}
 
--- the machine, the line so far (its first 1,025 bytes), and what was put out
+-- the machine, the unfinished line (its first 1,025 bytes), and the output so far
 pub record Fed : Type 0 where
   pub machine : MachineState
   pub line : List ℕ
   pub output : List ℕ
 
--- a line and one more byte, as far as it is kept: one byte more than a line may have
+-- a line after appending a byte, truncated to 1,025 bytes, one more than a valid line may have
 abbrev pub longer : List ℕ → ℕ → List ℕ
 longer line b = take 1025 (line ++ b ∷ [])
 
--- one byte: a newline ends the line, any other byte makes it longer
+-- one byte: a newline ends the line, and any other byte is appended to it
 unfoldable pub feed : MachineState → List ℕ → ℕ → Fed
 feed m line b =
     if is_newline b then record { machine = after_line m line; line = []; output = line_output m line }
     else record { machine = m; line = longer line b; output = [] }
 
--- bytes one after another
+-- several bytes in order
 abbrev pub fed : MachineState → List ℕ → List ℕ → Fed
 fed m line [] = record { machine = m; line = line; output = [] }
 fed m line (b ∷ bs) =
@@ -27,8 +28,8 @@ fed m line (b ∷ bs) =
     let rest = fed one.machine one.line bs in
     record { machine = rest.machine; line = rest.line; output = one.output ++ rest.output }
 
--- the machine and the line before a newline among some bytes, where the answer to that line wasn't written whole: what went out
--- ends within it, and the machine stands after the line
+-- the reply to the line before a newline in `bytes` is incomplete: the output ends within this reply, and the machine
+-- has executed the line
 pub record Cut (m : MachineState) (line bytes : List ℕ) (took : List ℕ → Type 0) (now : MachineState) : Type 0 where
   pub front : List ℕ
   pub back : List ℕ

@@ -1,4 +1,4 @@
-//! A script, byte by byte.
+//! Execution of a script byte by byte.
 ghost use Rattle.std.specs.Prelude.{◌≡◌, ℕ, ◌<◌, length, take, OnOk, OnErr};
 ghost use Rattle.monitor_machine.specs.MachineState.{after_line, line_output};
 ghost use Rattle.rv_model.specs.machine.Setup.{user_count};
@@ -11,7 +11,7 @@ use monitor_cmds::Reply;
 use monitor_machine::Machine;
 use std::alloc::Allocator;
 
-/// Answers a line, and writes the answer.
+/// Execute a line, and write its reply to `sink`. If the write fails, the machine has executed the line.
 pub(crate) fn serve<A: Allocator, K: Sink>(
     machine: &mut Machine<'_, A>,
     line: &[u8],
@@ -31,7 +31,7 @@ pub(crate) fn serve<A: Allocator, K: Sink>(
     write_all(sink, reply.as_slice())
 }
 
-/// Takes one byte of a script.
+/// Process one byte of a script: a newline ends the line and executes it; any other byte is appended to the line.
 #[tactic(auto, unfolding(crate::specs::Feed::feed))]
 fn take_byte<A: Allocator, K: Sink>(
     machine: &mut Machine<'_, A>,
@@ -61,8 +61,7 @@ fn take_byte<A: Allocator, K: Sink>(
     Ok(())
 }
 
-/// Takes bytes of a script, and writes the answer to each line that ends in them before the next
-/// byte is taken.
+/// Process bytes of a script. The reply to each line that ends in them is written before the next byte is processed.
 pub(crate) fn take_bytes<A: Allocator, K: Sink>(
     machine: &mut Machine<'_, A>,
     line: &mut Line,

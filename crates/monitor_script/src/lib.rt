@@ -1,4 +1,4 @@
-//! Scripts that a machine runs, and the devices that they come from and answer to.
+//! Scripts: a machine executes their lines, which it reads from a source, and writes the replies to a sink.
 #![tactic(auto)]
 
 mod feed;

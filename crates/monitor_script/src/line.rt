@@ -1,11 +1,11 @@
-//! A line of a script while its bytes come in.
+//! The line buffer of a script.
 ghost use Rattle.std.specs.Prelude.{◌≡◌, []};
 ghost use Rattle.monitor_script.specs.Feed.{longer};
 
 use arrayvec::ArrayVec;
 use std::marker::Model;
 
-/// A line so far: its first 1,025 bytes, one more than a line may have.
+/// The first 1,025 bytes of an unfinished line, one more than a valid line may have.
 #[derive(Drop)]
 pub struct Line {
     bytes: ArrayVec<u8, 1025>,
@@ -20,7 +20,7 @@ impl Model for Line {
 }
 
 impl Line {
-    /// An empty line.
+    /// Return an empty line.
     pub fn new() -> Line
         ensures { result ≡ [] }
     {
@@ -29,21 +29,21 @@ impl Line {
         }
     }
 
-    /// Drops all bytes.
+    /// Remove all bytes.
     pub fn clear(&mut self)
         ensures { self.new ≡ [] }
     {
         self.bytes.clear();
     }
 
-    /// The bytes.
+    /// Return the bytes.
     pub fn as_slice(&self) -> &[u8]
         ensures { result.now ≡ self.now }
     {
         self.bytes.as_slice()
     }
 
-    /// Adds a byte, where there is room.
+    /// Append a byte; discard it if the buffer is full.
     pub fn push(&mut self, byte: u8)
         ensures { self.new ≡ longer self.old byte }
     {

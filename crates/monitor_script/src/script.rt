@@ -1,4 +1,4 @@
-//! A whole script.
+//! Execution of a whole script.
 ghost use Rattle.std.specs.Prelude.{◌≡◌, ◌≢◌, ℕ, ◌+◌, ◌<◌, ◌≤◌, List, Err, length, take, OnOk, IfOk};
 ghost use Rattle.monitor_machine.specs.MachineState.{after_line, line_output};
 ghost use Rattle.rv_model.specs.machine.World.{solo, solo_from};
@@ -27,25 +27,25 @@ use monitor_machine::Machine;
 use std::alloc::Allocator;
 use thiserror::Error;
 
-/// Why a run stopped before the script's end.
+/// The reason why a run stopped before the script's end.
 #[derive(Debug, Drop, Error)]
 pub enum RunFault {
-    /// The source failed.
+    /// A read from the source failed.
     #[error("cannot read script")]
     Read,
-    /// The source gave more than 16,777,216 bytes.
+    /// The source has more than 16,777,216 bytes.
     #[error("script too long")]
     TooLong,
-    /// The sink failed.
+    /// A write to the sink failed.
     #[error("cannot write output")]
     Write,
 }
 
-/// The most bytes that a script may have.
+/// The maximum size of a script in bytes.
 pub const MAX_SCRIPT: usize = 16_777_216;
 
-/// Takes a piece of a script that may go on by `left` bytes, and answers by how many it may go on
-/// after it. Of a longer piece only the first `left` bytes are taken.
+/// Process the next piece of a script, in which `left` more bytes are allowed, and return how many are allowed after it.
+/// If the piece is longer, process its first `left` bytes only, and return `TooLong`.
 fn take_piece<A: Allocator, K: Sink>(
     machine: &mut Machine<'_, A>,
     line: &mut Line,
@@ -81,7 +81,7 @@ fn take_piece<A: Allocator, K: Sink>(
     Ok(left - taken)
 }
 
-/// Answers the last line, which ends with the script.
+/// Execute the last line, which ends with the script, and write its reply.
 fn end_script<A: Allocator, K: Sink>(
     machine: &mut Machine<'_, A>,
     line: &Line,
@@ -106,16 +106,16 @@ fn end_script<A: Allocator, K: Sink>(
     Ok(())
 }
 
-/// Runs a script from the source to its end, and writes each line's answer to the sink before it
-/// reads on. The machine may be used again, also after a fault.
+/// Read a script from `source` to its end and execute it. Each line's reply is written to `sink` before the next read.
+/// The machine can be used again, even after a fault.
 pub fn run<A: Allocator, S: Source, K: Sink>(
     machine: &mut Machine<'_, A>,
     source: &mut S,
     sink: &mut K,
 ) -> Result<(), RunFault>
-    // What the source gave up to its end is the script, and the sink took the script's output. Each
-    // user's lines are those of a private machine that is given that user's events alone: a new
-    // one, or, where the machine has been used, the user's own from where it stood.
+    // The script is all bytes of the source up to its end, and the sink accepted the script's output. Each user's lines
+    // are the output of a single-user machine that processes only that user's events. It is new if the machine is new;
+    // otherwise it starts from the user's state in the machine.
     ensures headline { OnOk result ((script : List ℕ) × ((output : List ℕ) × (
         S.gave source.old script source.new × S.ended source.new × K.took sink.old output sink.new
         × (machine.old.world ≡ new_world → (u : ℕ) → 1 ≤ u → u ≤ user_count →
@@ -131,14 +131,13 @@ pub fn run<A: Allocator, S: Source, K: Sink>(
     ensures unfailed_sink { OnOk result (K.failures sink.new ≡ K.failures sink.old) }
     ensures read { result ≡ Err RunFault.Read →
         Rose (S.failures source.old) (S.failures source.new) }
-    // After a failed read, the lines whose end was read have been carried out and answered, and no
-    // other.
+    // After a failed read, exactly the lines whose newline was read have been executed, and their replies written.
     ensures after_read { result ≡ Err RunFault.Read → (text : List ℕ) × (
         S.gave source.old text source.new × (length text ≤ 16777216)
         × (machine.new.world ≡ after_all machine.old.setup machine.old.world (ended_lines text))
         × K.took sink.old (told_all machine.old.setup machine.old.world (ended_lines text)) sink.new) }
-    // After too long a script, the lines that end in its first 16,777,216 bytes. At most 512 bytes
-    // more were read.
+    // If the script is too long, exactly the lines that end in its first 16,777,216 bytes have been executed, and their
+    // replies written. At most 512 more bytes have been read.
     ensures after_too_long { result ≡ Err RunFault.TooLong → (text : List ℕ) × (
         S.gave source.old text source.new × ¬ (S.ended source.new)
         × (16777216 < length text) × (length text ≤ 16777728)
@@ -147,7 +146,7 @@ pub fn run<A: Allocator, S: Source, K: Sink>(
         × K.took sink.old (told_all machine.old.setup machine.old.world
         (ended_lines (take 16777216 text))) sink.new) }
     ensures write { result ≡ Err RunFault.Write → Rose (K.failures sink.old) (K.failures sink.new) }
-    // After a failed write, some line's answer went out up to a point before its end.
+    // After a failed write, the output ends within the reply to one line.
     ensures after_write { result ≡ Err RunFault.Write → (text : List ℕ) × (
         S.gave source.old text source.new
         × CutShort machine.old text (S.ended source.new) machine.new.world

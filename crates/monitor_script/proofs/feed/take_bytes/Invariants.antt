@@ -2,7 +2,7 @@ use Rattle.std.proofs.Common.{◌≡◌, take}
 use Rattle.monitor_script.specs.Feed.{fed}
 use Rattle.monitor_script.proofs.feed.take_bytes.Given as goal
 
--- the bytes so far have been taken
+-- the bytes before the current index have been processed
 abbrev pub invariant-loop-byte : goal.invariant-loop-byte
 invariant-loop-byte g l = record {
   machine : l.machine ≡ (fed l.fn.machine l.fn.line (take l.byte-index l.bytes)).machine;

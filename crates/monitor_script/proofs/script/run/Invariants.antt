@@ -4,7 +4,7 @@ use Rattle.monitor_script.proofs.ReadsInTurn.{HasNoEnd}
 use Rattle.monitor_script.proofs.Runs.{SoFar}
 use Rattle.monitor_script.proofs.script.run.Given as goal
 
--- what the source gave without an end has been taken, and its output written
+-- all bytes that the source returned before its end have been processed, and their output written
 abbrev pub invariant-loop-count : goal.invariant-loop-count
 invariant-loop-count g l = (front : List ℕ) × (record {
   gave : g.S.Source.gave l.fn.source front l.source;
