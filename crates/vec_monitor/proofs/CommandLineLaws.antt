@@ -1,4 +1,4 @@
--- What the program reads of clap's matches.
+-- The program's access to clap's matches
 use Rattle.std.proofs.Common.{◌≡◌, ◌∙◌, ◌<◌, ◌≤◌, ap, subst, sym, refl, ℕ, true, false, List, [], ◌∷◌, length, map, Option, Some, None, Result, Ok, inl, inr, arith, zero, suc, pos, codes, true≢false, is_some}
 use Rattle.std.specs.Prelude.{unwrap_or, option_map, slice_get}
 use Rattle.std.specs.List.{All, slice_index_or}
@@ -31,7 +31,7 @@ use Rattle.clap.specs.declared.parser.matches.ArgMatches.{ArgMatches}
 use Rattle.clap.specs.declared.parser.matches.MatchedArg.{MatchedArg}
 use Rattle.vec_monitor.specs.CommandLine.{command_line, image_rule, quantum_rule, script_rule, quantum_word, script_word, words_fault, IsQuantum}
 
--- ---- the command as it was built up
+-- ---- the command after building it
 
 none_in : {X : Type 0} (xs : List X) → is_empty xs ≡ true → xs ≡ []
 none_in [] e = refl
@@ -97,9 +97,9 @@ alone c is d j e lt same =
     let ids : (slice_index_or (args_of c) j e).id.now ≡ (slice_index_or (args_of c) 0 d).id.now = (bytes_eq-Decides _ _).0 same in
     alone_at j (sym (id_at c is j e lt) ∙ (ids ∙ id_at c is 0 d first)) (subst (λ n. j < n) (three c is) lt)
 
--- ---- the entry of the quantum
+-- ---- the matches of the quantum
 
--- an argument of the built command with the id of `--quantum` is that one
+-- an argument of the built command with the id of `--quantum` has the parser of `--quantum`
 quantum_rules : (c : Command) (m : ArgMatches) → app_of c ≡ command_line → (p : IsParsedFrom c m) → (j : ℕ) (x : Arg) → j < length (args_of p.built)
     → slice_index_or (args_of p.built) j x ≡ x → (w : Text) → w ≡ codes "quantum" → bytes_eq x.id.now w ≡ true
     → parser_of x ≡ Signed (pos 1) (pos 1000)
@@ -116,7 +116,7 @@ quantum_rules c m is p j x lt at w key same =
     let rules = same_rules_by_id c m p 0 x first (alone c is x) own j x lt at ids in
     ap parser_of_value (rules.parser (Signed (pos 1) (pos 1000)) parser_is)
 
--- a value that passes `--quantum`
+-- a value that `--quantum` accepts is in its range
 passes_quantum : (c : Command) (m : ArgMatches) → app_of c ≡ command_line → (p : IsParsedFrom c m) → (w v : Text) → w ≡ codes "quantum"
     → PassesArg p.built w v → IsSignedIn (pos 1) (pos 1000) v
 passes_quantum c m is p w v key pass =
@@ -132,7 +132,7 @@ first_given : (how : Reading) (vs : List (Bor Text)) (t : Text) (Q : Text → Ty
 first_given how [] t Q e all = absurd (true≢false (sym (ap is_some e)))
 first_given how (v ∷ vs) t Q e all = (v.now, sym (ap (λ o. unwrap_or o t) e), All-get_or (λ s. Q s.now) (v ∷ vs) 0 v (omega arith) all)
 
--- the text that is read of `--quantum` comes of a word that passed
+-- the text matched for `--quantum` comes from an accepted value
 pub given_quantum : (c : Command) (m : ArgMatches) → app_of c ≡ command_line → (p : IsParsedFrom c m) → (t : Text)
     → one_text (found_of m) (codes "quantum") ≡ Some t → (v : Text) × (t ≡ without_minus v) × IsSignedIn (pos 1) (pos 1000) v
 given_quantum c m is p t given = go (matched_of (found_of m) (codes "quantum")) refl
@@ -171,7 +171,7 @@ given_quantum c m is p t given = go (matched_of (found_of m) (codes "quantum")) 
         let got = entry_by_id (EntryPasses p.built) (found_of m).entries.items (codes "quantum") x parsed.values e in
         at_entry x got.0 got.1 ((bytes_eq-Decides _ _).0 got.2) got.3 (rw e at given)
 
--- the number that is read of `--quantum`, and 100 where there is no text
+-- the number parsed for `--quantum`, or 100 without a text
 pub quantum_read : (E : Type 0) (G : Text → Result ℕ E → Type 0) (c : Command) (m : ArgMatches) (words : List Text) → app_of c ≡ command_line → IsParsedFrom c m
     → rows_of (found_of m) ≡ matches_of command_line words
     → ((t : Text) (x : Result ℕ E) → G t x → ParsesUnsigned 16 10 t x)
@@ -199,7 +199,7 @@ quantum_read E G c m words is p rows only r n none value read = go (one_text (fo
         let spells = spelled t number.0 (subst (ReadsOne G t) number.1 parsed) in
         (subst (λ o. IsQuantum o n) (sym e ∙ word_is) (n_is ∙ spells), omega arith, omega arith)
 
--- ---- the words of the script and of the images
+-- ---- the arguments for the script and the images
 
 pub rows_by : (c : Command) (m : ArgMatches) (words : List Text) → app_of c ≡ command_line → HasMatchesOf (app_of c) words m
     → rows_of (found_of m) ≡ matches_of command_line words
@@ -213,12 +213,12 @@ pub images_read : (m : ArgMatches) (words : List Text) → rows_of (found_of m) 
     → option_map raw_values (matched_of (found_of m) (codes "image")) ≡ all_of (codes "image") (matches_of command_line words)
 images_read m words rows = raw_values-rows (found_of m) (codes "image") ∙ ap (all_of (codes "image")) rows
 
--- the words that were found, or none
+-- the arguments found, or none
 pub images_in : (P : Bor (List (Bor Text)) → Type 0) (o : Option (Bor (List (Bor Text)))) (d : Bor (List (Bor Text))) (words : Option (List Text))
     → option_map (λ s. texts s.now) o ≡ words → UnwrapsOrElse o P d → ((b : Bor (List (Bor Text))) → P b → b.now ≡ []) → texts d.now ≡ unwrap_or words []
 images_in P None d words e h empty = ap texts (empty d h) ∙ ap (λ ws. unwrap_or ws []) e
 images_in P (Some s) d words e h empty = ap (λ (b : Bor (List (Bor Text))). texts b.now) h ∙ ap (λ ws. unwrap_or ws []) e
 
--- clap takes the words
+-- clap accepts the arguments
 pub taken_by : (c : Command) (words : List Text) → app_of c ≡ command_line → (is_simple_and_free (app_of c) ≡ true → fault_of (app_of c) words ≡ []) → words_fault words ≡ []
 taken_by c words is free = sym (ap (λ a. fault_of a words) is) ∙ free (ap is_simple_and_free is)

@@ -1,4 +1,4 @@
--- The first equals sign of an image word.
+-- The first equals sign of an image argument
 use Rattle.std.specs.Prelude.{None, nat_lt, ◌≤◌, map}
 use Rattle.std.proofs.lemmas.Bool.Decides.{nat_tests}
 use Rattle.std.proofs.Common.{ap₂, zero, suc, refl, ap, false, ◌≡◌, ◌≢◌, ◌<◌, ◌==◌, ◌+◌, ◌++◌, ◌∷◌, [], ℕ, List, length, subst, take, true≢false, sym, ◌∙◌, arith}
@@ -28,7 +28,7 @@ pub splits : (word name path : List ℕ) → name ≡ before_first (λ b. b == 6
 splits word name path name_is path_is lt =
     (position_or_len (λ b. b == 61) word, lt, eqb-true _ _ (passes_at_first (λ b. b == 61) word 0 lt), before word, name_is, path_is)
 
--- ---- lists of words
+-- ---- lists of arguments
 
 pub zip_push : {A B : Type 0} (R : A → B → Type 0) (xs : List A) (ys : List B) (x : A) (y : B) → AllZip R xs ys → R x y → AllZip R (xs ++ x ∷ []) (ys ++ y ∷ [])
 zip_push R [] [] x y all one = (one, tt)
@@ -47,7 +47,7 @@ some_lacks words k d lt without =
     let counted : length (texts words) ≡ length words = grind (arith, length-map) in
     (k, text, omega arith, at, without)
 
--- where each word has a name and a path, none lacks an equals sign
+-- if each argument has a name and a path, each has an equals sign
 pub zip_lacks : (words : List (Bor Text)) (images : List ImagePath) → AllZip IsPathOf words images → (k : ℕ) (x : Text) → k < length (texts words)
     → slice_index_or (texts words) k x ≡ x → LacksEqualsSign x → ⊥
 zip_lacks [] images all k x lt at lacks = absurd (omega arith)

@@ -1,4 +1,4 @@
--- What the program's run came to, from the files that it read to the machine that it made.
+-- The result of the program's run: the files that it reads, and the machine that it creates
 use Rattle.std.proofs.Common.{◌≡◌, ◌≢◌, ◌∙◌, ℕ, List, [], ◌∷◌, ◌++◌, append-nil, Bool, true, false, Option, Some, None, Result, Ok, Err, ◌⊎◌, inl, inr, ap, subst, sym, refl, length, map, not, ◌&&◌, ◌||◌, nat_le, nat_lt, if◌then◌else◌, is_some, true≢false, leb-true}
 use Rattle.std.specs.Borrow.{Bor}
 use Rattle.std.specs.Io.{StartsWith}
@@ -32,45 +32,45 @@ use Rattle.monitor_script.proofs.Prefixes.{begins}
 
 -- ---- known bytes
 
--- what was read up to the end is what was known
+-- the bytes read up to the end are the known ones
 pub all_was_known : (known before after : Option (List ℕ)) (bytes : List ℕ) → before ≡ known → Consumes before after bytes → IsAtEnd after → AreKnownAs known bytes
 all_was_known known before after bytes same given end =
     subst (λ it. AreKnownAs it bytes) same (Consumes-whole before after bytes (λ xs. bytes ≡ xs) given end refl)
 
--- what may come after the bytes that a reader gave, where its bytes are known; nothing, where it came to their end
+-- the known bytes after those that a reader returned; there are none if the reader reached the end
 rest_of : (known after : Option (List ℕ)) (text : List ℕ) → Consumes known after text → (rest : List ℕ) × AreKnownAs known (text ++ rest) × (IsAtEnd after → rest ≡ [])
 rest_of None after text given = ([], tt, λ end. refl)
 rest_of (Some xs) None text given = absurd given
 rest_of (Some xs) (Some rest) text given = (rest, sym given, λ end. end)
 
--- ---- what was put out
+-- ---- the output
 
--- a run of which some text was read
+-- the output of a run that has read some text
 pub put_out : (m : MachineState) (known after : Option (List ℕ)) (text output : List ℕ) (took : List ℕ → Type 0) → m.world ≡ new_world → Consumes known after text → took output
     → ((rest : List ℕ) → (IsAtEnd after → rest ≡ []) → StartsWith (whole_from m.setup m.world (text ++ rest)) output) → PutOutPrefix took m.setup known
 put_out m known after text output took new given taken prefix =
     let rest = rest_of known after text given in
     (text ++ rest.0, rest.1, (output, taken, subst (λ (w : World). StartsWith (whole_from m.setup w (text ++ rest.0)) output) new (prefix rest.0 rest.2)))
 
--- the whole output
+-- the output of a whole script
 pub put_out_all : (took : List ℕ → Type 0) (setup : Setup) (known : Option (List ℕ)) → RanScript took setup known → PutOutPrefix took setup known
 put_out_all took setup known ran =
     (ran.script, ran.read, (ran.output, ran.taken, begins (whole setup ran.script) ran.output [] (sym (append-nil ran.output ∙ ran.all))))
 
--- nothing
+-- no output
 pub put_out_none : (took : List ℕ → Type 0) (setup : Setup) (known : Option (List ℕ)) → took [] → PutOutPrefix took setup known
 put_out_none took setup None none = ([], tt, ([], none, refl))
 put_out_none took setup (Some xs) none = (xs, refl, ([], none, refl))
 
 -- ---- a run that ended with a fault
 
--- its status is 3 or 5
+-- its exit status is 3 or 5
 run_statuses : (fault : RunFault) → (program_status (Run fault) ≡ 3) ⊎ (program_status (Run fault) ≡ 5)
 run_statuses Read = inl refl
 run_statuses TooLong = inl refl
 run_statuses Write = inr refl
 
--- so what is said of other statuses says nothing of it
+-- therefore statements about other exit statuses don't concern it
 pub other_status : {T : Type 0} (G : Type 0) (r : Result T ProgramFault) (stopped : RunFault) (Q : ℕ → Type 0) → IsErrAnd r (λ fault. fault ≡ Run stopped) → (Q 3 → ⊥) → (Q 5 → ⊥) → IfErr r (λ fault. Q (program_status fault) → G)
 other_status G (Ok x) stopped Q is three five = tt
 other_status G (Err fault) stopped Q is three five = λ q. absurd (elim (run_statuses stopped) [
@@ -94,7 +94,7 @@ images_are_small setup faultless =
     (not (list_all (λ image. is_name image.name) setup.images && are_distinct setup.images)) (list_all is_small setup.images)
     new_faults.Quantum new_faults.ImageCount new_faults.ImageName new_faults.ImageSize faultless
 
--- the images of small files, word by word
+-- the images of small files, for each argument
 pub images_of_words : {A : Type 0} (file_bytes : Text → Option (List ℕ)) (words : List (Bor Text)) (paths : List ImagePath) (files : List (ImageFile A))
     → AllZip IsPathOf words paths → AllZip (IsFileOf file_bytes) paths files → list_all is_small (map named_file files) ≡ true
     → AllZip (IsImageOf file_bytes) (texts words) (map named_file files)
@@ -108,9 +108,9 @@ images_of_words file_bytes (w ∷ ws) (p ∷ ps) (f ∷ fs) split read small =
     let named : IsNameAndPath w.now f.name.now p.path.now = subst (λ name. IsNameAndPath w.now name p.path.now) (sym read.0.0) split.0 in
     ((p.path.now, named, read.0.1 (leb-true _ _ parts.0)), images_of_words file_bytes ws ps fs split.1 read.1 parts.1)
 
--- ---- from the options and the words
+-- ---- from the options and the arguments
 
--- the words, paths, files and images, each as it was passed on
+-- the arguments, paths, files and images, each passed from one function to the next
 pub ran_options : {A : Type 0} (file_bytes : Text → Option (List ℕ)) (input_bytes : Option (List ℕ)) (quantum : ℕ) (script : Option Text) (words words' : List (Bor Text)) (paths paths' : List ImagePath) (files files' : List (ImageFile A)) (images images' : List Image)
     (machine : MachineState) (Ran : Setup → Option (List ℕ) → Type 0) → words' ≡ words → AllZip IsPathOf words' paths → paths' ≡ paths → AllZip (IsFileOf file_bytes) paths' files → files' ≡ files → named_images images ≡ map named_file files' → images' ≡ images
     → new_fault (setup_of quantum images') ≡ None → machine ≡ record { setup = setup_of quantum images'; world = new_world } → (machine.world ≡ new_world → Ran machine.setup (option_map_or file_bytes script input_bytes))

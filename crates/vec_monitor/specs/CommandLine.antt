@@ -1,4 +1,4 @@
--- The words of the command line, as clap's own definitions take them.
+-- The command line, according to clap's own definitions
 use Rattle.std.specs.Prelude.{◌≡◌, ◌≢◌, ⊤, ℕ, List, [], Option, Some, None, pos, codes, unwrap_or}
 use Rattle.std.specs.Str.Parse.{digits_value, without_leading_plus}
 use Rattle.clap.specs.Words.{App, IsAmong, Kinds, Rule, Text, all_of, fault_of, first_of, kind_of, matches_of, new_app, new_rule, one_of, with_rule}
@@ -27,7 +27,8 @@ image_rule = record (new_rule (codes "image")) { value_names = 1; action = Some 
 abbrev pub command_line : App
 command_line = with_rule (with_rule (with_rule (new_app (codes "vecmon")) quantum_rule) script_rule) image_rule
 
--- the words that clap gives to `--quantum`, to SCRIPT and to NAME=PATH, the program's name first
+-- the arguments that clap assigns to `--quantum`, to SCRIPT and to NAME=PATH; the first of `words` is the program's
+-- name
 abbrev pub quantum_word : List Text → Option Text
 quantum_word words = one_of (codes "quantum") (matches_of command_line words)
 
@@ -37,22 +38,23 @@ script_word words = first_of (codes "script") (matches_of command_line words)
 abbrev pub image_words : List Text → List Text
 image_words words = unwrap_or (all_of (codes "image") (matches_of command_line words)) []
 
--- the number that a word spells, and 100 without a word
+-- the number in the argument of `--quantum`, or 100 without this option
 abbrev pub IsQuantum : Option Text → ℕ → Type 0
 IsQuantum None n = n ≡ 100
 IsQuantum (Some word) n = n ≡ digits_value 10 (without_leading_plus word)
 
--- the kinds of error that clap has for the words; none where it takes them
+-- the kinds of error that clap may return for the arguments; empty if clap accepts them
 abbrev pub words_fault : List Text → Kinds
 words_fault words = fault_of command_line words
 
--- the fault for a kind of clap's error
+-- the usage fault for a kind of clap's errors
 abbrev pub IsFaultOf : ErrorKind → UsageFault → Type 0
 IsFaultOf kind (Help e) = (kind ≡ DisplayHelp) × (kind_of e ≡ DisplayHelp)
 IsFaultOf kind (Usage e) = (kind ≢ DisplayHelp) × (kind ≢ OutOfMemory) × (kind_of e ≡ kind)
 IsFaultOf kind NoMemory = kind ≡ OutOfMemory
 
--- a fault of the words has clap's error of one of these kinds: of the kind help where help is asked for
+-- the usage fault contains a clap error of one of these kinds; it is `Help` if and only if the error is a request for
+-- help
 abbrev pub IsRefusedFor : Kinds → UsageFault → Type 0
 IsRefusedFor kinds (Help e) = (kind_of e ≡ DisplayHelp) × IsAmong (kind_of e) kinds
 IsRefusedFor kinds (Usage e) = (kind_of e ≢ DisplayHelp) × IsAmong (kind_of e) kinds

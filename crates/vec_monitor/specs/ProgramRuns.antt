@@ -1,5 +1,5 @@
--- What the program did with its words: the machine that it made, the script that it read, and what it put out. Of files and of
--- standard input it says as much as is known of their bytes.
+-- The effect of the program with its arguments: the machine that it creates, the script that it reads, and its output.
+-- The bytes of files and of standard input may be unspecified.
 use Rattle.std.specs.Prelude.{◌≡◌, ◌≤◌, ℕ, List, [], Option, None, length}
 use Rattle.std.specs.Io.{StartsWith}
 use Rattle.std.specs.List.{AllZip}
@@ -13,8 +13,8 @@ use Rattle.vec_monitor.specs.CommandLine.{image_words, quantum_word, script_word
 use Rattle.vec_monitor.specs.ImageWords.{IsNameAndPath}
 use Rattle.devices.specs.KnownBytes.{AreKnownAs}
 
--- A new machine of these fixed parameters read a script to its end and put out the script's output. Each user's lines are those of a
--- private machine that is given that user's events alone.
+-- A new machine with this setup read a script to its end and output the script's replies. Each user's lines are the
+-- output of a single-user machine that processes only that user's events.
 pub record RanScript (took : List ℕ → Type 0) (setup : Setup) (known : Option (List ℕ)) : Type 0 where
   pub script : List ℕ
   pub output : List ℕ
@@ -24,18 +24,19 @@ pub record RanScript (took : List ℕ → Type 0) (setup : Setup) (known : Optio
   pub all : output ≡ whole setup script
   pub each_user : (u : ℕ) → 1 ≤ u → u ≤ user_count → lines u output ≡ solo setup (own setup u script)
 
--- However a run of a script ended, a new machine of these fixed parameters put out a prefix of the script's output.
+-- However the run of a script ended, a new machine with this setup has output a prefix of the script's output.
 abbrev pub PutOutPrefix : (List ℕ → Type 0) → Setup → Option (List ℕ) → Type 0
 PutOutPrefix took setup known =
     (script : List ℕ) × AreKnownAs known script × ((output : List ℕ) × took output × StartsWith (whole setup script) output)
 
--- the image that a word names: its name, and the bytes of the file at its path
+-- the image that an argument names: its name, and the bytes of the file at its path
 abbrev pub IsImageOf : (Text → Option (List ℕ)) → Text → Image → Type 0
 IsImageOf file_bytes word image =
     (path : Text) × IsNameAndPath word image.name path × AreKnownAs (file_bytes path) image.bytes
 
--- A machine of this quantum and of the images that these words name, none of which is refused, ran the script as `Ran` says. The
--- script's bytes are those of the file at its path, and those of standard input without a path.
+-- A machine with this quantum and the images of these arguments executed the script, and `Ran` describes the run. The
+-- machine refuses no image. The script's bytes are those of the file at its path, or those of standard input without a
+-- path.
 pub record RanOptions (file_bytes : Text → Option (List ℕ)) (input_bytes : Option (List ℕ)) (quantum : ℕ) (script : Option Text) (images : List Text) (Ran : Setup → Option (List ℕ) → Type 0) : Type 0 where
   pub setup : Setup
   pub ticks : setup.quantum ≡ quantum
@@ -43,7 +44,7 @@ pub record RanOptions (file_bytes : Text → Option (List ℕ)) (input_bytes : O
   pub faultless : new_fault setup ≡ None
   pub run : Ran setup (option_map_or file_bytes script input_bytes)
 
--- clap took the words, and the script that they ask for was run as `Ran` says
+-- clap accepted the arguments, and `Ran` describes the run of the script that they name
 pub record RanWords (file_bytes : Text → Option (List ℕ)) (input_bytes : Option (List ℕ)) (words : List Text) (Ran : Setup → Option (List ℕ) → Type 0) : Type 0 where
   pub accepted : words_fault words ≡ []
   pub quantum : ℕ

@@ -1,4 +1,4 @@
--- The statuses that the program ends with (docs/PROGRAM.md).
+-- The exit statuses of the program (docs/PROGRAM.md)
 use Rattle.std.specs.Prelude.{◌≡◌, ◌≢◌, ◌⊎◌, ℕ, List, []}
 use Rattle.std.specs.List.{Any}
 use Rattle.clap.specs.Words.{IsAmong, Text}
@@ -13,13 +13,13 @@ use Rattle.vec_monitor.specs.ImageWords.{LacksEqualsSign}
 use Rattle.vec_monitor.specs.declared.program_fault.ProgramFault.{ProgramFault}
 use Rattle.vec_monitor.specs.declared.program_fault.ProgramFault.TheVariants.{ImageRead, ImageList, Run, NoMemory}
 
--- the script's faults have one status, the output's another
+-- faults of the script have exit status 3, and faults of the output have 5
 abbrev pub run_status : RunFault → ℕ
 run_status Read = 3
 run_status TooLong = 3
 run_status Write = 5
 
--- of the words 2, of an image 4, of memory 6
+-- faults of images have exit status 4, lack of memory has 6, and invalid arguments have 2
 abbrev pub program_status : ProgramFault → ℕ
 program_status (ImageRead name) = 4
 program_status ImageList = 4
@@ -27,17 +27,19 @@ program_status (Run fault) = run_status fault
 program_status NoMemory = 6
 program_status _ = 2
 
--- what a refused machine comes to: the quantum is in its range, so only images are refused
+-- the program's fault for a refused machine: the quantum is always valid, so the fault concerns the images
 abbrev pub machine_fault : NewFault → ProgramFault
 machine_fault new_fault.NoMemory = NoMemory
 machine_fault _ = ImageList
 
--- clap has a fault in the words that is no call for help, or takes them and an image word has no equals sign
+-- clap may return an error other than help for the arguments, or clap accepts them and an image argument has no equals
+-- sign
 abbrev pub MayBeRefused : List Text → Type 0
 MayBeRefused words = ((kind : ErrorKind) × IsAmong kind (words_fault words) × (kind ≢ DisplayHelp))
     ⊎ ((words_fault words ≡ []) × Any LacksEqualsSign (image_words words))
 
--- clap has nothing but such faults in the words, or takes them and an image word has no equals sign
+-- clap rejects the arguments and help is none of the possible errors, or clap accepts them and an image argument has no
+-- equals sign
 abbrev pub AreRefused : List Text → Type 0
 AreRefused words = ((words_fault words ≢ []) × (IsAmong DisplayHelp (words_fault words) → ⊥))
     ⊎ ((words_fault words ≡ []) × Any LacksEqualsSign (image_words words))

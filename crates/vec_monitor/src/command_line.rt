@@ -1,4 +1,4 @@
-//! The words that the program takes, and what they ask for.
+//! Command-line arguments and options.
 ghost use Rattle.std.specs.Prelude.{◌≡◌, IfOk, false};
 ghost use Rattle.clap.specs.Words.{app_of, kind_of, rule_of};
 ghost use Rattle.vec_monitor.specs.CommandLine.{command_line, image_rule, quantum_rule, script_rule, IsFaultOf};
@@ -9,10 +9,10 @@ use clap::{Arg, ArgAction, Command, value_parser};
 use std::alloc::{AllocError, Global};
 use std::fmt;
 
-/// The ticks of a slice where the words give none.
+/// The default ticks of a slice.
 pub const DEFAULT_QUANTUM: u16 = 100;
 
-/// What help says after the words.
+/// The text after the options in the output of `--help`.
 const AFTER_HELP: &str = "\
 A script has a command on each line, after the digit of its user, 1 to 8, and a space:
   enter  leave  load  map  poke  peek  set  regs  setpc  vreg  vset  vcsr  policy
@@ -27,23 +27,23 @@ Example, a program of one instruction:
   1 asm 0 addi x5, x0, 7
   1 step 1";
 
-/// What the words of the command line ask for.
+/// The parsed options of the command line.
 #[derive(Debug, Drop)]
 pub struct Options<'a> {
     /// The ticks of a slice, 1 to 1,000.
     pub quantum: usize,
-    /// The path of the script; without one it is standard input.
+    /// The path of the script, or `None` for standard input.
     pub script: Option<&'a str>,
-    /// The words that name images, in their order.
+    /// The image arguments, each `NAME=PATH`, in their order.
     pub images: Vec<&'a str>,
 }
 
-/// Why the words give no options. Its `Display` is clap's text, which ends with a newline.
+/// The reason why parsing returned no options. Its `Display` is clap's text, which ends with a newline.
 #[derive(Debug, Drop)]
 pub enum UsageFault {
-    /// Help was asked for.
+    /// The arguments ask for help.
     Help(clap::Error),
-    /// The words are none that the program takes.
+    /// The arguments are invalid.
     Usage(clap::Error),
     NoMemory,
 }
@@ -78,7 +78,7 @@ impl fmt::Display for UsageFault {
     }
 }
 
-/// The option `--quantum N`.
+/// Return the option `--quantum N`.
 fn quantum<'a>(alloc: Global) -> Arg<'a>
     ensures rule { rule_of result ≡ quantum_rule }
     ensures local { result.global ≡ false }
@@ -90,7 +90,7 @@ fn quantum<'a>(alloc: Global) -> Arg<'a>
         .help("Ticks of a slice, 1 to 1000 [default: 100]")
 }
 
-/// The word `[SCRIPT]`.
+/// Return the argument `[SCRIPT]`.
 fn script<'a>(alloc: Global) -> Arg<'a>
     ensures rule { rule_of result ≡ script_rule }
     ensures local { result.global ≡ false }
@@ -100,7 +100,7 @@ fn script<'a>(alloc: Global) -> Arg<'a>
     )
 }
 
-/// The words `[NAME=PATH]...`.
+/// Return the arguments `[NAME=PATH]...`.
 fn image<'a>(alloc: Global) -> Arg<'a>
     ensures rule { rule_of result ≡ image_rule }
     ensures local { result.global ≡ false }
@@ -111,7 +111,7 @@ fn image<'a>(alloc: Global) -> Arg<'a>
         .help("An ELF file, and the name by which users load it")
 }
 
-/// What clap is told of the words that the program takes.
+/// Return clap's description of the command line. It fails if memory runs out.
 pub fn command<'a>(alloc: Global) -> Result<Command<'a>, AllocError>
     ensures { IfOk result (λ command. app_of command ≡ command_line) }
 {

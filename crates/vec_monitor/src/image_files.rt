@@ -11,18 +11,18 @@ use devices::{Inputs, ReadFault, read_file};
 use monitor_machine::{Image, MAX_IMAGE};
 use std::alloc::{AllocError, Allocator};
 
-/// The file of an image, by the image's name.
+/// The bytes of an image's file, and the image's name.
 #[derive(Drop)]
 pub struct ImageFile<'a, A: Allocator> {
     pub name: &'a str,
     pub bytes: Vec<u8, A>,
 }
 
-/// The most bytes that are read of a file: one more than an image may have.
+/// The maximum number of bytes read from a file, one more than an image may have.
 const MOST_READ: usize = MAX_IMAGE + 1;
 
-/// Reads the file of an image. Refused where the file can't be opened or read, and for want of
-/// memory.
+/// Read the file of an image. Return `ImageRead` if the file can't be opened or read, and `NoMemory` if memory runs
+/// out.
 fn read_image<'a, I: Inputs, A: Allocator>(
     inputs: &I,
     alloc: A,
@@ -42,7 +42,7 @@ fn read_image<'a, I: Inputs, A: Allocator>(
     }
 }
 
-/// Reads the files of the images, in their order, up to the first that can't be read.
+/// Read the files of the images in order. Return the fault of the first file that can't be read.
 pub fn read_images<'a, I: Inputs, A: Allocator + Clone>(
     inputs: &I,
     alloc: A,
@@ -60,7 +60,7 @@ pub fn read_images<'a, I: Inputs, A: Allocator + Clone>(
     Ok(files)
 }
 
-/// The images of the files, in their order.
+/// Return the images of the files, in their order. It fails if memory runs out.
 pub fn borrowed_images<'b, A: Allocator>(
     alloc: A,
     files: &'b [ImageFile<'_, A>],

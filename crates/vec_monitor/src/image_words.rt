@@ -1,4 +1,4 @@
-//! Image words, `NAME=PATH`.
+//! Image arguments, `NAME=PATH`.
 ghost use Rattle.std.specs.Prelude.{◌≡◌, ◌⊎◌, IfErr, IfOk, MatchOption};
 ghost use Rattle.std.specs.List.{AllZip, Any};
 ghost use Rattle.clap.specs.Walk.{texts};
@@ -8,14 +8,14 @@ ghost use Rattle.vec_monitor.specs.declared.program_fault.ProgramFault.TheVarian
 use crate::program_fault::ProgramFault;
 use std::alloc::Allocator;
 
-/// An image by its name, and the path of the file that has it.
+/// The name of an image, and the path of its file.
 #[derive(Clone, Copy)]
 pub struct ImagePath<'a> {
     pub name: &'a str,
     pub path: &'a str,
 }
 
-/// Splits an image word at its first `=`.
+/// Split an image argument at its first `=`; return `None` if it contains none.
 pub fn image_path(word: &str) -> Option<ImagePath<'_>>
     ensures { MatchOption result (LacksEqualsSign word.now)
         (λ image. IsNameAndPath word.now image.name.now image.path.now) }
@@ -24,7 +24,8 @@ pub fn image_path(word: &str) -> Option<ImagePath<'_>>
     Some(ImagePath { name, path })
 }
 
-/// Splits each image word, in their order. Refused where a word has no `=`, and for want of memory.
+/// Split each image argument, in order. Return `ImageWord` if an argument contains no `=`, and `NoMemory` if memory
+/// runs out.
 pub fn image_paths<'a, A: Allocator>(
     alloc: A,
     words: &[&'a str],

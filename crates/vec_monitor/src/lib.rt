@@ -1,5 +1,4 @@
-//! The monitor: the program by the words of its command line, over a machine for eight users and
-//! the scripts that it runs.
+//! The monitor: the program with its command line, a machine for eight users, and the scripts that it executes.
 #![tactic(auto)]
 
 mod command_line;

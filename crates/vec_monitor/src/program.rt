@@ -1,4 +1,4 @@
-//! The program: a script from a file or standard input, its answers to an output.
+//! The program: it executes a script from a file or standard input, and writes the replies to an output.
 ghost use Rattle.std.specs.Prelude.{◌≡◌, ◌≢◌, ◌≤◌, ◌⊎◌, [], IfErr, IsErrAnd, OnOk, option_map, ⊤};
 ghost use Rattle.std.specs.List.{Any};
 ghost use Rattle.std.specs.Option.{option_map_or};
@@ -23,8 +23,8 @@ use monitor_script::{ReaderSource, RunFault, Sink, WriterSink, run};
 use std::alloc::{Allocator, Global};
 use std::io::{self, Read};
 
-/// Runs the script that a reader gives. Whether it ends or not, a new machine puts out no more than
-/// a prefix of what the definitions say.
+/// Execute the script from a reader. However the run ends, a new machine outputs at most a prefix of the script's
+/// specified output.
 fn run_reader<F: Read + Drop, K: Sink, A: Allocator>(
     machine: &mut Machine<'_, A>,
     reader: F,
@@ -38,7 +38,7 @@ fn run_reader<F: Read + Drop, K: Sink, A: Allocator>(
     run(machine, &mut ReaderSource::new(reader), output)
 }
 
-/// Runs the script that the options name, or standard input.
+/// Execute the script at a path, or standard input if there is no path.
 fn run_script<I: Inputs, K: Sink, A: Allocator>(
     inputs: &I,
     machine: &mut Machine<'_, A>,
@@ -65,7 +65,7 @@ fn run_script<I: Inputs, K: Sink, A: Allocator>(
     }
 }
 
-/// Does what the options ask for. The images are read before the script is opened.
+/// Run the program with parsed options. All images are read before the script is opened.
 fn run_options<'a, I: Inputs, K: Sink, A: Allocator + Clone>(
     inputs: &I,
     alloc: A,
@@ -96,7 +96,7 @@ fn run_options<'a, I: Inputs, K: Sink, A: Allocator + Clone>(
     Ok(())
 }
 
-/// Does what the words ask for: help, or a run.
+/// Run the program with its arguments: print help, or execute a script.
 fn run_words<'a, R: Inputs + Print, K: Sink>(
     rt: &R,
     alloc: Global,
@@ -129,7 +129,7 @@ fn run_words<'a, R: Inputs + Print, K: Sink>(
     }
 }
 
-/// Says on standard error why the program ends, and answers its status.
+/// Print the message of a fault to standard error, and return its exit status.
 pub fn report<R: Eprint>(rt: &R, fault: &ProgramFault<'_>) -> u8
     ensures { result ≡ program_status fault.now }
 {
@@ -137,9 +137,9 @@ pub fn report<R: Eprint>(rt: &R, fault: &ProgramFault<'_>) -> u8
     fault.status()
 }
 
-/// The program. `words` is the command line, the program's name first. What the script's lines
-/// answer goes to `output`; help and messages are printed. Answers the status that the program ends
-/// with; for any but `STATUS_DONE` standard error says why.
+/// Run the program. `words` are the command-line arguments; the first is the program's name. The replies to the
+/// script's lines are written to `output`; help is printed to standard output, and error messages to standard error.
+/// Return the exit status.
 pub fn vecmon_into<R: Inputs + Print + Eprint, K: Sink>(
     rt: &R,
     alloc: Global,
@@ -148,13 +148,13 @@ pub fn vecmon_into<R: Inputs + Print + Eprint, K: Sink>(
 ) -> u8
     ensures statuses { (result ≡ 0) ⊎ ((result ≡ 2) ⊎ ((result ≡ 3) ⊎ ((result ≡ 4)
         ⊎ ((result ≡ 5) ⊎ (result ≡ 6))))) }
-    // It ends with 0 where help was asked for, or where the machine that the words ask for ran the
-    // script that they name.
+    // The exit status is 0 if the arguments ask for help, or if the machine that they describe executed the script that
+    // they name.
     ensures ran { result ≡ 0 → IsAmong DisplayHelp (words_fault (texts words.now))
         ⊎ RanWords (R.file_bytes rt.now) (R.input_bytes rt.now) (texts words.now)
         (RanScript (λ told. K.took output.old told output.new)) }
-    // Whatever it ends with, nothing went to the output, or a prefix of what this machine puts out for
-    // this script. With 2, 4 and 6 nothing did.
+    // For every exit status, the output is empty or a prefix of the output of this machine for this script. It is empty
+    // for the exit statuses 2, 4 and 6.
     ensures told { K.took output.old [] output.new
         ⊎ RanWords (R.file_bytes rt.now) (R.input_bytes rt.now) (texts words.now)
         (PutOutPrefix (λ told. K.took output.old told output.new)) }
@@ -169,7 +169,8 @@ pub fn vecmon_into<R: Inputs + Print + Eprint, K: Sink>(
     }
 }
 
-/// The program, as `vecmon_into` with standard output, of which nothing is known.
+/// Run the program as `vecmon_into` does, with standard output as the output. The bytes of standard output are
+/// unspecified.
 pub fn vecmon<R: Inputs + Print + Eprint>(rt: &R, alloc: Global, words: &[&str]) -> u8
     ensures statuses { (result ≡ 0) ⊎ ((result ≡ 2) ⊎ ((result ≡ 3) ⊎ ((result ≡ 4)
         ⊎ ((result ≡ 5) ⊎ (result ≡ 6))))) }

@@ -1,4 +1,4 @@
-//! Why the program ends before its script does, with the status and the text of each fault.
+//! Faults that end the program before its script ends, with their exit statuses and messages.
 ghost use Rattle.std.specs.Prelude.{◌≡◌};
 ghost use Rattle.vec_monitor.specs.Statuses.{machine_fault, program_status};
 ghost use Rattle.vec_monitor.specs.declared.program_fault.ProgramFault.TheVariants.{NoMemory, Run};
@@ -8,37 +8,37 @@ use monitor_script::RunFault;
 use std::alloc::{AllocError, AllocFailed};
 use thiserror::Error;
 
-/// The script ended.
+/// Exit status after a whole script or after help.
 pub const STATUS_DONE: u8 = 0;
 
-/// The words aren't those that the program takes.
+/// Exit status for invalid arguments.
 pub const STATUS_USAGE: u8 = 2;
 
-/// The script can't be read, or is too long.
+/// Exit status if the script can't be read or is too long.
 pub const STATUS_SCRIPT: u8 = 3;
 
-/// An image can't be read, or the machine refuses the images.
+/// Exit status if an image can't be read, or the machine refuses the images.
 pub const STATUS_IMAGE: u8 = 4;
 
-/// The output can't be written.
+/// Exit status if the output can't be written.
 pub const STATUS_OUTPUT: u8 = 5;
 
-/// There is no memory for the words, an image or the machine.
+/// Exit status if memory runs out.
 pub const STATUS_NO_MEMORY: u8 = 6;
 
-/// A fault of the program. Its `Display` is the text for standard error, newlines included.
+/// A fault of the program. Its `Display` is the message for standard error, including newlines.
 #[derive(Debug, Drop, Error)]
 pub enum ProgramFault<'a> {
-    /// A word isn't UTF-8.
+    /// An argument isn't valid UTF-8.
     #[error("error: invalid UTF-8 was detected in one or more arguments\n")]
     NoText,
-    /// Words that clap refuses, with its text.
+    /// clap's error for invalid arguments.
     #[error("{0}")]
     Usage(clap::Error),
-    /// An image word without `=`.
+    /// An image argument without `=`.
     #[error("vecmon: image argument needs NAME=PATH\n")]
     ImageWord,
-    /// The file of the image of this name can't be read.
+    /// The file of the image with this name can't be read.
     #[error("vecmon: cannot read image {0}\n")]
     ImageRead(&'a str),
     /// The machine refuses the images.
@@ -52,7 +52,7 @@ pub enum ProgramFault<'a> {
 }
 
 impl ProgramFault<'_> {
-    /// The status that the program ends with.
+    /// Return the program's exit status for the fault.
     pub fn status(&self) -> u8
         ensures { result ≡ program_status self.now }
     {

@@ -1,4 +1,4 @@
-//! Reads the words of the command line.
+//! Parsing of the command line.
 ghost use Rattle.std.specs.Prelude.{◌≡◌, ◌≤◌, [], IsOk, IfOk, IfErr, option_map};
 ghost use Rattle.clap.specs.Walk.{texts};
 ghost use Rattle.vec_monitor.specs.CommandLine.{
@@ -13,9 +13,9 @@ ghost use Rattle.vec_monitor.specs.CommandLine.{
 use crate::command_line::{DEFAULT_QUANTUM, Options, UsageFault, command};
 use std::alloc::Global;
 
-/// Reads the words of the command line, the program's name first: the quantum, the script's path
-/// and the image words are those that clap reads as `--quantum`, SCRIPT and NAME=PATH. Refused
-/// where clap refuses the words, for help or another fault, and for want of memory.
+/// Parse the command-line arguments; the first is the program's name. The options are the values that clap parses for
+/// `--quantum`, SCRIPT and NAME=PATH. Return clap's error as `Help` or `Usage`, or return `NoMemory` if memory runs
+/// out.
 pub fn options<'a>(alloc: Global, words: &'a [&'a str]) -> Result<Options<'a>, UsageFault>
     ensures quantum { IfOk result (λ options.
         IsQuantum (quantum_word (texts words.entry.now)) options.quantum) }
