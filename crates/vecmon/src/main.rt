@@ -1,4 +1,4 @@
-//! The program: runs a script on a machine for eight users.
+//! The program `vecmon`: it executes a script on a machine for eight users.
 #![tactic(auto)]
 
 ghost use Rattle.std.specs.Prelude.{◌≡◌, ◌⊎◌};
@@ -7,7 +7,7 @@ use devices::{ArgumentFault, arguments};
 use std::process::ExitCode;
 use vec_monitor::{ProgramFault, report, vecmon};
 
-/// Runs the program with the arguments of the process. Returns the exit status.
+/// Run the program with the arguments of the process, and return the exit status.
 fn run(rt: &HostRuntime) -> u8
     ensures statuses { (result ≡ 0) ⊎ ((result ≡ 2) ⊎ ((result ≡ 3) ⊎ ((result ≡ 4)
         ⊎ ((result ≡ 5) ⊎ (result ≡ 6))))) }
