@@ -1,4 +1,4 @@
--- What the program reads of clap's matches.
+-- The program's access to clap's matches
 use Rattle.std.proofs.Common.{◌≡◌, ◌∙◌, ap, refl, sym, subst, true, List, [], Option, Some, None, inl, inr}
 use Rattle.std.specs.Prelude.{Result, Ok, Err, IfErr, IsErrAnd, unwrap_or, option_map}
 use Rattle.std.specs.Borrow.{Bor}
@@ -26,17 +26,17 @@ pub words_read : (m : ArgMatches) (words : List Text) (name : Text) → rows_of 
     → option_map raw_values (matched_of (found_of m) name) ≡ all_of name (matches_of command_line words)
 words_read m words name rows = raw_values-rows (found_of m) name ∙ ap (all_of name) rows
 
--- the words that were found, or none
+-- the arguments found, or none
 pub texts_in : (P : Bor (List (Bor Text)) → Type 0) (o : Option (Bor (List (Bor Text)))) (d : Bor (List (Bor Text))) (words : Option (List Text))
     → option_map (λ s. texts s.now) o ≡ words → UnwrapsOrElse o P d → ((b : Bor (List (Bor Text))) → P b → b.now ≡ []) → texts d.now ≡ unwrap_or words []
 texts_in P None d words e h empty = ap texts (empty d h) ∙ ap (λ ws. unwrap_or ws []) e
 texts_in P (Some s) d words e h empty = ap (λ (b : Bor (List (Bor Text))). texts b.now) h ∙ ap (λ ws. unwrap_or ws []) e
 
--- clap takes the words
+-- clap accepts the arguments
 pub taken_by : (c : Command) (words : List Text) → app_of c ≡ command_line → (is_simple_and_free (app_of c) ≡ true → fault_of (app_of c) words ≡ []) → words_fault words ≡ []
 taken_by c words is free = sym (ap (λ a. fault_of a words) is) ∙ free (ap is_simple_and_free is)
 
--- a fault that comes of clap's error, where that has one of these kinds
+-- a usage fault from one of clap's errors, if this has one of these kinds
 fault_among : (kinds : Kinds) (e : Error) (fault : UsageFault) → IsFaultOf (kind_of e) fault → HasKind kinds e → IsRefusedFor kinds fault
 fault_among kinds e NoMemory is has = tt
 fault_among kinds e (Help told) is (inl none) = absurd (cc (is.0, none))
@@ -44,14 +44,14 @@ fault_among kinds e (Help told) is (inr among) = (is.1, subst (λ k. IsAmong k k
 fault_among kinds e (Usage told) is (inl none) = absurd (is.1 none)
 fault_among kinds e (Usage told) is (inr among) = (λ help. is.0 (sym is.2 ∙ help), subst (λ k. IsAmong k kinds) (sym is.2) among)
 
--- clap refuses the words
+-- clap rejects the arguments
 pub refused_by : {T : Type 0} (c : Command) (words : List Text) (e : Error) (r : Result T UsageFault) → app_of c ≡ command_line
     → (is_simple_and_free (app_of c) ≡ true → HasKind (fault_of (app_of c) words) e) → IsErrAnd r (IsFaultOf (kind_of e)) → IfErr r (IsRefusedFor (words_fault words))
 refused_by c words e (Ok _) is fails given = tt
 refused_by c words e (Err fault) is fails given =
     fault_among (words_fault words) e fault given (subst (λ a. HasKind (fault_of a words) e) is (fails (ap is_simple_and_free is)))
 
--- words that are alike one by one
+-- values that are equal field by field
 pub words_alike : (w : RunWords) (policy ticks : Option Text) (memory : List Text) (registers counts : Option Text) (watch : List Text) (changes log from to image : Option Text)
     → policy ≡ w.policy → ticks ≡ w.ticks → memory ≡ w.memory → registers ≡ w.registers → counts ≡ w.counts → watch ≡ w.watch → changes ≡ w.changes
     → log ≡ w.log → from ≡ w.from → to ≡ w.to → image ≡ w.image

@@ -1,4 +1,4 @@
--- Words of memory, divided at their first two colons.
+-- Values of `--memory`, divided at their first two colons
 use Rattle.std.proofs.Common.{◌≡◌, ◌∙◌, ◌<◌, ◌+◌, ◌++◌, [], ◌∷◌, ℕ, List, ap, arith, false, length, refl, subst, sym, take, true}
 use Rattle.std.specs.Prelude.{None, Some}
 use Rattle.std.specs.Borrow.{Bor}
@@ -28,7 +28,7 @@ divided_once word first rest lt first_is rest_is none =
     let none_behind : parts_behind first rest ≡ None = rw (no_colon rest none) refl in
     ap are_memory (behind word first rest lt first_is rest_is ∙ none_behind)
 
--- a word with both colons
+-- a value with both colons
 pub divided_twice : (word first rest second path : Text) → position_or_len is_colon word < length word → first ≡ before_first is_colon word
     → rest ≡ after_first is_colon word → position_or_len is_colon rest < length rest → second ≡ before_first is_colon rest → path ≡ after_first is_colon rest
     → parts_of word ≡ Some (record { address = first; permissions = second; path = path })
@@ -42,7 +42,7 @@ pub no_permissions : (word : Text) (parts : Parts) (addr : ℕ) → parts_of wor
     → permissions parts.permissions ≡ None → NamesNone word
 no_permissions word parts addr divided some none = ap are_memory divided ∙ rw (some, none) refl
 
--- ---- lists of words
+-- ---- lists of values
 
 zip_push : {A B : Type 0} (R : A → B → Type 0) (xs : List A) (ys : List B) (x : A) (y : B) → AllZip R xs ys → R x y → AllZip R (xs ++ x ∷ []) (ys ++ y ∷ [])
 zip_push R [] [] x y all one = (one, tt)
@@ -61,7 +61,7 @@ some_holds P words k d lt none =
     let counted : length (texts words) ≡ length words = grind (arith, length-map) in
     (k, text, omega arith, at, none)
 
--- where each word names something, each text does
+-- if each value describes something, so does each text
 pub zip_texts : {B : Type 0} (R : Text → B → Type 0) (words : List (Bor Text)) (named : List B) → AllZip (λ word b. R word.now b) words named → AllZip R (texts words) named
 zip_texts R [] [] all = tt
 zip_texts R [] (b ∷ bs) all = absurd all

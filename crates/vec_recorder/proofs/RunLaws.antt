@@ -1,4 +1,4 @@
--- The counts of a run that began with rows of nothing, and the files that it began with.
+-- The counts of a run that starts with empty rows, and the files of its initial machine
 use Rattle.std.proofs.Common.{◌≡◌, ◌∙◌, ◌<◌, ◌+◌, ◌++◌, [], ◌∷◌, ℕ, Bool, true, false, List, ap, ap₂, arith, drop, length, refl, subst, sym, take, Option, flat_map}
 use Rattle.std.specs.Prelude.{IsPermutation, ◌%◌, ◌^◌, if◌then◌else◌}
 use Rattle.std.specs.List.{slice_index_or, sum_by}
@@ -36,7 +36,7 @@ use Rattle.vec_recorder.specs.declared.memory_words.MemoryPath.{MemoryPath}
 
 -- ---- lines
 
--- what was shown of one row more
+-- the output after one more row
 pub line_taken : (rows : List Row) (i : ℕ) (row : Row) (shown after before : List ℕ) → i < length rows → shown ≡ after → after ≡ before ++ row_line row
     → before ≡ [] → row ≡ slice_index_or rows i row → flat_map row_line (take i rows) ++ shown ≡ flat_map row_line (take (i + 1) rows)
 line_taken rows i row shown after before lt shown_is after_is empty at =
@@ -46,7 +46,7 @@ line_taken rows i row shown after before lt shown_is after_is empty at =
 
 -- ---- counts
 
--- one number, in rows that were sorted
+-- one count, in sorted rows
 counted_of : (found : List HartState) (old rows sorted : List Row) (number : Sums → ℕ) (asked : Key → Bool) → old ≡ [] → IsPermutation rows sorted
     → total number asked rows % 2 ^ 64 ≡ (total number asked old + shares found number asked) % 2 ^ 64
     → total number asked sorted % 2 ^ 64 ≡ shares found number asked % 2 ^ 64
@@ -66,7 +66,7 @@ counted found old rows sorted nothing more same = λ asked.
       tail = counted_of found old rows sorted (λ s. s.tail) asked nothing same each.tail;
     }
 
--- the last line, by what a run left and its sums
+-- the last line, from the final state of a run and its counts
 last_is : (ticks times spent : ℕ) (s left : HartState) (end : Option StepEnd) → left ≡ (ran ticks s).state → end ≡ (ran ticks s).end
     → times ≡ shares (ran ticks s).found (λ sums. sums.times) is_word % 2 ^ 64 → spent ≡ shares (ran ticks s).found (λ sums. sums.ticks) is_word % 2 ^ 64
     → last_line left.scalar.pc end times spent ≡ end_of ticks s
@@ -77,9 +77,9 @@ pub end_is : (ticks : ℕ) (s left : HartState) (rows : List Row) (end : Option 
     → last_line left.scalar.pc end (total (λ sums. sums.times) is_word rows % 2 ^ 64) (total (λ sums. sums.ticks) is_word rows % 2 ^ 64) ≡ end_of ticks s
 end_is ticks s left rows end counts left_is stops = last_is ticks _ _ s left end left_is stops (counts is_word).times (counts is_word).ticks
 
--- ---- all instructions together
+-- ---- the totals of all instructions
 
--- what is counted beside a word is of no word
+-- a key counted in addition to the word's key isn't a word's key
 none_beside : (number : Sums → ℕ) (k : Class) (c : Configuration) (pc target : ℕ) → once_more (key_beside k c pc target) number is_word ≡ 0
 none_beside number class.Plain c pc target = refl
 none_beside number class.Link c pc target = refl
@@ -103,7 +103,7 @@ same_sum f g same (s ∷ states) =
 wrapped : (n old sum all : ℕ) → n < 2 ^ 64 → old ≡ 0 → sum ≡ all → n % 2 ^ 64 ≡ (old + sum) % 2 ^ 64 → n ≡ all % 2 ^ 64
 wrapped n old sum all small none same is = omega (arith, small, none, same, is)
 
--- the last line, by totals
+-- the last line, from the totals
 pub end_by_totals : (ticks times spent old_times old_spent : ℕ) (s left : HartState) (end : Option StepEnd) → times < 2 ^ 64 → spent < 2 ^ 64 → old_times ≡ 0 → old_spent ≡ 0
     → AddsUp times_of old_times (ran ticks s).found times → AddsUp counted_ticks old_spent (ran ticks s).found spent
     → left ≡ (ran ticks s).state → end ≡ (ran ticks s).end → last_line left.scalar.pc end times spent ≡ end_of ticks s
@@ -115,7 +115,7 @@ end_by_totals ticks times spent old_times old_spent s left end few little no_tim
 
 -- ---- changes
 
--- the lines of the changes, and then another
+-- the lines of the changes, and then another text
 pub changes_told : {F A : Type 0} (took : F → List ℕ → F → Type 0) → ((a b c : F) (xs ys : List ℕ) → took a xs b → took b ys c → took a (xs ++ ys) c)
     → (first new : Changes F A) (file after : F) (places : List Place) (found : List HartState) (told last : List ℕ) → first.sink ≡ file → first.places.items ≡ places
     → first.number ≡ 0 → first.ticks ≡ 0 → IsRecorded took first found new → told ≡ last → took new.sink told after → took file (changes_from places 0 0 found ++ last) after
@@ -127,7 +127,7 @@ changes_told took more first new file after places found told last sink_is place
 
 -- ---- logs
 
--- the lines of a log, those that were gathered last among them, and then another
+-- the lines of a log, including those still in the buffer, and then another text
 pub log_told : {F : Type 0} (took : F → List ℕ → F → Type 0) → ((a b c : F) (xs ys : List ℕ) → took a xs b → took b ys c → took a (xs ++ ys) c)
     → (first new : Log F) (file mid after : F) (window : Window) (found : List HartState) (told last : List ℕ) → first.sink ≡ file → first.window ≡ window
     → first.number ≡ 0 → first.text ≡ [] → IsLogged took first found new → took new.sink new.text mid → told ≡ last → took mid told after
@@ -141,7 +141,7 @@ log_told took more first new file mid after window found told last sink_is windo
     subst (λ f. took f (logged_from window 0 found ++ last) after) sink_is
     (more first.sink mid after (logged_from window 0 found) last written (subst (λ (l : List ℕ). took mid l after) last_is end))
 
--- ---- files of memory
+-- ---- memory files
 
 -- one file, and then the others
 one_placed : (file_bytes : Text → Option (List ℕ)) (memory : MemoryPath) (others : List MemoryPath) (before next after : Memory)

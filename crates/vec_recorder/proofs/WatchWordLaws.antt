@@ -1,4 +1,4 @@
--- Words of places, divided at their first colon.
+-- Values of `--watch`, divided at their first colon
 use Rattle.std.proofs.Common.{◌≡◌, ◌∙◌, ◌<◌, ◌≤◌, ℕ, ap, false, length, refl, sym, true}
 use Rattle.std.specs.Prelude.{Bool, ◌&&◌, ◌↔◌, IfSome, IsSome, MatchOption, None, Some, Option, is_some}
 use Rattle.std.specs.List.{after_first, before_first, position_or_len}
@@ -31,7 +31,7 @@ no_length word rest is none = third_false (has_colon word) _ _ (ap (λ w. is_som
 never : {A : Type 0} → false ≡ true → A
 never e = absurd cc
 
--- a word with a place
+-- a value with an address and a length
 pub place_made : (word first second : Text) (addr len : ℕ) (place : Option Place) → position_or_len is_colon word < length word → first ≡ before_first is_colon word
     → second ≡ after_first is_colon word → address first ≡ Some addr → number_between 1 256 second ≡ Some len → (0 < len) × (len ≤ 256)
     → (IsSome place ↔ ((0 < len) × (len ≤ 256))) → IfSome place (λ p. (p.addr ≡ addr) × (p.len ≡ len)) → MatchOption place (NamesNoPlace word) (IsPlaceOf word)

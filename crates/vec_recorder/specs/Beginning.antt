@@ -1,5 +1,5 @@
--- The machine that a run begins with, by the files that the words name: an image, memory and registers. Of files it says as much as is
--- known of their bytes.
+-- The initial machine of a run, from the files that the arguments name: an image, memory and registers. The bytes of
+-- files may be unspecified.
 use Rattle.std.specs.Prelude.{◌≡◌, ℕ, List, [], ◌∷◌, Option, None, Some, Ok}
 use Rattle.clap.specs.Walk.{Text}
 use Rattle.devices.specs.KnownBytes.{AreKnownAs}
@@ -11,26 +11,26 @@ use Rattle.first_state.specs.Loaded.{entered, load_fault, loaded}
 use Rattle.first_state.specs.Placed.{in_memory, placed}
 use Rattle.vec_recorder.specs.declared.memory_words.MemoryPath.{MemoryPath}
 
--- the machine of a user who has just entered, or with an image that isn't refused
+-- the machine of a user who has just entered, with a valid image if there is one
 abbrev pub IsLoaded : (Text → Option (List ℕ)) → Policy → Option Text → HartState → Type 0
 IsLoaded file_bytes policy None s = s ≡ entered policy
 IsLoaded file_bytes policy (Some path) s =
     (image : List ℕ) × AreKnownAs (file_bytes path) image × (load_fault image ≡ None) × (s ≡ loaded image policy)
 
--- the memory after the bytes of all these files were placed, none of which is refused
+-- the memory after writing the bytes of all these files, each without a fault
 unfoldable pub ArePlaced : (Text → Option (List ℕ)) → List MemoryPath → Memory → Memory → Type 0
 ArePlaced file_bytes [] before after = after ≡ before
 ArePlaced file_bytes (memory ∷ others) before after =
     (bytes : List ℕ) × AreKnownAs (file_bytes memory.path.now) bytes × ((next : Memory)
     × (placed memory.permissions memory.addr bytes before ≡ Ok next) × ArePlaced file_bytes others next after)
 
--- the machine after the registers of a file were laid over it, which aren't refused
+-- the machine after setting the registers of a valid file, if there is one
 abbrev pub AreLaid : (Text → Option (List ℕ)) → Option Text → HartState → HartState → Type 0
 AreLaid file_bytes None before after = after ≡ before
 AreLaid file_bytes (Some path) before after =
     (text : List ℕ) × AreKnownAs (file_bytes path) text × (with_registers text before ≡ Ok after)
 
--- one after another
+-- the initial state of a run: the image, then the memory files, then the registers
 pub record Begins (file_bytes : Text → Option (List ℕ)) (policy : Policy) (image : Option Text) (memories : List MemoryPath) (registers : Option Text) (state : HartState) : Type 0 where
   pub first : HartState
   pub loaded_is : IsLoaded file_bytes policy image first

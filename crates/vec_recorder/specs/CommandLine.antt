@@ -1,4 +1,4 @@
--- The words of the command line, as clap's own definitions take them, and what they ask for.
+-- The command line, according to clap's own definitions, and the run that it describes
 use Rattle.std.specs.Prelude.{◌≡◌, ◌≢◌, ◌^◌, ⊤, ℕ, List, [], Option, Some, None, codes, option_map, unwrap_or}
 use Rattle.std.specs.Borrow.{Bor}
 use Rattle.clap.specs.Walk.{texts}
@@ -17,7 +17,7 @@ use Rattle.vec_recorder.specs.declared.command_line.UsageFault.TheVariants.{Help
 abbrev pub option_rule : Text → Rule
 option_rule name = record (new_rule name) { long = Some name; value_names = 1 }
 
--- one that may stand more than once
+-- an option with a value that may be repeated
 abbrev pub repeated_rule : Text → Rule
 repeated_rule name = record (option_rule name) { action = Some Append }
 
@@ -35,15 +35,15 @@ command_line =
     let log = with_rule (with_rule (with_rule records (option_rule (codes "log"))) (option_rule (codes "from"))) (option_rule (codes "to")) in
     with_rule log image_rule
 
--- the word that clap gives to the option of a name, or to IMAGE, the program's name first
+-- the value that clap assigns to the option with a name, or to IMAGE; the first of `words` is the program's name
 abbrev pub word_of : Text → List Text → Option Text
 word_of name words = first_of name (matches_of command_line words)
 
--- all words that clap gives to an option that may stand more than once
+-- all values that clap assigns to an option that may be repeated
 abbrev pub words_of : Text → List Text → List Text
 words_of name words = unwrap_or (all_of name (matches_of command_line words)) []
 
--- What the words of a command line say of a run.
+-- The values of a command line that describe a run.
 pub record RunWords : Type 0 where
   pub policy : Option Text
   pub ticks : Option Text
@@ -57,39 +57,41 @@ pub record RunWords : Type 0 where
   pub to : Option Text
   pub image : Option Text
 
--- what clap reads in words, the program's name first
+-- the values that clap parses; the first of `words` is the program's name
 abbrev pub run_words : List Text → RunWords
 run_words words =
     let one : Text → Option Text = λ name. word_of name words in
     record { policy = one (codes "policy"); ticks = one (codes "ticks"); memory = words_of (codes "memory") words; registers = one (codes "registers"); counts = one (codes "counts"); watch = words_of (codes "watch") words; changes = one (codes "changes"); log = one (codes "log"); from = one (codes "from"); to = one (codes "to"); image = one (codes "image") }
 
--- what options have
+-- the values of parsed options
 abbrev pub option_words : Options → RunWords
 option_words options =
     let text : Bor Text → Text = λ word. word.now in
     record { policy = option_map text options.policy; ticks = option_map text options.ticks; memory = texts options.memory.items; registers = option_map text options.registers; counts = option_map text options.counts; watch = texts options.watch.items; changes = option_map text options.changes; log = option_map text options.log; from = option_map text options.from; to = option_map text options.to; image = option_map text options.image }
 
--- the policy that a word asks for, if it is one; without a word agnostic elements keep what they have
+-- the policy of an option's value, if it is valid; without a value, agnostic elements are preserved
 abbrev pub asked_policy : Option Text → Option Policy
 asked_policy None = Some Keep
 asked_policy (Some word) = policy_of word
 
--- the number, of ticks or of an instruction, that a word asks for, if it is one from 1 to 2^63; without a word another one
+-- the number of ticks or of an instruction in an option's value, if it is from 1 to 2^63; without a value, the number
+-- `other`
 abbrev pub asked_number : ℕ → Option Text → Option ℕ
 asked_number other None = Some other
 asked_number other (Some word) = number_between 1 (2 ^ 63) word
 
--- the kinds of error that clap has for the words; none where it takes them
+-- the kinds of error that clap may return for the arguments; empty if clap accepts them
 abbrev pub words_fault : List Text → Kinds
 words_fault words = fault_of command_line words
 
--- the fault for a kind of clap's error
+-- the usage fault for a kind of clap's errors
 abbrev pub IsFaultOf : ErrorKind → UsageFault → Type 0
 IsFaultOf kind (Help e) = (kind ≡ DisplayHelp) × (kind_of e ≡ DisplayHelp)
 IsFaultOf kind (Usage e) = (kind ≢ DisplayHelp) × (kind ≢ OutOfMemory) × (kind_of e ≡ kind)
 IsFaultOf kind NoMemory = kind ≡ OutOfMemory
 
--- a fault of the words has clap's error of one of these kinds: of the kind help where help is asked for
+-- the usage fault contains a clap error of one of these kinds; it is `Help` if and only if the error is a request for
+-- help
 abbrev pub IsRefusedFor : Kinds → UsageFault → Type 0
 IsRefusedFor kinds (Help e) = (kind_of e ≡ DisplayHelp) × IsAmong (kind_of e) kinds
 IsRefusedFor kinds (Usage e) = (kind_of e ≢ DisplayHelp) × IsAmong (kind_of e) kinds

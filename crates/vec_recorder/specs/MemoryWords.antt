@@ -1,4 +1,5 @@
--- Words of memory: an address, a colon (byte 58), what its pages allow, a colon, and the path of the file with its bytes.
+-- Values of `--memory`: an address, a colon (byte 58), the permissions of the pages, a colon, and the path of the file
+-- with the bytes
 use Rattle.std.specs.Prelude.{◌≡◌, ◌==◌, ◌&&◌, ℕ, nat_lt, Bool, false, length, Option, Some, None, is_some, if◌then◌else◌}
 use Rattle.std.specs.List.{after_first, before_first, position_or_len}
 use Rattle.std.specs.Borrow.{Bor}
@@ -9,7 +10,7 @@ use Rattle.vec_recorder.specs.declared.memory_words.MemoryPath.{MemoryPath}
 abbrev pub is_colon : ℕ → Bool
 is_colon byte = byte == 58
 
--- a word that is divided at its first two colons
+-- a value divided at its first two colons
 pub record Parts : Type 0 where
   pub address : Text
   pub permissions : Text
@@ -26,7 +27,7 @@ parts_behind first rest =
 abbrev pub parts_of : Text → Option Parts
 parts_of word = if has_colon word then parts_behind (before_first is_colon word) (after_first is_colon word) else None
 
--- A word names this memory: its parts are an address, permissions and this path.
+-- A value describes this memory: its parts are the address, the permissions and the path.
 pub record IsMemoryOf (word : Text) (memory : MemoryPath) : Type 0 where
   pub parts : Parts
   pub divided : parts_of word ≡ Some parts
@@ -37,11 +38,11 @@ pub record IsMemoryOf (word : Text) (memory : MemoryPath) : Type 0 where
 abbrev pub IsMemoryAt : Bor Text → MemoryPath → Type 0
 IsMemoryAt word memory = IsMemoryOf word.now memory
 
--- whether a word is divided, and its parts are an address and permissions
+-- whether the value has both colons, an address and permissions
 abbrev pub are_memory : Option Parts → Bool
 are_memory None = false
 are_memory (Some parts) = is_some (address parts.address) && is_some (permissions parts.permissions)
 
--- no memory is named by this word
+-- this value is malformed
 abbrev pub NamesNone : Text → Type 0
 NamesNone word = are_memory (parts_of word) ≡ false

@@ -1,27 +1,27 @@
--- The paths that a run writes to and reads from. Texts of paths are compared, byte for byte.
+-- The paths that a run writes to and reads from, compared byte by byte
 use Rattle.std.specs.Prelude.{◌≢◌, ⊤, List, Option, None, Some}
 use Rattle.std.specs.List.{All}
 use Rattle.clap.specs.Walk.{Text}
 use Rattle.vec_recorder.specs.CommandLine.{RunWords}
 use Rattle.vec_recorder.specs.declared.memory_words.MemoryPath.{MemoryPath}
 
--- two paths differ, where both are given
+-- two paths differ, if both are given
 abbrev pub Differ : Option Text → Option Text → Type 0
 Differ None other = ⊤
 Differ (Some path) None = ⊤
 Differ (Some path) (Some other) = path ≢ other
 
--- an output, if there is one, isn't the file of this memory
+-- an output path, if it is given, isn't the path of this memory file
 abbrev pub DiffersFrom : Option Text → MemoryPath → Type 0
 DiffersFrom output memory = Differ output (Some memory.path.now)
 
--- an output, if there is one, is no input: neither the image nor a file of registers or memory
+-- an output path, if it is given, isn't an input: neither the image nor a register or memory file
 pub record IsNoInput (words : RunWords) (memories : List MemoryPath) (output : Option Text) : Type 0 where
   pub image : Differ output words.image
   pub registers : Differ output words.registers
   pub memory : All (DiffersFrom output) memories
 
--- No two outputs are the same, and none is an input.
+-- All output paths differ, and none is an input.
 pub record ArePathsApart (words : RunWords) (memories : List MemoryPath) : Type 0 where
   pub counts_and_changes : Differ words.counts words.changes
   pub counts_and_log : Differ words.counts words.log

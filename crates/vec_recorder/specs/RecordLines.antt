@@ -1,4 +1,4 @@
--- The lines of a file of counts (docs/RECORDER.md). Addresses and words are in hexadecimal digits, counts are decimal.
+-- The lines of a counts file (docs/RECORDER.md). Addresses and words are hexadecimal, counts are decimal.
 use Rattle.std.specs.Prelude.{ℕ, ◌==◌, List, [], ◌++◌, decimal, Option, None, Some, if◌then◌else◌, codes}
 use Rattle.std.specs.Option.{option_and_then}
 use Rattle.recording.specs.declared.key.Key.{Key}
@@ -11,7 +11,7 @@ use Rattle.rv_model.specs.declared.step.step_end.StepEnd.{StepEnd}
 use Rattle.rv_model.specs.declared.step.step_end.Stop.{Stop}
 use Rattle.rv_model.specs.machine.UserMachine.{stop_of}
 
--- a number after a space
+-- a space and a decimal number
 unfoldable pub spaced : ℕ → List ℕ
 spaced n = codes " " ++ decimal n
 
@@ -29,21 +29,22 @@ length_line vtype vl sums = codes "vl " ++ hex16 vtype ++ spaced vl ++ spaced su
 unfoldable pub jump_line : ℕ → ℕ → Sums → List ℕ
 jump_line pc target sums = codes "call " ++ hex16 pc ++ codes " " ++ hex16 target ++ spaced sums.times ++ codes "\n"
 
--- of a key
+-- the line of a key
 abbrev pub key_line : Key → Sums → List ℕ
 key_line (Word pc word) sums = word_line pc word sums
 key_line (Length vtype vl) sums = length_line vtype vl sums
 key_line (Jump pc target) sums = jump_line pc target sums
 
--- of a row; one of which nothing was counted has none
+-- the line of a row; a row with a count of zero has none
 unfoldable pub row_line : Row → List ℕ
 row_line row = if row.sums.times == 0 then [] else key_line row.key row.sums
 
--- why a program stopped, and where it stands; it still runs where its ticks were used up
+-- the reason for a program's stop, and the program counter; without a stop the program is still running because its
+-- ticks were used up
 abbrev pub end_line : ℕ → Option Stop → List ℕ
 end_line pc None = running_line pc
 end_line pc (Some stop) = stop_line pc stop
 
--- the last line, with how many instructions were carried out in how many ticks
+-- the last line, with the numbers of executed instructions and of ticks
 unfoldable pub last_line : ℕ → Option StepEnd → ℕ → ℕ → List ℕ
 last_line pc end times ticks = end_line pc (option_and_then stop_of end) ++ spaced times ++ spaced ticks ++ codes "\n"

@@ -1,4 +1,4 @@
--- What the program did with its words: the machine that a run began with, what it put out, and what was recorded of it.
+-- The effect of the program with its arguments: the initial machine of a run, its output, and its records
 use Rattle.std.specs.Prelude.{◌≡◌, ◌≤◌, ◌%◌, ◌^◌, ◌++◌, ⊤, ℕ, Bool, List, [], Option, None, Some, flat_map}
 use Rattle.std.specs.List.{AllZip}
 use Rattle.clap.specs.Walk.{Text}
@@ -21,11 +21,11 @@ use Rattle.vec_recorder.specs.RecordLines.{last_line, row_line}
 use Rattle.vec_recorder.specs.WatchWords.{IsPlaceOf}
 use Rattle.vec_recorder.specs.declared.memory_words.MemoryPath.{MemoryPath}
 
--- These rows have what is counted of all instructions of a run, for each set of keys, as far as 64 bits tell.
+-- These rows contain the counts of all instructions of a run, modulo 2^64, for each set of keys.
 abbrev pub AreCountsOf : List HartState → List Row → Type 0
 AreCountsOf found rows = (asked : Key → Bool) → OfEach (λ number. total number asked rows % 2 ^ 64 ≡ shares found number asked % 2 ^ 64)
 
--- the last line of any record of a run, by its number of ticks and the state that it began with
+-- the last line of each record of a run, from its maximum number of ticks and its initial state
 abbrev pub end_of : ℕ → HartState → List ℕ
 end_of ticks s =
     let run = ran ticks s in
@@ -37,15 +37,16 @@ pub record AreCounted (took : List ℕ → Type 0) (ticks : ℕ) (s : HartState)
   pub counts : AreCountsOf (ran ticks s).found rows
   pub taken : took (flat_map row_line rows ++ end_of ticks s)
 
--- The changes of places in a run are the lines of each instruction, in order, and the last line.
+-- The changes of watched ranges in a run are the lines of each instruction, in order, and the last line.
 abbrev pub AreChanged : (List ℕ → Type 0) → List Place → ℕ → HartState → Type 0
 AreChanged took places ticks s = took (changes_from places 0 0 (ran ticks s).found ++ end_of ticks s)
 
--- The log of a run has the line of each instruction that ran and whose number is in a window, in order, and the last line.
+-- The log of a run has a line for each instruction that ran and whose number is in the window, in order, and the last
+-- line.
 abbrev pub AreLogged : (List ℕ → Type 0) → Window → ℕ → HartState → Type 0
 AreLogged took window ticks s = took (logged_from window 0 (ran ticks s).found ++ end_of ticks s)
 
--- A run of so many ticks was recorded and put out what the definitions say, and these are how it ended and the record.
+-- A run of at most `ticks` ticks was recorded and had the specified output. `ended` has the run's end and the record.
 pub record RecordsRun {O K : Type 0} (records : O → List HartState → O → Type 0) (took : K → List ℕ → K → Type 0) (ticks : ℕ) (s left : HartState) (before after : K)
     (first : O) (ended : Option StepEnd × O) : Type 0 where
   pub recorded : records first (ran ticks s).found ended.1
@@ -53,19 +54,20 @@ pub record RecordsRun {O K : Type 0} (records : O → List HartState → O → T
   pub machine : left ≡ (ran ticks s).state
   pub output : took before (flat_map put_out (ran ticks s).found) after
 
--- A file was made at a path and took what is said.
+-- A file was created at a path and accepted the text that `Says` describes.
 pub record IsWritten {F : Type 0} (is_made : Text → F → Type 0) (took : F → List ℕ → F → Type 0) (path : Text) (Says : (List ℕ → Type 0) → Type 0) : Type 0 where
   pub before : F
   pub after : F
   pub made : is_made path before
   pub says : Says (λ told. took before told after)
 
--- a record in the file at a path, if there is one
+-- the record is in the file at a path, if a path is given
 abbrev pub AreKept : {F : Type 0} → (Text → F → Type 0) → (F → List ℕ → F → Type 0) → Option Text → ((List ℕ → Type 0) → Type 0) → Type 0
 AreKept is_made took None Says = ⊤
 AreKept is_made took (Some path) Says = IsWritten is_made took path Says
 
--- A run of this policy, of so many ticks and with this memory put out what the definitions say, and its records were kept.
+-- A run with this policy, this maximum number of ticks and this memory had the specified output, and its records were
+-- written.
 pub record RunBy {F : Type 0} (file_bytes : Text → Option (List ℕ)) (is_made : Text → F → Type 0) (took : F → List ℕ → F → Type 0) (put : List ℕ → Type 0) (words : RunWords)
     (policy : Policy) (ticks : ℕ) (memories : List MemoryPath) (places : List Place) (window : Window) : Type 0 where
   pub state : HartState
@@ -75,7 +77,7 @@ pub record RunBy {F : Type 0} (file_bytes : Text → Option (List ℕ)) (is_made
   pub changed : AreKept is_made took words.changes (λ told. AreChanged told places ticks state)
   pub logged : AreKept is_made took words.log (λ told. AreLogged told window ticks state)
 
--- The run that words ask for was carried out: it put this out, and its records were kept.
+-- The run that these values describe was executed with this output, and its records were written.
 pub record RecordedBy {F : Type 0} (file_bytes : Text → Option (List ℕ)) (is_made : Text → F → Type 0) (took : F → List ℕ → F → Type 0) (put : List ℕ → Type 0) (words : RunWords) : Type 0 where
   pub policy : Policy
   pub policy_is : asked_policy words.policy ≡ Some policy
@@ -92,7 +94,7 @@ pub record RecordedBy {F : Type 0} (file_bytes : Text → Option (List ℕ)) (is
   pub apart : ArePathsApart words memories
   pub run : RunBy file_bytes is_made took put words policy ticks memories places window
 
--- clap took the words, and the run that they ask for was carried out
+-- clap accepted the arguments, and the run that they describe was executed
 pub record Recorded {F : Type 0} (file_bytes : Text → Option (List ℕ)) (is_made : Text → F → Type 0) (took : F → List ℕ → F → Type 0) (words : List Text) (put : List ℕ → Type 0) : Type 0 where
   pub accepted : words_fault words ≡ []
   pub run : RecordedBy file_bytes is_made took put (run_words words)

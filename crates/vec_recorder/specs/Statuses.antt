@@ -1,11 +1,11 @@
--- The statuses that the program ends with (docs/RECORDER.md).
+-- The exit statuses of the program (docs/RECORDER.md)
 use Rattle.std.specs.Prelude.{◌≡◌, ◌⊎◌, ℕ}
 use Rattle.recording.specs.declared.fault.RecordFault.{RecordFault}
 use Rattle.recording.specs.declared.fault.RecordFault.TheVariants as stopped
 use Rattle.vec_recorder.specs.declared.program_fault.ProgramFault.{ProgramFault}
 use Rattle.vec_recorder.specs.declared.program_fault.ProgramFault.TheVariants.{NoText, Usage, Policy, Ticks, MemoryWord, WatchWord, WatchAlone, From, To, FromAboveTo, LogAlone, LogEnd, SameOutput, OutputIsInput, NoPlace, Write, TableFull, NoMemory}
 
--- of the words 2, of what a run begins with 4, of what is written 5, of memory 6
+-- invalid arguments have exit status 2, faults of the initial machine 4, faults of records and output 5, and lack of memory 6
 abbrev pub program_status : ProgramFault → ℕ
 program_status NoText = 2
 program_status (Usage e) = 2
@@ -26,12 +26,12 @@ program_status TableFull = 5
 program_status NoMemory = 6
 program_status _ = 4
 
--- why a run isn't recorded to its end
+-- the program's fault for a recording that stopped before the run's end
 abbrev pub record_fault : RecordFault → ProgramFault
 record_fault stopped.TableFull = TableFull
 record_fault stopped.Unmapped = NoPlace
 record_fault (stopped.Write name) = Write name
 
--- a fault of what a run begins with, or of memory
+-- a fault of the initial machine, or lack of memory
 abbrev pub IsOfBeginning : ProgramFault → Type 0
 IsOfBeginning fault = (program_status fault ≡ 4) ⊎ (program_status fault ≡ 6)

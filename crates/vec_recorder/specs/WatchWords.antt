@@ -1,4 +1,4 @@
--- Words of places that are watched: an address, a colon (byte 58), and a length in decimal digits, from 1 to 256.
+-- Values of `--watch`: an address, a colon (byte 58), and a length in decimal digits, from 1 to 256
 use Rattle.std.specs.Prelude.{◌≡◌, ◌&&◌, Bool, false, true, Some, is_some}
 use Rattle.std.specs.Borrow.{Bor}
 use Rattle.std.specs.List.{after_first, before_first}
@@ -7,7 +7,7 @@ use Rattle.rv_model.specs.commands.Arguments.{address, number_between}
 use Rattle.memory_changes.specs.declared.place.Place.{Place}
 use Rattle.vec_recorder.specs.MemoryWords.{has_colon, is_colon}
 
--- A word names this place: its parts are its address and its length.
+-- A value describes this range: its parts are the address and the length.
 pub record IsPlaceOf (word : Text) (place : Place) : Type 0 where
   pub divided : has_colon word ≡ true
   pub address_is : address (before_first is_colon word) ≡ Some place.addr
@@ -16,10 +16,10 @@ pub record IsPlaceOf (word : Text) (place : Place) : Type 0 where
 abbrev pub IsPlaceAt : Bor Text → Place → Type 0
 IsPlaceAt word place = IsPlaceOf word.now place
 
--- whether a word is divided, and its parts are an address and a length
+-- whether the value has a colon, an address and a length
 abbrev pub is_place : Text → Bool
 is_place word = has_colon word && is_some (address (before_first is_colon word)) && is_some (number_between 1 256 (after_first is_colon word))
 
--- no place is named by this word
+-- this value is malformed
 abbrev pub NamesNoPlace : Text → Type 0
 NamesNoPlace word = is_place word ≡ false

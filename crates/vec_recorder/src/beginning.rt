@@ -1,4 +1,4 @@
-//! The machine that a run begins with.
+//! The initial machine of a run.
 ghost use Rattle.std.specs.Prelude.{◌≡◌, ◌≤◌, ◌∷◌, [], IfErr, IfOk, OnOk, option_map};
 ghost use Rattle.devices.specs.KnownBytes.{AreKnownAs};
 ghost use Rattle.recording.specs.Machines.{state_of};
@@ -15,17 +15,17 @@ use recording::Alone;
 use rv_model::Policy;
 use std::alloc::Global;
 
-/// The most bytes of an image, as the monitor takes them.
+/// The maximum size of an image in bytes, as in the monitor.
 const MAX_IMAGE: usize = 4_194_304;
 
-/// The most bytes of a file of memory: those of all pages that a user may have.
+/// The maximum size of a memory file in bytes: the size of all pages that a user may have.
 const MAX_MEMORY: usize = 1_048_576;
 
-/// The most bytes of a file of registers.
+/// The maximum size of a register file in bytes.
 const MAX_REGISTERS: usize = 65_536;
 
-/// All bytes of the file at a path. Refused where it can't be opened or read, has more than `most`,
-/// and for want of memory.
+/// Return all bytes of the file at `path`. Return `Read` if it can't be opened or read, `TooLong` if it has more than
+/// `most` bytes, and `NoMemory` if memory runs out.
 fn read_whole<'a, I: Inputs>(
     inputs: &I,
     alloc: Global,
@@ -47,7 +47,7 @@ fn read_whole<'a, I: Inputs>(
     Ok(bytes)
 }
 
-/// A machine of this policy, empty or with the image at a path.
+/// Return a machine with this policy, either empty or with the image at a path.
 fn loaded_machine<'a, I: Inputs>(
     inputs: &I,
     alloc: Global,
@@ -71,7 +71,7 @@ fn loaded_machine<'a, I: Inputs>(
     }
 }
 
-/// Places the bytes of a file in memory.
+/// Write the bytes of a file to memory, and map missing pages.
 fn place_file<'a, I: Inputs>(
     inputs: &I,
     alloc: Global,
@@ -91,7 +91,7 @@ fn place_file<'a, I: Inputs>(
     }
 }
 
-/// Places the bytes of files in memory, in their order.
+/// Write the bytes of files to memory, in order.
 fn place_files<'a, I: Inputs>(
     inputs: &I,
     alloc: Global,
@@ -110,7 +110,7 @@ fn place_files<'a, I: Inputs>(
     Ok(())
 }
 
-/// Lays the registers of the file at a path over a machine, if there is one.
+/// Set the registers that the file at a path contains, if a path is given.
 fn lay_file<'a, I: Inputs>(
     inputs: &I,
     alloc: Global,
@@ -131,8 +131,8 @@ fn lay_file<'a, I: Inputs>(
     }
 }
 
-/// The machine that a run begins with: of this policy, with an image, files of memory and registers.
-/// The files are read in this order.
+/// Return the initial machine of a run, with this policy, an image, memory files and registers. The files are read in
+/// this order.
 pub(crate) fn first_machine<'a, I: Inputs>(
     inputs: &I,
     alloc: Global,

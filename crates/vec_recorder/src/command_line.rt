@@ -42,34 +42,34 @@ const TO_HELP: &str = "The last instruction in the log, 1 to 2^63 [default: 2^63
 /// The values of the options, as text.
 #[derive(Debug, Drop)]
 pub struct Options<'a> {
-    /// What becomes of agnostic elements.
+    /// The value written to agnostic elements.
     pub policy: Option<&'a str>,
-    /// The most ticks.
+    /// The maximum number of ticks.
     pub ticks: Option<&'a str>,
     /// The values of `--memory`, in order.
     pub memory: Vec<&'a str>,
-    /// The path of the file of registers.
+    /// The path of the register file.
     pub registers: Option<&'a str>,
-    /// The path of the file of counts.
+    /// The path of the counts file.
     pub counts: Option<&'a str>,
     /// The values of `--watch`, in order.
     pub watch: Vec<&'a str>,
-    /// The path of the file of changes.
+    /// The path of the changes file.
     pub changes: Option<&'a str>,
-    /// The path of the file of the log.
+    /// The path of the log file.
     pub log: Option<&'a str>,
-    /// The first instruction that the log has.
+    /// The number of the first instruction in the log, counted from 1.
     pub from: Option<&'a str>,
-    /// The last instruction that the log has.
+    /// The number of the last instruction in the log.
     pub to: Option<&'a str>,
     /// The path of the image.
     pub image: Option<&'a str>,
 }
 
-/// Why the arguments give no options. `Display` prints clap's text, which ends with a newline.
+/// The reason why parsing returned no options. Its `Display` is clap's text, which ends with a newline.
 #[derive(Debug, Drop)]
 pub enum UsageFault {
-    /// `--help` was given.
+    /// The arguments ask for help.
     Help(clap::Error),
     /// The arguments are invalid.
     Usage(clap::Error),
@@ -96,7 +96,7 @@ impl From<clap::Error> for UsageFault {
     }
 }
 
-/// An option with a value.
+/// Return an option with a value.
 fn option<'a>(alloc: Global, name: &'a str, value: &'a str, help: &'a str) -> Arg<'a>
     ensures rule { rule_of result ≡ option_rule name.now }
     ensures local { result.global ≡ false }
@@ -107,7 +107,7 @@ fn option<'a>(alloc: Global, name: &'a str, value: &'a str, help: &'a str) -> Ar
         .help(help)
 }
 
-/// An option with a value, which may be repeated.
+/// Return an option with a value that may be repeated.
 fn repeated<'a>(alloc: Global, name: &'a str, value: &'a str, help: &'a str) -> Arg<'a>
     ensures rule { rule_of result ≡ repeated_rule name.now }
     ensures local { result.global ≡ false }
@@ -115,7 +115,7 @@ fn repeated<'a>(alloc: Global, name: &'a str, value: &'a str, help: &'a str) -> 
     option(alloc, name, value, help).action(ArgAction::Append)
 }
 
-/// The argument `[IMAGE]`.
+/// Return the argument `[IMAGE]`.
 fn image<'a>(alloc: Global) -> Arg<'a>
     ensures rule { rule_of result ≡ image_rule }
     ensures local { result.global ≡ false }
@@ -125,7 +125,7 @@ fn image<'a>(alloc: Global) -> Arg<'a>
         .help("The ELF file to run; without it, the machine is empty")
 }
 
-/// The command-line definition for clap.
+/// Return clap's description of the command line. It fails if memory runs out.
 pub fn command<'a>(alloc: Global) -> Result<Command<'a>, AllocError>
     ensures { IfOk result (λ command. app_of command ≡ command_line) }
 {

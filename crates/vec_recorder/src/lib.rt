@@ -1,5 +1,4 @@
-//! The recorder: the program by the words of its command line, over a machine of one user that runs
-//! alone and is recorded.
+//! The recorder: the program with its command line, and a machine that runs one user's program and records it.
 #![tactic(auto)]
 
 mod beginning;

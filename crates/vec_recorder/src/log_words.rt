@@ -1,12 +1,12 @@
-//! Words of the log: `--log FILE`, `--from N`, `--to N`.
+//! The options for the log: `--log FILE`, `--from N`, `--to N`.
 use crate::command_line::Options;
 use crate::program_fault::ProgramFault;
 
-/// What paths of devices begin with, to which a log of any length may go.
+/// The start of the paths of devices. A log of any length may be written to a device.
 const DEVICES: &str = "/dev/";
 
-/// Refused where the words for the log miss each other: a window without a log; or a log that has no end of its own and
-/// doesn't go to a device.
+/// Check the options for the log. Return `LogAlone` for `--from` or `--to` without `--log`. Return `LogEnd` if
+/// neither `--ticks` nor `--to` limits the log, and it isn't written to a device.
 pub(crate) fn check_log<'a>(options: &Options<'_>) -> Result<(), ProgramFault<'a>> {
     match options.log {
         None if options.from.is_some() || options.to.is_some() => Err(ProgramFault::LogAlone),

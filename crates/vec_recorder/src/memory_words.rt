@@ -1,4 +1,4 @@
-//! Words of memory, `ADDR:PERMS:FILE`.
+//! Values of `--memory`, `ADDR:PERMS:FILE`.
 ghost use Rattle.std.specs.Prelude.{◌≡◌, ◌⊎◌, IfErr, IfOk, MatchOption};
 ghost use Rattle.std.specs.List.{AllZip, Any};
 ghost use Rattle.clap.specs.Walk.{texts};
@@ -11,7 +11,7 @@ use line_text::{address, permissions};
 use rv_model::Permissions;
 use std::alloc::Allocator;
 
-/// Where memory begins, what its pages allow, and the path of the file that has its bytes.
+/// A memory file: the first address of its bytes in memory, the permissions of its pages, and its path.
 #[derive(Clone, Copy)]
 pub(crate) struct MemoryPath<'a> {
     pub addr: u64,
@@ -19,7 +19,7 @@ pub(crate) struct MemoryPath<'a> {
     pub path: &'a str,
 }
 
-/// Splits a word of memory at its first two colons.
+/// Split a value of `--memory` at its first two colons; return `None` if it is malformed.
 fn memory_path<'a>(word: &'a str) -> Option<MemoryPath<'a>>
     ensures { MatchOption result (NamesNone word.entry.now) (IsMemoryOf word.entry.now) }
 {
@@ -32,7 +32,8 @@ fn memory_path<'a>(word: &'a str) -> Option<MemoryPath<'a>>
     })
 }
 
-/// Splits each word of memory, in their order. Refused where one names none, and for want of memory.
+/// Split each value of `--memory`, in order. Return `MemoryWord` for a malformed value, and `NoMemory` if memory runs
+/// out.
 pub(crate) fn memory_paths<'a, A: Allocator>(
     alloc: A,
     words: &[&'a str],

@@ -1,4 +1,4 @@
-//! What the words of options with one value mean.
+//! Values of options that take a number or a policy.
 ghost use Rattle.std.specs.Prelude.{◌≡◌, ◌<◌, ◌≤◌, ◌^◌, IfErr, IfOk, IfSome, MatchResult, None, Some, option_map};
 ghost use Rattle.rv_model.specs.commands.Arguments.{decimal_number, number_between};
 ghost use Rattle.rv_model.specs.lending.Text.{capped};
@@ -12,13 +12,13 @@ use memory_changes::MAX_LENGTH;
 use rv_model::Policy;
 use rv_model::text::digits;
 
-/// The most ticks or instructions; no run comes to so many.
+/// The maximum number of ticks or instructions. No run reaches it.
 const MOST_TICKS: u64 = 1 << 63;
 
-/// Larger numbers are read as this one.
+/// Larger numbers are parsed as this value.
 const CAP: u128 = 1 << 64;
 
-/// A decimal number without a leading zero, or [`CAP`] in place of a larger one.
+/// Return the value of a decimal number without leading zeros, or [`CAP`] for a larger one.
 fn decimal_number(word: &[u8]) -> Option<u128>
     ensures { result ≡ capped (2 ^ 64) (decimal_number word.now) }
 {
@@ -28,7 +28,7 @@ fn decimal_number(word: &[u8]) -> Option<u128>
     digits(10, CAP, word)
 }
 
-/// A decimal number from 1 to [`MOST_TICKS`].
+/// Return the value of a decimal number from 1 to [`MOST_TICKS`].
 fn ticks_number(word: &[u8]) -> Option<u64>
     ensures { result ≡ number_between 1 (2 ^ 63) word.now }
 {
@@ -40,7 +40,7 @@ fn ticks_number(word: &[u8]) -> Option<u64>
     }
 }
 
-/// A decimal number from 1 to `MAX_LENGTH`.
+/// Return the value of a decimal number from 1 to `MAX_LENGTH`.
 pub(crate) fn length_number(word: &[u8]) -> Option<usize>
     ensures value { result ≡ number_between 1 256 word.now }
     ensures bound { IfSome result (λ n. (0 < n) × (n ≤ 256)) }
@@ -53,7 +53,7 @@ pub(crate) fn length_number(word: &[u8]) -> Option<usize>
     }
 }
 
-/// The policy that a word asks for.
+/// Return the policy of `--policy`; the default is `keep`.
 pub(crate) fn policy<'a>(word: Option<&str>) -> Result<Policy, ProgramFault<'a>>
     ensures { MatchResult result
         (λ policy. asked_policy (option_map (λ word. word.now) word.entry) ≡ Some policy)
@@ -69,7 +69,7 @@ pub(crate) fn policy<'a>(word: Option<&str>) -> Result<Policy, ProgramFault<'a>>
     }
 }
 
-/// The number that a word asks for; another one without a word.
+/// Return the number in an option's value, or `other` without the option.
 fn asked_number(word: Option<&str>, other: u64) -> Option<u64>
     ensures { result ≡ asked_number other (option_map (λ word. word.now) word.entry) }
 {
@@ -79,8 +79,8 @@ fn asked_number(word: Option<&str>, other: u64) -> Option<u64>
     ticks_number(word.as_bytes())
 }
 
-/// The instructions that the log has, by the words for the first and the last one. Refused where
-/// one is no number, and where the first is above the last.
+/// Return the numbers of the first and the last instruction in the log, from the values of `--from` and `--to`. It
+/// fails if a value isn't a number from 1 to [`MOST_TICKS`], or if the first number is above the last.
 pub(crate) fn window<'a>(from: Option<&str>, to: Option<&str>) -> Result<Window, ProgramFault<'a>>
     ensures from { IfOk result (λ window.
         asked_number 1 (option_map (λ word. word.now) from.entry) ≡ Some window.from) }
@@ -104,7 +104,7 @@ pub(crate) fn window<'a>(from: Option<&str>, to: Option<&str>) -> Result<Window,
     })
 }
 
-/// The most ticks that a word asks for.
+/// Return the number of `--ticks`; the default is [`MOST_TICKS`].
 pub(crate) fn ticks<'a>(word: Option<&str>) -> Result<u64, ProgramFault<'a>>
     ensures { MatchResult result
         (λ ticks. asked_number (2 ^ 63) (option_map (λ word. word.now) word.entry) ≡ Some ticks)

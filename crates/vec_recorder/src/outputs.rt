@@ -1,4 +1,4 @@
-//! Where the program writes its records: files by their paths.
+//! The files that the program writes its records to.
 ghost use Rattle.std.specs.Prelude.{ℕ, List, IfOk, ⊤};
 
 use devices::{DeviceFault, Sink, WriterSink};
@@ -6,23 +6,23 @@ use std::fs;
 use std::os::unix::fs::MetadataExt;
 use std::rt::Files;
 
-/// Files that are made by their paths. What they take may be known or not.
+/// Files that are created by path. An implementation specifies their bytes, or leaves them unspecified.
 pub trait Outputs {
-    /// A file that was made.
+    /// A created file.
     type Made: Sink + Drop;
 
-    /// Whether this is the file that was made at a path, as nothing was written to it yet.
+    /// Whether this is the file created at a path, before anything is written to it.
     ghost is_made: { Self → List ℕ → Self.Made → Type 0 };
 
-    /// Makes the file at a path, or empties the one that is there.
+    /// Create the file at a path, or truncate an existing file.
     fn create(&self, path: &str) -> Result<Self::Made, DeviceFault>
         ensures { IfOk result (is_made self.now path.now) };
 
-    /// Whether files exist at both paths and are the same file.
+    /// Return whether files exist at both paths and are the same file.
     fn is_same_file(&self, first: &str, second: &str) -> bool;
 }
 
-/// The files of a process. Nothing is known of them.
+/// The files of a process. Their bytes are unspecified.
 impl<R: Files> Outputs for R {
     type Made = WriterSink<R::File>;
 
@@ -35,7 +35,7 @@ impl<R: Files> Outputs for R {
         Ok(WriterSink::new(file))
     }
 
-    /// Compares device and inode numbers, at the end of symbolic links.
+    /// Compare device and inode numbers, after following symbolic links.
     fn is_same_file(&self, first: &str, second: &str) -> bool {
         let Ok(first) = fs::metadata(self, first) else {
             return false;

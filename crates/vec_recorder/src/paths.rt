@@ -1,4 +1,4 @@
-//! The paths of a run: no two outputs are the same file, and no output is an input.
+//! The paths of a run: all output files differ, and no output file is an input.
 ghost use Rattle.std.specs.Prelude.{◌≡◌, IfErr, IsFalse, IsOk, option_map};
 ghost use Rattle.vec_recorder.specs.CommandLine.{option_words};
 ghost use Rattle.vec_recorder.specs.Paths.{ArePathsApart, Differ, IsNoInput};
@@ -9,8 +9,7 @@ use crate::memory_words::MemoryPath;
 use crate::outputs::Outputs;
 use crate::program_fault::ProgramFault;
 
-/// Whether two paths are given and name the same file: they are the same text, or both files exist
-/// and are the same one.
+/// Return whether two paths are given and name the same file: they are equal, or both files exist and are the same.
 fn are_same<R: Outputs>(rt: &R, first: Option<&str>, second: Option<&str>) -> bool
     ensures { IsFalse result → Differ (option_map (λ path. path.now) first.entry)
         (option_map (λ path. path.now) second.entry) }
@@ -24,7 +23,7 @@ fn are_same<R: Outputs>(rt: &R, first: Option<&str>, second: Option<&str>) -> bo
     first == second || rt.is_same_file(first, second)
 }
 
-/// Refused where two outputs are the same file.
+/// Check that all output files differ. Return `SameOutput` otherwise.
 fn check_outputs<'a, R: Outputs>(rt: &R, options: &Options<'a>) -> Result<(), ProgramFault<'a>>
     ensures changes { IsOk result → Differ (option_words options.now).counts (option_words options.now).changes }
     ensures log { IsOk result → Differ (option_words options.now).counts (option_words options.now).log }
@@ -43,7 +42,7 @@ fn check_outputs<'a, R: Outputs>(rt: &R, options: &Options<'a>) -> Result<(), Pr
     Ok(())
 }
 
-/// Refused where the output of an option is an input.
+/// Check that an option's output file isn't this input. Return `OutputIsInput` otherwise.
 fn check_input<'a, R: Outputs>(
     rt: &R,
     option: &'static str,
@@ -63,7 +62,8 @@ fn check_input<'a, R: Outputs>(
     Ok(())
 }
 
-/// Refused where the output of an option is the image or a file of registers or memory.
+/// Check that an option's output file is neither the image nor a register or memory file. Return `OutputIsInput`
+/// otherwise.
 fn check_inputs<'a, R: Outputs>(
     rt: &R,
     option: &'static str,
@@ -83,7 +83,7 @@ fn check_inputs<'a, R: Outputs>(
     Ok(())
 }
 
-/// Refused where two outputs are the same file, or an output is an input. Opens no file.
+/// Check that all output files differ, and that none is an input. No file is opened.
 pub(crate) fn check_paths<'a, R: Outputs>(
     rt: &R,
     options: &Options<'a>,

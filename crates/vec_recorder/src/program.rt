@@ -1,4 +1,4 @@
-//! The program: a run of one user alone, its output to an output, its records to files.
+//! The program: it runs one user's program, and writes the output to a sink and the records to files.
 ghost use Rattle.std.specs.Prelude.{◌≡◌, ◌⊎◌, OnOk, ⊤};
 ghost use Rattle.clap.specs.Walk.{texts};
 ghost use Rattle.clap.specs.Words.{IsAmong};
@@ -27,7 +27,7 @@ use rv_model::Policy;
 use std::alloc::Global;
 use std::io;
 
-/// Refused where a place that is to be watched has no memory.
+/// Check that each watched range is mapped. Return `NoPlace` otherwise.
 fn check_places<'a>(alone: &Alone<OwnBytes>, places: &[Place]) -> Result<(), ProgramFault<'a>> {
     for place in places {
         if !has_memory(&alone.memory, place) {
@@ -37,7 +37,7 @@ fn check_places<'a>(alone: &Alone<OwnBytes>, places: &[Place]) -> Result<(), Pro
     Ok(())
 }
 
-/// The values of options, which have been read and checked.
+/// The parsed and checked values of the options.
 #[derive(Drop)]
 struct Values<'a> {
     policy: Policy,
@@ -47,8 +47,8 @@ struct Values<'a> {
     window: Window,
 }
 
-/// Runs a machine with these values of options, and makes the files of records once there is a
-/// machine to run. Answers how many calls wrote less than they were asked to.
+/// Run a machine with these values. The record files are created once the machine exists. Return the number of the
+/// program's write calls that wrote fewer bytes than requested.
 fn run_options<'a, R: Inputs + Outputs, K: Sink>(
     rt: &R,
     alloc: Global,
@@ -90,8 +90,8 @@ fn run_options<'a, R: Inputs + Outputs, K: Sink>(
     Ok(short)
 }
 
-/// Does what the options ask for. The words are read before any file is opened. Answers how many
-/// calls wrote less than they were asked to.
+/// Run and record a program with the options. All values are parsed and checked before any file is opened. Return the
+/// number of the program's write calls that wrote fewer bytes than requested.
 fn record_options<'a, R: Inputs + Outputs, K: Sink>(
     rt: &R,
     alloc: Global,
@@ -121,8 +121,8 @@ fn record_options<'a, R: Inputs + Outputs, K: Sink>(
     run_options(rt, alloc, options, values, output)
 }
 
-/// Does what the words ask for: help, or a run. Answers how many calls wrote less than they were asked
-/// to.
+/// Run the recorder with its arguments: print help, or record a run. Return the number of the program's write calls
+/// that wrote fewer bytes than requested.
 fn record_words<'a, R: Inputs + Outputs + Print, K: Sink>(
     rt: &R,
     alloc: Global,
@@ -144,7 +144,7 @@ fn record_words<'a, R: Inputs + Outputs + Print, K: Sink>(
     }
 }
 
-/// Says on standard error why the program ends, and answers its status.
+/// Print the message of a fault to standard error, and return its exit status.
 pub fn report<R: Eprint>(rt: &R, fault: &ProgramFault<'_>) -> u8
     ensures { result ≡ program_status fault.now }
 {
@@ -152,7 +152,7 @@ pub fn report<R: Eprint>(rt: &R, fault: &ProgramFault<'_>) -> u8
     fault.status()
 }
 
-/// Says on standard error how many calls wrote less than they were asked to, if any did.
+/// Print to standard error the number of write calls that wrote fewer bytes than requested, if there are any.
 fn report_short<R: Eprint>(rt: &R, short: u64) {
     if short > 0 {
         let _ = eprint!(rt;
@@ -161,10 +161,9 @@ fn report_short<R: Eprint>(rt: &R, short: u64) {
     }
 }
 
-/// The program. `words` is the command line, the program's name first. What the program that runs
-/// puts out goes to `output`; help and messages are printed. Answers the status that the program
-/// ends with; for any but `STATUS_DONE` standard error says why. Calls that wrote less than they were
-/// asked to are told there too.
+/// Run the recorder. `words` are the command-line arguments; the first is the program's name. The output of the
+/// recorded program is written to `output`, and help is printed to standard output. Error messages, and the number of
+/// write calls that wrote fewer bytes than requested, are printed to standard error. Return the exit status.
 pub fn record_into<R: Inputs + Outputs + Print + Eprint, K: Sink>(
     rt: &R,
     alloc: Global,
@@ -172,8 +171,8 @@ pub fn record_into<R: Inputs + Outputs + Print + Eprint, K: Sink>(
     output: &mut K,
 ) -> u8
     ensures statuses { (result ≡ 0) ⊎ ((result ≡ 2) ⊎ ((result ≡ 4) ⊎ ((result ≡ 5) ⊎ (result ≡ 6)))) }
-    // It ends with 0 where help was asked for, or where the run that the words ask for was carried out,
-    // put out what the definitions say, and left its counts, changes and log in the files that they name.
+    // The exit status is 0 if the arguments ask for help. It is also 0 if the run that they describe was executed with
+    // the specified output, and its counts, changes and log are in the files that they name.
     ensures recorded { result ≡ 0 → IsAmong DisplayHelp (words_fault (texts words.now))
         ⊎ Recorded (R.file_bytes rt.now) (R.is_made rt.now) R.Made.took (texts words.now)
         (λ told. K.took output.old told output.new) }
@@ -187,7 +186,8 @@ pub fn record_into<R: Inputs + Outputs + Print + Eprint, K: Sink>(
     }
 }
 
-/// The program, as `record_into` with standard output, of which nothing is known.
+/// Run the recorder as `record_into` does, with standard output as the output. The bytes of standard output are
+/// unspecified.
 pub fn record<R: Inputs + Outputs + Print + Eprint>(rt: &R, alloc: Global, words: &[&str]) -> u8
     ensures statuses { (result ≡ 0) ⊎ ((result ≡ 2) ⊎ ((result ≡ 4) ⊎ ((result ≡ 5) ⊎ (result ≡ 6)))) }
     ensures recorded { result ≡ 0 → IsAmong DisplayHelp (words_fault (texts words.now))

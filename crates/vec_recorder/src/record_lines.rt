@@ -1,4 +1,4 @@
-//! The lines of a file of counts, and the last line of any record.
+//! The lines of a counts file, and the last line of each record.
 ghost use Rattle.std.specs.Prelude.{IsPermutation, ◌≡◌, ◌++◌, ◌+◌, ◌<◌, ◌≤◌, ◌^◌, length, flat_map, OnOk};
 ghost use Rattle.std.specs.Option.{option_and_then};
 ghost use Rattle.rv_model.specs.commands.Running.{running_line};
@@ -18,7 +18,7 @@ use line_text::{Reply, push_decimal, push_hex8, push_hex16, push_stop};
 use recording::{Key, Row, Sums};
 use rv_model::{StepEnd, Stop};
 
-/// Adds a number after a space.
+/// Append a space and a decimal number.
 #[tactic(auto, unfolding(crate::specs::RecordLines::spaced))]
 fn push_number(reply: &mut Reply, number: u64)
     requires { length reply.old + 21 ≤ 4096 }
@@ -29,7 +29,7 @@ fn push_number(reply: &mut Reply, number: u64)
     push_decimal(reply, number);
 }
 
-/// Adds the line of a word at an address.
+/// Append the line of an instruction word at an address, with its counts.
 #[tactic(auto, unfolding(crate::specs::RecordLines::word_line))]
 fn push_word(reply: &mut Reply, pc: u64, word: u32, sums: &Sums)
     requires { length reply.old + 134 ≤ 4096 }
@@ -47,7 +47,7 @@ fn push_word(reply: &mut Reply, pc: u64, word: u32, sums: &Sums)
     reply.push(b"\n");
 }
 
-/// Adds the line of a vector type and length.
+/// Append the line of a vector type and a vector length, with its count.
 #[tactic(auto, unfolding(crate::specs::RecordLines::length_line))]
 fn push_length(reply: &mut Reply, vtype: u64, vl: u16, sums: &Sums)
     requires { length reply.old + 62 ≤ 4096 }
@@ -60,7 +60,7 @@ fn push_length(reply: &mut Reply, vtype: u64, vl: u16, sums: &Sums)
     reply.push(b"\n");
 }
 
-/// Adds the line of a jump.
+/// Append the line of a jump, with its count.
 #[tactic(auto, unfolding(crate::specs::RecordLines::jump_line))]
 fn push_jump(reply: &mut Reply, pc: u64, target: u64, sums: &Sums)
     requires { length reply.old + 60 ≤ 4096 }
@@ -74,7 +74,7 @@ fn push_jump(reply: &mut Reply, pc: u64, target: u64, sums: &Sums)
     reply.push(b"\n");
 }
 
-/// Adds the line of a row, if anything was counted in it.
+/// Append the line of a row, unless its count is zero.
 #[tactic(auto, unfolding(crate::specs::RecordLines::row_line))]
 fn push_row(reply: &mut Reply, row: &Row)
     requires { length reply.old + 134 ≤ 4096 }
@@ -90,7 +90,7 @@ fn push_row(reply: &mut Reply, row: &Row)
     }
 }
 
-/// Where the line of a row stands: words by their addresses, then lengths by their types, then jumps.
+/// Return the sort key of a row: words by address, then vector lengths by type, then jumps.
 fn place_of(row: &Row) -> (u8, u64, u64) {
     match row.key {
         Key::Word { pc, word } => (0, pc, u64::from(word)),
@@ -99,14 +99,14 @@ fn place_of(row: &Row) -> (u8, u64, u64) {
     }
 }
 
-/// Sorts the rows by where their lines stand.
+/// Sort the rows by the order of their lines.
 pub(crate) fn sort_rows(rows: &mut [Row])
     ensures { IsPermutation rows.old rows.new }
 {
     rows.sort_unstable_by_key(|row| place_of(row));
 }
 
-/// Writes the lines of the rows.
+/// Write the lines of the rows.
 pub(crate) fn write_rows<K: Sink>(sink: &mut K, rows: &[Row]) -> Result<(), DeviceFault>
     ensures { OnOk result (K.took sink.old (flat_map row_line rows.now) sink.new) }
 {
@@ -119,7 +119,7 @@ pub(crate) fn write_rows<K: Sink>(sink: &mut K, rows: &[Row]) -> Result<(), Devi
     Ok(())
 }
 
-/// Why the program stops after an instruction that ended so.
+/// Return the stop of a program after an instruction with this end, or `None` if it continues.
 fn stop_of(end: StepEnd) -> Option<Stop>
     ensures { result ≡ stop_of end }
 {
@@ -136,7 +136,7 @@ fn stop_of(end: StepEnd) -> Option<Stop>
     }
 }
 
-/// Adds that a program still runs, and where it stands.
+/// Append that a program is running, and its program counter.
 #[tactic(auto, unfolding(rv_model::specs::commands::Running::running_line))]
 fn push_running(reply: &mut Reply, pc: u64)
     requires { length reply.old + 27 ≤ 4096 }
@@ -147,7 +147,8 @@ fn push_running(reply: &mut Reply, pc: u64)
     push_hex16(reply, pc);
 }
 
-/// Adds why a program stopped, and where it stands; it still runs where its ticks were used up.
+/// Append the reason for a program's stop, and the program counter. Without a stop, the program used all its ticks and
+/// is still running.
 fn push_end(reply: &mut Reply, pc: u64, stop: Option<Stop>)
     requires { length reply.old + 75 ≤ 4096 }
     ensures text { reply.new ≡ reply.old ++ end_line pc stop }
@@ -159,7 +160,7 @@ fn push_end(reply: &mut Reply, pc: u64, stop: Option<Stop>)
     }
 }
 
-/// Adds the last line.
+/// Append the last line.
 #[tactic(auto, unfolding(crate::specs::RecordLines::last_line))]
 fn push_last(reply: &mut Reply, pc: u64, end: Option<StepEnd>, times: u64, ticks: u64)
     requires { length reply.old + 118 ≤ 4096 }
@@ -175,8 +176,8 @@ fn push_last(reply: &mut Reply, pc: u64, end: Option<StepEnd>, times: u64, ticks
     reply.push(b"\n");
 }
 
-/// Writes the last line: how the program ended and where it stands, and how many instructions were
-/// carried out in how many ticks.
+/// Write the last line: how the program ended, its program counter, and the numbers of executed instructions and of
+/// ticks.
 pub(crate) fn write_last<K: Sink>(
     sink: &mut K,
     pc: u64,

@@ -1,4 +1,4 @@
-//! A run, by what is recorded of it: counts, changes, both or nothing, and a log beside them.
+//! A run with its records: counts, changes, and a log, each of them optional.
 ghost use Rattle.std.specs.Prelude.{IsPermutation, ◌≡◌, ◌%◌, ◌^◌, ◌++◌, IfOk, OnOk, flat_map, option_map};
 ghost use Rattle.recording.specs.Machines.{state_of};
 ghost use Rattle.recording.specs.Runs.{put_out, ran};
@@ -20,7 +20,7 @@ use recording::{
 use rv_model::StepEnd;
 use std::alloc::Global;
 
-/// Makes the file at a path.
+/// Create the file at a path.
 fn made_file<'a, R: Outputs>(rt: &R, path: &'a str) -> Result<R::Made, ProgramFault<'a>>
     ensures { IfOk result (R.is_made rt.now path.entry.now) }
 {
@@ -30,7 +30,7 @@ fn made_file<'a, R: Outputs>(rt: &R, path: &'a str) -> Result<R::Made, ProgramFa
     }
 }
 
-/// Sorts the rows, and writes them as the counts of a run that ended so and stands there.
+/// Sort the rows, and write them as the counts of a run with this end and this program counter.
 fn write_counts<C: Sink>(
     file: &mut C,
     rows: &mut [Row],
@@ -48,7 +48,8 @@ fn write_counts<C: Sink>(
     write_last(file, pc, end, sums.times, sums.ticks)
 }
 
-/// A run that is asked for, with its log: the ticks, the path of the log's file, if there is one, and the instructions that the log has.
+/// The parameters of a run with a log: the maximum number of ticks, the path of the log file, if there is one, and the
+/// range of instructions in the log.
 #[derive(Clone, Copy)]
 pub(crate) struct LoggedRun<'a> {
     pub ticks: u64,
@@ -56,7 +57,8 @@ pub(crate) struct LoggedRun<'a> {
     pub window: Window,
 }
 
-/// A logged run with the paths of the files for its counts and its changes, if there are some, and the places that are watched.
+/// The parameters of a logged run, the paths of the counts file and the changes file, if there are any, and the watched
+/// ranges.
 #[derive(Drop)]
 pub(crate) struct RecordedRun<'a> {
     pub logged: LoggedRun<'a>,
@@ -65,7 +67,7 @@ pub(crate) struct RecordedRun<'a> {
     pub places: Vec<Place>,
 }
 
-/// Runs and records a program without a log. Returns how it ended, and the record.
+/// Run and record a program without a log. Return how it ended, and the record.
 #[inline(never)]
 fn run_unlogged<K: Sink, O: Recorder<OwnBytes> + Drop>(
     alone: &mut Alone<OwnBytes>,
@@ -81,8 +83,8 @@ fn run_unlogged<K: Sink, O: Recorder<OwnBytes> + Drop>(
     Ok((end, only))
 }
 
-/// Runs and records a program, and writes its log if there is a file for it. Returns how it ended, and the record.
-/// Out of line, the loop of a run takes less.
+/// Run and record a program, and write its log if there is a path for it. Return how it ended, and the record. The
+/// function isn't inlined because the loop of a run is faster then.
 #[inline(never)]
 fn run_recorded<'a, R: Outputs, K: Sink, O: Recorder<OwnBytes> + Drop>(
     rt: &R,
@@ -122,7 +124,7 @@ fn run_recorded<'a, R: Outputs, K: Sink, O: Recorder<OwnBytes> + Drop>(
     Ok((end, both.first))
 }
 
-/// The same with the changes of watched places, if there is a file for them.
+/// Run and record as `run_recorded` does, and write the changes of watched ranges if there is a path for them.
 fn run_watched<'a, R: Outputs, K: Sink, O: Recorder<OwnBytes> + Drop>(
     rt: &R,
     alloc: Global,
@@ -168,8 +170,8 @@ fn run_watched<'a, R: Outputs, K: Sink, O: Recorder<OwnBytes> + Drop>(
     Ok((end, both.first))
 }
 
-/// Runs a program, and writes its counts, the changes of places and its log to the files at their paths, where there are some.
-/// Returns how many calls wrote less than they were asked to.
+/// Run a program, and write its counts, the changes of watched ranges and its log to the files whose paths are given.
+/// Return the number of the program's write calls that wrote fewer bytes than requested.
 pub(crate) fn run_machine<'a, R: Outputs, K: Sink>(
     rt: &R,
     alloc: Global,

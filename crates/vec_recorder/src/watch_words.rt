@@ -1,4 +1,4 @@
-//! Words of places that are watched, `ADDR:LEN`.
+//! Values of `--watch`, `ADDR:LEN`.
 ghost use Rattle.std.specs.Prelude.{◌≡◌, ◌⊎◌, IfErr, IfOk, MatchOption};
 ghost use Rattle.std.specs.List.{AllZip, Any};
 ghost use Rattle.clap.specs.Walk.{texts};
@@ -12,7 +12,7 @@ use line_text::address;
 use memory_changes::Place;
 use std::alloc::Allocator;
 
-/// Splits a word of a place at its first colon.
+/// Split a value of `--watch` at its first colon; return `None` if it is malformed.
 fn watched_place(word: &str) -> Option<Place>
     ensures { MatchOption result (NamesNoPlace word.now) (IsPlaceOf word.now) }
 {
@@ -22,7 +22,8 @@ fn watched_place(word: &str) -> Option<Place>
     Place::new(addr, len)
 }
 
-/// Splits each word of a place, in their order. Refused where one names none, and for want of memory.
+/// Split each value of `--watch`, in order. Return `WatchWord` for a malformed value, and `NoMemory` if memory runs
+/// out.
 pub(crate) fn watched_places<'a, A: Allocator>(
     alloc: A,
     words: &[&'a str],

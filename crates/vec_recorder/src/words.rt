@@ -1,4 +1,4 @@
-//! Reads the words of the command line.
+//! Parsing of the command line.
 ghost use Rattle.std.specs.Prelude.{◌≡◌, [], IsOk, IfOk, IfErr};
 ghost use Rattle.clap.specs.Walk.{texts};
 ghost use Rattle.vec_recorder.specs.CommandLine.{option_words, run_words, words_fault, IsRefusedFor};
@@ -6,9 +6,8 @@ ghost use Rattle.vec_recorder.specs.CommandLine.{option_words, run_words, words_
 use crate::command_line::{Options, UsageFault, command};
 use std::alloc::Global;
 
-/// Reads the words of the command line, the program's name first: each option has the word that
-/// clap reads for it. Refused where clap refuses the words, for help or another fault, and for want
-/// of memory.
+/// Parse the command-line arguments; the first is the program's name. The options are the values that clap parses for
+/// them. Return clap's error as `Help` or `Usage`, or return `NoMemory` if memory runs out.
 pub fn options<'a>(alloc: Global, words: &'a [&'a str]) -> Result<Options<'a>, UsageFault>
     ensures words { IfOk result (λ options. option_words options ≡ run_words (texts words.entry.now)) }
     ensures taken { IsOk result → words_fault (texts words.entry.now) ≡ [] }

@@ -6,7 +6,7 @@ use Rattle.first_state.specs.Placed.{in_memory}
 use Rattle.vec_recorder.specs.Beginning.{ArePlaced}
 use Rattle.vec_recorder.proofs.beginning.place_files.Given as goal
 
--- once the other files are placed, all are; and nothing but memory has changed
+-- writing the remaining files completes the memory; everything but memory is unchanged
 abbrev pub invariant-loop-memory : goal.invariant-loop-memory
 invariant-loop-memory g l = record {
   others : (after : Memory) → ArePlaced (g.I.Inputs.file_bytes l.fn.inputs) (drop l.memory-index l.memories) (own_memory l.alone.memory) after
