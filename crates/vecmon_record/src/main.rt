@@ -1,4 +1,4 @@
-//! The program: runs one user's program alone, and records it.
+//! The program `vecmon-record`: it runs one user's program on its own machine, and records it.
 #![tactic(auto)]
 
 ghost use Rattle.std.specs.Prelude.{◌≡◌, ◌⊎◌};
@@ -7,7 +7,7 @@ use devices::{ArgumentFault, arguments};
 use std::process::ExitCode;
 use vec_recorder::{ProgramFault, record, report};
 
-/// Runs the program with the arguments of the process. Returns the exit status.
+/// Run the program with the arguments of the process, and return the exit status.
 fn run(rt: &HostRuntime) -> u8
     ensures statuses { (result ≡ 0) ⊎ ((result ≡ 2) ⊎ ((result ≡ 4)
         ⊎ ((result ≡ 5) ⊎ (result ≡ 6)))) }
