@@ -27,7 +27,7 @@ program_status (Run fault) = run_status fault
 program_status NoMemory = 6
 program_status _ = 2
 
--- the program's fault for a refused machine: the quantum is always valid, so the fault concerns the images
+-- the program's fault if no machine can be created: lack of memory, or a fault of the images, because the quantum is always valid
 abbrev pub machine_fault : NewFault → ProgramFault
 machine_fault new_fault.NoMemory = NoMemory
 machine_fault _ = ImageList
