@@ -1,4 +1,4 @@
--- What a text spells, from its name and its operands; and the parts of a canonical text by the code's table
+-- The word that a mnemonic and its operands encode, and the canonical text of a word by the code's table
 use Rattle.std.proofs.Common.{◌≡◌, ℕ, ◌+◌, ◌<◌, ◌^◌, List, [], ◌∷◌, ◌++◌, length, Option, Some, None, Result, Ok, Err, sym, ap, ap₂, ◌∙◌}
 use Rattle.std.specs.Option.{option_map_or}
 use Rattle.std.specs.Prelude.{IfOk, IfErr}
@@ -12,7 +12,7 @@ use Rattle.rv_model.specs.lending.NameTable.{slots_of, unpadded, row_named, row_
 use Rattle.rv_model.proofs.assembler_lemmas.Spellings.{spelling_is_listed}
 use Rattle.rv_model.proofs.assembler_lemmas.ListedTexts.{listed_by, listed, text_at, listed_canonical}
 
--- the operands' tokens, under the row of the name
+-- the word that the operands' tokens encode, by the row of the mnemonic
 abbrev pub spelled_with : ℕ → Token → List Token → Option ℕ → Result ℕ ℕ
 spelled_with end name ts row = option_map_or (λ r. read_operands end (bits_at r) (slots_at r) ts) row (Err name.column)
 

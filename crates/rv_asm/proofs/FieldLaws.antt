@@ -1,4 +1,4 @@
--- The operands that a word has, at their places again
+-- The operands of a word, encoded in their fields again
 use Rattle.std.proofs.Common.{◌≡◌, ℕ, ◌+◌, ◌*◌, ◌/◌, ◌%◌, ◌^◌, ◌<◌, List, [], ◌∷◌, ◌++◌, refl, sym, ap, ap₂, ◌∙◌, arith}
 use Rattle.std.proofs.Math.Nat.{mod-eq_of_lt}
 use Rattle.rv_model.specs.instructions.FixedBits.{field, Part, part, sum_of}
@@ -12,12 +12,12 @@ use Rattle.rv_model.proofs.instruction_lemmas.Parts.{of_word}
 use Rattle.rv_model.proofs.instruction_lemmas.Words.{low_again}
 use Rattle.rv_model.proofs.assembler_lemmas.Operands.{field_below}
 
--- all operands of a word at their places
+-- all operands of a word in their fields
 abbrev pub operand_parts : List Slot → ℕ → List Part
 operand_parts [] w = []
 operand_parts (s ∷ ss) w = parts_of s (value_of s w) ++ operand_parts ss w
 
--- a piece that is a field already
+-- the value of a field is below 2 ^ len, so its remainder is the same
 same_part : (low len w : ℕ) → part low len (field low len w % 2 ^ len) ≡ part low len (field low len w)
 same_part low len w = ap (part low len) (mod-eq_of_lt (field_below low len w))
 
@@ -76,7 +76,7 @@ of_word-append : (w : ℕ) (ps qs : List Part) → of_word w (ps ++ qs) ≡ of_w
 of_word-append w [] qs = refl
 of_word-append w (p ∷ ps) qs = ap (λ (rs : List Part). part p.low p.len (w / 2 ^ p.low % 2 ^ p.len) ∷ rs) (of_word-append w ps qs)
 
--- the operands of a word are its fields at their places
+-- the operands of a word, in their fields, are the bits of the word there
 pub operand_parts_of_word : (ss : List Slot) (w : ℕ) → operand_parts ss w ≡ of_word w (operand_parts ss 0)
 operand_parts_of_word [] w = refl
 operand_parts_of_word (s ∷ ss) w = ap₂ (λ (ps qs : List Part). ps ++ qs) (parts_again s w) (operand_parts_of_word ss w) ∙ sym (of_word-append w (parts_of s (value_of s 0)) (operand_parts ss 0))

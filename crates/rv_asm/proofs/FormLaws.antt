@@ -12,7 +12,7 @@ use Rattle.rv_model.proofs.assembler_lemmas.Operands.{value_below}
 use Rattle.rv_asm.proofs.FieldLaws.{operand_parts, sum_of-append}
 use Rattle.rv_asm.proofs.SlotLaws.{Follows, slot_again}
 
--- a run of bytes ends before the first of these slots
+-- a run of bytes ends where the text of these slots starts
 abbrev breaks : List Slot → Bool
 breaks [] = true
 breaks (Comma ∷ ss) = true
@@ -25,7 +25,7 @@ abbrev no_slot : List Slot → Bool
 no_slot [] = true
 no_slot (s ∷ ss) = false
 
--- no two runs stand side by side, and what may be left out is last
+-- no two slots print adjacent runs, and the optional mask is last
 abbrev pub is_form : List Slot → Bool
 is_form [] = true
 is_form (Comma ∷ ss) = is_form ss

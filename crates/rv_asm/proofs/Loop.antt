@@ -12,7 +12,7 @@ swap_sums : (k p : ℕ) (given : Result ℕ ℕ) → ((given >>= λ w. Ok (k + w
 swap_sums k p (Ok w) = let e : p + (k + w) ≡ k + (p + w) = omega arith in ap (λ (x : ℕ). Ok x) e
 swap_sums k p (Err e) = refl
 
--- bits that are there from the start may as well come at the end
+-- bits added before reading or after reading give the same word
 abbrev BitsMove : ℕ → ℕ → ℕ → List Slot → List Token → Type 0
 BitsMove end b k ss ts = read_operands end (b + k) ss ts ≡ (read_operands end b ss ts >>= λ w. Ok (k + w))
 

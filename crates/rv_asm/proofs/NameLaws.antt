@@ -1,4 +1,4 @@
--- The name that is printed is the one that is read
+-- Reading a printed name returns its number
 use Rattle.std.proofs.Common.{◌≡◌, ℕ, ◌<◌, Bool, true, false, eqb, leb, ◌&&◌, List, [], ◌∷◌, length, Option, Some, None, refl, ap, subst, ◌∙◌, arith, lit<}
 use Rattle.std.specs.Option.{option_map_or, option_or}
 use Rattle.std.specs.Prelude.{find, codes, option_map}
@@ -21,7 +21,7 @@ use Rattle.rv_asm.specs.TypeParts.{vsew, vlmul, vta, vma}
 use Rattle.rv_asm.proofs.Tokens.{all_run}
 use Rattle.rv_asm.proofs.NumberLaws.{Decimal, is_decimal, number_again, all_run_dec, not_letter}
 
--- a letter stands first
+-- the first byte is above the digits, as letters are
 abbrev begins_with_letter : List ℕ → Bool
 begins_with_letter [] = false
 begins_with_letter (c ∷ cs) = leb 58 c
@@ -30,7 +30,7 @@ letter_first : (name : List ℕ) → begins_with_letter name ≡ true → 0 < le
 letter_first [] h = absurd cc
 letter_first (c ∷ cs) h = omega arith
 
--- a name that begins with a letter is no decimal number
+-- a name that begins with a letter isn't a decimal number
 letters_apart : (name : List ℕ) (n : ℕ) (ds : List ℕ) → begins_with_letter name ≡ true → Decimal n ds → bytes_eq name ds ≡ false
 letters_apart [] n ds h d = absurd cc
 letters_apart (c ∷ cs) n ds h d = not_letter c n cs ds (leb-true 58 c h) d
@@ -43,7 +43,7 @@ number_is : (n : ℕ) (found : Option ℕ) → is_number n found ≡ true → fo
 number_is n None h = absurd cc
 number_is n (Some k) h = ap (λ (x : ℕ). Some x) (eqb-true k n h)
 
--- a text of one token, and its meaning
+-- a text of one token with the value v
 pub record Means (meaning : List ℕ → Option ℕ) (text : List ℕ) (v : ℕ) : Type 0 where
   pub run : all_run text ≡ true
   pub some : 0 < length text
@@ -51,7 +51,7 @@ pub record Means (meaning : List ℕ → Option ℕ) (text : List ℕ) (v : ℕ)
 
 -- ---- control registers
 
--- the name of each register is one token, which begins with a letter and means the register's number
+-- the name of a register is one token, begins with a letter and reads as the register's number
 names_itself : ControlRegister → Bool
 names_itself register =
     all_run (register_name register) && (begins_with_letter (register_name register) && is_number (register_number register) (csr (register_name register)))
@@ -67,7 +67,7 @@ csr_name_again register h =
     let b = and_parts (begins_with_letter (register_name register)) _ a.1 in
     record { run = a.0; some = letter_first (register_name register) b.0; value = number_is (register_number register) (csr (register_name register)) b.1 }
 
--- the number of the register that a text names, or its digits
+-- the number of the register with this name, or the number that the text's digits give
 abbrev csr_from : List ℕ → Option ControlRegister → Option ℕ
 csr_from text register = option_or (option_map register_number register) (at_most 4095 (number text))
 
@@ -75,7 +75,7 @@ csr_from text register = option_or (option_map register_number register) (at_mos
 abbrev csr_text_of : ℕ → Option ControlRegister → List ℕ
 csr_text_of n register = option_map_or register_name register (decimal n)
 
--- digits are the name of none of these registers
+-- none of these registers has digits as its name
 digits_name_no_register : (registers : List ControlRegister) → list_all names_itself registers ≡ true → (v : ℕ) (ds : List ℕ) → Decimal v ds → find (λ r. bytes_eq (register_name r) ds) registers ≡ None
 unfolding names_itself
 digits_name_no_register [] h v ds d = refl
@@ -102,7 +102,7 @@ csr_text_again v (Some register) lt h =
 pub csr_again : (v : ℕ) → v < 4096 → Means csr (csr_text_of v (control_register v)) v
 csr_again v lt = csr_text_again v (control_register v) lt refl
 
--- ---- the parts of vtype
+-- ---- the fields of vtype
 
 pub vsew_again : (sew : Sew) → Means vsew (sew_name sew) (sew_number sew)
 vsew_again E8 = record { run = refl; some = lit< tt; value = refl }
@@ -120,7 +120,7 @@ pub vma_again : (agnostic : Bool) → Means vma (mask_name agnostic) (flag_bit a
 vma_again true = record { run = refl; some = lit< tt; value = refl }
 vma_again false = record { run = refl; some = lit< tt; value = refl }
 
--- the numbers of the parts are those that the parts were found by
+-- a field's value found by a number has that number
 pub sew_number_again : (n : ℕ) (sew : Sew) → sew_with_number n ≡ Some sew → n ≡ sew_number sew
 sew_number_again n sew h = eqb-true n (sew_number sew) (found_is (λ s. eqb n (sew_number s)) (E8 ∷ E16 ∷ E32 ∷ E64 ∷ []) sew h)
 

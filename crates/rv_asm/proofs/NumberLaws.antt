@@ -1,4 +1,4 @@
--- The number or the register that is printed is the one that is read
+-- Reading a printed number or register returns the same number
 use Rattle.std.proofs.Common.{◌≡◌, ℕ, zero, suc, ◌+◌, ◌-◌, ◌*◌, ◌/◌, ◌%◌, ◌^◌, ◌<◌, ◌≤◌, Bool, true, false, cond, eqb, ltb, leb, ◌&&◌, List, [], ◌∷◌, ◌++◌, length, Option, Some, None, refl, sym, ap, ◌∙◌, arith, inl, inr}
 use Rattle.std.specs.Fmt.{decimal}
 use Rattle.std.specs.Str.{bytes_eq}
@@ -17,7 +17,7 @@ abbrev pub all_dec : List ℕ → Bool
 all_dec [] = true
 all_dec (c ∷ cs) = is_dec c && all_dec cs
 
--- decimal digits, one or more, for n
+-- one or more decimal digits with the value n
 pub record Decimal (n : ℕ) (ds : List ℕ) : Type 0 where
   pub digits : all_dec ds ≡ true
   pub value : digits_after 10 0 ds ≡ Some n
@@ -140,7 +140,7 @@ hex_none : (n : ℕ) → n ≡ 0 → digits_after 16 0 (hex_digits 0 n) ≡ Some
 unfolding hex_digits digits_after
 hex_none n e = ap (λ (x : ℕ). Some x) (sym e)
 
--- so many digits are enough
+-- n has at most this number of hexadecimal digits
 abbrev fits : ℕ → ℕ → Type 0
 fits zero n = n ≡ 0
 fits (suc k) n = fits k (n / 16)

@@ -1,4 +1,4 @@
--- The text of a word under a name spells that word
+-- The text of a word by a row that matches it assembles to that word
 use Rattle.std.proofs.Common.{◌≡◌, ℕ, zero, suc, ◌+◌, ◌-◌, ◌^◌, ◌<◌, Bool, true, false, eqb, ltb, nat_eq, nat_lt, ◌&&◌, List, [], ◌∷◌, ◌++◌, length, get_or, Option, Some, None, Ok, refl, sym, ap, ap₂, ◌∙◌, arith, lit<}
 use Rattle.std.specs.Int.Bits.{bit_and}
 use Rattle.std.proofs.lemmas.Bool.{agree_below_at, and_parts, ltb-true, eqb-true}
@@ -44,7 +44,7 @@ each_form_fits : (row : ℕ) → row < ROW_COUNT → form_fits row ≡ true
 unfolding form_fits slots_at bits_at row_at fixed_mask
 each_form_fits row lt = agree_below_at form_fits (λ _. true) ROW_COUNT row refl lt
 
--- what these tests tell of a row
+-- the facts about a row that `name_fits` and `form_fits` establish
 pub record Row (row : ℕ) : Type 0 where
   pub run : all_run (name_at row) ≡ true
   pub some : 0 < length (name_at row)
@@ -79,7 +79,7 @@ row_facts row lt =
       full = eqb-true (mask_of (fixed_mask (slots_at row)) (operand_parts (slots_at row) 0)) (2 ^ 32 - 1) f.1;
     }
 
--- the name's token, and tokens that the form reads
+-- the tokens of a name and operands: the name, then tokens that the form reads as the operands
 name_then_operands : (end bits w : ℕ) (name : List ℕ) (ss : List Slot) → all_run name ≡ true → 0 < length name → is_form ss ≡ true
     → (ts : List Token) × (tokens 1 (name ++ operands_text ss w) ≡ record { column = 1; text = name } ∷ ts) × (read_operands end bits ss ts ≡ Ok (sum_of bits (operand_parts ss w)))
 unfolding tokens read_operands

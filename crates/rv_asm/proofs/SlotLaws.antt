@@ -30,7 +30,7 @@ pub run_is_one_token : (p : ℕ) (ds more : List ℕ) → all_run ds ≡ true �
 run_is_one_token p [] more h some m = absurd (omega arith)
 run_is_one_token p (c ∷ cs) more h some m = let k = and_parts (in_run c) (all_run cs) h in run_first p c cs more k.0 k.1 m
 
--- what may stand behind a slot's text
+-- the text that may follow a slot's text
 abbrev pub Follows : Slot → List ℕ → Type 0
 Follows Comma more = Unit {0}
 Follows Open more = Unit {0}
@@ -38,11 +38,11 @@ Follows Close more = Unit {0}
 Follows Mask more = more ≡ []
 Follows s more = begins_run more ≡ false
 
--- a reader takes this text for this value
+-- a reader reads this text as this value
 abbrev Takes : (List Token → Result (ℕ × List Token) ℕ) → List ℕ → ℕ → ℕ → List ℕ → Type 0
 Takes reader text v p more = reader (tokens p (text ++ more)) ≡ Ok (v, tokens (p + length text) more)
 
--- one token, and what it means
+-- a token reads as its value
 one_again : (p end v : ℕ) (f : List ℕ → Option ℕ) (ds more : List ℕ) → Means f ds v → begins_run more ≡ false → Takes (one end f) ds v p more
 one_again p end v f ds more m follows = ap (one end f) (run_is_one_token p ds more m.run m.some follows) ∙ ap (accept p (tokens (p + length ds) more)) m.value
 
@@ -109,7 +109,7 @@ signed_again s v p end more lt follows =
 
 -- ---- vtype
 
--- behind the first token, by whether it was an element width
+-- vtype after its first token, by whether that is an element width
 abbrev vtype_from : ℕ → ℕ → Token → List Token → Option ℕ → Result (ℕ × List Token) ℕ
 vtype_from end count t ts width = option_map_or (λ w. vtype_names end w ts) width (accept t.column ts (at_most (count - 1) (number t.text)))
 
@@ -160,7 +160,7 @@ names_text_append w l t i more = simp append_assoc refl
 names_text_length : (w l t i : List ℕ) → length (w ++ 44 ∷ 32 ∷ [] ++ l ++ 44 ∷ 32 ∷ [] ++ t ++ 44 ∷ 32 ∷ [] ++ i) ≡ length w + 2 + length l + 2 + length t + 2 + length i
 names_text_length w l t i = simp length-append refl
 
--- the names of vtype's parts
+-- the names of vtype's fields
 abbrev names_text : Sew → Lmul → Bool → Bool → List ℕ
 names_text sew lmul tail inactive = sew_name sew ++ codes ", " ++ lmul_name lmul ++ codes ", " ++ tail_name tail ++ codes ", " ++ mask_name inactive
 
@@ -177,12 +177,12 @@ named_parts end count sew lmul tail inactive p more follows =
     ∙ names_again end (sew_number sew) lmul tail inactive q more follows
     ∙ ap (λ (k : ℕ). Ok (lmul_number lmul + sew_number sew * 8 + flag_bit tail * 64 + flag_bit inactive * 128, tokens k more)) at
 
--- a bit is the number of whether it is 1
+-- a bit equals `flag_bit` of whether it is 1
 bit_again : (n : ℕ) → n < 2 → n ≡ flag_bit (eqb n 1)
 bit_again (suc (suc n)) lt = absurd (omega arith)
 bit_again _ lt = refl
 
--- a vtype below 256 is the sum of its parts
+-- a vtype below 256 is the sum of its fields
 parts_sum : (v sew lmul tail inactive : ℕ) → v < 256 → v / 8 % 8 ≡ sew → v % 8 ≡ lmul → v / 64 % 2 ≡ tail → v / 128 % 2 ≡ inactive → lmul + sew * 8 + tail * 64 + inactive * 128 ≡ v
 parts_sum v sew lmul tail inactive small a b c d = omega arith
 
@@ -204,7 +204,7 @@ plain_vtype end count v p more lt small follows =
     ∙ ap (λ o. accept p ts (at_most (count - 1) o)) (number_again v (decimal v) d)
     ∙ ap (accept p ts) (at_most_again (count - 1) v (omega arith))
 
--- by names where the parts have them
+-- by names if the fields have them
 either_vtype : (end count v p : ℕ) (sew : Option Sew) (lmul : Option Lmul) (more : List ℕ) → v < 256 → sew_with_number (v / 8 % 8) ≡ sew → lmul_with_number (v % 8) ≡ lmul → v < count → count ≤ 2 ^ 32 → begins_run more ≡ false
     → Takes (vtype end count) (vtype_named sew lmul v) v p more
 either_vtype end count v p (Some sew) (Some lmul) more small wide grouped lt le follows = named_vtype end count v p sew lmul more small wide grouped follows
@@ -246,7 +246,7 @@ word_means v lt = record { run = hex_run 8 v; some = lit< tt; value = ap (at_mos
 below_one_is_zero : (v : ℕ) → v < 1 → 0 ≡ v
 below_one_is_zero v lt = omega arith
 
--- what is printed for an operand is read as that operand
+-- the printed text of an operand reads as that operand
 pub slot_again : (s : Slot) (v p end : ℕ) (more : List ℕ) → v < value_count s → Follows s more → Takes (read end s) (printed s v) v p more
 unfolding tokens
 slot_again Comma v p end more fits follows = comma_again p end more ∙ ap (λ (x : ℕ). Ok (x, tokens (p + 2) more)) (below_one_is_zero v fits)

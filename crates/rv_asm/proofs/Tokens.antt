@@ -1,4 +1,4 @@
--- What the tokens of a text are, from the left.
+-- The tokens of a text, from left to right
 use Rattle.std.proofs.Common.{◌≡◌, ◌≢◌, ℕ, zero, suc, ◌+◌, ◌-◌, ◌<◌, ◌≤◌, Bool, true, false, cond, eqb, ◌&&◌, List, [], ◌∷◌, ◌++◌, length, get_or, take, drop, refl, sym, ap, subst, ◌∙◌, arith, inl, inr}
 use Rattle.std.proofs.lemmas.Bool.{and_from, and_parts, ne_eqb, false≢true, and_right, and_left, cases_lt}
 use Rattle.std.proofs.lemmas.List.{drop_more, at_drop_more, at_drop_all, take-append-drop, drop-drop, length-take, length-drop}
@@ -11,7 +11,7 @@ space_skipped text at lt e =
     let f = λ (cs : List ℕ). tokens (at + 1) cs in
     at_drop_more f text at 0 lt ∙ rw e refl
 
--- each byte makes runs
+-- each byte can be in a run
 abbrev pub all_run : List ℕ → Bool
 all_run [] = true
 all_run (c ∷ cs) = in_run c && all_run cs
@@ -27,7 +27,7 @@ pick_last : {A : Type 0} (s r m : Bool) (x y z : A) → s ≡ false → (r && m)
 pick_last true r m x y z hs hr = absurd cc
 pick_last false r m x y z hs hr = rw hr refl
 
--- a byte that stands single_byte_is_token
+-- a byte is one token unless it is a space or the next byte continues its run
 pub single_byte_is_token : (p c : ℕ) (more : List ℕ) → eqb c 32 ≡ false → (in_run c && begins_run more) ≡ false → tokens p (c ∷ more) ≡ record { column = p; text = c ∷ [] } ∷ tokens (p + 1) more
 unfolding tokens
 single_byte_is_token p c more hs hr = pick_last (eqb c 32) (in_run c) (begins_run more) (tokens (p + 1) more) (with_first_byte p c (tokens (p + 1) more)) (record { column = p; text = c ∷ [] } ∷ tokens (p + 1) more) hs hr

@@ -1,4 +1,4 @@
-//! The word that a text spells, and the canonical text of a word.
+//! Assembles a text into a word, and prints the canonical text of a word.
 ghost use Rattle.std.specs.Prelude.{◌≡◌, ◌≤◌, ◌+◌, ◌*◌, ◌++◌, length, Ok, Err, IfOk, IfErr};
 ghost use Rattle.arrayvec.specs.ArrayString.{array_string_len};
 ghost use Rattle.rv_model.specs.assembler.Table.{spelled, spelling, canonical, operands_text};
@@ -12,8 +12,8 @@ use crate::token::take;
 use rv_model::assembler::forms::{Form, Slot};
 use rv_model::assembler::mnemonics::Mnemonic;
 
-/// The word that a text spells: the name of an instruction and its operands, or `.word` and a
-/// number.
+/// Return the 32-bit word that a text encodes: a mnemonic and its operands, or `.word` and a number.
+/// The error is the column of the first token that doesn't fit.
 pub fn assemble(text: &[u8]) -> Result<u32, AsmFault>
     ensures ok { IfOk result (λ word. spelled text.now ≡ Ok word) }
     ensures err { IfErr result (λ fault. spelled text.now ≡ Err fault.column) }
@@ -26,7 +26,7 @@ pub fn assemble(text: &[u8]) -> Result<u32, AsmFault>
     read_operands(bits, slots_of(form), text, after)
 }
 
-/// Appends a space and the operands of a word, or nothing where the form has no slots.
+/// Appends a space and the operands of a word, or nothing if the form has no slots.
 fn put_operands_text(slots: &[Slot], word: u32, text: &mut Text)
     requires { array_string_len text.old + 1 + 16 * length slots.now ≤ 160 }
     ensures { text.new.bytes ≡ text.old.bytes ++ operands_text slots.now word }
@@ -37,10 +37,10 @@ fn put_operands_text(slots: &[Slot], word: u32, text: &mut Text)
     }
 }
 
-/// Puts the canonical text of a word in place of what the text was.
+/// Replace the text with the canonical text of a word.
 pub fn text_of(word: u32, text: &mut Text)
     ensures text { text.new.bytes ≡ canonical word }
-    // Assembling the text gives the word again.
+    // Assembling the canonical text returns the word.
     ensures again { spelled text.new.bytes ≡ Ok word }
 {
     text.clear();
@@ -57,14 +57,14 @@ fn form_of(word: u32) -> Form
     form
 }
 
-/// What stands behind the name in the canonical text of a word.
+/// Return the slots that follow the mnemonic in the canonical text of a word.
 pub fn slots_of_word(word: u32) -> &'static [Slot]
     ensures { result.now ≡ (spelling word).slots }
 {
     slots_of(form_of(word))
 }
 
-/// Ones at the bits of a word that no operand of its text fills.
+/// Return the mask of the bits that a word's mnemonic fixes: ones where its text has no operand.
 pub fn name_mask(word: u32) -> u32
     ensures { result ≡ fixed_mask (spelling word).slots }
 {

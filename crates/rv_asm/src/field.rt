@@ -1,4 +1,4 @@
-//! Where a slot's operand stands in the word.
+//! Bit fields of operands: encodes an operand in a word, and extracts it from a word.
 ghost use Rattle.std.specs.Prelude.{◌≡◌, ◌≤◌, ◌<◌, ◌^◌, ◌+◌, ◌*◌, ◌%◌};
 ghost use Rattle.rv_model.specs.lending.Slots.{value_count};
 ghost use Rattle.rv_model.specs.assembler.Fields.{lowest, placed, value_of};
@@ -8,7 +8,7 @@ ghost use Rattle.rv_asm.specs.Spans.{span};
 use rv_model::assembler::forms::{Place, SignedField, Slot, UnsignedField};
 use rv_model::instructions::bits;
 
-/// A value that begins at bit `low`.
+/// A value shifted left by `low` bits.
 fn shifted(low: u32, value: u32) -> u32
     requires { low < 32 × value * 2 ^ low < 2 ^ 32 }
     ensures { result ≡ value * 2 ^ low }
@@ -16,7 +16,7 @@ fn shifted(low: u32, value: u32) -> u32
     value << low
 }
 
-/// The lowest bit of a register's place.
+/// The lowest bit of a register's field.
 fn lowest(place: Place) -> u32
     ensures value { result ≡ lowest place }
     ensures small { result ≤ 20 }
@@ -28,7 +28,7 @@ fn lowest(place: Place) -> u32
     }
 }
 
-/// A register's number at its place.
+/// A register's number (5 bits) in its field.
 fn register_bits(place: Place, value: u32) -> u32
     ensures value { result ≡ value % 2 ^ 5 * 2 ^ lowest place }
     ensures small { result ≤ 31 * 2 ^ lowest place }
@@ -40,7 +40,7 @@ fn register_bits(place: Place, value: u32) -> u32
     }
 }
 
-/// An unsigned number at its place.
+/// An unsigned immediate in its field.
 fn unsigned_bits(field: UnsignedField, value: u32) -> u32
     ensures value { result ≡ placed (Slot.Unsigned field) value }
     ensures small { result ≤ span (Slot.Unsigned field) }
@@ -53,7 +53,7 @@ fn unsigned_bits(field: UnsignedField, value: u32) -> u32
     }
 }
 
-/// The 12 bits of a store's offset at their two places.
+/// The 12 bits of a store's offset in their two fields.
 fn store_bits(offset: u32) -> u32
     ensures value { result ≡ placed (Slot.Signed SignedField.Store) offset }
     ensures small { result ≤ span (Slot.Signed SignedField.Store) }
@@ -61,7 +61,7 @@ fn store_bits(offset: u32) -> u32
     shifted(25, offset / 32 % 128) + shifted(7, offset % 32)
 }
 
-/// The 12 bits of the distance of a branch, in steps of two bytes, at their four places.
+/// The 12 bits of a branch's offset, in units of two bytes, in their four fields.
 fn branch_bits(offset: u32) -> u32
     ensures value { result ≡ placed (Slot.Signed SignedField.Branch) offset }
     ensures small { result ≤ span (Slot.Signed SignedField.Branch) }
@@ -72,7 +72,7 @@ fn branch_bits(offset: u32) -> u32
         + shifted(7, offset / 1024 % 2)
 }
 
-/// The 20 bits of the distance of a jump, in steps of two bytes, at their four places.
+/// The 20 bits of a jump's offset, in units of two bytes, in their four fields.
 fn jump_bits(offset: u32) -> u32
     ensures value { result ≡ placed (Slot.Signed SignedField.Jump) offset }
     ensures small { result ≤ span (Slot.Signed SignedField.Jump) }
@@ -83,7 +83,7 @@ fn jump_bits(offset: u32) -> u32
         + shifted(12, offset / 2048 % 256)
 }
 
-/// A signed number at its place, by its two's complement bits.
+/// A signed immediate, given by its two's complement bits, in its field.
 fn signed_bits(field: SignedField, value: u32) -> u32
     ensures value { result ≡ placed (Slot.Signed field) value }
     ensures small { result ≤ span (Slot.Signed field) }
@@ -116,7 +116,7 @@ pub(crate) fn placed(slot: &Slot, value: u32) -> u32
     }
 }
 
-/// The unsigned number that a word holds.
+/// The unsigned immediate of a word.
 fn unsigned_value(unsigned: UnsignedField, word: u32) -> u32
     ensures value { result ≡ value_of (Slot.Unsigned unsigned) word }
     ensures small { result < value_count (Slot.Unsigned unsigned) }
@@ -137,7 +137,7 @@ fn store_immediate(word: u32) -> u32
     bits(word, 7, 5) + bits(word, 25, 7) * 32
 }
 
-/// The 12 bits of the distance of a branch, in steps of two bytes.
+/// The 12 bits of a branch's offset, in units of two bytes.
 fn branch_offset(word: u32) -> u32
     ensures value { result ≡ branch_offset word }
     ensures small { result < 2 ^ 12 }
@@ -145,7 +145,7 @@ fn branch_offset(word: u32) -> u32
     bits(word, 8, 4) + bits(word, 25, 6) * 16 + bits(word, 7, 1) * 1024 + bits(word, 31, 1) * 2048
 }
 
-/// The 20 bits of the distance of a jump, in steps of two bytes.
+/// The 20 bits of a jump's offset, in units of two bytes.
 fn jump_offset(word: u32) -> u32
     ensures value { result ≡ jump_offset word }
     ensures small { result < 2 ^ 20 }
@@ -156,7 +156,7 @@ fn jump_offset(word: u32) -> u32
         + bits(word, 31, 1) * 0x8_0000
 }
 
-/// The two's complement bits of the signed number that a word holds.
+/// The two's complement bits of the signed immediate of a word.
 fn signed_value(signed: SignedField, word: u32) -> u32
     ensures value { result ≡ value_of (Slot.Signed signed) word }
     ensures small { result < value_count (Slot.Signed signed) }
@@ -170,7 +170,7 @@ fn signed_value(signed: SignedField, word: u32) -> u32
     }
 }
 
-/// The operand that a word has in a slot.
+/// The operand of a word for a slot; 0 for a slot without an operand.
 pub(crate) fn value_of(slot: &Slot, word: u32) -> u32
     ensures value { result ≡ value_of slot.now word }
     ensures small { result < value_count slot.now }

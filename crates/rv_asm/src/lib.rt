@@ -1,4 +1,4 @@
-//! Assembler text: the word that a text spells, and the canonical text of a word.
+//! Assembler: encodes the text of an instruction as a 32-bit word, and prints the canonical text of a word.
 #![tactic(auto)]
 
 mod assembler;

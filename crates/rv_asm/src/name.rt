@@ -1,4 +1,4 @@
-//! Names of control registers and of the parts of vtype, as numbers.
+//! Numbers of control registers and of vtype's fields, from their names.
 ghost use Rattle.std.specs.Prelude.{◌≡◌, ◌<◌, IfSome};
 ghost use Rattle.rv_model.specs.assembler.Numbers.{csr};
 ghost use Rattle.rv_asm.specs.TypeParts.{vsew, vlmul, vta, vma};
@@ -6,7 +6,7 @@ ghost use Rattle.rv_asm.specs.TypeParts.{vsew, vlmul, vta, vma};
 use crate::number::number_up_to;
 use rv_model::{ControlRegister, Lmul, Sew, VType};
 
-/// The number of a control register, from its name or its digits.
+/// The number of a control register, from its name or from a number of at most 4095.
 #[tactic(auto, unfolding(rv_model::specs::assembler::Numbers::csr))]
 pub(crate) fn csr(text: &[u8]) -> Option<u32>
     ensures { result ≡ csr text.now }

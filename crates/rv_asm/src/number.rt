@@ -1,11 +1,11 @@
-//! What one token means: a number, a register.
+//! Values of single tokens: numbers and registers.
 ghost use Rattle.std.specs.Prelude.{◌≡◌, ◌≤◌, ◌^◌};
 ghost use Rattle.rv_model.specs.lending.Text.{capped};
 ghost use Rattle.rv_model.specs.assembler.Numbers.{register, digits_in, number, at_most};
 
 use rv_model::text::digits;
 
-/// The number of a register with this letter.
+/// The number of a register with this letter: 0 to 31, in decimal without leading zeros.
 pub(crate) fn register(letter: u8, text: &[u8]) -> Option<u32>
     ensures { result ≡ register letter text.now }
 {
@@ -19,7 +19,7 @@ pub(crate) fn register(letter: u8, text: &[u8]) -> Option<u32>
     }
 }
 
-/// The number that one digit or more of a radix spell, or the cap in place of a larger one.
+/// The value of one or more digits of a radix, or `cap` if it is larger.
 fn digits_in(radix: u128, cap: u128, text: &[u8]) -> Option<u128>
     requires radix { 1 ≤ radix × radix ≤ 16 }
     requires cap { cap ≤ 2 ^ 64 }
@@ -31,7 +31,7 @@ fn digits_in(radix: u128, cap: u128, text: &[u8]) -> Option<u128>
     digits(radix, cap, text)
 }
 
-/// A number in decimal, or in hexadecimal after `0x`, or the cap in place of a larger one.
+/// The value of a number in decimal, or in hexadecimal after `0x`, or `cap` if it is larger.
 fn number(cap: u128, text: &[u8]) -> Option<u128>
     requires { cap ≤ 2 ^ 64 }
     ensures { result ≡ capped cap (number text.now) }
@@ -42,7 +42,7 @@ fn number(cap: u128, text: &[u8]) -> Option<u128>
     }
 }
 
-/// A number in decimal, or in hexadecimal after `0x`, that is not above the limit.
+/// The value of a number in decimal, or in hexadecimal after `0x`; `None` above `limit`.
 pub(crate) fn number_up_to(limit: u32, text: &[u8]) -> Option<u32>
     ensures { result ≡ at_most limit (number text.now) }
 {

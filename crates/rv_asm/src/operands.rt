@@ -1,4 +1,4 @@
-//! The operands of a form: read from a text, and printed.
+//! Reads the operands of a form from a text, and prints them.
 ghost use Rattle.std.specs.Prelude.{◌≡◌, ◌≤◌, ◌<◌, ◌^◌, ◌+◌, ◌*◌, ◌++◌, length};
 ghost use Rattle.arrayvec.specs.ArrayString.{array_string_len};
 ghost use Rattle.rv_model.specs.assembler.Table.{read_operands, printed_operands};
@@ -12,7 +12,7 @@ use crate::read::read_slot;
 use crate::token::next_token;
 use rv_model::assembler::forms::Slot;
 
-/// The word of these bits and the operands that the text has from an index to its end.
+/// The word with these fixed bits and the operands from index `start` to the end of the text.
 pub(crate) fn read_operands(
     bits: u32,
     slots: &[Slot],
@@ -37,7 +37,7 @@ pub(crate) fn read_operands(
     }
 }
 
-/// Appends the operands of a word.
+/// Appends the text of a word's operands.
 pub(crate) fn put_operands(slots: &[Slot], word: u32, out: &mut Text)
     requires { array_string_len out.old + 16 * length slots.now ≤ 160 }
     ensures bytes { out.new.bytes ≡ out.old.bytes ++ printed_operands slots.now word }

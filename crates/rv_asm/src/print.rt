@@ -1,4 +1,4 @@
-//! The one text of each operand.
+//! Prints the canonical text of each operand.
 ghost use Rattle.std.specs.Prelude.{◌≡◌, ◌≤◌, ◌<◌, ◌^◌, ◌+◌, ◌-◌, ◌*◌, ◌++◌, ℕ, Some, decimal, slice_index};
 ghost use Rattle.arrayvec.specs.ArrayString.{array_string_len};
 ghost use Rattle.rv_model.specs.assembler.Numbers.{hex_digit, hex_digits};
@@ -12,7 +12,7 @@ use itoa::Buffer;
 use rv_model::assembler::forms::Slot;
 use rv_model::{ControlRegister, Lmul, Sew, VType};
 
-/// Room for the text of any word.
+/// Buffer of 160 bytes, enough for the canonical text of any word.
 pub type Text = ArrayString<160>;
 
 /// Appends a number in decimal, at most 10 digits.
@@ -25,8 +25,8 @@ fn put_decimal(n: u32, out: &mut Text)
     out.push_str(buffer.format(n));
 }
 
-/// Appends a signed number of steps from its two's complement bits, of which `half` values are
-/// below 0.
+/// Appends a signed number, given by its two's complement bits in units of `step`. Values from `half`
+/// on are negative.
 fn put_signed(step: u32, half: u32, value: u32, out: &mut Text)
     requires room { array_string_len out.old + 16 ≤ 160 }
     requires step { step ≤ 2 }
@@ -56,7 +56,7 @@ fn hex_digit(digit: u32) -> char
     }
 }
 
-/// Appends the last `count` hexadecimal digits of a number.
+/// Appends the lowest `count` hexadecimal digits of a number.
 #[tactic(auto, unfolding(rv_model::specs::assembler::Numbers::hex_digits))]
 fn put_hex_digits(count: usize, value: u32, out: &mut Text)
     requires { array_string_len out.old + count ≤ 160 }
@@ -69,7 +69,7 @@ fn put_hex_digits(count: usize, value: u32, out: &mut Text)
     }
 }
 
-/// Appends the name of a control register, or its number where it has none.
+/// Appends the name of a control register, or its number if it has none.
 fn put_csr(csr: u32, out: &mut Text)
     requires { array_string_len out.old + 16 ≤ 160 }
     ensures bytes { out.new.bytes ≡ out.old.bytes ++ printed Slot.Csr csr }
@@ -81,7 +81,7 @@ fn put_csr(csr: u32, out: &mut Text)
     }
 }
 
-/// Appends the names of the parts of a vtype whose width and multiplier are these.
+/// Appends the names of vtype's fields, for this element width and group multiplier.
 fn put_type_names(sew: Sew, lmul: Lmul, vtype: u32, out: &mut Text)
     requires { array_string_len out.old + 16 ≤ 160 }
     ensures bytes { out.new.bytes ≡ out.old.bytes ++ vtype_named (Some sew) (Some lmul) vtype }
@@ -96,8 +96,8 @@ fn put_type_names(sew: Sew, lmul: Lmul, vtype: u32, out: &mut Text)
     out.push_str(VType::mask_name(vtype / 128 % 2 == 1));
 }
 
-/// Appends vtype by the names of its parts, or as a number where a part or a bit from 8 up is
-/// reserved.
+/// Appends the names of vtype's fields, or vtype as a number if a field is reserved or a bit from 8 up
+/// is set.
 fn put_vtype(vtype: u32, out: &mut Text)
     requires { array_string_len out.old + 16 ≤ 160 }
     ensures bytes { out.new.bytes ≡ out.old.bytes ++ vtype_text vtype }
@@ -113,7 +113,7 @@ fn put_vtype(vtype: u32, out: &mut Text)
     }
 }
 
-/// Appends the text of an operand.
+/// Appends the canonical text of a slot with this value.
 pub(crate) fn put_slot(slot: &Slot, value: u32, out: &mut Text)
     requires room { array_string_len out.old + 16 ≤ 160 }
     requires fits { value < value_count slot.now }
@@ -149,7 +149,7 @@ pub(crate) fn put_slot(slot: &Slot, value: u32, out: &mut Text)
     }
 }
 
-/// Appends a name, without the spaces behind it.
+/// Appends a mnemonic without the spaces after it.
 pub(crate) fn put_name(name: &[u8; 16], out: &mut Text)
     requires room { array_string_len out.old + 16 ≤ 160 }
     requires ascii { (k : ℕ) → k < 16 → slice_index name.now k < 128 }

@@ -1,4 +1,4 @@
-//! What each slot takes from the tokens.
+//! Reads the operand of each slot from the tokens.
 ghost use Rattle.std.specs.Prelude.{◌≡◌, ◌≤◌, ◌<◌, ◌^◌, ◌+◌, ◌*◌, length};
 ghost use Rattle.rv_model.specs.assembler.Numbers.{literal, register, number, at_most, in_steps, negated, csr};
 ghost use Rattle.rv_model.specs.assembler.Slots.{one, half, signed_number, read, scale, read_mask};
@@ -12,7 +12,7 @@ use crate::token::{next_token, take};
 use crate::vector_type::vtype_at;
 use rv_model::assembler::forms::{SignedField, Slot, UnsignedField};
 
-/// This very token.
+/// Reads exactly this token, whose value is 0.
 pub(crate) fn literal(word: &[u8], text: &[u8], at: usize) -> Result<(u32, usize), AsmFault>
     requires { at ≤ length text.now }
     ensures { Reads text.now result
@@ -26,7 +26,7 @@ pub(crate) fn literal(word: &[u8], text: &[u8], at: usize) -> Result<(u32, usize
     }
 }
 
-/// A register with this letter.
+/// Reads a register with this letter, `x` or `v`.
 fn register_at(letter: u8, text: &[u8], at: usize) -> Result<(u32, usize), AsmFault>
     requires { at ≤ length text.now }
     ensures { Reads text.now result
@@ -39,7 +39,7 @@ fn register_at(letter: u8, text: &[u8], at: usize) -> Result<(u32, usize), AsmFa
     }
 }
 
-/// A control register, by its name or its number.
+/// Reads a control register, by its name or its number.
 fn csr_at(text: &[u8], at: usize) -> Result<(u32, usize), AsmFault>
     requires { at ≤ length text.now }
     ensures { Reads text.now result (one (length text.now + 1) csr (rest text.now at)) }
@@ -51,7 +51,7 @@ fn csr_at(text: &[u8], at: usize) -> Result<(u32, usize), AsmFault>
     }
 }
 
-/// A number that is not above the limit.
+/// Reads a number of at most `limit`.
 fn unsigned_at(limit: u32, text: &[u8], at: usize) -> Result<(u32, usize), AsmFault>
     requires { at ≤ length text.now }
     ensures { Reads text.now result
@@ -64,7 +64,7 @@ fn unsigned_at(limit: u32, text: &[u8], at: usize) -> Result<(u32, usize), AsmFa
     }
 }
 
-/// A number that is not above the limit, counted in steps; `None` where it is no whole count.
+/// A number of at most `limit`, in units of `step`; `None` if it isn't a multiple of `step`.
 fn in_steps(step: u32, limit: u32, text: &[u8]) -> Option<u32>
     requires { 1 ≤ step }
     ensures { result ≡ in_steps step (at_most limit (number text.now)) }
@@ -77,7 +77,7 @@ fn in_steps(step: u32, limit: u32, text: &[u8]) -> Option<u32>
     }
 }
 
-/// The two's complement bits of a number below 0, from its magnitude in steps.
+/// The two's complement bits of a negative number, in units of `step`, from its magnitude's text.
 fn negative(step: u32, half: u32, text: &[u8]) -> Option<u32>
     requires step { 1 ≤ step × step ≤ 2 }
     requires half { half < 2 ^ 30 }
@@ -91,8 +91,8 @@ fn negative(step: u32, half: u32, text: &[u8]) -> Option<u32>
     }
 }
 
-/// A number, or `-` and a number, in steps: the two's complement bits of which `half` values are
-/// below 0.
+/// Reads a number, or `-` and a number, as two's complement bits in units of `step`. The number is
+/// from `-half` to `half - 1` units.
 fn signed_at(step: u32, half: u32, text: &[u8], at: usize) -> Result<(u32, usize), AsmFault>
     requires inside { at ≤ length text.now }
     requires step { 1 ≤ step × step ≤ 2 }
@@ -114,7 +114,7 @@ fn signed_at(step: u32, half: u32, text: &[u8], at: usize) -> Result<(u32, usize
     }
 }
 
-/// `, v0.t`, or the end of the text: bit 25, clear where the instruction is masked.
+/// Reads `, v0.t` or the end of the text as bit 25 (vm), which is 0 if the instruction is masked.
 #[tactic(auto, using(crate::proofs::Tokens::takes_none))]
 fn mask_at(text: &[u8], at: usize) -> Result<(u32, usize), AsmFault>
     requires { at ≤ length text.now }
@@ -140,7 +140,7 @@ fn limit(field: UnsignedField) -> u32
     }
 }
 
-/// How many values of a signed field are below 0.
+/// The number of negative values of a signed field.
 pub(crate) fn half(field: SignedField) -> u32
     ensures value { result ≡ half field }
     ensures range { 1 ≤ result × result < 2 ^ 30 }
@@ -152,7 +152,7 @@ pub(crate) fn half(field: SignedField) -> u32
     }
 }
 
-/// The number that one stands for in a signed field.
+/// The unit of a signed field: 2 bytes for offsets of branches and jumps, else 1.
 pub(crate) fn step(field: SignedField) -> u32
     ensures value { result ≡ scale field }
     ensures range { 1 ≤ result × result ≤ 2 }
@@ -163,7 +163,7 @@ pub(crate) fn step(field: SignedField) -> u32
     }
 }
 
-/// The value that a slot takes from the tokens at an index, and the index after them.
+/// Reads a slot's tokens at or after index `at`; returns its value and the index after them.
 pub(crate) fn read_slot(slot: &Slot, text: &[u8], at: usize) -> Result<(u32, usize), AsmFault>
     requires { at ≤ length text.now }
     ensures { Reads text.now result (read (length text.now + 1) slot.now (rest text.now at)) }

@@ -1,4 +1,4 @@
-//! The rows of the table of names: by name, and by word.
+//! Rows of the table of mnemonics, found by name or by word.
 ghost use Rattle.std.specs.Prelude.{ℕ, ◌≡◌, ◌≤◌, ◌<◌, ◌^◌, ◌+◌, ◌-◌, ◌++◌, length, replicate, IfSome, position};
 ghost use Rattle.std.specs.Prelude.{unwrap_or, nat_eq, bit_and, slice_index};
 ghost use Rattle.std.specs.Str.{bytes_eq};
@@ -41,7 +41,7 @@ fn unmasked_slots(source: SourceKind) -> &'static [Slot]
     }
 }
 
-/// The slots of a form of a move.
+/// The slots of a move's form.
 fn move_slots(source: SourceKind) -> &'static [Slot]
     ensures slots { result.now ≡ slots_of (Form.Move source) }
     ensures few { length result.now ≤ 8 }
@@ -95,7 +95,7 @@ pub(crate) fn slots_of(form: Form) -> &'static [Slot]
     }
 }
 
-/// Ones at the bits that a form leaves to the name.
+/// The mask of the bits that the mnemonic fixes: ones where the form has no operand.
 #[tactic(auto, unfolding(rv_model::specs::lending::NameTable::fixed_mask))]
 pub(crate) fn fixed_mask(form: Form) -> u32
     ensures { result ≡ fixed_mask (slots_of form) }
@@ -130,7 +130,7 @@ pub(crate) fn fixed_mask(form: Form) -> u32
     }
 }
 
-/// A name with spaces behind it, 16 bytes long.
+/// A name padded with spaces to 16 bytes.
 fn padded(name: &[u8]) -> [u8; 16]
     requires { length name.now ≤ 16 }
     ensures { result ≡ name.now ++ replicate (16 - length name.now) 32 }
@@ -140,7 +140,7 @@ fn padded(name: &[u8]) -> [u8; 16]
     bytes
 }
 
-/// The row with this name, which has its spaces.
+/// The index of the first row with this name, which is padded with spaces.
 fn row_padded(name: &[u8; 16]) -> Option<usize>
     ensures within { IfSome result (λ row. row < ROW_COUNT) }
     ensures first { result ≡ position (λ row. bytes_eq row.0 name.now) MNEMONICS }
@@ -148,7 +148,7 @@ fn row_padded(name: &[u8; 16]) -> Option<usize>
     MNEMONICS.iter().position(|row| row.0 == *name)
 }
 
-/// The row with this name.
+/// The index of the first row with this name.
 #[tactic(auto, unfolding(rv_model::specs::lending::NameTable::row_named))]
 pub(crate) fn row_named(name: &[u8]) -> Option<usize>
     ensures within { IfSome result (λ row. row < ROW_COUNT) }
@@ -160,7 +160,7 @@ pub(crate) fn row_named(name: &[u8]) -> Option<usize>
     row_padded(&padded(name))
 }
 
-/// The first row whose fixed bits a word has.
+/// The index of the first row whose fixed bits match a word.
 fn row_matching(word: u32) -> Option<usize>
     ensures within { IfSome result (λ row. row < ROW_COUNT) }
     ensures first { result
@@ -171,7 +171,8 @@ fn row_matching(word: u32) -> Option<usize>
         .position(|row| word & fixed_mask(row.1) == row.2)
 }
 
-/// The first row whose fixed bits a word has: that of `.word`, the last, for a word without a name.
+/// The index of the first row whose fixed bits match a word. The last row, `.word`, matches a word
+/// without a mnemonic.
 pub(crate) fn row_of_word(word: u32) -> usize
     ensures within { result < ROW_COUNT }
     ensures first { result ≡ row_of_word word }

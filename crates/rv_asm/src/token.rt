@@ -1,4 +1,4 @@
-//! The tokens of a text, one after another.
+//! Splits a text into tokens.
 ghost use Rattle.std.specs.Prelude.{◌≡◌, ◌≢◌, ℕ, ◌+◌, ◌<◌, ◌≤◌, length, drop, slice_index, take, IsTrue, true};
 ghost use Rattle.std.specs.List.{between};
 ghost use Rattle.rv_model.specs.assembler.Tokens.{in_run, tokens, Token as Piece};
@@ -6,7 +6,7 @@ ghost use Rattle.rv_asm.specs.Places.{rest, Takes, TakesOne};
 
 use crate::fault::AsmFault;
 
-/// A token, and the place of its first byte in the text, from 1.
+/// A token, and the column of its first byte in the text, counted from 1.
 #[derive(Clone, Copy)]
 pub struct Token<'a> {
     pub text: &'a [u8],
@@ -14,7 +14,7 @@ pub struct Token<'a> {
 }
 
 impl Token<'_> {
-    /// The fault of a token that fits no slot.
+    /// The fault of a token that doesn't fit its slot or has none.
     pub(crate) fn misfit(&self) -> AsmFault
         ensures { result.column ≡ self.now.column }
     {
@@ -24,14 +24,14 @@ impl Token<'_> {
     }
 }
 
-/// Whether a byte makes runs: `a` to `z`, `0` to `9`, `.` and `_`.
+/// Whether a byte can be in a token of several bytes (a run): `a` to `z`, `0` to `9`, `.` and `_`.
 fn in_run(byte: u8) -> bool
     ensures { result ≡ in_run byte }
 {
     byte.is_ascii_lowercase() || byte.is_ascii_digit() || byte == b'.' || byte == b'_'
 }
 
-/// The index of the first byte from an index on that is no space, or the length of the text.
+/// The index of the first byte at or after index `at` that isn't a space, or the length of the text.
 #[tactic(auto, using(crate::proofs::Tokens::space_skipped))]
 fn after_spaces(text: &[u8], at: usize) -> usize
     requires { at ≤ length text.now }
@@ -46,7 +46,7 @@ fn after_spaces(text: &[u8], at: usize) -> usize
     start
 }
 
-/// The index after the token that begins at an index: a run, or a single byte.
+/// The index after the token that starts at index `at`: a run, or a single byte.
 fn run_end(text: &[u8], at: usize) -> usize
     requires { at < length text.now }
     ensures above { at < result }
@@ -65,7 +65,7 @@ fn run_end(text: &[u8], at: usize) -> usize
     end
 }
 
-/// The first token from an index on, and the index after it.
+/// The first token at or after index `at`, and the index after it; `None` if only spaces are left.
 pub(crate) fn next_token<'a>(text: &'a [u8], at: usize) -> Option<(Token<'a>, usize)>
     requires { at ≤ length text.now }
     ensures { Takes text.now at result }
@@ -84,7 +84,8 @@ pub(crate) fn next_token<'a>(text: &'a [u8], at: usize) -> Option<(Token<'a>, us
     ))
 }
 
-/// The first token from an index on, which has to be there, and the index after it.
+/// The first token at or after index `at`, and the index after it. If only spaces are left, the fault
+/// is in the column after the text's end.
 pub(crate) fn take<'a>(text: &'a [u8], at: usize) -> Result<(Token<'a>, usize), AsmFault>
     requires { at ≤ length text.now }
     ensures { TakesOne text.now at result }

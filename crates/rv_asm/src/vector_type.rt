@@ -1,4 +1,4 @@
-//! vtype as a text has it: the names of its parts, or a number.
+//! Reads vtype from a text: the names of its fields, or a number.
 ghost use Rattle.std.specs.Prelude.{◌≡◌, ◌≤◌, ◌<◌, ◌-◌, ◌+◌, length, IfOk};
 ghost use Rattle.rv_model.specs.assembler.Numbers.{literal};
 ghost use Rattle.rv_model.specs.assembler.Slots.{one, vtype_names, vtype};
@@ -11,7 +11,7 @@ use crate::number::number_up_to;
 use crate::read::literal;
 use crate::token::take;
 
-/// The name of a group multiplier.
+/// Reads the name of a group multiplier (LMUL) as vlmul.
 fn vlmul_at(text: &[u8], at: usize) -> Result<(u32, usize), AsmFault>
     requires { at ≤ length text.now }
     ensures read { Reads text.now result (one (length text.now + 1) vlmul (rest text.now at)) }
@@ -24,7 +24,7 @@ fn vlmul_at(text: &[u8], at: usize) -> Result<(u32, usize), AsmFault>
     }
 }
 
-/// The name of a policy for the tail.
+/// Reads the name of a tail policy as vta.
 fn vta_at(text: &[u8], at: usize) -> Result<(u32, usize), AsmFault>
     requires { at ≤ length text.now }
     ensures read { Reads text.now result (one (length text.now + 1) vta (rest text.now at)) }
@@ -37,7 +37,7 @@ fn vta_at(text: &[u8], at: usize) -> Result<(u32, usize), AsmFault>
     }
 }
 
-/// The name of a policy for masked-off elements.
+/// Reads the name of a policy for masked-off elements as vma.
 fn vma_at(text: &[u8], at: usize) -> Result<(u32, usize), AsmFault>
     requires { at ≤ length text.now }
     ensures read { Reads text.now result (one (length text.now + 1) vma (rest text.now at)) }
@@ -50,7 +50,7 @@ fn vma_at(text: &[u8], at: usize) -> Result<(u32, usize), AsmFault>
     }
 }
 
-/// The names of vtype's parts behind that of the element width.
+/// Reads the names of vtype's fields after the element width; returns vtype with all its fields.
 #[tactic(auto, unfolding(rv_model::specs::assembler::Slots::vtype_names))]
 fn names_behind(vsew: u32, text: &[u8], at: usize) -> Result<(u32, usize), AsmFault>
     requires inside { at ≤ length text.now }
@@ -66,8 +66,8 @@ fn names_behind(vsew: u32, text: &[u8], at: usize) -> Result<(u32, usize), AsmFa
     Ok((vlmul + vsew * 8 + vta * 64 + vma * 128, at))
 }
 
-/// vtype by the names of its parts where the first token is an element width, else as a number
-/// below `count`.
+/// Reads vtype: the names of its fields if the first token is an element width, else a number below
+/// `count`.
 pub(crate) fn vtype_at(count: u32, text: &[u8], at: usize) -> Result<(u32, usize), AsmFault>
     requires inside { at ≤ length text.now }
     requires some { 1 ≤ count }
