@@ -1,4 +1,4 @@
--- What is drawn from now on: the numbers of xoshiro256++, whose words of 32 bits are the high halves of those of 64.
+-- The numbers drawn from now on: those of xoshiro256++. A 32-bit number is the high half of a 64-bit one.
 use Rattle.rand_core.specs.Steps.{stream_of, steps_u64_high}
 use Rattle.rand_core.specs.Stream.{Stream}
 use Rattle.rand_xoshiro.specs.Xoshiro256.{plus_plus}

@@ -1,4 +1,4 @@
-//! Numbers of a fixed generator, from which the programs that try many inputs make them.
+//! Pseudorandom numbers of a fixed generator, for programs that try many inputs.
 #![tactic(auto)]
 
 ghost use Rattle.std.specs.Prelude.{◌≡◌, ◌≤◌, ◌<◌, ◌%◌, length, slice_index_or};
@@ -10,14 +10,14 @@ ghost use Rattle.draws.specs.Drawn.{drawn};
 use rand_core::{Rng, SeedableRng};
 use rand_xoshiro::Xoshiro256PlusPlus;
 
-/// What is drawn from a generator.
+/// Pseudorandom numbers of a xoshiro256++ generator.
 #[derive(Drop)]
 pub struct Draws {
     generator: Xoshiro256PlusPlus,
 }
 
 impl Draws {
-    /// The draws that begin with a seed.
+    /// Return a generator that starts from a seed.
     pub fn new(seed: u64) -> Draws
         ensures { result.generator ≡ of_seed (splitmix_seed 32 seed) }
     {
@@ -26,21 +26,21 @@ impl Draws {
         }
     }
 
-    /// A number of 32 bits.
+    /// Return the next 32-bit number.
     pub fn word(&mut self) -> u32
         ensures { (result, drawn self.new) ≡ next_u32 (drawn self.old) }
     {
         self.generator.next_u32()
     }
 
-    /// A number of 64 bits.
+    /// Return the next 64-bit number.
     pub fn double_word(&mut self) -> u64
         ensures { (result, drawn self.new) ≡ next_u64 (drawn self.old) }
     {
         self.generator.next_u64()
     }
 
-    /// A byte: the low one of a number of 32 bits.
+    /// Return a byte: the lowest 8 bits of the next 32-bit number.
     pub fn byte(&mut self) -> u8
         ensures value { result ≡ (next_u32 (drawn self.old)).0 % 256 }
         ensures rest { drawn self.new ≡ (next_u32 (drawn self.old)).1 }
@@ -48,14 +48,14 @@ impl Draws {
         (self.word() % 256) as u8
     }
 
-    /// A byte in each place.
+    /// Fill the slice with bytes of the generator.
     pub fn fill(&mut self, bytes: &mut [u8])
         ensures { (bytes.new, drawn self.new) ≡ fill_bytes (length bytes.old) (drawn self.old) }
     {
         self.generator.fill_bytes(bytes);
     }
 
-    /// A number below a bound: the rest of a number of 32 bits.
+    /// Return a number below `bound`, which is at least 1: the remainder of the next 32-bit number.
     pub fn below(&mut self, bound: usize) -> usize
         requires { 1 ≤ bound }
         ensures bound { result < bound }
@@ -65,7 +65,7 @@ impl Draws {
         self.word() as usize % bound
     }
 
-    /// One of some texts: that at a number below their count.
+    /// Return one of the texts, at least one, at an index that `below` draws.
     pub fn choice(&mut self, texts: &[&'static str]) -> &'static str
         requires { 1 ≤ length texts.now }
         ensures value { result ≡ slice_index_or texts.now ((next_u32 (drawn self.old)).0 % length texts.now) result }
