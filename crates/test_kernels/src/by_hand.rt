@@ -1,4 +1,4 @@
-//! Kernels compared with values worked by hand.
+//! Compares kernels with values worked by hand.
 ghost use Rattle.std.specs.Prelude.{◌≤◌};
 
 mod fixed_point;
@@ -14,8 +14,8 @@ use crate::report::{Line, Report};
 use crate::variants::Variant;
 use lane_arith::Body;
 
-/// What the kernels of a table are given. Of operands and masks it has the first bytes, as a number: the first byte is
-/// the lowest, as in a register.
+/// Inputs of the kernels of a table. Operands and masks are given by their first bytes as a number, whose lowest byte is
+/// the first, as in a register.
 #[derive(Clone, Copy)]
 struct Given {
     /// The width of an element, and how many times as wide a result is.
@@ -23,31 +23,31 @@ struct Given {
     times: u32,
     a: u128,
     b: u128,
-    /// What the destination has before; the other bytes are AA.
+    /// The first 16 bytes of the destination before the operation; its other bytes are 0xaa.
     d: u128,
-    /// How many bytes the destination has. Those of 31 are written element by element.
+    /// Size of the destination in bytes. Kernels write a destination of 31 bytes element by element.
     room: usize,
-    /// The mask, if there is one, and the elements of the body.
+    /// The mask, if any, and the elements of the body.
     mask: Option<u16>,
     start: usize,
     end: usize,
     fill: bool,
-    /// How many elements the source of a permutation has.
+    /// Number of elements in the source of a permutation.
     limit: usize,
     /// The bits of two mask operands.
     bits_a: u8,
     bits_b: u8,
-    /// How many bytes of the destination a row tells; the others stay.
+    /// Number of bytes of the destination that a row gives; the others are unchanged.
     size: usize,
     /// Whether some element saturates.
     saturates: bool,
 }
 
-/// A kernel, its name, its offset, index, scalar or rounding mode, which is 0 where there is none, and the bytes that
-/// it leaves.
+/// A kernel, its name, its offset, index, scalar or rounding mode (0 if it has none), and the first bytes of the
+/// destination after it.
 type Row<K> = (K, &'static str, u64, u128);
 
-/// One byte without a mask.
+/// One element of 8 bits, without a mask.
 const GIVEN: Given = Given {
     bits: 8,
     times: 1,
@@ -66,7 +66,7 @@ const GIVEN: Given = Given {
     saturates: false,
 };
 
-/// The bytes of a number, the lowest first, and others that are the same.
+/// The bytes of a number, the lowest first, padded with `other`.
 fn padded<const N: usize>(number: u128, other: u8) -> [u8; N] {
     let mut bytes = [other; N];
     for i in 0..N.min(16) {
@@ -81,7 +81,7 @@ fn byte_of(number: u128, index: usize) -> u8 {
     low as u8
 }
 
-/// Whether a kernel leaves the expected first bytes, and others as they were.
+/// Whether the destination has the expected first bytes after the kernel, and its other bytes are unchanged.
 fn leaves<K: Kernel>(kernel: &K, given: &Given, amount: u64, expected: u128) -> bool {
     let operands = &Operands {
         a: padded(given.a, 0),
@@ -113,7 +113,7 @@ fn leaves<K: Kernel>(kernel: &K, given: &Given, amount: u64, expected: u128) -> 
     saturated == given.saturates && has(&bytes, expected, given.size, &operands.d)
 }
 
-/// Whether so many bytes are the expected ones, and those after them are as before.
+/// Whether the first `size` bytes are the expected ones, and the bytes after them are unchanged.
 fn has(bytes: &[u8; LONGEST], expected: u128, size: usize, before: &[u8; LONGEST]) -> bool {
     let mut same = true;
     for i in 0..LONGEST {
@@ -141,7 +141,7 @@ fn compare_rows<K: Kernel>(report: &mut Report, given: &Given, rows: &[Row<K>]) 
     }
 }
 
-/// Compares all of them.
+/// Compares the kernels of all tables.
 pub(crate) fn compare(report: &mut Report) {
     one_width::compare(report);
     two_widths::compare(report);

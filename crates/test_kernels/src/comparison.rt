@@ -1,6 +1,6 @@
-//! How a kernel is compared with a plain loop: at each width, under masks, from each start up to each end.
+//! Compares a kernel with a plain loop: at each width, with masks, and for each start and end.
 //!
-//! A family of kernels is one more `impl Kernel`, a table of its names, and a `Sweep` of its cases.
+//! To add a family of kernels, write an `impl Kernel`, a table of names, and a `Sweep` of the cases.
 ghost use Rattle.std.specs.Prelude.{◌*◌, ◌≤◌, length};
 ghost use Rattle.rv_model.specs.vector.Groups.{width_bytes};
 
@@ -10,14 +10,14 @@ use crate::report::{Line, Report};
 use crate::variants::{Variant, Variants};
 use lane_arith::{Body, Lane};
 
-/// What is active in a body: all elements, or those at which a mask is enabled; and whether the others are filled.
+/// The active elements of a body: all, or those that a mask enables; and whether inactive elements are filled with ones.
 struct Way {
     unmasked: bool,
     mask: [u8; 32],
     fill: bool,
 }
 
-/// No mask; masks of all bits, of none and of some; and the last two, filled.
+/// No mask; masks with all bits set, none and some; and the last two again, with inactive elements filled.
 const WAYS: [Way; 6] = [
     Way {
         unmasked: true,
@@ -51,7 +51,7 @@ const WAYS: [Way; 6] = [
     },
 ];
 
-/// What a kernel writes.
+/// Part of the destination that a kernel writes.
 #[derive(Clone, Copy)]
 pub(crate) enum Written {
     /// The active elements.
@@ -60,27 +60,26 @@ pub(crate) enum Written {
     ElementsFromAmount,
     /// The active bits of a mask.
     Bits,
-    /// Element 0, whatever is active.
+    /// Element 0, even if no element is active.
     First,
 }
 
-/// Which number stands for one that is past the width.
+/// The result for a number that doesn't fit the width of the result.
 #[derive(Clone, Copy)]
 pub(crate) enum Limits {
     /// Its low bits.
     None,
-    /// The nearest unsigned one, which saturates.
+    /// The nearest unsigned number; the element saturates.
     Unsigned,
-    /// The nearest signed one, which saturates.
+    /// The nearest signed number; the element saturates.
     Signed,
 }
 
-/// The widths of an element in bits; an element of a mask has one.
+/// Widths of an element in bits; an element of a mask has 1 bit.
 const WIDTHS: [u32; 5] = [1, 8, 16, 32, 64];
 
-/// Which cases kernels have: the least and the greatest width of an element in bits, how many times as wide a result
-/// is, how many of `WAYS`, the variants of the operation, how many of the starts 0, 1, 7, 33 and the end; and what
-/// their results are.
+/// Cases of a family of kernels. An element has from `least` to `greatest` bits, and a result `times` the width of an
+/// element. `ways` is the number of `WAYS` used, and `starts` the number of starts used of 0, 1, 7, 33 and the end.
 #[derive(Clone, Copy)]
 pub(crate) struct Sweep {
     pub(crate) inputs: Inputs,
@@ -107,8 +106,8 @@ pub(crate) const MASKED: Sweep = Sweep {
     limits: Limits::None,
 };
 
-/// What a kernel is given, beside its operation. An element has `bits` bits, and a result `times` as many; `limit` is
-/// how many elements a source of a permutation has.
+/// Inputs of a kernel other than its operation. An element has `bits` bits, and a result `times` that width; `limit` is
+/// the number of elements of a permutation's source.
 #[derive(Clone, Copy)]
 pub(crate) struct Case<'a> {
     pub(crate) operands: &'a Operands,
@@ -122,7 +121,8 @@ pub(crate) struct Case<'a> {
 
 /// A kernel that is compared with a plain loop.
 pub(crate) trait Kernel {
-    /// Calls the kernel at the width of `N`, of which `W` is twice. Answers whether it says that an element saturated.
+    /// Calls the kernel at the width of `N`; `W` has twice that width, at most 64 bits. Returns whether the kernel reports
+    /// saturation.
     fn write<N: Lane, W: Lane>(&self, case: &Case<'_>, destination: &mut [u8]) -> bool
         requires narrow { width_bytes N.width * 65 ≤ 520 }
         requires wide { width_bytes W.width * 65 ≤ 520 }
@@ -133,12 +133,12 @@ pub(crate) trait Kernel {
         requires least { 16 ≤ length destination.old }
         requires most { length destination.old ≤ 520 };
 
-    /// The exact number of the result at an index, by the manual.
+    /// The exact result at an index by the manual's formula, before it is reduced to its width.
     fn number(&self, case: &Case<'_>, index: usize) -> i128;
 }
 
-/// Calls a kernel at the width of its case, with so many bytes of the destination, if they have room for results of
-/// twice the width. Where these are 32 or more, kernels write whole chunks.
+/// Calls a kernel at the width of its case, with the first `room` bytes of the destination, if these have room for
+/// results of twice the width. With 32 bytes or more, kernels write whole chunks.
 pub(crate) fn write<K: Kernel>(
     kernel: &K,
     case: &Case<'_>,
@@ -161,7 +161,7 @@ pub(crate) fn write<K: Kernel>(
     }
 }
 
-/// Whether the mask is enabled at an element.
+/// Whether the mask enables an element.
 fn is_enabled(body: &Body<'_>, index: usize) -> bool {
     body.is_unmasked() || bit_at(body.mask(), index)
 }
@@ -171,7 +171,7 @@ pub(crate) fn is_active(body: &Body<'_>, index: usize) -> bool {
     body.start() <= index && index < body.end() && is_enabled(body, index)
 }
 
-/// Puts the result at an index. Answers whether it saturated.
+/// Writes the result at an index. Returns whether it saturated.
 fn put_result<K: Kernel>(
     kernel: &K,
     case: &Case<'_>,
@@ -190,7 +190,7 @@ fn put_result<K: Kernel>(
     nearest != number
 }
 
-/// Writes the results of a body by a plain loop. Answers whether one saturated.
+/// Writes the results of a body with a plain loop. Returns whether one saturated.
 fn write_plain<K: Kernel>(
     kernel: &K,
     case: &Case<'_>,
@@ -217,7 +217,7 @@ fn write_plain<K: Kernel>(
     saturated
 }
 
-/// Whether a kernel leaves and answers what the plain loop does.
+/// Whether a kernel writes the same bytes and reports the same saturation as the plain loop.
 fn agrees<K: Kernel>(kernel: &K, case: &Case<'_>, sweep: &Sweep) -> bool
     requires count { case.now.body.now.end ≤ 65 }
     requires source { case.now.limit ≤ 65 }
@@ -228,7 +228,7 @@ fn agrees<K: Kernel>(kernel: &K, case: &Case<'_>, sweep: &Sweep) -> bool
     saturated == write_plain(kernel, case, sweep, &mut plain) && written == plain
 }
 
-/// Counts the bodies of each length, from each start.
+/// Compares the bodies with each end from 0 to 65, from each start, and counts them.
 fn count_bodies<K: Kernel>(
     kernel: &K,
     operands: &Operands,
@@ -256,7 +256,7 @@ fn count_bodies<K: Kernel>(
     }
 }
 
-/// Counts the variants of a kernel at a width, in one way.
+/// Compares a kernel's variants at a width, in one of `WAYS`.
 fn count_variants<K: Kernel>(
     kernel: &K,
     operands: &Operands,
@@ -271,7 +271,7 @@ fn count_variants<K: Kernel>(
     }
 }
 
-/// Counts the ways of a kernel at a width.
+/// Compares a kernel at a width, in each of its `WAYS`.
 fn count_ways<K: Kernel>(
     kernel: &K,
     operands: &Operands,
@@ -284,7 +284,7 @@ fn count_ways<K: Kernel>(
     }
 }
 
-/// Counts the cases of a kernel.
+/// Compares a kernel in each of its cases, and returns its line.
 fn line_of<K: Kernel>(kernel: &K, name: &'static str, operands: &Operands, sweep: &Sweep) -> Line {
     let mut line = Line {
         name,
@@ -300,7 +300,7 @@ fn line_of<K: Kernel>(kernel: &K, name: &'static str, operands: &Operands, sweep
     line
 }
 
-/// Compares kernels.
+/// Compares kernels in each of their cases, and adds a line for each to the report.
 pub(crate) fn compare_kernels<K: Kernel>(
     report: &mut Report,
     kernels: &[(K, &'static str)],

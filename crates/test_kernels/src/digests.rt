@@ -1,9 +1,8 @@
-//! Prints a digest of the fixed-point operations at their smallest widths, in each rounding mode: of every pair
-//! of bytes, and for clips of every 16-bit number and every amount that it can be shifted by. A line has the
-//! operation, the rounding mode, the 32-bit FNV-1a digest of each result with its saturation flag, and how many
-//! pairs saturate.
+//! Prints digests of the fixed-point operations at their smallest widths, in each rounding mode. Operands are all pairs
+//! of bytes, and for clips all 16-bit numbers with all shift amounts. A line has the operation, the rounding mode, the
+//! 32-bit FNV-1a digest of the results with their saturation flags, and the number of pairs that saturate.
 //!
-//! The stored lines have what QEMU 7.2 gives for the instructions themselves, one pair at a time with `vl` 1 and
+//! The expected lines come from QEMU 7.2, which executed the instructions on one pair at a time, with `vl` 1 and with
 //! `vxsat` cleared before each.
 use lane_fixed::{Clip, FixedPoint, Saturated, SaturatingResults};
 use rv_model::RoundingMode;
@@ -41,7 +40,7 @@ const OPERATIONS: [(Operation, &str); 13] = [
     (Operation::Clips(ClipOp::Vnclip), "vnclip"),
 ];
 
-/// A digest of results, and how many of them saturate.
+/// A 32-bit FNV-1a digest of results, and the number of results that saturate.
 #[derive(Clone, Copy)]
 struct Digest {
     hash: u32,

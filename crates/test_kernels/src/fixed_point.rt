@@ -59,7 +59,7 @@ const TO_SIGNED: Sweep = Sweep {
     ..IN_EACH_MODE
 };
 
-/// The same, of small numbers.
+/// The same, for small numbers.
 const SMALL_TO_UNSIGNED: Sweep = Sweep {
     inputs: Inputs::Small,
     ..TO_UNSIGNED
@@ -82,7 +82,7 @@ const CLIPPED_SIGNED: Sweep = Sweep {
     ..TO_SIGNED
 };
 
-/// The rounding modes are the variants, by their numbers in vxrm.
+/// The rounding mode of a case: its variant is the mode's number in vxrm.
 fn mode(case: &Case<'_>) -> RoundingMode {
     match case.variant.amount {
         0 => RoundingMode::NearestUp,
@@ -92,7 +92,7 @@ fn mode(case: &Case<'_>) -> RoundingMode {
     }
 }
 
-/// A number divided by two to a power, rounded: by what is left of it, in whole numbers.
+/// A number divided by two to the power `exponent` and rounded by its remainder, in whole numbers.
 fn rounded(case: &Case<'_>, number: i128, exponent: u32) -> i128 {
     let floor = number >> (exponent % 128);
     let unit = power(exponent);
@@ -173,7 +173,7 @@ fn compare_saturating(report: &mut Report) {
     compare_kernels(report, &SMALL_SIGNED, &SMALL_TO_SIGNED);
 }
 
-/// Compares all of them.
+/// Compares all fixed-point operations.
 pub(crate) fn compare(report: &mut Report) {
     compare_saturating(report);
     compare_kernels(report, &ROUNDED, &IN_EACH_MODE);

@@ -29,7 +29,7 @@ const WIDENING: [(WidenReduceOp, &str); 2] = [
     (WidenReduceOp::Vwredsum, "vwredsum"),
 ];
 
-/// A count of set bits, the index of the first, or both as elements that follow one another.
+/// A count of set bits, the index of the first one, or both as elements 0 and 1.
 pub(crate) enum SetBits {
     Count,
     First,
@@ -38,7 +38,7 @@ pub(crate) enum SetBits {
 
 const COUNTS: [(SetBits, &str); 2] = [(SetBits::Count, "vcpop"), (SetBits::First, "vfirst")];
 
-/// Reductions, by the width of their result.
+/// Reductions at each width.
 const REDUCED: Sweep = Sweep {
     ways: 4,
     written: Written::First,
@@ -59,7 +59,7 @@ const COUNTED: Sweep = Sweep {
     ..REDUCED
 };
 
-/// Two numbers of so many bits combined.
+/// The combination of two numbers of `bits` bits.
 fn combined(op: ReduceOp, bits: u32, x: i128, y: i128) -> i128 {
     let (signed_x, signed_y) = (two_complement(x, bits), two_complement(y, bits));
     let number = match op {
@@ -75,7 +75,7 @@ fn combined(op: ReduceOp, bits: u32, x: i128, y: i128) -> i128 {
     low_bits(number, bits)
 }
 
-/// Calls a reduction, whose result is element 0.
+/// Calls a reduction, and stores its result as element 0.
 fn reduce_to<E: Lane, R: Lane, C: Combine<E, R>>(
     kernel: &C,
     case: &Case<'_>,
@@ -170,7 +170,7 @@ impl Kernel for SetBits {
     }
 }
 
-/// Compares all of them.
+/// Compares reductions, counts and searches.
 pub(crate) fn compare(report: &mut Report) {
     compare_kernels(report, &REDUCTIONS, &REDUCED);
     compare_kernels(report, &WIDENING, &WIDENED);

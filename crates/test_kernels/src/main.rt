@@ -1,8 +1,8 @@
-//! Kernels compared with values worked by hand (`by_hand.rt`), and with plain loops over their elements, which have
-//! the manual's formulas in whole numbers (the other files; `comparison.rt` has the cases). A line for each kernel has
-//! how many results were compared, and how many differ.
+//! Compares kernels with values worked by hand (`by_hand.rt`), and with plain loops over their elements. The loops use
+//! the manual's formulas in whole numbers (the other files; `comparison.rt` has the cases). It prints a line for each
+//! kernel, with the number of results compared and the number of results that differ.
 //!
-//! Then come digests of the fixed-point operations at their smallest widths, which are those of a machine
+//! Then it prints digests of the fixed-point operations at their smallest widths; the expected digests come from QEMU
 //! (`digests.rt`).
 #![tactic(auto)]
 

@@ -52,7 +52,7 @@ const COMPARED: Sweep = Sweep {
     ..MASKED
 };
 
-/// Carries and borrows: under each mask operand, and without one.
+/// Carries and borrows, with each mask operand and without one.
 const CARRIED: Sweep = Sweep {
     ways: 1,
     variants: Variants::Carries,
@@ -67,13 +67,13 @@ const SCANS_OF_BITS: Sweep = Sweep {
     ..COMPARED
 };
 
-/// Logic, which has no mask besides.
+/// Mask logic, which is always unmasked.
 const UNMASKED: Sweep = Sweep {
     ways: 1,
     ..SCANS_OF_BITS
 };
 
-/// How many bytes of a destination have a bit for each of its bytes: at most those of a register.
+/// The number of bytes that have a bit for each byte of the destination, at most the 32 bytes of a register.
 fn bit_bytes(destination: &[u8]) -> usize
     ensures register { result ≤ 32 }
     ensures inside { result ≤ length destination.now }
@@ -145,7 +145,7 @@ impl Kernel for MaskLogicOp {
         false
     }
 
-    /// The result for two bits, of the four that the manual's table has for 11, 10, 01 and 00.
+    /// The result for two bits, from the manual's table, which has results for 11, 10, 01 and 00.
     fn number(&self, case: &Case<'_>, index: usize) -> i128 {
         let table = match *self {
             MaskLogicOp::Vmandn => 0b0100,
@@ -164,7 +164,7 @@ impl Kernel for MaskLogicOp {
 }
 
 impl Kernel for MaskScanOp {
-    /// The variant is the bits that are scanned.
+    /// The variant is the mask that is scanned.
     fn write<N: Lane, W: Lane>(&self, case: &Case<'_>, destination: &mut [u8]) -> bool {
         let scan = MaskScan {
             op: *self,
@@ -190,7 +190,7 @@ impl Kernel for MaskScanOp {
     }
 }
 
-/// Compares all of them.
+/// Compares all instructions with masks as results.
 pub(crate) fn compare(report: &mut Report) {
     compare_kernels(report, &COMPARISONS, &COMPARED);
     compare_kernels(report, &CARRIES, &CARRIED);

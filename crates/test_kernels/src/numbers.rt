@@ -1,4 +1,4 @@
-//! Elements as whole numbers, and bits of masks, read from bytes and written to them one by one.
+//! Reads and writes elements as whole numbers, and bits of masks, byte by byte.
 ghost use Rattle.std.specs.Prelude.{◌<◌};
 
 use crate::operands::LONGEST;
@@ -8,14 +8,14 @@ pub(crate) fn power(exponent: u32) -> i128 {
     1 << (exponent % 128)
 }
 
-/// Where a byte of an element stands.
+/// The index of a byte of the element at an index; elements have `bits` bits.
 fn place(bits: u32, index: usize, byte: usize) -> usize
     ensures { result < 520 }
 {
     (bits as usize / 8).wrapping_mul(index).wrapping_add(byte) % LONGEST
 }
 
-/// The unsigned element at an index, of so many bits; its first byte is the lowest.
+/// The unsigned element of `bits` bits at an index; its first byte is the lowest.
 pub(crate) fn unsigned(bytes: &[u8; LONGEST], bits: u32, index: usize) -> i128 {
     let mut number = 0;
     for byte in 0..bits / 8 {
@@ -25,7 +25,7 @@ pub(crate) fn unsigned(bytes: &[u8; LONGEST], bits: u32, index: usize) -> i128 {
     number
 }
 
-/// An unsigned number of so many bits, read in two's complement.
+/// An unsigned number of `bits` bits, interpreted in two's complement.
 pub(crate) fn two_complement(number: i128, bits: u32) -> i128 {
     if number >> (bits.wrapping_sub(1) % 128) & 1 == 1 {
         number.wrapping_sub(power(bits))
@@ -44,18 +44,18 @@ pub(crate) fn low_bits(number: i128, bits: u32) -> i128 {
     number & power(bits).wrapping_sub(1)
 }
 
-/// The nearest unsigned number of so many bits.
+/// The nearest unsigned number of `bits` bits.
 pub(crate) fn nearest_unsigned(number: i128, bits: u32) -> i128 {
     number.max(0).min(power(bits).wrapping_sub(1))
 }
 
-/// The nearest signed number of so many bits.
+/// The nearest signed number of `bits` bits.
 pub(crate) fn nearest_signed(number: i128, bits: u32) -> i128 {
     let limit = power(bits.wrapping_sub(1));
     number.max(limit.wrapping_neg()).min(limit.wrapping_sub(1))
 }
 
-/// How far a shift of a number of so many bits moves: the low bits of the amount.
+/// The distance of a shift of a number of `bits` bits: the low bits of the amount.
 pub(crate) fn shift(amount: i128, bits: u32) -> u32
     ensures { result < 64 }
 {
@@ -78,7 +78,7 @@ fn put_bit(bytes: &mut [u8; LONGEST], index: usize, bit: bool) {
     }
 }
 
-/// Replaces the element at an index by the low bits of a number; an element of a mask is one bit.
+/// Replaces the element at an index with the low bits of a number; an element of a mask is one bit.
 pub(crate) fn put(bytes: &mut [u8; LONGEST], bits: u32, index: usize, number: i128) {
     if bits == 1 {
         put_bit(bytes, index, number & 1 == 1);

@@ -50,7 +50,8 @@ const COPIES: [(Copied, &str); 2] = [
     (Copied::Number, "one number in a range"),
 ];
 
-/// The number that division gives, by whole numbers: a divisor of 0 gives ones, or the dividend as what remains.
+/// The quotient or remainder in whole numbers. If the divisor is 0, the quotient is all ones, and the remainder is the
+/// dividend.
 fn divided(op: BinaryOp, a: i128, b: i128) -> i128 {
     match op {
         BinaryOp::Vdivu | BinaryOp::Vdiv => a.checked_div(b).unwrap_or(-1),
@@ -58,7 +59,7 @@ fn divided(op: BinaryOp, a: i128, b: i128) -> i128 {
     }
 }
 
-/// The upper half of a product of unsigned numbers.
+/// The upper half of a product of two unsigned numbers of `bits` bits.
 fn upper_half(a: i128, b: i128, bits: u32) -> i128 {
     let product = a.cast_unsigned().wrapping_mul(b.cast_unsigned());
     (product >> (bits % 128)).cast_signed()
@@ -177,21 +178,21 @@ impl Kernel for Copied {
     }
 }
 
-/// Under each mask operand.
+/// Carries, borrows and merges, with each mask operand.
 const CARRIED: Sweep = Sweep {
     ways: 1,
     variants: Variants::Operands,
     ..MASKED
 };
 
-/// Under no mask, with a scalar.
+/// Copies, without a mask, with a scalar.
 const COPIED: Sweep = Sweep {
     ways: 1,
     variants: Variants::Scalar,
     ..MASKED
 };
 
-/// Compares all of them.
+/// Compares all operations of one width.
 pub(crate) fn compare(report: &mut Report) {
     compare_kernels(report, &BINARY, &MASKED);
     compare_kernels(report, &MULTIPLY_ADDS, &MASKED);

@@ -1,28 +1,28 @@
-//! What kernels are given: bytes of elements, and masks.
+//! Operands of kernels: bytes of elements, and masks.
 ghost use Rattle.std.specs.Prelude.{◌<◌, ◌≤◌};
 
-/// The bytes of 65 elements of the greatest width.
+/// Size in bytes of 65 elements of the greatest width.
 pub(crate) const LONGEST: usize = 520;
 
-/// The bits of a mask, of which some are set.
+/// A mask with some bits set.
 pub(crate) const MIXED: [u8; 32] = [
     0x96, 0x3d, 0x00, 0xff, 0x5a, 0x01, 0x80, 0xe7, 0x9c, 0x55, 0x0f, 0x96, 0x3d, 0x00, 0xff, 0x5a,
     0x01, 0x80, 0xe7, 0x9c, 0x55, 0x0f, 0x96, 0x3d, 0x00, 0xff, 0x5a, 0x01, 0x80, 0xe7, 0x9c, 0x55,
 ];
 
-/// The bits of another mask.
+/// Another mask with some bits set.
 pub(crate) const BITS: [u8; 32] = [
     0x0f, 0xc3, 0xff, 0x00, 0x99, 0x5a, 0x7e, 0x18, 0xe1, 0x3c, 0x66, 0xb7, 0x0f, 0xc3, 0xff, 0x00,
     0x99, 0x5a, 0x7e, 0x18, 0xe1, 0x3c, 0x66, 0xb7, 0x0f, 0xc3, 0xff, 0x00, 0x99, 0x5a, 0x7e, 0x18,
 ];
 
-/// No bits.
+/// A mask without set bits.
 pub(crate) const NO_MASK: [u8; 32] = [0; 32];
 
-/// All bits.
+/// A mask with all bits set.
 pub(crate) const ALL: [u8; 32] = [0xff; 32];
 
-/// The bytes of elements: `a` of vs2, `b` of the second operand, `d` those that the destination has.
+/// The bytes of elements: `a` of vs2, `b` of the second operand, `d` of the destination before the operation.
 #[derive(Drop)]
 pub(crate) struct Operands {
     pub(crate) a: [u8; LONGEST],
@@ -30,23 +30,23 @@ pub(crate) struct Operands {
     pub(crate) d: [u8; LONGEST],
 }
 
-/// Which numbers elements are.
+/// Kinds of numbers in the elements.
 #[derive(Clone, Copy)]
 pub(crate) enum Inputs {
-    /// Numbers of every kind. Some 8 bytes together are a least, a greatest, a 0 or a -1 of each width; the least is
-    /// beside -1, and others beside 0.
+    /// Numbers of every kind. Some blocks of 8 bytes are the least number, the greatest, 0 or -1 of each width. At some
+    /// index, `a` is the least number and `b` is -1; at others, `b` is 0.
     Any,
-    /// The same, of which every third is equal in both operands.
+    /// The same; every third block of 8 bytes is equal in both operands.
     Near,
     /// Small numbers, so that few sums of them saturate: one byte in 24 may be large.
     Small,
-    /// Any numbers, and indices of so many bytes: numbers below 80, 64 and 65 among them, and one in nine that is much
-    /// larger.
+    /// Any numbers, and indices of this size in bytes. The indices are below 80, and 64 and 65 are among them; one in
+    /// nine is much larger.
     Indices(usize),
 }
 
 impl Operands {
-    /// The bytes of such elements.
+    /// The operands with elements of this kind.
     pub(crate) fn of(inputs: Inputs) -> Operands {
         let (a, b) = (bytes(3), bytes(5));
         let (any_a, any_b) = (with_limits(&a, 0, 8), with_limits(&b, 4, 7));
@@ -73,7 +73,7 @@ fn bytes(seed: u64) -> [u8; LONGEST] {
     bytes
 }
 
-/// A byte of a number that is a limit of each width, or another byte.
+/// A byte of a block that is a limit of each width (by `kind`: least, 0, -1, greatest), or `other`.
 fn limit(kind: usize, is_last: bool, other: u8) -> u8 {
     match kind {
         1 => { if is_last { 0x80 } else { 0 } }
@@ -84,7 +84,7 @@ fn limit(kind: usize, is_last: bool, other: u8) -> u8 {
     }
 }
 
-/// The bytes, of which some 8 together are limits: their kinds follow one another with a period.
+/// The bytes with some blocks of 8 bytes replaced by limits; the kinds of the blocks repeat with a period.
 fn with_limits(bytes: &[u8; LONGEST], first: usize, period: usize) -> [u8; LONGEST]
     requires few { first ≤ 8 }
     requires some { 0 < period }
@@ -96,7 +96,7 @@ fn with_limits(bytes: &[u8; LONGEST], first: usize, period: usize) -> [u8; LONGE
     made
 }
 
-/// The bytes of `b`, of which every third 8 are those of `a`.
+/// The bytes of `b`, with every third block of 8 bytes copied from `a`.
 fn mixed(a: &[u8; LONGEST], b: &[u8; LONGEST]) -> [u8; LONGEST] {
     let mut made = *b;
     for i in 0..LONGEST {
@@ -107,7 +107,7 @@ fn mixed(a: &[u8; LONGEST], b: &[u8; LONGEST]) -> [u8; LONGEST] {
     made
 }
 
-/// Small bytes, but for one in 24.
+/// The bytes reduced to numbers below 64, except one in 24.
 fn mostly_small(bytes: &[u8; LONGEST]) -> [u8; LONGEST] {
     let mut made = *bytes;
     for i in 0..LONGEST {
@@ -118,7 +118,7 @@ fn mostly_small(bytes: &[u8; LONGEST]) -> [u8; LONGEST] {
     made
 }
 
-/// A byte of an index: among nine are one of ones, one of 65, one of 64, and small ones.
+/// A byte of an index. Of nine indices, one has all bits set, one is 65, one is 64, and the others are small.
 fn index_byte(kind: usize, is_first: bool, small: u8) -> u8 {
     match (kind, is_first) {
         (8, _) => 0xff,
@@ -129,7 +129,7 @@ fn index_byte(kind: usize, is_first: bool, small: u8) -> u8 {
     }
 }
 
-/// Elements of so many bytes, which are small but for one in nine.
+/// Indices of `size` bytes, which are small except one in nine.
 fn indices(bytes: &[u8; LONGEST], size: usize) -> [u8; LONGEST]
     requires { 0 < size }
 {

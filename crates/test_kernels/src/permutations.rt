@@ -1,5 +1,5 @@
-//! Permutations, and elements that count ("V" Vector Extension 1.0, chapter 16, sections 15.8 and 15.9). `a` is vs2,
-//! which has 65 elements, and `b` is vs1.
+//! Permutations, viota and vid ("V" Vector Extension 1.0, chapter 16, sections 15.8 and 15.9). `a` is vs2, which has 65
+//! elements, and `b` is vs1.
 ghost use Rattle.std.specs.Prelude.{◌*◌, ◌<◌, ◌≤◌, length};
 ghost use Rattle.rv_model.specs.vector.Groups.{width_bytes};
 
@@ -19,13 +19,13 @@ pub(crate) enum Slide {
     Down,
 }
 
-/// A slide by one place, with a scalar.
+/// A slide by one element, with a scalar.
 pub(crate) enum SlideOne {
     Up,
     Down,
 }
 
-/// A gather by one index, by indices of the width of an element or of 16 bits, or of the selected elements.
+/// A gather by one index, by indices of the width of an element or of 16 bits, or a compression of selected elements.
 #[derive(Drop)]
 pub(crate) enum Gathering {
     One,
@@ -34,13 +34,13 @@ pub(crate) enum Gathering {
     Packed,
 }
 
-/// Elements that count: the set bits below each, or the elements.
+/// Elements that count the set bits below them (viota), or the elements below them (vid).
 pub(crate) enum Counting {
     Bits,
     Elements,
 }
 
-/// Each offset, below which elements keep.
+/// Each offset; elements below it are unchanged.
 const FROM_AMOUNT: Sweep = Sweep {
     written: Written::ElementsFromAmount,
     ..BY_AMOUNT
@@ -57,13 +57,13 @@ const BY_ONE: [(SlideOne, &str); 2] = [
     (SlideOne::Down, "vslide1down"),
 ];
 
-/// With a scalar.
+/// Slides by one element, with a scalar.
 const WITH_SCALAR: Sweep = Sweep {
     variants: Variants::Scalar,
     ..MASKED
 };
 
-/// Gathers by indices of the width of an element, most of which are small.
+/// Gathers by indices of the width of an element; most indices are small.
 const BY_INDICES: [(&str, Sweep); 4] = [
     (
         "vrgather.vv of 8 bits",
@@ -101,13 +101,13 @@ const BY_INDICES: [(&str, Sweep); 4] = [
     ),
 ];
 
-/// By indices of 16 bits at each width.
+/// Gathers by indices of 16 bits, at each width.
 const BY_SHORT_INDICES: Sweep = Sweep {
     inputs: Inputs::Indices(2),
     ..MASKED
 };
 
-/// Three masks that select; there is no mask besides, and no start.
+/// Compressions with three masks of selected elements, without another mask, from element 0 on.
 const PACKED: Sweep = Sweep {
     ways: 1,
     variants: Variants::Operands,
@@ -115,7 +115,7 @@ const PACKED: Sweep = Sweep {
     ..MASKED
 };
 
-/// Counts of the bits of four masks.
+/// Counts of set bits in four masks.
 const BY_BITS: Sweep = Sweep {
     variants: Variants::Scanned,
     ..MASKED
@@ -213,7 +213,7 @@ fn gather<I: Lane, L: Lane>(case: &Case<'_>, destination: &mut [u8])
     write_results::<L, Gather<'_, I>>(&kernel, case.body, destination, case.fill);
 }
 
-/// The element at a place among those whose bit is set; past the last of them the destination keeps.
+/// The element at index `place` among those whose bit is set; past the last of them, the element of the destination.
 fn packed(case: &Case<'_>, place: usize) -> i128 {
     let mut left = place;
     for from in 0..case.body.end() {
@@ -317,7 +317,7 @@ fn compare_gathers(report: &mut Report) {
     compare_kernels(report, &[(Gathering::Packed, "vcompress")], &PACKED);
 }
 
-/// Compares all of them.
+/// Compares permutations, viota and vid.
 pub(crate) fn compare(report: &mut Report) {
     compare_slides(report);
     compare_gathers(report);

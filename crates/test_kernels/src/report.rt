@@ -1,28 +1,28 @@
-//! What is found: a line for each kernel, in the order in which they are compared.
+//! Results of the comparison: a line for each kernel, in the order of the comparison.
 use std::io;
 
-/// How many results of a kernel were compared, and how many differ from what they should be.
+/// Number of compared results of a kernel, and number of those that differ from the expected result.
 #[derive(Clone, Copy)]
 pub(crate) struct Line {
     pub(crate) name: &'static str,
-    /// What is printed after the name.
+    /// Text printed after the name.
     pub(crate) kind: &'static str,
     pub(crate) compared: u64,
     pub(crate) differ: u64,
 }
 
 impl Line {
-    /// Counts a result that was compared.
+    /// Counts a compared result.
     pub(crate) fn count(&mut self, same: bool) {
         self.compared = self.compared.wrapping_add(1);
         self.differ = self.differ.wrapping_add(u64::from(!same));
     }
 }
 
-/// How many lines there is room for.
+/// Capacity of a report in lines.
 const MOST_LINES: usize = 512;
 
-/// The lines so far.
+/// Lines of the kernels compared so far.
 #[derive(Drop)]
 pub(crate) struct Report {
     lines: [Line; MOST_LINES],
@@ -30,7 +30,7 @@ pub(crate) struct Report {
 }
 
 impl Report {
-    /// No line.
+    /// An empty report.
     pub(crate) fn new() -> Report {
         let none = Line {
             name: "",

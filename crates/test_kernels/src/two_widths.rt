@@ -44,7 +44,7 @@ const NARROW_SHIFTS: [(NarrowShiftOp, &str); 2] = [
     (NarrowShiftOp::Vnsra, "vnsra"),
 ];
 
-/// From halves of the width, quarters and eighths.
+/// Extensions from half the width, and below from a quarter and an eighth.
 const HALVES: [(ExtendOp, &str); 2] = [
     (ExtendOp::VzextVf2, "vzext.vf2"),
     (ExtendOp::VsextVf2, "vsext.vf2"),
@@ -242,7 +242,7 @@ fn compare_extensions(report: &mut Report) {
     compare_kernels(report, &EIGHTHS, &TO_EIGHT_TIMES);
 }
 
-/// Compares all of them.
+/// Compares all operations of two widths.
 pub(crate) fn compare(report: &mut Report) {
     compare_kernels(report, &WIDEN, &WIDENING);
     compare_kernels(report, &WIDE_SOURCES, &WIDENING);

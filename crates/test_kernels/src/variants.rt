@@ -1,8 +1,8 @@
-//! What operations take beside their elements, one after the other.
+//! Inputs of operations other than their elements; a sweep tries one after the other.
 use crate::operands::{ALL, BITS, MIXED, NO_MASK};
 
-/// What an operation takes beside its elements: an offset, an index, a scalar or a rounding mode, and the bits of up to
-/// two masks.
+/// Inputs of an operation other than its elements: an offset, index, scalar or rounding mode (`amount`), and up to two
+/// masks.
 #[derive(Clone, Copy)]
 pub(crate) struct Variant {
     pub(crate) amount: u64,
@@ -10,27 +10,27 @@ pub(crate) struct Variant {
     pub(crate) other: [u8; 32],
 }
 
-/// Which of them a sweep has.
+/// Kinds of variants that a sweep tries.
 #[derive(Clone, Copy)]
 pub(crate) enum Variants {
-    /// One, which nothing is taken of.
+    /// One variant, which the operation doesn't use.
     Plain,
-    /// A scalar, of which an element takes the low bits.
+    /// A scalar; an element takes its low bits.
     Scalar,
     /// The rounding modes, by their numbers in vxrm.
     Modes,
-    /// The offsets of slides, and the indices of gathers of one element.
+    /// The offsets of slides, and the indices of gathers by one index.
     Amounts,
-    /// The bits of v0 or vs1: all, none, and some.
+    /// Masks in v0 or vs1: all bits set, none, and some.
     Operands,
-    /// The same for carries and borrows, of which the last takes no bit.
+    /// The same for carries and borrows; the last variant (amount 1) has no carry or borrow in.
     Carries,
-    /// The bits that are scanned, counted or combined with others: some, none, one alone, and all but the first ones.
+    /// Masks that are scanned, counted or combined with another: some bits set, none, one, and all except the first 8.
     Scanned,
 }
 
 impl Variants {
-    /// How many there are.
+    /// The number of variants.
     pub(crate) fn count(self) -> usize {
         match self {
             Variants::Plain | Variants::Scalar => 1,
@@ -40,7 +40,7 @@ impl Variants {
         }
     }
 
-    /// The one with a number.
+    /// The variant with a number from 0 on.
     pub(crate) fn variant(self, number: usize) -> Variant {
         let (amount, bits) = match self {
             Variants::Plain => (0, NO_MASK),
@@ -59,7 +59,7 @@ impl Variants {
     }
 }
 
-/// The number for the scalar operand of a variant: none, small ones, and those about and beyond a width.
+/// The offset or index of a variant: 0, small numbers, numbers up to the 65 elements of a source, and the greatest.
 fn amount(number: usize) -> u64 {
     match number {
         0 => 0,
@@ -72,7 +72,7 @@ fn amount(number: usize) -> u64 {
     }
 }
 
-/// The mask of a variant: all elements, none, or some.
+/// The mask of a variant: all bits set, none, or some.
 fn operand(number: usize) -> [u8; 32] {
     match number {
         0 => ALL,
@@ -81,7 +81,7 @@ fn operand(number: usize) -> [u8; 32] {
     }
 }
 
-/// The mask that a variant scans: few bits, none, one alone, or all but the first eight.
+/// The mask that a variant scans: some bits set, none, one, or all except the first 8.
 fn scanned(number: usize) -> [u8; 32] {
     let mut bits = if number == 3 { ALL } else { NO_MASK };
     match number {

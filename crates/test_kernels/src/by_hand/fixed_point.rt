@@ -1,5 +1,5 @@
-//! Fixed-point operations. The rounding modes are those of vxrm: 0 to the nearest, up; 1 to the nearest, even; 2 down;
-//! 3 to odd.
+//! Fixed-point operations. The rounding modes have their numbers in vxrm: 0 is round-to-nearest-up, 1
+//! round-to-nearest-even, 2 round-down, and 3 round-to-odd.
 use crate::by_hand::{GIVEN, Given, Row, compare_rows};
 use crate::report::Report;
 use rv_model::instructions::operations::{ClipOp, FixedPointOp};
@@ -65,7 +65,7 @@ const ROUNDED: [Row<FixedPointOp>; 6] = [
     (FixedPointOp::Vasub, "vasub", 0, 0x80_ffc0_3f00),
 ];
 
-/// The least number of 64 bits with itself, rounded down.
+/// The least number of 64 bits as both operands, rounded down.
 const DOUBLES: Given = Given {
     bits: 64,
     a: 0x8000_0000_0000_0000,
@@ -107,7 +107,7 @@ const WIDEST: [Row<FixedPointOp>; 1] = [(
     0x8000_0000_0000_0000,
 )];
 
-/// The elements 1 and 2, of which the product of the first would saturate and is masked off.
+/// Elements 1 and 2. Element 1, whose product would saturate, is masked off.
 const ACTIVE: Given = Given {
     a: 0x8040_8080,
     b: 0x8040_8080,
@@ -161,7 +161,7 @@ fn compare_clips(report: &mut Report) {
     compare_rows(report, &CLIPPED, &SIGNED_CLIPS);
 }
 
-/// Compares all of them.
+/// Compares all tables of fixed-point operations.
 pub(crate) fn compare(report: &mut Report) {
     compare_bytes(report);
     compare_rows(report, &SATURATING_DOUBLES, &WIDEST_SATURATED);

@@ -24,7 +24,7 @@ const LOGIC: [Row<MaskLogicOp>; 8] = [
     (MaskLogicOp::Vmxnor, "vmxnor", 0, 0b1010_1001),
 ];
 
-/// Three bits.
+/// Three set bits.
 const COUNTED: Given = Given {
     bits_a: 0b1001_0100,
     end: 8,
@@ -42,7 +42,7 @@ const COUNTED_NONE: Given = Given {
     ..COUNTED_ACTIVE
 };
 
-/// A count and a first, of 64 bits each.
+/// A count, and the index of the first set bit, of 64 bits each.
 const COUNTS: [Row<SetBits>; 1] = [(
     SetBits::Both,
     "vcpop and vfirst",
@@ -76,7 +76,7 @@ const SCANNED_NONE: Given = Given {
     ..SCANNED
 };
 
-/// Bits around the first, which is at index 2.
+/// Scans of bits whose first set bit is at index 2.
 const SCANS: [Row<MaskScanOp>; 3] = [
     (MaskScanOp::Vmsbf, "vmsbf", 0, 0b0000_0011),
     (MaskScanOp::Vmsif, "vmsif", 0, 0b0000_0111),
@@ -107,7 +107,7 @@ const BELOW_ACTIVE: Given = Given {
     ..BELOW
 };
 
-/// The counts below each element.
+/// The counts of set bits below each element.
 const ALL_BELOW: [Row<Counting>; 1] = [(
     Counting::Bits,
     "viota",
@@ -144,14 +144,14 @@ fn compare_counts(report: &mut Report) {
     compare_rows(report, &COUNTED_NONE, &COUNTS_OF_NONE);
 }
 
-/// Compares elements that count.
+/// Compares viota and vid.
 fn compare_elements(report: &mut Report) {
     compare_rows(report, &BELOW, &ALL_BELOW);
     compare_rows(report, &BELOW_ACTIVE, &ACTIVE_BELOW);
     compare_rows(report, &INDICES, &NUMBERED);
 }
 
-/// Compares all of them.
+/// Compares all tables of operations on masks.
 pub(crate) fn compare(report: &mut Report) {
     compare_rows(report, &BITS, &LOGIC);
     compare_counts(report);

@@ -4,7 +4,7 @@ use crate::one_width::Copied;
 use crate::report::Report;
 use rv_model::instructions::operations::{BinaryOp, CarryOp, CarryOutOp, CompareOp, MultiplyAddOp};
 
-/// Numbers of 32 bits, whose sums wrap, and one that isn't in the body.
+/// Numbers of 32 bits whose sums wrap around, and an element after the body.
 const WORDS: Given = Given {
     bits: 32,
     a: 0x0000_0007_8000_0000_0000_0002_ffff_ffff,
@@ -99,7 +99,7 @@ const MULTIPLY_ADDS: [Row<MultiplyAddOp>; 4] = [
     (MultiplyAddOp::Vnmsac, "vnmsac", 0, 0xfff2),
 ];
 
-/// Elements from index 3 on, of which that at index 4 is masked off.
+/// Elements from index 3 on; element 4 is masked off.
 const MASKED: Given = Given {
     b: 0x0101_0101_0101_0101,
     d: 0xaaaa_aaaa_aaaa_aaaa_0000_0000_0000_0000,
@@ -154,7 +154,7 @@ const COMPARED: Given = Given {
     ..GIVEN
 };
 
-/// Comparisons, which write active bits alone.
+/// Comparisons, which write only active bits.
 const COMPARISONS: [Row<CompareOp>; 8] = [
     (CompareOp::Vmseq, "vmseq", 0, 0b1111_1110_1010_0001),
     (CompareOp::Vmsne, "vmsne", 0, 0b1111_1111_1111_1110),
@@ -166,7 +166,7 @@ const COMPARISONS: [Row<CompareOp>; 8] = [
     (CompareOp::Vmsgt, "vmsgt", 0, 0b1111_1111_1111_0100),
 ];
 
-/// Carries and borrows: by amount 1, v0 has no part in them.
+/// Carries and borrows. With amount 1, v0 isn't an operand.
 const CARRYING: Given = Given {
     a: 0xff03_8000,
     b: 0x0203_7f01,
@@ -183,7 +183,7 @@ const CARRIES_OUT: [Row<CarryOutOp>; 4] = [
     (CarryOutOp::Vmsbc, "vmsbc with v0", 0, 0b0101),
 ];
 
-/// Elements of 16 bits, copied from index 1 up to index 3.
+/// Elements of 16 bits; elements 1 and 2 are copied.
 const COPIED: Given = Given {
     bits: 16,
     b: 0x0807_0605_0403_0201,
@@ -195,7 +195,7 @@ const COPIED: Given = Given {
 
 const COPIES: [Row<Copied>; 1] = [(Copied::Elements, "vmv.v.v", 0, 0xaaaa_0605_0403_aaaa)];
 
-/// One number of 64 bits at index 1 of three.
+/// One number of 64 bits at index 1.
 const ONE_NUMBER: Given = Given {
     bits: 64,
     d: 0,
@@ -219,21 +219,21 @@ fn compare_binary(report: &mut Report) {
     compare_rows(report, &DOUBLES, &WIDEST);
 }
 
-/// Compares products that are added, and sums under a mask.
+/// Compares multiply-adds, and sums with a mask.
 fn compare_sums(report: &mut Report) {
     compare_rows(report, &ADDED, &MULTIPLY_ADDS);
     compare_rows(report, &MASKED, &KEPT);
     compare_rows(report, &FILLED, &ONES);
 }
 
-/// Compares operations that take bits or give them.
+/// Compares operations with masks as operands or results.
 fn compare_with_bits(report: &mut Report) {
     compare_rows(report, &WITH_CARRIES, &CARRIES);
     compare_rows(report, &COMPARED, &COMPARISONS);
     compare_rows(report, &CARRYING, &CARRIES_OUT);
 }
 
-/// Compares all of them.
+/// Compares all tables of operations of one width.
 pub(crate) fn compare(report: &mut Report) {
     compare_binary(report);
     compare_sums(report);

@@ -12,7 +12,7 @@ const UP: Given = Given {
     ..GIVEN
 };
 
-/// Slides up, which begin at the offset.
+/// Slides up, which write the elements from the offset on.
 const SLIDES_UP: [Row<Slide>; 5] = [
     (Slide::Up, "vslideup by 0", 0, 0x28ff_140a),
     (Slide::Up, "vslideup by 1", 1, 0x1eff_0aaa),
@@ -30,7 +30,7 @@ const DOWN: Given = Given {
     ..GIVEN
 };
 
-/// Slides down, which end at the limit.
+/// Slides down, which read 0 from the limit on.
 const SLIDES_DOWN: [Row<Slide>; 5] = [
     (Slide::Down, "vslidedown by 0", 0, 0xaaaa_1e03_1402_0a01),
     (Slide::Down, "vslidedown by 1", 1, 0xaaaa_2804_1e03_1402),
@@ -109,7 +109,7 @@ const GATHERS: [Row<Gathering>; 1] = [(
     0xaa14_0000_1428,
 )];
 
-/// Five elements of 16 bits, of which some are selected.
+/// Five elements of 16 bits, some of them selected.
 const SELECTED: Given = Given {
     bits: 16,
     a: 0x3c06_3205_2804_1e03_1402_0a01,
@@ -146,13 +146,13 @@ fn compare_by_one(report: &mut Report) {
     compare_rows(report, &ONE, &GATHERS_OF_ONE);
 }
 
-/// Compares slides by one place.
+/// Compares slides by one element.
 fn compare_slides_by_one(report: &mut Report) {
     compare_rows(report, &UP_BY_ONE, &SLIDES_UP_BY_ONE);
     compare_rows(report, &DOWN_BY_ONE, &SLIDES_DOWN_BY_ONE);
 }
 
-/// Compares all of them.
+/// Compares all tables of permutations.
 pub(crate) fn compare(report: &mut Report) {
     compare_by_one(report);
     compare_slides_by_one(report);

@@ -1,4 +1,4 @@
-//! Reductions: the first element of `b` is where they begin.
+//! Reductions, which start with the first element of `b`.
 use crate::by_hand::{GIVEN, Given, Row, compare_rows};
 use crate::report::Report;
 use rv_model::instructions::operations::{ReduceOp, WidenReduceOp};
@@ -21,7 +21,7 @@ const REDUCTIONS: [Row<ReduceOp>; 8] = [
     (ReduceOp::Vredmax, "vredmax", 0, 7),
 ];
 
-/// The powers of two that are active, and 0x100.
+/// Powers of two, some of them active, and 0x100 as the start value.
 const ACTIVE: Given = Given {
     bits: 16,
     a: 0x0010_0008_0004_0002_0001,
@@ -64,14 +64,14 @@ const WIDENING: [Row<WidenReduceOp>; 2] = [
     (WidenReduceOp::Vwredsum, "vwredsum", 0, 0xff81),
 ];
 
-/// Compares all of them.
+/// Compares all tables of reductions.
 pub(crate) fn compare(report: &mut Report) {
     compare_rows(report, &BYTES, &REDUCTIONS);
     compare_sums(report);
     compare_rows(report, &WIDENED, &WIDENING);
 }
 
-/// Compares sums of a part of the elements.
+/// Compares sums of some elements, and of none.
 fn compare_sums(report: &mut Report) {
     compare_rows(report, &ACTIVE, &SUM_OF_ACTIVE);
     compare_rows(report, &EMPTY, &SUM_OF_NONE);

@@ -77,7 +77,7 @@ const EXTENDED: Given = Given {
     ..GIVEN
 };
 
-/// Extensions of 8 bits to 32, whatever the operation is called for.
+/// Extensions of 8 bits to 32. The widths come from `EXTENDED`, not from the operation's name.
 const EXTENSIONS: [Row<ExtendOp>; 4] = [
     (ExtendOp::VzextVf4, "vzext.vf4", 0, 0x0000_0080),
     (ExtendOp::VsextVf4, "vsext.vf4", 0, 0xffff_ff80),
@@ -92,7 +92,7 @@ fn compare_widening(report: &mut Report) {
     compare_rows(report, &ADDED, &MULTIPLY_ADDS);
 }
 
-/// Compares all of them.
+/// Compares all tables of operations of two widths.
 pub(crate) fn compare(report: &mut Report) {
     compare_widening(report);
     compare_rows(report, &NARROWED, &NARROW_SHIFTS);
