@@ -2,7 +2,7 @@
 use crate::shapes::Elements::{Bits, Mask, Sew, Whole};
 use crate::shapes::{Access, Shape, Sharing};
 
-/// Those of contiguous elements.
+/// Loads and stores of contiguous elements.
 pub(crate) fn contiguous() -> [Shape; 7] {
     [
         Shape::new(&["vle8.v v8, (x10)", "vle8.v v8, (x10), v0.t"])
@@ -29,7 +29,7 @@ pub(crate) fn contiguous() -> [Shape; 7] {
     ]
 }
 
-/// Those of masks and of whole registers.
+/// Loads and stores of masks and of whole registers.
 pub(crate) fn of_registers() -> [Shape; 5] {
     [
         Shape::new(&["vlm.v v9, (x10)"])
@@ -53,7 +53,7 @@ pub(crate) fn of_registers() -> [Shape; 5] {
     ]
 }
 
-/// Those of elements apart.
+/// Loads and stores of strided and indexed elements.
 pub(crate) fn scattered() -> [Shape; 8] {
     [
         Shape::new(&["vlse32.v v8, (x10), x11", "vlse32.v v8, (x10), x11, v0.t"])

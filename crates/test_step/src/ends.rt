@@ -1,19 +1,19 @@
-//! How instructions end where no byte may be loaded or stored, and registers hold ones.
+//! Expected ends of instructions, if no memory may be loaded or stored and the bits of all registers are set.
 use crate::shapes::{Access, Shape};
 use rv_model::VEnd;
 
-/// What an instruction finds.
+/// State before an instruction.
 #[derive(Clone, Copy, Drop)]
 pub(crate) struct Found {
     pub vl: u64,
     pub vstart: u8,
-    /// Whether its elements are active: those of a masked instruction all are, or none is.
+    /// Whether all elements are active; otherwise, none is.
     pub is_active: bool,
-    /// How many indices it may carry out.
+    /// Maximum number of indices that it executes.
     pub limit: u64,
 }
 
-/// How an instruction ends, the vstart that it leaves, and the ticks that it takes.
+/// The end of an instruction, the vstart after it, and the ticks that it takes.
 #[derive(Clone, Copy, Drop)]
 pub(crate) struct Ending {
     pub end: VEnd,
@@ -21,7 +21,7 @@ pub(crate) struct Ending {
     pub ticks: u64,
 }
 
-/// The end of an instruction that is done, after so many ticks.
+/// The end of an instruction that completes after this number of ticks.
 fn done_after(ticks: u64) -> Ending {
     Ending {
         end: VEnd::Done,
@@ -30,7 +30,7 @@ fn done_after(ticks: u64) -> Ending {
     }
 }
 
-/// How many indices there are.
+/// The number of indices of an access.
 fn length(access: Access, vl: u64) -> u64 {
     match access {
         Access::Whole(count, _) => count,
@@ -39,7 +39,7 @@ fn length(access: Access, vl: u64) -> u64 {
     }
 }
 
-/// The address of an index: the base and the stride are all ones, and so is each offset.
+/// The address of an index. The base and the stride are all ones, and each offset is all ones in its width.
 fn address(access: Access, index: u64) -> u64 {
     let distance = match access {
         Access::Unit(bytes) | Access::FaultOnlyFirst(bytes) | Access::Whole(_, bytes) => {

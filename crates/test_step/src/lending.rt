@@ -1,16 +1,16 @@
-//! The bytes that instructions are lent: those of one user.
+//! The memory of one user, which instructions borrow.
 use rv_model::{Access, Fault, PAGE_SIZE, Permissions, USER_COUNT, User};
 use std::alloc::Global;
 use user_mem::Pool;
 use vector_memory::UserBytes;
 
-/// The page of the word that is carried out.
+/// The number of the page with the executed word.
 const CODE_PAGE: u64 = 16;
 
-/// The address of that word.
+/// The address of the executed word.
 pub(crate) const CODE: u64 = CODE_PAGE * PAGE_SIZE;
 
-/// The bytes of one user in a pool.
+/// The memory of one user in a pool.
 #[derive(Drop)]
 pub(crate) struct UserMemory {
     pub pool: Pool,
@@ -18,7 +18,7 @@ pub(crate) struct UserMemory {
 }
 
 impl UserMemory {
-    /// The memory of one page, which may be executed, and neither read nor written. None where that is refused.
+    /// Memory of one page, which is executable, but not readable or writable. `None` if memory is refused.
     pub(crate) fn new(alloc: Global) -> Option<UserMemory> {
         let mut pool = Pool::new(alloc).ok()?;
         let user = User::new(1)?;
@@ -31,7 +31,7 @@ impl UserMemory {
         Some(UserMemory { pool, user })
     }
 
-    /// Puts a word there. None where that is refused.
+    /// Writes a word at `CODE`. `None` if the write is refused.
     pub(crate) fn set_word(&mut self, word: u32) -> Option<()> {
         self.pool
             .write(self.user, CODE, Access::Monitor, &word.to_le_bytes())
@@ -64,7 +64,7 @@ impl UserBytes for UserMemory {
 
     #[tactic(auto, using(user_mem::proofs::UserLaws::replaces_own))]
     fn write(&mut self, addr: u64, access: Access, bytes: &[u8]) -> Result<(), Fault> {
-        // Each user has a memory in the pool.
+        // The pool has memory for each user.
         prove!(self.user.index() < USER_COUNT);
         self.pool.write(self.user, addr, access, bytes)
     }

@@ -1,10 +1,11 @@
-//! Vector instructions of each family, carried out from every vstart, under what each request for a vector type from 0
-//! to 255 leaves, with a length of 13 and of VLMAX, with registers of ones, and v0 of ones and of zeros, where no byte
-//! may be loaded or stored. A load or store may carry out seven indices. A step of the hart fetches the word and
-//! carries it out; one instruction of each family is also carried out by the vector unit alone.
+//! Executes vector instructions of each family from every vstart, with each requested vtype from 0 to 255, and with the
+//! lengths 13 and VLMAX. The bits of all registers are set, and those of v0 are all set or all clear. No memory may be
+//! loaded or stored. A load or store executes at most seven indices. A step of the hart fetches and executes the word;
+//! the vector unit alone also executes one instruction of each family.
 //!
-//! A line for each instruction has how many ended in each way, and how many ended otherwise than the rules of legality
-//! and of accesses say, which are written once more here, each by itself, or changed something though they are illegal.
+//! For each instruction, a line has the number of runs with each end, and the number of wrong runs. A run is wrong if
+//! its end differs from the rules of legality and of accesses, which this program implements independently. A run is
+//! also wrong if an illegal instruction changes the state.
 #![tactic(auto)]
 
 mod accesses;
@@ -26,7 +27,7 @@ use shapes::Shape;
 use std::io;
 use ways::Way;
 
-/// Carries out the instruction of a text.
+/// Executes the instruction of a text in each setting, and prints its line.
 fn compare_text(
     rt: &impl Print,
     text: &str,
@@ -47,7 +48,7 @@ fn compare_text(
     )
 }
 
-/// Carries out the instructions of a family, and one of them by the vector unit too.
+/// Executes the instructions of a family, and one of them also by the vector unit alone.
 fn compare_family(rt: &impl Print, shapes: &[Shape], memory: &mut UserMemory) -> io::Result<()> {
     for shape in shapes.iter() {
         for text in shape.texts.iter() {

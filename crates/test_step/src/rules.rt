@@ -1,15 +1,15 @@
-//! Which instructions are legal, by rules that each stand by themselves ("V" Vector Extension 1.0, sections 3.4, 3.7,
-//! 5.2, 5.3, 7.8 and 11 to 16, and docs/DECISIONS.md where these leave a choice).
+//! Legality of instructions, by independent rules ("V" Vector Extension 1.0, sections 3.4, 3.7, 5.2, 5.3, 7.8 and 11 to
+//! 16, and docs/DECISIONS.md where these leave a choice).
 use crate::shapes::{Elements, Part, Shape, Sharing};
 
-/// A vector type by powers of two: SEW has 2^`sew` bits, 3 to 6, and LMUL is 2^`multiplier` / 8, 0 to 6.
+/// A vector type by exponents of two: SEW is 2^`sew` bits (`sew` 3 to 6), and LMUL is 2^`multiplier` / 8 (0 to 6).
 #[derive(Clone, Copy, Drop)]
 pub(crate) struct TypeRead {
     pub sew: i32,
     pub multiplier: i32,
 }
 
-/// The vector type of a number below 256; none where it isn't supported.
+/// The vector type of a vtype value below 256; `None` if it isn't supported.
 pub(crate) fn type_read(request: u64) -> Option<TypeRead> {
     let multiplier = match request % 8 {
         0 => 3,
@@ -28,7 +28,7 @@ pub(crate) fn type_read(request: u64) -> Option<TypeRead> {
         3 => 6,
         _ => return None,
     };
-    // An element of SEW has to fit into LMUL x 64 bits.
+    // SEW is at most LMUL x ELEN, and ELEN is 64 bits.
     if sew <= multiplier + 3 {
         Some(TypeRead { sew, multiplier })
     } else {
@@ -36,7 +36,7 @@ pub(crate) fn type_read(request: u64) -> Option<TypeRead> {
     }
 }
 
-/// VLMAX: 256 x LMUL / SEW.
+/// VLMAX in elements: 256 x LMUL / SEW.
 pub(crate) fn greatest_length(vtype: TypeRead) -> u64 {
     match vtype.multiplier.wrapping_sub(vtype.sew) {
         -3 => 4,
@@ -50,8 +50,8 @@ pub(crate) fn greatest_length(vtype: TypeRead) -> u64 {
     }
 }
 
-/// The registers of an operand, from the first up to the one behind the last, the power of two of its elements' width,
-/// and whether it takes a whole register at least.
+/// The registers of an operand from `first` up to `end`, which is excluded. Its elements have 2^`width` bits, and
+/// `is_whole` says whether its group has at least one whole register.
 #[derive(Clone, Copy, Drop)]
 struct Registers {
     first: u32,
@@ -60,7 +60,7 @@ struct Registers {
     is_whole: bool,
 }
 
-/// How many registers a group has that is 2^`multiplier` eighths of a register long.
+/// The number of registers in a group with the multiplier 2^`multiplier` / 8; `None` if that isn't from 1/8 to 8.
 fn register_count(multiplier: i32) -> Option<u32> {
     match multiplier {
         0..=3 => Some(1),
@@ -71,7 +71,7 @@ fn register_count(multiplier: i32) -> Option<u32> {
     }
 }
 
-/// The registers of an operand; none where it has no legal ones.
+/// The registers of an operand; `None` if they aren't legal.
 fn registers_of(part: Part, vtype: TypeRead) -> Option<Registers> {
     let grown = vtype.multiplier.wrapping_sub(vtype.sew);
     let (width, multiplier, count) = match part.elements {
@@ -105,7 +105,7 @@ fn registers_of(part: Part, vtype: TypeRead) -> Option<Registers> {
     }
 }
 
-/// Whether a destination may share what it shares with a source, if there is one.
+/// Whether the overlap of a destination with a source, if any, is legal.
 fn may_share(to: Registers, source: Option<Registers>, sharing: Sharing) -> bool {
     let Some(source) = source else {
         return true;
@@ -122,12 +122,12 @@ fn may_share(to: Registers, source: Option<Registers>, sharing: Sharing) -> bool
     }
 }
 
-/// Whether a destination may be written where v0 is the mask.
+/// Whether an instruction with v0 as its mask may write this destination.
 fn may_be_masked(to: Registers, sharing: Sharing) -> bool {
     to.first != 0 || sharing == Sharing::Any || sharing == Sharing::ByWidthOrMask
 }
 
-/// Whether the operands of instructions may stand together.
+/// Whether the operands of instructions are legal together; `None` if one of them has no legal registers.
 fn are_legal(shape: &Shape, masked: bool, vtype: TypeRead) -> Option<bool> {
     let [first, second] = shape.sources;
     let first = match first {
@@ -146,13 +146,13 @@ fn are_legal(shape: &Shape, masked: bool, vtype: TypeRead) -> Option<bool> {
     Some(shares && (!masked || may_be_masked(to, shape.sharing)))
 }
 
-/// Whether instructions are legal under a vector type, or none, and with a vstart.
+/// Whether instructions are legal with a vector type, or without one (vill), and with a vstart.
 pub(crate) fn is_legal(shape: &Shape, masked: bool, vtype: Option<TypeRead>, vstart: u8) -> bool {
     if shape.begins_at_zero && vstart != 0 {
         return false;
     }
     match vtype {
-        // Without a type SEW and LMUL have no part in it: those of whole registers are read instead.
+        // Without a type, SEW and LMUL have no effect; any supported ones do, such as SEW 8 and LMUL 1.
         None if !shape.is_typed => {
             let any = TypeRead {
                 sew: 3,

@@ -1,5 +1,5 @@
-//! Instructions carried out where no byte may be loaded or stored and registers hold ones, beside the ends that the
-//! rules say.
+//! Executes instructions with the bits of all registers set, and without memory to load or store. Compares their ends
+//! with those of the rules.
 use crate::ends::{Ending, Found, ending_of};
 use crate::lending::{CODE, UserMemory};
 use crate::rules::{greatest_length, is_legal, type_read};
@@ -12,36 +12,36 @@ use rv_model::{
 };
 use vtype_rules::set;
 
-/// The lengths that are asked for.
+/// The requested lengths (AVL).
 const LENGTHS: [u64; 2] = [13, u64::MAX];
 
-/// The bytes of v0.
+/// The values of each byte of v0.
 const MASKS: [u8; 2] = [0xff, 0];
 
-/// How instructions ended.
+/// Number of runs of an instruction with each end.
 #[derive(Clone, Copy, Drop)]
 pub(crate) struct Counts {
     pub done: u64,
     pub illegal: u64,
     pub faults: u64,
     pub cuts: u64,
-    /// Those that ended otherwise than the rules say, or were illegal and changed something.
+    /// Runs whose end differs from the rules', or that are illegal and change the state.
     pub wrong: u64,
 }
 
-/// What an instruction is carried out on.
+/// The state in which an instruction executes.
 #[derive(Clone, Copy, Drop)]
 pub(crate) struct Setting {
-    /// The number of the vector type that is asked for.
+    /// The requested vtype.
     pub request: u64,
-    /// The length that is asked for.
+    /// The requested length (AVL).
     pub length: u64,
     pub vstart: u8,
-    /// The bytes of v0.
+    /// The value of each byte of v0.
     pub mask: u8,
 }
 
-/// Registers of ones, but for v0.
+/// The bytes of the vector registers: 0xff, and `mask` in v0.
 fn vector_bytes(mask: u8) -> [u8; FILE_BYTES] {
     let mut bytes = [0xff; FILE_BYTES];
     for byte in bytes.iter_mut().take(VLENB) {
@@ -51,7 +51,7 @@ fn vector_bytes(mask: u8) -> [u8; FILE_BYTES] {
 }
 
 impl Setting {
-    /// The vector state.
+    /// The vector state before the instruction.
     fn state(&self, bytes: &[u8; FILE_BYTES]) -> VState {
         let mut state = VState::new();
         state.file.part_mut(0, FILE_BYTES).copy_from_slice(bytes);
@@ -64,7 +64,7 @@ impl Setting {
         state
     }
 
-    /// What becomes of agnostic elements: the one and the other in turn.
+    /// The policy for agnostic elements, which alternates: unchanged for an even vstart, and ones for an odd one.
     fn policy(&self) -> Policy {
         if self.vstart % 2 == 0 {
             Policy::Keep
@@ -73,7 +73,7 @@ impl Setting {
         }
     }
 
-    /// How an instruction has to end.
+    /// The expected end of an instruction.
     fn ending(&self, case: Case<'_>) -> Ending {
         let vtype = type_read(self.request);
         let vl = match vtype {
@@ -95,7 +95,7 @@ impl Setting {
 }
 
 impl Counts {
-    /// Nothing was carried out yet.
+    /// The counts before any run.
     pub(crate) fn new() -> Counts {
         Counts {
             done: 0,
@@ -106,7 +106,7 @@ impl Counts {
         }
     }
 
-    /// Counts an end.
+    /// Counts a run with this end, and whether it is right.
     fn count(&mut self, end: VEnd, right: bool) {
         let place = match end {
             VEnd::Done => &mut self.done,
@@ -118,7 +118,7 @@ impl Counts {
         self.wrong = self.wrong.wrapping_add(u64::from(!right));
     }
 
-    /// Carries out an instruction, and compares its end.
+    /// Executes an instruction, and compares its end with the expected one.
     fn compare(&mut self, case: Case<'_>, setting: Setting, memory: &mut UserMemory) {
         let bytes = vector_bytes(setting.mask);
         let state = setting.state(&bytes);
@@ -145,7 +145,7 @@ impl Counts {
         self.count(wanted.end, same && (kept || wanted.end != VEnd::Illegal));
     }
 
-    /// Carries out an instruction under each vector type and length, from one vstart on.
+    /// Executes an instruction with each vector type, length and mask, from one vstart.
     fn compare_types(&mut self, case: Case<'_>, vstart: u8, memory: &mut UserMemory) {
         for request in 0..256 {
             for length in LENGTHS {
@@ -163,7 +163,8 @@ impl Counts {
     }
 }
 
-/// How the instruction of a text ends, from each vstart. None where the text spells none.
+/// Executes the instruction of a text from each vstart, and counts its ends. `None` if the text doesn't assemble or its
+/// word can't be written to memory.
 pub(crate) fn counts_of(
     text: &str,
     shape: &Shape,

@@ -1,21 +1,21 @@
-//! Instructions with the same operands, and what their operands are.
+//! Instructions grouped by their operands, and descriptions of these operands.
 
 /// The elements of an operand.
 #[derive(Clone, Copy, PartialEq, Eq, Drop)]
 pub(crate) enum Elements {
-    /// SEW times this power of two.
+    /// Elements of SEW times two to this power, in bits.
     Sew(i32),
-    /// As many bits as this power of two, whatever SEW is, as many as there are elements of SEW.
+    /// Elements of two to this power bits, for any SEW; their number is that of the elements of SEW.
     Bits(i32),
-    /// Bits, in one register.
+    /// The bits of a mask, in one register.
     Mask,
-    /// SEW times this power of two, in one register.
+    /// One element of SEW times two to this power, in bits, in one register.
     One(i32),
-    /// SEW, in so many whole registers.
+    /// Elements of SEW, in this number of whole registers.
     Whole(u32),
 }
 
-/// An operand: its first register, its elements, and how many groups there are one after the other.
+/// An operand: its first register, its elements, and the number of consecutive register groups, one for each field.
 #[derive(Clone, Copy, Drop)]
 pub(crate) struct Part {
     pub first: u32,
@@ -23,10 +23,10 @@ pub(crate) struct Part {
     pub fields: u32,
 }
 
-/// Which registers the destination may share with a source.
+/// The registers that the destination may share with a source.
 #[derive(Clone, Copy, PartialEq, Eq, Drop)]
 pub(crate) enum Sharing {
-    /// Those that the widths of the elements allow, and not v0 where the instruction is masked.
+    /// Those that the widths of the elements allow, except v0 if the instruction is masked.
     ByWidth,
     /// The same, and v0 too.
     ByWidthOrMask,
@@ -36,18 +36,18 @@ pub(crate) enum Sharing {
     Any,
 }
 
-/// What a load or store does at an index.
+/// The memory access of a load or store at an index.
 #[derive(Clone, Copy, PartialEq, Eq, Drop)]
 pub(crate) enum Access {
-    /// So many bytes after those of the index before it.
+    /// Contiguous: this number of bytes after the previous index.
     Unit(u64),
-    /// The same, and a fault past index 0 ends the load there.
+    /// The same; a fault at an index above 0 ends the load there.
     FaultOnlyFirst(u64),
-    /// As many bytes on as x11 says.
+    /// Strided: x11 bytes after the previous index.
     Strided,
-    /// At an offset of so many bits, all ones.
+    /// Indexed: at an offset of this number of bits, which are all ones.
     Indexed(u32),
-    /// Whole registers: so many indices of so many bytes.
+    /// Whole registers: the number of indices, and the bytes of each.
     Whole(u64, u64),
     /// The bytes of a mask.
     Mask,
@@ -60,11 +60,11 @@ pub(crate) struct Shape {
     pub destination: Option<Part>,
     pub sharing: Sharing,
     pub sources: [Option<Part>; 2],
-    /// Whether vstart has to be 0.
+    /// Whether vstart must be 0.
     pub begins_at_zero: bool,
-    /// Whether SEW has to be below 64.
+    /// Whether SEW must be below 64.
     pub is_below_64: bool,
-    /// Whether there has to be a vector type.
+    /// Whether a valid vector type is required.
     pub is_typed: bool,
     pub access: Option<Access>,
 }
@@ -116,17 +116,17 @@ impl Shape {
         }
     }
 
-    /// The same with one source more, of two.
+    /// The same with another source before the others, at most two in all.
     pub(crate) fn from(self, first: u32, elements: Elements) -> Shape {
         self.from_fields(first, elements, 1)
     }
 
-    /// The same with another rule of what the destination may share.
+    /// The same with another rule for the registers that the destination may share.
     pub(crate) fn sharing(self, sharing: Sharing) -> Shape {
         Shape { sharing, ..self }
     }
 
-    /// The same for instructions that have to begin with index 0.
+    /// The same for instructions that require vstart 0.
     pub(crate) fn at_zero(self) -> Shape {
         Shape {
             begins_at_zero: true,
@@ -134,7 +134,7 @@ impl Shape {
         }
     }
 
-    /// The same for instructions that there are for SEW below 64 alone.
+    /// The same for instructions that exist only for SEW below 64.
     pub(crate) fn below_64(self) -> Shape {
         Shape {
             is_below_64: true,
@@ -142,7 +142,7 @@ impl Shape {
         }
     }
 
-    /// The same for instructions that need no vector type.
+    /// The same for instructions that don't require a vector type.
     pub(crate) fn untyped(self) -> Shape {
         Shape {
             is_typed: false,

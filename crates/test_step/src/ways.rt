@@ -1,4 +1,4 @@
-//! The ways in which a word is carried out, and whether it ends as it should.
+//! Executes a word by a step of the hart, or by the vector unit alone, and checks its end.
 ghost use Rattle.std.specs.Prelude.{◌≡◌};
 ghost use Rattle.rv_model.specs.step.Step.{is_vector};
 
@@ -12,17 +12,17 @@ use rv_model::{Cause, Instr, OUTPUT_SIZE, Policy, Scalar, StepEnd, VEnd, VState}
 use vec_unit::exec;
 use vector_memory::UserBytes;
 
-/// How many indices a load or store may carry out.
+/// The maximum number of indices that a load or store executes.
 pub(crate) const LIMIT: usize = 7;
 
-/// What carries out a word: a step of the hart, or the vector unit alone.
+/// The executor of an instruction: a step of the hart, or the vector unit alone.
 #[derive(Clone, Copy, PartialEq, Eq)]
 pub(crate) enum Way {
     Step,
     Exec,
 }
 
-/// An instruction and what carries it out: its word, whether it has a mask, and its operands.
+/// An instruction and its executor: its word, whether it is masked, and its operands.
 #[derive(Clone, Copy, Drop)]
 pub(crate) struct Case<'a> {
     pub way: Way,
@@ -31,14 +31,14 @@ pub(crate) struct Case<'a> {
     pub shape: &'a Shape,
 }
 
-/// Whether an instruction is one of the vector extension.
+/// Whether an instruction belongs to the vector extension.
 fn is_vector(instr: &Instr) -> bool
     ensures { result ≡ is_vector instr.now }
 {
     matches!(instr, Instr::Vector(_) | Instr::Access(_))
 }
 
-/// Carries out the instruction of a word by the vector unit. None where it is none of the vector extension.
+/// Executes the instruction of a word in the vector unit. `None` if it isn't an instruction of the vector extension.
 fn run_exec<M: UserBytes>(
     word: u32,
     state: &mut VState,
@@ -56,7 +56,7 @@ fn run_exec<M: UserBytes>(
     }
 }
 
-/// Carries out the word at the program counter by a step. Answers how it ended, and the ticks that it took.
+/// Executes the word at the program counter by a step. Returns the end of the step, and the ticks that it took.
 fn run_step<M: UserBytes, V: Vectors>(
     vectors: &mut V,
     scalar: &mut Scalar,
@@ -76,7 +76,7 @@ fn run_step<M: UserBytes, V: Vectors>(
     step(&mut view, LIMIT)
 }
 
-/// How a step ends whose instruction ends so, and the program counter that it leaves.
+/// The end of a step whose instruction ends with `end`, and the program counter after it.
 fn step_end(end: VEnd, word: u32) -> (StepEnd, u64) {
     let (cause, value) = match end {
         VEnd::Done => return (StepEnd::Ran, CODE + 4),
@@ -94,7 +94,7 @@ fn step_end(end: VEnd, word: u32) -> (StepEnd, u64) {
 }
 
 impl Case<'_> {
-    /// Carries out the word, which stands in memory, and answers whether it ends as wanted.
+    /// Executes the word, which is in memory, and returns whether it ends as expected.
     pub(crate) fn ends_so(
         &self,
         wanted: Ending,
