@@ -1,20 +1,20 @@
-//! Decodes words and encodes their instructions: the words of the file `encodings`, written in hexadecimal,
-//! one a line, and 100,000 words of a fixed generator.
+//! Decodes words and encodes their instructions again. The words are those in the file `encodings`, one a line in
+//! hexadecimal, and 100,000 from a fixed generator.
 //!
-//! The file has words that the assemblers of GNU binutils 2.40 and LLVM 19.1.7 give for every row of the
-//! table, and then words that no row has: `yes` and the same word again, or `none`.
+//! For every row of the table, the file has words from the assemblers of GNU binutils 2.40 and LLVM 19.1.7; the output is
+//! `yes` and the same word again. Then it has words that no row matches; the output is `none`.
 use rv_decode::encoded_again;
 use std::io;
 
-/// How many words of the generator there are.
+/// Number of generated words.
 pub(crate) const GENERATED: u32 = 100_000;
 
-/// The word after this one, of a linear congruential generator.
+/// The word after this one in a linear congruential generator.
 pub(crate) fn next_word(word: u32) -> u32 {
     word.wrapping_mul(1_664_525).wrapping_add(1_013_904_223)
 }
 
-/// Whether a word is no instruction, or the word of its instruction.
+/// Whether a word isn't an instruction, or its instruction encodes the same word.
 pub(crate) fn is_same(word: u32) -> bool {
     match encoded_again(word) {
         Some(again) => again == word,
@@ -22,7 +22,7 @@ pub(crate) fn is_same(word: u32) -> bool {
     }
 }
 
-/// Prints a line for each word of the file, and one for the generator's.
+/// Prints a line for each word in the file, and one for the generated words.
 pub(crate) fn print_encodings(rt: &impl Print, words: &str) -> io::Result<()> {
     for line in words.lines() {
         let word = u32::from_str_radix(line, 16).unwrap_or(0);

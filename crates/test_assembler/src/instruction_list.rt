@@ -1,12 +1,12 @@
-//! Prints the list of instructions: each name with the text of its operands and its encoding, by families. The file
-//! `titles` has the text above the list and the titles of the families, each line behind the family's first name and a
-//! `|`.
+//! Prints the list of instructions by families: each name with the text of its operands and its encoding. The file
+//! `titles` has the text above the list and the titles of the families. In each line, the first name of the family and a
+//! `|` precede the title.
 use rv_asm::{name_mask, slots_of_word};
 use rv_model::assembler::forms::{Place, SignedField, Slot, UnsignedField};
 use rv_model::assembler::mnemonics::{MNEMONICS, Mnemonic};
 use std::io;
 
-/// How the text of a slot is written in the manual.
+/// The manual's notation for a slot.
 fn operand(slot: &Slot) -> &'static str {
     match slot {
         Slot::Comma => ", ",
@@ -31,7 +31,8 @@ fn operand(slot: &Slot) -> &'static str {
     }
 }
 
-/// Prints the 32 bits of an encoding: fixed, or an operand's. A space stands behind each field of the R format.
+/// Prints the 32 bits of an encoding, bit 31 first: a fixed bit, or `-` for an operand's. A space separates the fields of
+/// the R format.
 fn print_encoding(rt: &impl Print, mask: u32, bits: u32) -> io::Result<()> {
     let mut mask = mask;
     let mut bits = bits;
@@ -70,7 +71,7 @@ fn print_row(rt: &impl Print, row: &Mnemonic) -> io::Result<()> {
     println!(rt; "` |")
 }
 
-/// Prints the lines of the file that stand behind a name.
+/// Prints the titles that the file has for a name.
 fn print_titles(rt: &impl Print, titles: &str, name: &[u8]) -> io::Result<()> {
     for line in titles.lines() {
         if let Some((first, title)) = line.split_once('|')
@@ -82,7 +83,7 @@ fn print_titles(rt: &impl Print, titles: &str, name: &[u8]) -> io::Result<()> {
     Ok(())
 }
 
-/// Prints the list, with the titles of the file.
+/// Prints the list, with the titles from the file.
 pub(crate) fn print_list(rt: &impl Print, titles: &str) -> io::Result<()> {
     print_titles(rt, titles, b"")?;
     for row in &MNEMONICS {

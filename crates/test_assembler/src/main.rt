@@ -1,6 +1,6 @@
-//! Words and texts of instructions, between the decoder and the assembler: the list of all names, which is
-//! docs/INSTRUCTIONS.md (`instruction_list.rt`); words that are decoded and encoded again (`encodings.rt`); texts that
-//! are assembled, and words as texts (`spellings.rt`); and words and texts that were made by chance (`by_chance.rt`).
+//! Tests the decoder and the assembler. First it prints the list of all names, which is docs/INSTRUCTIONS.md
+//! (`instruction_list.rt`). Then it decodes words and encodes them again (`encodings.rt`), and assembles texts and prints
+//! words as text (`spellings.rt`). Last, it uses random words and texts (`by_chance.rt`).
 #![tactic(auto)]
 
 mod by_chance;
@@ -10,7 +10,7 @@ mod spellings;
 
 use std::{fs, io};
 
-/// The files that the parts read.
+/// The input file of each part.
 const FILES: [&str; 4] = ["titles", "encodings", "spellings", "tokens"];
 
 fn main(rt: HostRuntime) -> io::Result<()> {

@@ -1,20 +1,20 @@
-//! Assembles texts and writes words as text: the lines of the file `spellings`, each a word in
-//! hexadecimal, a space and a text, and 100,000 words of a fixed generator.
+//! Assembles texts and prints words as text. The input is the file `spellings`, where each line has a word in hexadecimal,
+//! a space and a text, and 100,000 words from a fixed generator.
 //!
-//! The file has words and texts that the assemblers of GNU binutils 2.40 and LLVM 19.1.7 give for
-//! every instruction, both of which are printed again, and then texts that spell nothing.
+//! For every instruction, the file has words and texts from the assemblers of GNU binutils 2.40 and LLVM 19.1.7; the
+//! output repeats both. Then it has texts that don't assemble.
 use crate::encodings::{GENERATED, next_word};
 use rv_asm::{Text, assemble, text_of};
 use rv_decode::decode;
 use rv_model::{Instr, ScalarInstr};
 use std::io;
 
-/// The opcodes of the instructions.
+/// The opcodes of generated words.
 const OPCODES: [u32; 13] = [
     0x03, 0x07, 0x0f, 0x13, 0x17, 0x1b, 0x23, 0x27, 0x33, 0x37, 0x3b, 0x57, 0x73,
 ];
 
-/// Whether a text is assembled to a word.
+/// Whether a text assembles to this word.
 pub(crate) fn spells(text: &Text, word: u32) -> bool {
     match assemble(text.as_str().as_bytes()) {
         Ok(again) => again == word,
@@ -22,8 +22,8 @@ pub(crate) fn spells(text: &Text, word: u32) -> bool {
     }
 }
 
-/// Whether the text of a word names an instruction exactly where the word is one. Fences are passed over,
-/// since all but one have no name.
+/// Whether the text of a word names an instruction if and only if the decoder accepts the word. Fences are skipped,
+/// since all except one have no name.
 pub(crate) fn is_told(word: u32, text: &Text) -> bool {
     let directive = text.as_str().starts_with(".word ");
     match decode(word) {
@@ -33,8 +33,8 @@ pub(crate) fn is_told(word: u32, text: &Text) -> bool {
     }
 }
 
-/// Prints how many of the generator's first words, with each opcode in turn, have a text that spells another word, and
-/// how many have one that tells them wrongly.
+/// Prints the number of generated words, with each opcode in turn, whose text encodes another word. Then it prints the
+/// number of words whose text disagrees with the decoder.
 fn print_generated(rt: &impl Print, text: &mut Text) -> io::Result<()> {
     let mut generated = 0;
     let mut found = 0u32;
@@ -51,7 +51,7 @@ fn print_generated(rt: &impl Print, text: &mut Text) -> io::Result<()> {
     )
 }
 
-/// Prints a line for each word and text of the file, and one for the generator's words.
+/// Prints a line for each word and text in the file, and one for the generated words.
 pub(crate) fn print_spellings(rt: &impl Print, lines: &str) -> io::Result<()> {
     let mut text = Text::new();
     for line in lines.lines() {

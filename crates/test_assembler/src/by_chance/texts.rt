@@ -1,4 +1,4 @@
-//! Texts through the assembler.
+//! Assembles random texts.
 use crate::by_chance::digest::{EMPTY, digest};
 use crate::by_chance::words::{OPCODES, word};
 use crate::spellings::spells;
@@ -6,37 +6,37 @@ use draws::Draws;
 use rv_asm::{Text, assemble, text_of};
 use std::io;
 
-/// How texts are made.
+/// Kinds of random texts.
 #[derive(Clone, Copy, Drop)]
 pub(crate) enum Kind {
-    /// The text of an instruction's word with up to three bytes changed, added or taken out.
+    /// The text of a random word, with up to three bytes changed, inserted or removed.
     Changed,
-    /// Tokens in any order, of which the first is mostly a name.
+    /// Tokens in any order; the first is a name, mostly that of an instruction.
     Tokens,
     /// Any bytes.
     Bytes,
 }
 
-/// Each kind, and what it is called.
+/// Each kind, and its name in the output.
 pub(crate) const KINDS: [(Kind, &str); 3] = [
     (Kind::Changed, "texts of words, changed"),
     (Kind::Tokens, "tokens in any order"),
     (Kind::Bytes, "any bytes"),
 ];
 
-/// How many tokens are names, mostly those of instructions: the first of the file `tokens`.
+/// Number of names, mostly those of instructions; they are the first tokens of the file `tokens`.
 const NAMES: usize = 24;
 
-/// How many tokens of the file, behind those, stand in operands, or don't.
+/// Number of tokens after the names in the file; some are parts of operands, and others are invalid.
 const OPERANDS: usize = 40;
 
-/// The bytes that changes mostly put in.
+/// The bytes that changes mostly use.
 const BYTES: &[u8; 24] = b"0123456789xv,()-. \tetmAf";
 
-/// How many bytes a text has at most.
+/// Maximum size of a text in bytes.
 const ROOM: usize = 256;
 
-/// Adds as much of a text as there is room for.
+/// Appends a text, up to `ROOM` bytes in all.
 fn add(line: &mut Vec<u8>, text: &[u8]) {
     for byte in text {
         if line.len() < ROOM {
@@ -45,7 +45,7 @@ fn add(line: &mut Vec<u8>, text: &[u8]) {
     }
 }
 
-/// Adds the token of a number.
+/// Appends the token with this number, counted from 0.
 fn add_token(line: &mut Vec<u8>, tokens: &str, number: usize) {
     let mut place = 0usize;
     for token in tokens.lines() {
@@ -56,7 +56,7 @@ fn add_token(line: &mut Vec<u8>, tokens: &str, number: usize) {
     }
 }
 
-/// Changes a byte, adds one or takes one out.
+/// Changes, inserts or removes a byte.
 fn change(line: &mut Vec<u8>, draws: &mut Draws) {
     let place = draws.below(line.len().min(ROOM) + 1);
     let byte = match draws.below(16) {
@@ -82,7 +82,7 @@ fn change(line: &mut Vec<u8>, draws: &mut Draws) {
     }
 }
 
-/// Puts a text of a kind in place of what the line was.
+/// Replaces the line with a random text of a kind.
 fn make(kind: Kind, draws: &mut Draws, tokens: &str, text: &mut Text, line: &mut Vec<u8>) {
     line.clear();
     match kind {
@@ -109,9 +109,9 @@ fn make(kind: Kind, draws: &mut Draws, tokens: &str, text: &mut Text, line: &mut
     }
 }
 
-/// Prints how so many texts of a kind end: how many spell a word and how many are refused, the digest of the words and
-/// of the columns where they are refused, and how many answer a column outside of the text, or a word whose text spells
-/// another.
+/// Assembles `count` texts of a kind. Prints the number accepted, the number refused, the digest of the words and of the
+/// columns of refusals, and the number of wrong results. A result is wrong if its column is outside the text, or if the
+/// text of its word encodes another word.
 pub(crate) fn print_texts(
     rt: &HostRuntime,
     kind: (Kind, &str),

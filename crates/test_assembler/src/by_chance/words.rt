@@ -1,4 +1,4 @@
-//! Words through the decoder, the text and the assembler, and back.
+//! Decodes random words, prints them as text, and assembles the text again.
 use crate::by_chance::digest::{EMPTY, digest};
 use crate::encodings::is_same;
 use crate::spellings::{is_told, spells};
@@ -7,12 +7,12 @@ use rv_asm::{Text, text_of};
 use rv_decode::decode;
 use std::io;
 
-/// The low seven bits of all instructions.
+/// The opcodes of all instructions: their low seven bits.
 pub(crate) const OPCODES: [u32; 16] = [
     0x03, 0x07, 0x0f, 0x13, 0x17, 0x1b, 0x23, 0x27, 0x33, 0x37, 0x3b, 0x57, 0x63, 0x67, 0x6f, 0x73,
 ];
 
-/// A word by chance, with an opcode or any.
+/// A random word, with this opcode or with any.
 pub(crate) fn word(opcode: Option<u32>, draws: &mut Draws) -> u32 {
     match opcode {
         Some(opcode) => draws.word() & !0x7f | opcode,
@@ -20,8 +20,9 @@ pub(crate) fn word(opcode: Option<u32>, draws: &mut Draws) -> u32 {
     }
 }
 
-/// Prints how so many words end that have an opcode, or any: how many are instructions, the digest of their names, and
-/// how many don't come again by their instruction and by their text, or are told wrongly by it.
+/// Decodes `count` words with this opcode, or with any. Prints the number of instructions, the digest of the words' names,
+/// and the number of wrong words. A word is wrong if its instruction or its text encodes another word, or if its text
+/// disagrees with the decoder.
 pub(crate) fn print_words(
     rt: &impl Print,
     opcode: Option<u32>,
