@@ -1,6 +1,6 @@
-//! A machine in an arena that has nothing left once the machine stands, and a machine with memory in plenty: each
-//! command, each vector instruction and a million steps are answered alike, and the second takes none of its memory
-//! either.
+//! Runs a script on a machine whose arena has no memory left after the creation of the machine, and on a machine with
+//! ample memory. The outputs for each command, each vector instruction and a million steps must be the same, and the
+//! second machine must not allocate memory either.
 
 use crate::growths::{LARGE, arena_with, machine_size};
 use anyhow::{Result, ensure};
@@ -10,10 +10,10 @@ use std::str::Utf8Error;
 use std::{fs, str};
 use vec_monitor::{Image, Machine, ReaderSource, WriterSink, run};
 
-/// The ticks of a slice: a thousand slices are a million steps.
+/// Ticks in a time slice: a thousand slices are a million steps.
 const QUANTUM: usize = 1000;
 
-/// What user 1 does before the instructions.
+/// The commands of user 1 before the instructions.
 const BEFORE: &str = "1 enter
 1 map 10000 1 rwx
 1 map 20000 1 rw
@@ -22,7 +22,7 @@ const BEFORE: &str = "1 enter
 1 set x10 20000
 ";
 
-/// What was answered.
+/// The number of lines and of single-stepped instructions, and `differ`: 1 if the outputs differ, else 0.
 #[derive(Drop)]
 pub(crate) struct Answers {
     pub lines: usize,
@@ -30,7 +30,7 @@ pub(crate) struct Answers {
     pub differ: u64,
 }
 
-/// A script that has the commands, and then each of the instructions carried out by itself.
+/// A script with the commands, and then with each of the instructions, which executes in a single step.
 fn script_of(alloc: Global, commands: &str, instructions: &str) -> Result<String> {
     let mut script = String::from_str(alloc, commands)?;
     script.push_str(BEFORE)?;
@@ -53,7 +53,7 @@ fn output_of<A: Allocator>(
     Ok(output)
 }
 
-/// The output of a script on a machine in an arena that it uses up.
+/// The output of a script on a machine that uses up its arena.
 fn output_without_memory(alloc: Global, images: &[Image<'_>], script: &str) -> Result<Vec<u8>> {
     let arena: Bump = arena_with(alloc, machine_size(alloc)?)?;
     let mut machine = Machine::new(&arena, QUANTUM, images)?;
@@ -61,7 +61,7 @@ fn output_without_memory(alloc: Global, images: &[Image<'_>], script: &str) -> R
     output_of(alloc, &mut machine, script)
 }
 
-/// The output of a script on a machine in an arena with memory in plenty, of which the script takes none.
+/// The output of a script on a machine in an arena with ample memory. Returns an error if the script allocates memory.
 fn output_with_memory(alloc: Global, images: &[Image<'_>], script: &str) -> Result<Vec<u8>> {
     let arena = arena_with(alloc, LARGE)?;
     let mut machine = Machine::new(&arena, QUANTUM, images)?;
@@ -71,7 +71,7 @@ fn output_with_memory(alloc: Global, images: &[Image<'_>], script: &str) -> Resu
     Ok(output)
 }
 
-/// What two outputs have, one without memory and one with it.
+/// The numbers for the output of the machine without memory; `wanted` is the output of the machine with memory.
 fn answers_of(output: &[u8], wanted: &[u8]) -> Result<Answers, Utf8Error> {
     let mut lines = 0usize;
     let mut stepped = 0usize;
@@ -88,14 +88,14 @@ fn answers_of(output: &[u8], wanted: &[u8]) -> Result<Answers, Utf8Error> {
     })
 }
 
-/// The script that the files give.
+/// The script from the files.
 fn read_script(rt: &HostRuntime) -> Result<String> {
     let commands = fs::read_to_string(rt, "every_command")?;
     let instructions = fs::read_to_string(rt, "vector_instructions")?;
     script_of(rt.alloc(), commands.as_str(), instructions.as_str())
 }
 
-/// What the two machines answer.
+/// Runs the script on the two machines, and compares their outputs.
 pub(crate) fn compared_answers(rt: &HostRuntime) -> Result<Answers> {
     let good = fs::read(rt, "good")?;
     let images = [Image {

@@ -1,7 +1,6 @@
-//! Pools and machines in arenas that have too little memory for them, and in one that has just enough. A machine takes
-//! memory for the frames of its pool, which are 8 MiB, and for nine lists of a few hundred bytes together, so an arena
-//! with each number of bytes up to `SMALL` refuses each of these lists in turn, and one with a byte too little refuses
-//! the frames.
+//! Creates pools and machines in arenas with too little memory, and in one with just enough. A machine allocates the
+//! frames of its pool, which are 8 MiB, and nine lists of a few hundred bytes together. The arenas of each size below
+//! `SMALL` refuse each of these lists in turn, and an arena that lacks one byte refuses the frames.
 
 use crate::tally::Tally;
 use anyhow::{Result, ensure};
@@ -10,19 +9,19 @@ use std::alloc::Global;
 use user_mem::{NoMemory, Pool};
 use vec_monitor::{Machine, NewFault};
 
-/// The ticks of a slice.
+/// Ticks in a time slice.
 const QUANTUM: usize = 100;
 
-/// Fewer bytes than the frames of a pool take, and more than the lists.
+/// A number of bytes that is too small for the frames of a pool, and enough for the lists.
 const SMALL: usize = 2048;
 
-/// More bytes than a machine takes.
+/// A number of bytes that is more than enough for a machine.
 pub(crate) const LARGE: usize = 1 << 24;
 
-/// Zeros that an arena is filled with.
+/// Zeros to fill an arena with.
 const FILLING: [u8; 8192] = [0; 8192];
 
-/// An arena with so many bytes left, and no more to come.
+/// An arena with this number of bytes left, which can't grow.
 pub(crate) fn arena_with(alloc: Global, bytes: usize) -> Result<Bump> {
     let arena = Bump::try_with_capacity(alloc, bytes)?;
     arena.set_allocation_limit(Some(0));
@@ -32,21 +31,21 @@ pub(crate) fn arena_with(alloc: Global, bytes: usize) -> Result<Bump> {
     Ok(arena)
 }
 
-/// How many bytes a machine takes.
+/// The number of bytes that a machine allocates.
 pub(crate) fn machine_size(alloc: Global) -> Result<usize> {
     let arena = arena_with(alloc, LARGE)?;
     let _machine = Machine::new(&arena, QUANTUM, &[])?;
     Ok(LARGE.saturating_sub(arena.chunk_capacity()))
 }
 
-/// How many bytes a pool takes.
+/// The number of bytes that a pool allocates.
 fn pool_size(alloc: Global) -> Result<usize> {
     let arena = arena_with(alloc, LARGE)?;
     let _pool = Pool::new(&arena).ok();
     Ok(LARGE.saturating_sub(arena.chunk_capacity()))
 }
 
-/// Whether a machine is refused for want of memory, and one with another fault for that.
+/// Whether an arena of this size refuses a machine for lack of memory, and a quantum of 0 is still refused as such.
 fn is_machine_refused(alloc: Global, bytes: usize) -> Result<bool> {
     let arena = arena_with(alloc, bytes)?;
     Ok(
@@ -55,13 +54,13 @@ fn is_machine_refused(alloc: Global, bytes: usize) -> Result<bool> {
     )
 }
 
-/// Whether there is a machine in an arena with so many bytes.
+/// Whether a machine can be created in an arena with this number of bytes.
 fn is_there_machine(alloc: Global, bytes: usize) -> Result<bool> {
     let arena = arena_with(alloc, bytes)?;
     Ok(Machine::new(&arena, QUANTUM, &[]).is_ok())
 }
 
-/// Machines with too little memory, and with just enough.
+/// Creates machines with too little memory, and with just enough.
 pub(crate) fn machines(alloc: Global) -> Result<Tally> {
     let size = machine_size(alloc)?;
     let mut tally = Tally::new();
@@ -73,19 +72,19 @@ pub(crate) fn machines(alloc: Global) -> Result<Tally> {
     Ok(tally)
 }
 
-/// Whether a pool is refused for want of memory in an arena with so many bytes.
+/// Whether a pool is refused for lack of memory in an arena with this number of bytes.
 fn is_pool_refused(alloc: Global, bytes: usize) -> Result<bool> {
     let arena = arena_with(alloc, bytes)?;
     Ok(matches!(Pool::new(&arena), Err(NoMemory)))
 }
 
-/// Whether there is a pool in an arena with so many bytes.
+/// Whether a pool can be created in an arena with this number of bytes.
 fn is_there_pool(alloc: Global, bytes: usize) -> Result<bool> {
     let arena = arena_with(alloc, bytes)?;
     Ok(Pool::new(&arena).is_ok())
 }
 
-/// Pools with too little memory, and with just enough.
+/// Creates pools with too little memory, and with just enough.
 pub(crate) fn pools(alloc: Global) -> Result<Tally> {
     let size = pool_size(alloc)?;
     let mut tally = Tally::new();

@@ -1,8 +1,8 @@
-//! What only runs inside a process: memory that is refused, before a machine stands and after, and reads of a file that
-//! fail. A line for each kind has how many runs there were, and how many went otherwise than they should.
+//! Tests faults that can only be caused inside a process: memory refused during the creation of a machine and after it,
+//! and failed reads of a file. A line for each kind has the number of runs, and the number of wrong runs.
 //!
-//! What `run` leaves after a read or a write that fails, and after too long a script, is in its contract; the greatest
-//! lengths, outputs that are full and words are tried from outside (`tests/command_lines`).
+//! The contract of `run` covers failed reads and writes, and scripts that are too long. Tests of the program from outside
+//! (`tests/command_lines`) cover the greatest lengths, full outputs, and arguments.
 #![tactic(auto)]
 
 mod commands;
@@ -14,13 +14,13 @@ use anyhow::Result;
 use commands::compared_answers;
 use tally::Tally;
 
-/// Prints how many runs there were of a kind.
+/// Prints the line of a kind.
 fn print_tally(rt: &HostRuntime, kind: &str, tally: Tally) -> Result<()> {
     println!(rt; "{kind}: {} runs, {} differ", tally.runs, tally.differ)?;
     Ok(())
 }
 
-/// Prints what comes of too little memory.
+/// Prints the lines for too little memory.
 fn print_memory(rt: &HostRuntime) -> Result<()> {
     let alloc = rt.alloc();
     print_tally(rt, "pools with too little memory", growths::pools(alloc)?)?;

@@ -1,5 +1,5 @@
-//! Reads of a file of which one fails, once: it isn't tried again, whether it was interrupted or failed for another
-//! reason.
+//! Reads a file with one failing read. `read_file` doesn't repeat that read, whether it is interrupted or fails for
+//! another reason.
 ghost use Rattle.std.specs.Prelude.{None};
 
 use crate::tally::Tally;
@@ -9,15 +9,15 @@ use std::io;
 use std::io::{ErrorKind, Read};
 use vec_monitor::DeviceFault;
 
-/// The bytes of the file. Reading them takes `READS` reads: of 4,096 bytes, of 904, and of none at the end.
+/// The size of the file in bytes. Reading it takes `READS` reads: of 4,096 bytes, of 904, and of 0 at the end.
 const LENGTH: usize = 5000;
 
 const READS: u64 = 3;
 
-/// What a read fails of: an interruption, and something else.
+/// The errors of a failed read: an interruption, and another error.
 const KINDS: [ErrorKind; 2] = [ErrorKind::Interrupted, ErrorKind::Other];
 
-/// An open file, by the bytes that are left. Of its reads the one with the number `failing` fails.
+/// An open file, with the bytes left to read. Its read number `failing`, counted from 1, fails.
 #[derive(Drop)]
 struct FailingFile<'a> {
     left: &'a [u8],
@@ -40,7 +40,7 @@ impl Read for FailingFile<'_> {
     }
 }
 
-/// Inputs whose every path leads to that file.
+/// Inputs where every path opens that file.
 #[derive(Drop)]
 struct FailingInputs<'a> {
     bytes: &'a [u8],
@@ -71,7 +71,7 @@ impl<'a> Inputs for FailingInputs<'a> {
     }
 }
 
-/// Whether a file is refused where one of its reads fails, and read whole where none does.
+/// Whether a file is refused if one of its reads fails, and is read completely if none does.
 fn is_read_so(alloc: Global, inputs: &FailingInputs<'_>) -> bool {
     match read_file(inputs, alloc, "image", usize::MAX) {
         Ok(bytes) => inputs.failing > READS && bytes.as_slice() == inputs.bytes,
@@ -80,7 +80,7 @@ fn is_read_so(alloc: Global, inputs: &FailingInputs<'_>) -> bool {
     }
 }
 
-/// Each read of the file fails in turn, for one reason; and one more, which isn't reached.
+/// Makes each read of the file fail in turn with this error, and then one more read, which isn't reached.
 fn add_reads(alloc: Global, bytes: &[u8], kind: ErrorKind, tally: &mut Tally) {
     for failing in 1..=READS + 1 {
         let inputs = FailingInputs {
@@ -92,7 +92,7 @@ fn add_reads(alloc: Global, bytes: &[u8], kind: ErrorKind, tally: &mut Tally) {
     }
 }
 
-/// Each read fails in turn, for each reason.
+/// Makes each read fail in turn, with each error.
 pub(crate) fn failed_reads(alloc: Global) -> Result<Tally, AllocError> {
     let bytes = vec![in alloc; 7; LENGTH]?;
     let mut tally = Tally::new();

@@ -1,6 +1,6 @@
-//! How many runs were tried, and how many of them went otherwise than they should.
+//! The number of runs, and the number of wrong runs.
 
-/// Runs that were looked at.
+/// The number of runs, and the number of runs that differ from the expected result.
 #[derive(Clone, Copy, Drop)]
 pub(crate) struct Tally {
     pub runs: u64,
@@ -8,12 +8,12 @@ pub(crate) struct Tally {
 }
 
 impl Tally {
-    /// No run yet.
+    /// The tally before any run.
     pub(crate) fn new() -> Tally {
         Tally { runs: 0, differ: 0 }
     }
 
-    /// Counts a run, and whether it went as it should.
+    /// Counts a run, and whether it is right.
     pub(crate) fn add(&mut self, is_right: bool) {
         self.runs = self.runs.wrapping_add(1);
         if !is_right {
