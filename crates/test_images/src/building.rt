@@ -1,15 +1,15 @@
-//! Images made of fields. They stand in a `Vec` that is filled again and again. Where its memory is refused, an image
-//! lacks bytes, and then the numbers that are printed differ.
+//! Builds images from fields, in a `Vec` that is reused for each image. If memory for it is refused, an image lacks
+//! bytes, and the printed numbers differ from the expected ones.
 use rv_model::ProgramHeader;
 
-/// A field of a header: where it stands, and how many bytes it has, at most eight.
+/// A field of a header: its offset in the image, and its size in bytes, at most 8.
 #[derive(Clone, Copy, Drop)]
 pub(crate) struct Place {
     pub at: usize,
     pub size: usize,
 }
 
-/// Puts a number into a field of an image, as far as the field stands in it.
+/// Writes a number to a field of an image in little-endian order; bytes of the field after the image's end are skipped.
 pub(crate) fn set(image: &mut [u8], place: Place, value: u64) {
     let mut rest = value;
     for number in 0..place.size {
@@ -20,7 +20,7 @@ pub(crate) fn set(image: &mut [u8], place: Place, value: u64) {
     }
 }
 
-/// A file header for so many program headers right behind it.
+/// A file header for this number of program headers, which directly follow it.
 pub(crate) fn file_header(count: u16) -> [u8; 64] {
     let mut header = [0; 64];
     let fields = [
@@ -40,13 +40,13 @@ pub(crate) fn file_header(count: u16) -> [u8; 64] {
     header
 }
 
-/// Begins an image in place of what there was, with a file header for so many program headers.
+/// Replaces the image with a file header for this number of program headers.
 pub(crate) fn begin(image: &mut Vec<u8>, count: u16) {
     image.clear();
     let _ = image.extend_from_slice(&file_header(count));
 }
 
-/// Adds a program header.
+/// Appends a program header.
 pub(crate) fn add_header(image: &mut Vec<u8>, header: &ProgramHeader) {
     let mut bytes = [0; 56];
     let fields = [

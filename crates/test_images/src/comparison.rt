@@ -1,4 +1,4 @@
-//! One image after another, as they are checked and placed and as they are read slowly.
+//! Compares the check and placement of images with a slow reader.
 use crate::layout::{byte_at, find_touching, next_range};
 use crate::reading::{Segment, entry, read_image};
 use elf_load::{Plan, check, place};
@@ -6,11 +6,11 @@ use rv_model::{Access, PAGE_QUOTA, PAGE_SIZE, User};
 use std::io;
 use user_mem::Pool;
 
-/// How many ways to end are counted.
+/// Number of results that are counted.
 pub(crate) const ENDS: usize = 16;
 
-/// What images may end with, as it is printed: placed, over the quota, with one of the faults in the order in which
-/// they are tested, or otherwise than the slow reading says.
+/// The names of the results in the output: placed, over the quota, one of the faults in the order of their checks, or
+/// different from the slow reader's result.
 const NAMES: [&str; ENDS] = [
     "placed",
     "over the quota",
@@ -30,19 +30,19 @@ const NAMES: [&str; ENDS] = [
     "differ",
 ];
 
-/// The place of `placed` among them.
+/// The index of `placed` in `NAMES`.
 const PLACED: usize = 0;
 
-/// The place of `over the quota` among them.
+/// The index of `over the quota` in `NAMES`.
 const OVER_QUOTA: usize = 1;
 
-/// The place of `differ` among them.
+/// The index of `differ` in `NAMES`.
 const DIFFER: usize = 15;
 
-/// The uses of a page, with the flag of each.
+/// The accesses to a page, with the flag of each in a program header.
 const USES: [(Access, u64); 3] = [(Access::Load, 4), (Access::Store, 2), (Access::Fetch, 1)];
 
-/// A pool in which images are placed for user 1, and what the slow reading finds in them.
+/// A pool where images are placed for user 1, the segments that the slow reader finds, and the count of each result.
 #[derive(Drop)]
 pub(crate) struct Bench {
     pub pool: Pool,
@@ -51,7 +51,7 @@ pub(crate) struct Bench {
     pub counts: [u64; ENDS],
 }
 
-/// Prints the line of a kind of images: how many ended so, of those ends that there were, and always of three.
+/// Prints the line of a kind of images: the counts above 0, and always those of `placed`, `over the quota` and `differ`.
 pub(crate) fn print_counts(rt: &impl Print, name: &str, counts: &[u64; ENDS]) -> io::Result<()> {
     print!(rt; "{name}")?;
     let mut gap = ": ";
@@ -66,7 +66,7 @@ pub(crate) fn print_counts(rt: &impl Print, name: &str, counts: &[u64; ENDS]) ->
 }
 
 impl Bench {
-    /// Counts an image that ended so, and whether it should have.
+    /// Counts an image with this result, and whether the slow reader has the same result.
     fn count(&mut self, end: usize, same: bool) {
         if let Some(count) = self.counts.get_mut(end) {
             *count = count.wrapping_add(1);
@@ -74,8 +74,8 @@ impl Bench {
         self.counts[DIFFER] = self.counts[DIFFER].wrapping_add(u64::from(!same));
     }
 
-    /// Whether the page at an address has the bytes that the segments which touch it give it, and may be used for what
-    /// they allow.
+    /// Whether the page at an address has the bytes of the segments that touch it, and exactly the permissions that they
+    /// grant.
     fn is_page(&self, image: &[u8], start: u64) -> bool {
         let user = User::at_index(0);
         let touching = self.touching.as_slice();
@@ -99,8 +99,8 @@ impl Bench {
         same
     }
 
-    /// Compares the pages of a sound image. No range has fewer than one page, so one range more than the quota has
-    /// pages is too much.
+    /// Compares the pages of a valid image. Each range has at least one page, so an image with more than `PAGE_QUOTA`
+    /// ranges is over the quota.
     fn compare_plan(&mut self, image: &[u8], plan: &Plan<'_>) {
         let user = User::at_index(0);
         let before = self.pool.pages(user);
@@ -133,7 +133,7 @@ impl Bench {
         }
     }
 
-    /// Compares an image.
+    /// Compares the fault, or the placement, of an image with the slow reader's.
     pub(crate) fn compare(&mut self, image: &[u8]) {
         let fault = read_image(image, &mut self.placed);
         match check(image) {

@@ -2,25 +2,25 @@
 use crate::building::{Place, set};
 use crate::comparison::Bench;
 
-/// Where the table of program headers begins.
+/// e_phoff: the offset of the table of program headers.
 const TABLE: Place = Place { at: 32, size: 8 };
 
-/// How many program headers there are.
+/// e_phnum: the number of program headers.
 const COUNT: Place = Place { at: 56, size: 2 };
 
-/// Where the bytes of the first segment begin.
+/// p_offset: the offset of the first segment in the file.
 const OFFSET: Place = Place { at: 72, size: 8 };
 
-/// The address of the first segment.
+/// p_vaddr: the address of the first segment.
 const ADDRESS: Place = Place { at: 80, size: 8 };
 
-/// How many bytes the first segment has in the file.
+/// p_filesz: the size of the first segment in the file.
 const FILE_SIZE: Place = Place { at: 96, size: 8 };
 
-/// How many bytes the first segment has in memory.
+/// p_memsz: the size of the first segment in memory.
 const MEMORY_SIZE: Place = Place { at: 104, size: 8 };
 
-/// The fields of the file header, and of the first program header of an image that has it behind the file header.
+/// The fields of the file header, and of a first program header that directly follows the file header.
 const FIELDS: [Place; 16] = [
     Place { at: 0, size: 4 },
     Place { at: 4, size: 1 },
@@ -40,8 +40,8 @@ const FIELDS: [Place; 16] = [
     Place { at: 112, size: 8 },
 ];
 
-/// The least and the greatest numbers of each width, those around the end of addresses, and those around 128, the size
-/// of the smaller image.
+/// Values for one field: the least and the greatest numbers of each width, numbers near the end of addresses, and numbers
+/// near 128, the size of the small image in bytes.
 const VALUES: [u64; 29] = [
     0,
     1,
@@ -74,7 +74,7 @@ const VALUES: [u64; 29] = [
     u64::MAX,
 ];
 
-/// Those of them that two fields are set to.
+/// Values for two fields at once.
 const LIMITS: [u64; 11] = [
     0,
     1,
@@ -89,7 +89,7 @@ const LIMITS: [u64; 11] = [
     u64::MAX,
 ];
 
-/// Pairs of fields that are added to one another, or compared, and two that aren't.
+/// Pairs of fields that are added or compared, and two pairs of independent fields.
 const PAIRS: [(Place, Place); 6] = [
     (TABLE, COUNT),
     (OFFSET, FILE_SIZE),
@@ -99,7 +99,7 @@ const PAIRS: [(Place, Place); 6] = [
     (OFFSET, MEMORY_SIZE),
 ];
 
-/// Compares an image of at most 256 bytes with two fields, or one, at other values.
+/// Compares an image of at most 256 bytes after setting one or two fields to other values.
 fn compare_with(good: &[u8], first: (Place, u64), second: (Place, u64), bench: &mut Bench) {
     let mut image = [0; 256];
     let size = good.len().min(256);
@@ -109,7 +109,7 @@ fn compare_with(good: &[u8], first: (Place, u64), second: (Place, u64), bench: &
     bench.compare(&image[..size]);
 }
 
-/// The same image with each field at each value.
+/// Compares the image with each field at each value.
 pub(crate) fn compare_fields(good: &[u8], bench: &mut Bench) {
     for place in &FIELDS {
         for value in &VALUES {
@@ -118,7 +118,7 @@ pub(crate) fn compare_fields(good: &[u8], bench: &mut Bench) {
     }
 }
 
-/// The same image with each pair of fields at each of those values.
+/// Compares the image with each pair of fields at each pair of limits.
 pub(crate) fn compare_pairs(good: &[u8], bench: &mut Bench) {
     for (first, second) in &PAIRS {
         for value in &LIMITS {

@@ -1,10 +1,10 @@
-//! The memory that a sound image describes, found slowly: its pages as the union of ranges, and each byte by a search
-//! among all segments.
+//! The memory of a valid image, computed slowly: its pages as a union of ranges, and each byte by a search through all
+//! segments.
 use crate::reading::{Segment, byte};
 use rv_model::PAGE_SIZE;
 
-/// The first range of pages that a segment has from a page on, up to the one after its last, or `None` where no more
-/// are touched.
+/// The first range of a segment's pages from page `from` on: its first page, and the page after its last one. `None` if
+/// no segment has a page from there on.
 pub(crate) fn next_range(placed: &[Segment], from: u64) -> Option<(u64, u64)> {
     let mut found = None;
     let mut least = u64::MAX;
@@ -22,7 +22,7 @@ pub(crate) fn next_range(placed: &[Segment], from: u64) -> Option<(u64, u64)> {
     found
 }
 
-/// Puts the segments that touch the page that begins at an address into `found`, in their order.
+/// Replaces `found` with the segments that touch the page at address `start`, in their order.
 pub(crate) fn find_touching(placed: &[Segment], start: u64, found: &mut Vec<Segment>) {
     found.clear();
     let last = start.wrapping_add(PAGE_SIZE - 1);
@@ -34,7 +34,7 @@ pub(crate) fn find_touching(placed: &[Segment], start: u64, found: &mut Vec<Segm
     }
 }
 
-/// The byte at an address: that of the last segment that covers it.
+/// The byte at an address: that of the last segment that covers it, or 0 if none does.
 pub(crate) fn byte_at(image: &[u8], placed: &[Segment], addr: u64) -> u8 {
     for back in 0..placed.len() {
         let segment = &placed[placed.len() - 1 - back];

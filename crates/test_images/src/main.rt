@@ -1,10 +1,9 @@
-//! Images made to do harm, as `elf_load` checks and places them and as they are read slowly here: by rules that each
-//! stand by themselves, with the pages as a union of ranges and each byte found by a search among all segments.
+//! Compares the check and placement of malicious images by `elf_load` with a slow reader of this program. The slow reader
+//! has independent rules, computes the pages as a union of ranges, and finds each byte by a search through all segments.
 //!
-//! First it prints what a compiler's image takes (`program_headers.rt`). Then a line for each kind has how many images
-//! were placed, how many take too many pages, how many have each fault, and how many ended otherwise than the slow
-//! reading says. It compares the first fault, the entry, how many pages there are, and of each page all bytes and what
-//! it may be used for.
+//! First it prints the memory that a compiler's image needs (`program_headers.rt`). Then it prints a line for each kind of
+//! images: the number placed, the number over the quota, the number with each fault, and the number that differ from the
+//! slow reader. It compares the first fault, the entry, the number of pages, and the bytes and permissions of each page.
 #![tactic(auto)]
 
 mod building;
@@ -27,10 +26,10 @@ use segments::compare_generated;
 use std::{fs, io};
 use user_mem::Pool;
 
-/// How many images of segments are generated.
+/// Number of generated images of segments.
 const GENERATED: usize = 4000;
 
-/// How many images of random bytes there are of each kind.
+/// Number of images of random bytes: this number without a file header, and this number with one.
 const RANDOM: usize = 20_000;
 
 /// The kinds of images.
@@ -45,15 +44,15 @@ const KINDS: [&str; 8] = [
     "random bytes",
 ];
 
-/// Each cut of an image.
+/// Compares the image cut off after each number of bytes.
 fn compare_cuts(image: &[u8], bench: &mut Bench) {
     for size in 0..=image.len() {
         bench.compare(&image[..size]);
     }
 }
 
-/// Compares the images of each kind, made of a small image, of a compiler's and of what is drawn, and prints its line.
-/// Other images are made in the given `Vec`.
+/// Compares the images of each kind, and prints its line. The images are a small one and a compiler's, changed, and others
+/// built in `image`, some from random numbers.
 fn print_kinds(
     rt: &impl Print,
     good: &[u8],

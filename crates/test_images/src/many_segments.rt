@@ -3,31 +3,31 @@ use crate::building::{add_header, begin};
 use crate::comparison::Bench;
 use rv_model::{PAGE_SIZE, ProgramHeader};
 
-/// How many pages there are beside the stack.
+/// Number of pages that a user can have in addition to the stack.
 const PAGES: u64 = 252;
 
-/// Where the pages begin.
+/// Address of the first page.
 const START: u64 = 0x10000;
 
-/// How the addresses and sizes of a segment follow from its number.
+/// Rules for the addresses and sizes of a segment by its number.
 #[derive(Clone, Copy, Drop)]
 enum Shape {
-    /// Each one covers all pages.
+    /// Each segment covers all pages.
     Whole,
-    /// Each one ends a byte before the one before it.
+    /// Each segment ends one byte before the end of the previous one.
     Shorter,
-    /// Each one begins a byte after the one before it, with 5 bytes of the file.
+    /// Each segment starts one byte after the start of the previous one, with 5 bytes from the file.
     Later,
-    /// One page after another, again and again.
+    /// Each segment covers one page, in turn from the first page on.
     Cycle,
-    /// One byte, in one page after another from the last on.
+    /// Each segment covers the last byte of a page, in turn from the last page down.
     Bytes,
-    /// None: each one is of no bytes.
+    /// Each segment has 0 bytes.
     Empty,
 }
 
-/// Each shape, with how many segments there are in its first image: few where each is large, since all of them are
-/// written, and else one less than a file can have.
+/// Each shape, and the number of segments in its first image. There are few large segments, since all of them are written;
+/// the number of small ones is one less than a file can have.
 const SHAPES: [(Shape, u16); 6] = [
     (Shape::Whole, 2000),
     (Shape::Shorter, 2000),
@@ -37,7 +37,7 @@ const SHAPES: [(Shape, u16); 6] = [
     (Shape::Empty, 65_534),
 ];
 
-/// A segment that is read and written, with some bytes of the file from an offset on.
+/// A readable and writable segment, with `file_size` bytes from the file at `offset`.
 fn segment(address: u64, memory_size: u64, offset: u64, file_size: u64) -> ProgramHeader {
     ProgramHeader {
         kind: 1,
@@ -49,7 +49,7 @@ fn segment(address: u64, memory_size: u64, offset: u64, file_size: u64) -> Progr
     }
 }
 
-/// The segment of a number, from 0.
+/// The segment with this number, counted from 0.
 fn of_shape(shape: Shape, number: u64) -> ProgramHeader {
     let size = PAGES * PAGE_SIZE;
     let page = number % PAGES * PAGE_SIZE;
@@ -70,7 +70,7 @@ fn of_shape(shape: Shape, number: u64) -> ProgramHeader {
     }
 }
 
-/// Images of segments of each shape, and the same with one segment more, which takes a page too many.
+/// Compares images with segments of each shape, and the same images with another segment that exceeds the quota.
 pub(crate) fn compare_shapes(image: &mut Vec<u8>, bench: &mut Bench) {
     for (shape, count) in SHAPES {
         for more in 0..2 {
@@ -86,7 +86,7 @@ pub(crate) fn compare_shapes(image: &mut Vec<u8>, bench: &mut Bench) {
     }
 }
 
-/// Images of one segment of zeros: up to the quota, one page more, up to the end of addresses, and past it.
+/// Compares images of one segment of zeros: up to the quota, one page above it, up to the end of addresses, and past it.
 pub(crate) fn compare_sizes(image: &mut Vec<u8>, bench: &mut Bench) {
     let exact = PAGES * PAGE_SIZE;
     for size in [exact - 1, exact, exact + 1, 1 << 47, 1 << 48, (1 << 48) + 1] {

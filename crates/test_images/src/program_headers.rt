@@ -1,17 +1,17 @@
-//! What an image takes: the fault of a bad one, or the entry in hexadecimal, how many pages a user needs for it with
-//! the stack, and of each loadable segment the offset, the address, the sizes in the file and in memory, and the flags,
-//! as `readelf -l` of GNU binutils writes them.
+//! Prints the fault of an invalid image, or the memory that an image needs: the entry in hexadecimal, and the number of
+//! pages that a user needs for it and the stack. For each loadable segment, it prints the offset, the address, the sizes
+//! in the file and in memory, and the flags, as `readelf -l` of GNU binutils does.
 use elf_load::check;
 use rv_model::ProgramHeader;
 use std::io;
 
-/// The kind of a segment that is loaded.
+/// The type of a loadable segment (PT_LOAD).
 const LOAD: u32 = 1;
 
-/// How each value of the flags is written.
+/// The text of each value of a segment's flags.
 const USES: [&str; 8] = ["  ", "  E", " W", " WE", "R ", "R E", "RW", "RWE"];
 
-/// Prints what an image takes.
+/// Prints the fault of an image, or its entry, its number of pages and its loadable segments.
 pub(crate) fn print_image(rt: &impl Print, image: &[u8]) -> io::Result<()> {
     let plan = match check(image) {
         Ok(plan) => plan,

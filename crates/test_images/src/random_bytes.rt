@@ -1,12 +1,12 @@
-//! Images of random bytes, whose file header is right at first and then less and less.
+//! Images of random bytes, without a file header and with one that is mostly right.
 use crate::building::file_header;
 use crate::comparison::Bench;
 use draws::Draws;
 
-/// How many bytes the longest of these images has.
+/// Size of the longest image in bytes.
 const SIZE: usize = 400;
 
-/// So many images of random bytes, and as many with a file header in which each byte is right but for one in 64.
+/// Compares `count` images of random bytes, and the same number with a file header in which one byte in 64 is random.
 pub(crate) fn compare_random(count: usize, draws: &mut Draws, bench: &mut Bench) {
     for _ in 0..count {
         let mut image = [0; SIZE];

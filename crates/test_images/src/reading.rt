@@ -1,7 +1,7 @@
-//! What an image says, read slowly: each rule by itself, and each number where its field stands. Bytes past the end of
-//! the file count as zeros.
+//! The slow reader of images. It checks each rule independently, and reads each number from its field. Bytes after the end
+//! of the file count as zeros.
 
-/// A program header, as it stands in the file.
+/// A program header of the file.
 #[derive(Clone, Copy, Drop)]
 pub(crate) struct Segment {
     pub kind: u64,
@@ -12,7 +12,7 @@ pub(crate) struct Segment {
     pub memory_size: u64,
 }
 
-/// The stack: four pages of zeros that are read and written.
+/// The stack: four readable and writable pages of zeros.
 const STACK: Segment = Segment {
     kind: 1,
     flags: 6,
@@ -22,7 +22,7 @@ const STACK: Segment = Segment {
     memory_size: 0x4000,
 };
 
-/// The byte at a place of an image.
+/// The byte at an offset of an image; 0 after its end.
 pub(crate) fn byte(image: &[u8], at: usize) -> u8 {
     match image.get(at) {
         Some(byte) => *byte,
@@ -30,7 +30,7 @@ pub(crate) fn byte(image: &[u8], at: usize) -> u8 {
     }
 }
 
-/// The number in `size` bytes, of at most eight, from an offset on.
+/// The little-endian number in the `size` bytes at an offset; `size` is at most 8.
 fn number(image: &[u8], at: usize, size: usize) -> u64 {
     let mut number = 0u64;
     let mut weight = 1u64;
@@ -59,7 +59,7 @@ fn segment_at(image: &[u8], at: usize) -> Segment {
     }
 }
 
-/// The first fault of the file header and of the place of the program headers, by name.
+/// The name of the first fault in the file header, or in the position of the program headers.
 fn file_fault(image: &[u8]) -> Option<&'static str> {
     let size = image.len() as u128;
     let count = number(image, 56, 2);
@@ -83,10 +83,10 @@ fn file_fault(image: &[u8]) -> Option<&'static str> {
     None
 }
 
-/// The rules of single segments, in their order, and last that of the entry.
+/// The names of the faults of single segments, in the order of their checks, and last that of the entry.
 const LATER_RULES: [&str; 5] = ["Interp", "FileSize", "Outside", "Address", "Entry"];
 
-/// Which of the rules of single segments a segment breaks, in a file of so many bytes.
+/// Whether a segment has each of the faults of single segments, in a file of `size` bytes.
 fn broken(segment: &Segment, size: usize) -> [bool; 4] {
     let end_in_file = u128::from(segment.offset) + u128::from(segment.file_size);
     let end = u128::from(segment.address) + u128::from(segment.memory_size);
@@ -99,8 +99,8 @@ fn broken(segment: &Segment, size: usize) -> [bool; 4] {
     ]
 }
 
-/// Reads an image: its first fault by name, and in `placed` what is placed, in order, with the stack first. Where the
-/// memory for that is refused, segments are missing, and the image differs from what is placed.
+/// Reads an image: returns the name of its first fault, and replaces `placed` with the stack and then the loadable
+/// segments in order. If memory for these is refused, segments are missing, and the image differs from its placement.
 pub(crate) fn read_image(image: &[u8], placed: &mut Vec<Segment>) -> Option<&'static str> {
     placed.clear();
     if let Some(name) = file_fault(image) {

@@ -1,11 +1,11 @@
-//! Images of generated segments, which overlap, wrap, and hide one another and the stack.
+//! Images of generated segments, which overlap, wrap around, and cover one another and the stack.
 use crate::building::{add_header, begin};
 use crate::comparison::Bench;
 use draws::Draws;
 use rv_model::ProgramHeader;
 
-/// Where segments begin, near one another: in the program, at the stack and its end, at address 0, and at the ends of
-/// addresses and of numbers.
+/// Addresses near which segments start: in the program, at the stack and near its end, at address 0, and near the ends of
+/// addresses and of 64-bit numbers.
 const BASES: [u64; 10] = [
     0x10000,
     0x10000,
@@ -19,13 +19,13 @@ const BASES: [u64; 10] = [
     u64::MAX - 0x1fff,
 ];
 
-/// The bytes behind the program headers.
+/// Number of bytes after the program headers.
 const BYTES: usize = 6000;
 
-/// The kinds of program headers that are drawn seldom; mostly it is a segment.
+/// The types of program headers that are rare; most program headers are loadable segments.
 const RARE_KINDS: [u32; 4] = [0, 3, 0x6474_e551, 0x6474_e551];
 
-/// A size of up to three pages, often a whole one or none.
+/// A size below three pages, in bytes; often one page or 0.
 fn size(draws: &mut Draws) -> u64 {
     match draws.below(6) {
         0 => 0,
@@ -35,8 +35,8 @@ fn size(draws: &mut Draws) -> u64 {
     }
 }
 
-/// A program header whose bytes in the file lie mostly among those behind `headers` headers. It seldom begins at an end
-/// of addresses or of numbers.
+/// A program header whose bytes in the file are mostly among those after `headers` program headers. Its address is rarely
+/// near the end of addresses or of 64-bit numbers.
 fn header(draws: &mut Draws, headers: usize) -> ProgramHeader {
     let memory_size = size(draws);
     let file_size = match draws.below(30) {
@@ -66,7 +66,7 @@ fn header(draws: &mut Draws, headers: usize) -> ProgramHeader {
     }
 }
 
-/// So many images of one to eight segments each.
+/// Compares `count` images of one to eight segments each.
 pub(crate) fn compare_generated(
     count: usize,
     draws: &mut Draws,
