@@ -24,7 +24,7 @@ use Rattle.rv_model.specs.vector.Control.{with_control}
 use Rattle.rv_model.specs.vector.Groups.{register_of, registers, with_register_bytes}
 use Rattle.rv_model.proofs.Choices.{of_bool, of_test}
 use Rattle.rv_model.proofs.step_lemmas.KeptSteps.{steps_keep_others}
-use Rattle.rv_model.proofs.step_lemmas.StepCases.{told}
+use Rattle.rv_model.proofs.step_lemmas.StepCases.{by_case}
 use Rattle.recording.specs.Runs.{word_of}
 use Rattle.commit_log.specs.Lines.{told_vectors}
 use Rattle.commit_log.specs.Targets.{registers_of, vector_targets}
@@ -94,7 +94,7 @@ module _ (s : HartState) (i : Instr) where
   -- from the registers after a vector instruction, if it is legal
   step_told : scan table (word_of s) ≡ Some i → (is_legal i s.vector.conf.vtype s.vector.vstart ≡ true → Told (performed 256 i s).state.vector.file)
       → Told (step 256 s).state.vector.file
-  step_told is done = elim (told s (λ r. r.state.vector.file ≡ s.vector.file) (record {
+  step_told is done = elim (by_case s (λ r. r.state.vector.file ≡ s.vector.file) (record {
     fault = λ cause value. refl;
     runs = λ scalar first. refl;
     stores = λ addr bytes. refl;

@@ -6,7 +6,7 @@ use Rattle.std.proofs.lemmas.Bool.Decides.{nat_tests}
 use Rattle.std.proofs.lemmas.Nat.{and_le_l}
 use Rattle.std.specs.List.{list_any, range_with_len}
 use Rattle.rv_model.specs.elements.Elements.{Body, is_active, is_enabled, in_range, some_active}
-use Rattle.rv_model.proofs.element_lemmas.Actives.{some_before, some_begins, some_ends}
+use Rattle.rv_model.proofs.element_lemmas.ActiveElements.{some_before, some_begins, some_ends}
 use Rattle.lane_arith.proofs.MaskBits.{both_bits}
 
 -- ---- ranges

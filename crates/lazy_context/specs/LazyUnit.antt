@@ -112,10 +112,10 @@ KeepsOtherAreas old new = (other : ℕ) → 1 ≤ other
     → (is_owned_by old.owner other && old.seat.dirty) ≡ false → KeepsArea other old.areas new.areas
 
 -- if the borrowed state is returned dirty or unchanged, the unit is settled
-abbrev pub ComesBackSettled : ℕ → Unit → Type 0
-ComesBackSettled user unit =
+abbrev pub IsConsistentAfterReturn : ℕ → Unit → Type 0
+IsConsistentAfterReturn user unit =
     (back : Seat) → IsGivenBack (touched user unit).seat back → IsSettled (with_seat back (touched user unit))
 
 -- after the return of any state, the user's next touch changes nothing
-abbrev pub IsLentAgain : ℕ → Unit → Type 0
-IsLentAgain user unit = (back : Seat) → touched user (with_seat back (touched user unit)) ≡ with_seat back (touched user unit)
+abbrev pub NextTouchIsIdentity : ℕ → Unit → Type 0
+NextTouchIsIdentity user unit = (back : Seat) → touched user (with_seat back (touched user unit)) ≡ with_seat back (touched user unit)

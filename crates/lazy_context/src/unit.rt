@@ -1,8 +1,8 @@
 //! The vector unit, which holds the state of one user at a time.
 ghost use Rattle.lazy_context.specs.LazyUnit.{
   AllKeep,
-  ComesBackSettled,
-  IsLentAgain,
+  IsConsistentAfterReturn,
+  NextTouchIsIdentity,
   IsOwnerAUser,
   IsSettled,
   KeepsAreas,
@@ -199,8 +199,8 @@ impl Unit {
         ensures counts { record_of (touched user self.now) ≡ unit_touched user (record_of self.now) }
         ensures by_owner { is_owned_by self.now.owner user ≡ true → touched user self.now ≡ self.now }
         ensures clean { self.now.seat.dirty ≡ false → KeepsAreas self.now (touched user self.now) }
-        ensures settled { IsSettled self.now → ComesBackSettled user self.now }
-        ensures again { IsLentAgain user self.now }
+        ensures settled { IsSettled self.now → IsConsistentAfterReturn user self.now }
+        ensures again { NextTouchIsIdentity user self.now }
     {
         self.areas.whole_law();
         let _ = self.is_owner(user);

@@ -7,7 +7,7 @@ ghost use Rattle.rv_model.specs.commands.Operator.{
   operator_named,
   operator_parse,
   granted_line,
-  standing_word,
+  run_state_word,
   listed_user,
   list_line,
   stats_line,
@@ -17,7 +17,7 @@ ghost use Rattle.rv_model.specs.text.Lines.{text};
 ghost use Rattle.rv_model.specs.text.Words.{words};
 
 use line_text::{Reply, Words, count, done, push_decimal, user};
-use rv_model::{OperatorCommand, Refusal, Standing, Stats, USER_COUNT, User};
+use rv_model::{OperatorCommand, Refusal, RunState, Stats, USER_COUNT, User};
 
 /// Return the command with a name and its arguments: `None` if the name is unknown, and `Some(None)` if the arguments
 /// are wrong.
@@ -91,52 +91,52 @@ pub fn granted_line(reply: &mut Reply, count: usize)
 }
 
 /// Return the state of a user's program as printed by `list`.
-fn standing_word(standing: Standing) -> &'static [u8]
-    ensures value { result.now ≡ standing_word standing }
+fn run_state_word(run_state: RunState) -> &'static [u8]
+    ensures value { result.now ≡ run_state_word run_state }
     ensures bound { length result.now ≤ 7 }
 {
-    match standing {
-        Standing::Absent => b"-",
-        Standing::Stopped => b"stopped",
-        Standing::Running => b"running",
+    match run_state {
+        RunState::Absent => b"-",
+        RunState::Stopped => b"stopped",
+        RunState::Running => b"running",
     }
 }
 
 /// Append the state of the user at `index`, counted from 0.
 #[tactic(auto, unfolding(rv_model::specs::commands::Operator::listed_user))]
-fn push_user(reply: &mut Reply, standings: &[Standing; USER_COUNT], index: usize)
+fn push_user(reply: &mut Reply, run_states: &[RunState; USER_COUNT], index: usize)
     requires within { index + 1 ≤ user_count }
     requires room { length reply.old + 29 ≤ 4096 }
-    ensures text { reply.new ≡ reply.old ++ listed_user standings.now (index + 1) }
+    ensures text { reply.new ≡ reply.old ++ listed_user run_states.now (index + 1) }
     ensures bound { length reply.new ≤ length reply.old + 29 }
 {
     reply.push(b" ");
     push_decimal(reply, index as u64 + 1);
     reply.push(b":");
-    reply.push(standing_word(standings[index]));
+    reply.push(run_state_word(run_states[index]));
 }
 
 /// Append the states of all users, user 1 first.
-fn push_users(reply: &mut Reply, standings: &[Standing; USER_COUNT])
+fn push_users(reply: &mut Reply, run_states: &[RunState; USER_COUNT])
     requires { length reply.old + 232 ≤ 4096 }
-    ensures text { reply.new ≡ reply.old ++ flat_map (listed_user standings.now) users }
+    ensures text { reply.new ≡ reply.old ++ flat_map (listed_user run_states.now) users }
     ensures bound { length reply.new ≤ length reply.old + 232 }
 {
     for index in 0..USER_COUNT {
-        push_user(reply, standings, index);
+        push_user(reply, run_states, index);
     }
 }
 
 /// Append the reply to `list`, the state of each user's program, for example
 /// `* list 1:running 2:stopped 3:- 4:- 5:- 6:- 7:- 8:-`.
 #[tactic(auto, unfolding(rv_model::specs::commands::Operator::list_line))]
-pub fn list_line(reply: &mut Reply, standings: &[Standing; USER_COUNT])
+pub fn list_line(reply: &mut Reply, run_states: &[RunState; USER_COUNT])
     requires { length reply.old + 239 ≤ 4096 }
-    ensures text { reply.new ≡ reply.old ++ text 42 (list_line standings.now ∷ []) }
+    ensures text { reply.new ≡ reply.old ++ text 42 (list_line run_states.now ∷ []) }
     ensures bound { length reply.new ≤ length reply.old + 239 }
 {
     reply.push(b"* list");
-    push_users(reply, standings);
+    push_users(reply, run_states);
     reply.push(b"\n");
 }
 

@@ -9,7 +9,7 @@ use Rattle.rv_model.specs.text.Lines.{tagged, text}
 use Rattle.rv_model.specs.vector.Groups.{IsConfiguration}
 use Rattle.rv_model.proofs.machine_lemmas.Cuts.{cuts_are_invisible}
 use Rattle.monitor_machine.specs.declared.context.Context.{Context}
-use Rattle.monitor_machine.specs.MachineState.{MachineState, SliceGoesOn}
+use Rattle.monitor_machine.specs.MachineState.{MachineState, SlicesAddUp}
 use Rattle.monitor_machine.specs.Parts.{Addresses, present, private_of}
 
 -- a machine is configured if its user's vector state is, whether or not the user has entered
@@ -28,11 +28,11 @@ text-append tag (x ∷ xs) ys =
     ∙ sym (append_assoc (tagged tag x) (text tag xs) (text tag ys))
 
 -- the sum of a slice and the next one, from the private machine and the output of the first one
-pub slice_goes_on : (before now : MachineState) (u : ℕ) (printed : List ℕ) → IsConfigured (user_machine u before.world)
+pub slices_add_up : (before now : MachineState) (u : ℕ) (printed : List ℕ) → IsConfigured (user_machine u before.world)
     → user_machine u now.world ≡ (sliced before.setup.quantum (user_machine u before.world)).next
     → printed ≡ text (48 + u) (sliced before.setup.quantum (user_machine u before.world)).lines
-    → SliceGoesOn before u now printed
-slice_goes_on before now u printed is moved prints later keeps =
+    → SlicesAddUp before u now printed
+slices_add_up before now u printed is moved prints later keeps =
     let quantum : ℕ = before.setup.quantum in
     let first : Outcome = sliced quantum (user_machine u before.world) in
     let rest : Outcome = sliced later first.next in

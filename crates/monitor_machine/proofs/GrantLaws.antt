@@ -3,11 +3,11 @@ use Rattle.std.proofs.Common.{◌≡◌, ℕ, zero, suc, ◌+◌, ◌*◌, ◌�
 use Rattle.std.specs.Prelude.{◌&&◌, map, if◌then◌else◌}
 use Rattle.std.proofs.lemmas.List.{ext_get_or, get_or-map, length-map}
 use Rattle.std.specs.Option.{option_map_or}
-use Rattle.rv_model.specs.declared.machine.standing.Standing.TheVariants.{Absent, Stopped, Running}
-use Rattle.rv_model.specs.machine.Grants.{granted, next_running, runs, slice_of, standing}
+use Rattle.rv_model.specs.declared.machine.run_state.RunState.TheVariants.{Absent, Stopped, Running}
+use Rattle.rv_model.specs.machine.Grants.{granted, next_running, runs, slice_of, run_state}
 use Rattle.rv_model.specs.machine.World.{Private, Outcome, event, slice_ends, sliced}
 use Rattle.rv_model.specs.machine.UserMachine.{Halted, ticked}
-use Rattle.rv_model.specs.machine.Script.{World, Happening, with_unit, after_one, after_events, told_by, user_machine}
+use Rattle.rv_model.specs.machine.Script.{World, UserEvent, with_unit, after_one, after_events, printed_by_events, user_machine}
 use Rattle.rv_model.specs.machine.Setup.{Setup, user_count}
 use Rattle.rv_model.specs.declared.vector.state.VState.{VState}
 use Rattle.rv_model.specs.memory.Memory.{Memory}
@@ -16,34 +16,34 @@ use Rattle.rv_model.specs.text.Lines.{text}
 use Rattle.rv_model.proofs.machine_lemmas.Headline.{length-after_events}
 use Rattle.monitor_machine.specs.declared.context.Context.{Context}
 use Rattle.monitor_machine.specs.MachineState.{after_outcome, after_slice}
-use Rattle.monitor_machine.specs.Parts.{Addresses, IsWhole, context_standing, is_running, parts_of, present, private_of, states_of}
-use Rattle.monitor_machine.specs.StopRoom.{stop_room, stops_room}
+use Rattle.monitor_machine.specs.Parts.{Addresses, IsWhole, context_run_state, is_running, parts_of, present, private_of, states_of}
+use Rattle.monitor_machine.specs.StopLineBounds.{stop_line_bound, stop_lines_bound}
 use Rattle.monitor_machine.proofs.PartLaws.{eight_states, part_put_back}
 
-stop_room_is_small : (p : Private) → stop_room p ≤ 80
+stop_room_is_small : (p : Private) → stop_line_bound p ≤ 80
 stop_room_is_small p = either (runs p)
   where
     either : (b : Bool) → cond b 80 0 ≤ 80
     either true = omega arith
     either false = omega arith
 
-stops_room_by_count : (ps : List Private) → stops_room ps ≤ 80 * length ps
+stops_room_by_count : (ps : List Private) → stop_lines_bound ps ≤ 80 * length ps
 stops_room_by_count [] = omega arith
 stops_room_by_count (p ∷ ps) = omega (arith, stop_room_is_small p, stops_room_by_count ps)
 
 -- the stop lines of all users fit into a reply
-pub stops_room_is_small : (ps : List Private) → length ps ≡ user_count → stops_room ps ≤ 640
+pub stops_room_is_small : (ps : List Private) → length ps ≡ user_count → stop_lines_bound ps ≤ 640
 stops_room_is_small ps eight = omega (arith, eight, stops_room_by_count ps)
 
 -- the room after another machine replaces a user's
 pub stops_room_set : (ps : List Private) (i : ℕ) (q : Private) → i < length ps
-    → stops_room (set ps i q) + stop_room (get_or ps i None) ≡ stops_room ps + stop_room q
+    → stop_lines_bound (set ps i q) + stop_line_bound (get_or ps i None) ≡ stop_lines_bound ps + stop_line_bound q
 stops_room_set [] i q lt = absurd (omega (arith, lt))
 stops_room_set (p ∷ ps) zero q lt = omega arith
 stops_room_set (p ∷ ps) (suc i) q lt = omega (arith, stops_room_set ps i q (omega (arith, lt)))
 
 -- the room for a user's stop line is a part of that for all
-pub stop_room_within : (ps : List Private) (i : ℕ) → i < length ps → stop_room (get_or ps i None) ≤ stops_room ps
+pub stop_room_within : (ps : List Private) (i : ℕ) → i < length ps → stop_line_bound (get_or ps i None) ≤ stop_lines_bound ps
 stop_room_within [] i lt = absurd (omega (arith, lt))
 stop_room_within (p ∷ ps) zero lt = omega arith
 stop_room_within (p ∷ ps) (suc i) lt = omega (arith, stop_room_within ps i (omega (arith, lt)))
@@ -66,10 +66,10 @@ runs_as c t v m = entered c.entered
     entered true = refl
     entered false = refl
 
-standing_as : (c : Context) (t : Addresses) (v : VState) (m : Memory) → standing (private_of c t v m) ≡ context_standing c
-standing_as c t v m = entered c.entered
+run_state_as : (c : Context) (t : Addresses) (v : VState) (m : Memory) → run_state (private_of c t v m) ≡ context_run_state c
+run_state_as c t v m = entered c.entered
   where
-    entered : (b : Bool) → standing (if b then Some (present c t v m) else None) ≡ (if b then (if c.running then Running else Stopped) else Absent)
+    entered : (b : Bool) → run_state (if b then Some (present c t v m) else None) ≡ (if b then (if c.running then Running else Stopped) else Absent)
     entered true = refl
     entered false = refl
 
@@ -93,8 +93,8 @@ of_whole f g same cs ts unit ms whole =
 pub runs_of_parts : (cs : List Context) (ts : List Addresses) (unit : Unit) (ms : List Memory) → IsWhole cs ts unit ms → map runs (parts_of cs ts (states_of unit) ms) ≡ map is_running cs
 runs_of_parts cs ts unit ms whole = of_whole runs is_running runs_as cs ts unit ms whole
 
-pub standings_of_parts : (cs : List Context) (ts : List Addresses) (unit : Unit) (ms : List Memory) → IsWhole cs ts unit ms → map standing (parts_of cs ts (states_of unit) ms) ≡ map context_standing cs
-standings_of_parts cs ts unit ms whole = of_whole standing context_standing standing_as cs ts unit ms whole
+pub run_states_of_parts : (cs : List Context) (ts : List Addresses) (unit : Unit) (ms : List Memory) → IsWhole cs ts unit ms → map run_state (parts_of cs ts (states_of unit) ms) ≡ map context_run_state cs
+run_states_of_parts cs ts unit ms whole = of_whole run_state context_run_state run_state_as cs ts unit ms whole
 
 -- ---- slices
 
@@ -128,12 +128,12 @@ unfolding event
 after_one_grant s u w turned next turn moved = sym (moved ∙ ap (λ (v : World). after_slice s.quantum u v) turn)
 
 -- the output of one slice in turn, and then of the others
-pub told_by_grant : (s : Setup) (u : ℕ) (w turned next : World) (hs : List Happening) → turned ≡ record w { cursor = u } → next ≡ after_slice s.quantum u turned
-    → told_by s w (slice_of u true ∷ hs) ≡ text (48 + u) (sliced s.quantum (user_machine u turned)).lines ++ told_by s next hs
+pub told_by_grant : (s : Setup) (u : ℕ) (w turned next : World) (hs : List UserEvent) → turned ≡ record w { cursor = u } → next ≡ after_slice s.quantum u turned
+    → printed_by_events s w (slice_of u true ∷ hs) ≡ text (48 + u) (sliced s.quantum (user_machine u turned)).lines ++ printed_by_events s next hs
 unfolding event
 told_by_grant s u w turned next hs turn moved =
-    ap (λ (v : World). text (48 + u) (sliced s.quantum (user_machine u w)).lines ++ told_by s v hs) (after_one_grant s u w turned next turn moved)
-    ∙ ap (λ (v : World). text (48 + u) (sliced s.quantum (user_machine u v)).lines ++ told_by s next hs) (sym turn)
+    ap (λ (v : World). text (48 + u) (sliced s.quantum (user_machine u w)).lines ++ printed_by_events s v hs) (after_one_grant s u w turned next turn moved)
+    ∙ ap (λ (v : World). text (48 + u) (sliced s.quantum (user_machine u v)).lines ++ printed_by_events s next hs) (sym turn)
 
 -- the world after the remaining slices, if one more is granted
 pub world_granted_on : (s : Setup) (n u : ℕ) (w turned next : World) → next_running w ≡ Some u → turned ≡ record w { cursor = u } → next ≡ after_slice s.quantum u turned
@@ -144,14 +144,14 @@ world_granted_on s n u w turned next turns turn moved =
 
 pub told_granted_on : (s : Setup) (n u : ℕ) (w turned next : World) (before after : List ℕ) → next_running w ≡ Some u → turned ≡ record w { cursor = u } → next ≡ after_slice s.quantum u turned
     → after ≡ before ++ text (48 + u) (sliced s.quantum (user_machine u turned)).lines
-    → before ++ told_by s w (granted s (suc n) w) ≡ after ++ told_by s next (granted s n next)
+    → before ++ printed_by_events s w (granted s (suc n) w) ≡ after ++ printed_by_events s next (granted s n next)
 told_granted_on s n u w turned next before after turns turn moved more =
     let lines = text (48 + u) (sliced s.quantum (user_machine u turned)).lines in
-    ap (λ (hs : List Happening). before ++ told_by s w hs) (granted_on s n u w turns)
-    ∙ ap (λ (v : World). before ++ told_by s w (slice_of u true ∷ granted s n v)) (after_one_grant s u w turned next turn moved)
+    ap (λ (hs : List UserEvent). before ++ printed_by_events s w hs) (granted_on s n u w turns)
+    ∙ ap (λ (v : World). before ++ printed_by_events s w (slice_of u true ∷ granted s n v)) (after_one_grant s u w turned next turn moved)
     ∙ ap (λ (bytes : List ℕ). before ++ bytes) (told_by_grant s u w turned next (granted s n next) turn moved)
-    ∙ sym (append_assoc before lines (told_by s next (granted s n next)))
-    ∙ ap (λ (bytes : List ℕ). bytes ++ told_by s next (granted s n next)) (sym more)
+    ∙ sym (append_assoc before lines (printed_by_events s next (granted s n next)))
+    ∙ ap (λ (bytes : List ℕ). bytes ++ printed_by_events s next (granted s n next)) (sym more)
 
 pub count_granted_on : (s : Setup) (n u : ℕ) (w turned next : World) → next_running w ≡ Some u → turned ≡ record w { cursor = u } → next ≡ after_slice s.quantum u turned
     → length (granted s (suc n) w) ≡ suc (length (granted s n next))
@@ -166,7 +166,7 @@ none_granted s w = refl
 
 -- ---- one slice of a given user
 
-abbrev ran_lines : Bool → ℕ → List Happening
+abbrev ran_lines : Bool → ℕ → List UserEvent
 ran_lines ran u = if ran then slice_of u false ∷ [] else []
 
 -- the world after a slice that is granted if the user's program is running
@@ -178,11 +178,11 @@ one_run_world s u w next moved = by_case (runs (user_machine u w)) refl
     by_case true ran = sym moved
     by_case false ran = sym (moved ∙ nothing_sliced s.quantum u w ran)
 
-pub one_run_told : (s : Setup) (u : ℕ) (w : World) → told_by s w (if runs (user_machine u w) then slice_of u false ∷ [] else []) ≡ text (48 + u) (sliced s.quantum (user_machine u w)).lines
+pub one_run_told : (s : Setup) (u : ℕ) (w : World) → printed_by_events s w (if runs (user_machine u w) then slice_of u false ∷ [] else []) ≡ text (48 + u) (sliced s.quantum (user_machine u w)).lines
 unfolding event
 one_run_told s u w = by_case (runs (user_machine u w)) refl
   where
-    by_case : (b : Bool) → runs (user_machine u w) ≡ b → told_by s w (ran_lines b u) ≡ text (48 + u) (sliced s.quantum (user_machine u w)).lines
+    by_case : (b : Bool) → runs (user_machine u w) ≡ b → printed_by_events s w (ran_lines b u) ≡ text (48 + u) (sliced s.quantum (user_machine u w)).lines
     by_case true ran = append-nil (text (48 + u) (sliced s.quantum (user_machine u w)).lines)
     by_case false ran = sym (ap (λ (o : Outcome). text (48 + u) o.lines) (not_sliced s.quantum (user_machine u w) ran))
 
@@ -191,5 +191,5 @@ one_run_count u true = refl
 one_run_count u false = refl
 
 -- after any events, there is still a machine for each user
-pub eight_stay : (s : Setup) (w next : World) (es : List Happening) → next ≡ after_events s w es → length w.parts ≡ 8 → length next.parts ≡ 8
+pub eight_stay : (s : Setup) (w next : World) (es : List UserEvent) → next ≡ after_events s w es → length w.parts ≡ 8 → length next.parts ≡ 8
 eight_stay s w next es moved eight = ap (λ (v : World). length v.parts) moved ∙ length-after_events s w es ∙ eight

@@ -108,9 +108,9 @@ slice_stops left ticks a b reason some free tried =
     slice_on left a b (Some reason) some
     (run_stops left ticks (not a.machine.fresh && at_breakpoint a.machine) (ticked_later left a.machine) a b reason free tried)
 
-pub slice_goes_on : (left ticks : ℕ) (a b end : Lent) (reason : Option Stop) → 1 ≤ left → (not a.machine.fresh && at_breakpoint a.machine) ≡ false → TriesTo left a b None ticks → b.user ≡ a.user
+pub slices_add_up : (left ticks : ℕ) (a b end : Lent) (reason : Option Stop) → 1 ≤ left → (not a.machine.fresh && at_breakpoint a.machine) ≡ false → TriesTo left a b None ticks → b.user ≡ a.user
     → TicksTo (left - ticks) b end reason → TicksTo left a end reason
-slice_goes_on left ticks a b end reason some free tried same later =
+slices_add_up left ticks a b end reason some free tried same later =
     slice_on left a end reason some
     (run_goes_on left ticks (not a.machine.fresh && at_breakpoint a.machine) (ticked_later left a.machine) a b end reason free tried same
     (subst (λ (n : ℕ). RunsTo (ticked (left - n) (next_at left a.machine)) b end reason) (sym tried.2)

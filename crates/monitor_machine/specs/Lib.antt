@@ -7,4 +7,4 @@ pub mod MachineState
 pub mod NewFaults
 pub mod PartMoves
 pub mod Parts
-pub mod StopRoom
+pub mod StopLineBounds

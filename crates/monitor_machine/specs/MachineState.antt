@@ -5,7 +5,7 @@ use Rattle.rv_model.specs.commands.Commands.{Parsed, commanded, parse}
 use Rattle.rv_model.specs.machine.Cuts.{KeepsWordIfCut}
 use Rattle.rv_model.specs.machine.World.{sliced}
 use Rattle.rv_model.specs.machine.Setup.{Image, Setup}
-use Rattle.rv_model.specs.machine.Script.{World, told, with_unit, world_after, user_machine, with_user_machine}
+use Rattle.rv_model.specs.machine.Script.{World, printed_by_line, with_unit, world_after, user_machine, with_user_machine}
 use Rattle.rv_model.specs.machine.UserMachine.{Outcome}
 use Rattle.rv_model.specs.machine.VectorUnit.{unit_after_uses}
 use Rattle.rv_model.specs.text.Lines.{text}
@@ -21,7 +21,7 @@ after_line m line = record m { world = world_after m.setup m.world line }
 
 -- the output of the line
 abbrev pub line_output : MachineState → List ℕ → List ℕ
-line_output m line = told m.setup m.world line
+line_output m line = printed_by_line m.setup m.world line
 
 -- the world after this outcome for a user's machine
 abbrev pub after_outcome : ℕ → Outcome → World → World
@@ -40,8 +40,8 @@ after_slice quantum u w = after_outcome u (sliced quantum (user_machine u w)) w
 -- A slice of user u printed `printed` and left the machine `now`. Together with a slice of `later` ticks, it leaves the same private
 -- machine of the user, and prints the same, as one slice of all these ticks. The exception: the first slice cuts an instruction that has
 -- already overwritten its own word.
-abbrev pub SliceGoesOn : MachineState → ℕ → MachineState → List ℕ → Type 0
-SliceGoesOn before u now printed = (later : ℕ)
+abbrev pub SlicesAddUp : MachineState → ℕ → MachineState → List ℕ → Type 0
+SlicesAddUp before u now printed = (later : ℕ)
     → All KeepsWordIfCut (sliced before.setup.quantum (user_machine u before.world)).uses
     → ((sliced (before.setup.quantum + later) (user_machine u before.world)).next ≡ (sliced later (user_machine u now.world)).next)
     × (text (48 + u) (sliced (before.setup.quantum + later) (user_machine u before.world)).lines

@@ -7,8 +7,8 @@ use Rattle.rv_model.specs.step.Step.{HartState}
 use Rattle.rv_model.specs.machine.World.{Private, Present}
 use Rattle.rv_model.specs.machine.UserMachine.{Use, Tries}
 use Rattle.rv_model.specs.scalar.Registers.{initial_scalar, with_register}
-use Rattle.rv_model.specs.declared.machine.standing.Standing.{Standing}
-use Rattle.rv_model.specs.declared.machine.standing.Standing.TheVariants.{Absent, Stopped, Running}
+use Rattle.rv_model.specs.declared.machine.run_state.RunState.{RunState}
+use Rattle.rv_model.specs.declared.machine.run_state.RunState.TheVariants.{Absent, Stopped, Running}
 use Rattle.rv_model.specs.machine.Script.{World}
 use Rattle.rv_model.specs.machine.Setup.{user_count, users}
 use Rattle.rv_model.specs.machine.VectorUnit.{VectorUnit}
@@ -64,8 +64,8 @@ abbrev pub is_running : Context → Bool
 is_running c = c.entered && c.running
 
 -- the state of the user's program
-abbrev pub context_standing : Context → Standing
-context_standing c = if c.entered then (if c.running then Running else Stopped) else Absent
+abbrev pub context_run_state : Context → RunState
+context_run_state c = if c.entered then (if c.running then Running else Stopped) else Absent
 
 -- the private machines of all users
 abbrev pub parts_of : List Context → List Addresses → List VState → List Memory → List Private

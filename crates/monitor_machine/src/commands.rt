@@ -1,7 +1,7 @@
 //! Execution of a user's commands.
 ghost use Rattle.std.specs.Prelude.{◌≡◌, ◌+◌, true, false};
 ghost use Rattle.lazy_context.specs.LazyUnit.{record_of};
-ghost use Rattle.rv_model.specs.commands.Commands.{carried_out, needs_stopped, of_absent, of_present};
+ghost use Rattle.rv_model.specs.commands.Commands.{command_outcome, needs_stopped, of_absent, of_present};
 ghost use Rattle.rv_model.specs.machine.VectorUnit.{unit_after_uses};
 ghost use Rattle.rv_model.specs.text.Lines.{text};
 ghost use Rattle.monitor_machine.specs.Images.{named_images};
@@ -17,7 +17,7 @@ use rv_model::{Cmd, EnteringCommand, Refusal, RunningCommand};
 use std::alloc::Allocator;
 
 /// Execute a command of a user, and replace the reply.
-#[tactic(auto, unfolding(rv_model::specs::commands::Commands::carried_out), using(crate::proofs::Steps::either))]
+#[tactic(auto, unfolding(rv_model::specs::commands::Commands::command_outcome), using(crate::proofs::Steps::either))]
 pub(crate) fn carry_out<A: Allocator>(
     images: &[Image<'_>],
     parts: &mut Parts<'_, '_, '_, A>,
@@ -26,12 +26,12 @@ pub(crate) fn carry_out<A: Allocator>(
     reply: &mut Reply,
 )
     ensures next { machine_of parts.new trace.new
-        ≡ (carried_out (named_images images.now) cmd.now (machine_of parts.old trace.old)).next }
+        ≡ (command_outcome (named_images images.now) cmd.now (machine_of parts.old trace.old)).next }
     ensures parts { PartsMove parts.old parts.new (unit_after_uses parts.old.user
-        (carried_out (named_images images.now) cmd.now (machine_of parts.old trace.old)).uses
+        (command_outcome (named_images images.now) cmd.now (machine_of parts.old trace.old)).uses
         (record_of parts.old.unit.now)) }
     ensures reply { reply.new ≡ text (48 + parts.old.user)
-        (carried_out (named_images images.now) cmd.now (machine_of parts.old trace.old)).lines }
+        (command_outcome (named_images images.now) cmd.now (machine_of parts.old trace.old)).lines }
 {
     if !parts.context.entered {
         carry_out_absent(parts, trace, cmd, reply);

@@ -1,7 +1,7 @@
 //! A user's state without memory and vector state.
 use crate::address_set::AddressSet;
 use arrayvec::ArrayVec;
-use rv_model::{OUTPUT_SIZE, Policy, Reg, Scalar, Standing};
+use rv_model::{OUTPUT_SIZE, Policy, Reg, RunState, Scalar};
 
 /// Number of the register that holds the stack pointer.
 const STACK_POINTER: u32 = 2;
@@ -26,7 +26,7 @@ pub(crate) struct Context {
 impl Context {
     ghost use Rattle.std.specs.Prelude.{◌≡◌, ◌==◌, ◌&&◌, length, nat_le, not, true, false};
     ghost use Rattle.std.specs.List.{list_any};
-    ghost use Rattle.monitor_machine.specs.Parts.{new_context, loaded_context, is_running, context_standing};
+    ghost use Rattle.monitor_machine.specs.Parts.{new_context, loaded_context, is_running, context_run_state};
 
     /// Create the context of an absent user.
     pub(crate) fn new() -> Context
@@ -94,15 +94,15 @@ impl Context {
     }
 
     /// Return the state of the user's program.
-    pub(crate) fn standing(&self) -> Standing
-        ensures { result ≡ context_standing self.now }
+    pub(crate) fn run_state(&self) -> RunState
+        ensures { result ≡ context_run_state self.now }
     {
         if !self.entered {
-            Standing::Absent
+            RunState::Absent
         } else if self.running {
-            Standing::Running
+            RunState::Running
         } else {
-            Standing::Stopped
+            RunState::Stopped
         }
     }
 }

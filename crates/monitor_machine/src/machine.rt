@@ -1,6 +1,6 @@
 //! The machine of eight users.
 ghost use Rattle.std.specs.Prelude.{◌≡◌, [], ◌∷◌, length, None, IsOk, IfOk, IfSome, IsErrOf, IsOkUnless};
-ghost use Rattle.rv_model.specs.machine.Script.{commands, after_events, told_by, new_world};
+ghost use Rattle.rv_model.specs.machine.Script.{commands, after_events, printed_by_events, new_world};
 ghost use Rattle.rv_model.specs.machine.Setup.{user_count};
 ghost use Rattle.monitor_machine.specs.MachineState.{after_line, line_output};
 ghost use Rattle.monitor_machine.specs.Images.{setup_of};
@@ -76,7 +76,7 @@ impl<'a, A: Allocator> Machine<'a, A> {
         ensures setup { self.new.setup ≡ self.old.setup }
         ensures eight { length self.new.world.parts ≡ user_count }
         ensures reply { reply.new
-            ≡ told_by self.old.setup self.old.world (commands user line.now ∷ []) }
+            ≡ printed_by_events self.old.setup self.old.world (commands user line.now ∷ []) }
     {
         self.users.command(self.images, user, line, reply);
     }
@@ -87,7 +87,7 @@ impl<'a, A: Allocator> Machine<'a, A> {
     /// refused.
     #[tactic(auto, unfolding(rv_model::specs::machine::World::event,
     // The effect of a line, and its output.
-    rv_model::specs::machine::Script::world_after, rv_model::specs::machine::Script::told,
+    rv_model::specs::machine::Script::world_after, rv_model::specs::machine::Script::printed_by_line,
     // The output lines that begin with a star.
     rv_model::specs::machine::Script::common))]
     pub fn answer(&mut self, line: &[u8], reply: &mut Reply)

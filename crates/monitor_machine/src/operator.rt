@@ -2,11 +2,11 @@
 ghost use Rattle.std.specs.Prelude.{◌≡◌, ◌≤◌, ◌++◌, [], ◌∷◌, false, Ok, length};
 ghost use Rattle.rv_model.specs.commands.Operator.{granted_line, operator_parse};
 ghost use Rattle.rv_model.specs.machine.Grants.{granted, grants, grants_of, operator_line, runs, slice_of};
-ghost use Rattle.rv_model.specs.machine.Script.{after_events, told_by, user_machine};
+ghost use Rattle.rv_model.specs.machine.Script.{after_events, printed_by_events, user_machine};
 ghost use Rattle.rv_model.specs.machine.Turns.{AreInTurn};
 ghost use Rattle.rv_model.specs.machine.Setup.{user_count};
 ghost use Rattle.rv_model.specs.text.Lines.{text};
-ghost use Rattle.monitor_machine.specs.MachineState.{SliceGoesOn};
+ghost use Rattle.monitor_machine.specs.MachineState.{SlicesAddUp};
 
 use crate::machine::Machine;
 use monitor_cmds::{Reply, Tag, parse_operator};
@@ -24,13 +24,13 @@ impl<A: Allocator> Machine<'_, A> {
         ensures setup { self.new.setup ≡ self.old.setup }
         ensures eight { length self.new.world.parts ≡ user_count }
         ensures reply { reply.new
-            ≡ told_by self.old.setup self.old.world (slice_of user false ∷ []) }
+            ≡ printed_by_events self.old.setup self.old.world (slice_of user false ∷ []) }
         ensures ran { result ≡ runs (user_machine user self.old.world) }
         ensures silent { result ≡ false → reply.new ≡ [] }
         ensures same { result ≡ false → self.new ≡ self.old }
 
         // This slice and a later one add up to one slice of all their ticks.
-        ensures adds_up { SliceGoesOn self.old user self.new reply.new }
+        ensures adds_up { SlicesAddUp self.old user self.new reply.new }
     {
         reply.clear();
         self.users.slice(user, self.quantum, reply)
@@ -45,7 +45,7 @@ impl<A: Allocator> Machine<'_, A> {
             ≡ after_events self.old.setup self.old.world (granted self.old.setup count self.old.world) }
         ensures setup { self.new.setup ≡ self.old.setup }
         ensures reply { reply.new
-            ≡ told_by self.old.setup self.old.world (granted self.old.setup count self.old.world) }
+            ≡ printed_by_events self.old.setup self.old.world (granted self.old.setup count self.old.world) }
         ensures count { result ≡ length (granted self.old.setup count self.old.world) }
         ensures bound { length reply.new ≤ 640 }
     {
@@ -64,7 +64,7 @@ impl<A: Allocator> Machine<'_, A> {
         ensures world { self.new.world
             ≡ after_events self.old.setup self.old.world (granted self.old.setup count self.old.world) }
         ensures setup { self.new.setup ≡ self.old.setup }
-        ensures reply { reply.new ≡ told_by self.old.setup self.old.world (granted self.old.setup count self.old.world)
+        ensures reply { reply.new ≡ printed_by_events self.old.setup self.old.world (granted self.old.setup count self.old.world)
             ++ text 42 (granted_line (length (granted self.old.setup count self.old.world)) ∷ []) }
     {
         let granted = self.grant_slices(count, reply);
@@ -79,7 +79,7 @@ impl<A: Allocator> Machine<'_, A> {
             ≡ after_events self.old.setup self.old.world
             (grants self.old.setup self.old.world (OperatorCommand.Run user)) }
         ensures setup { self.new.setup ≡ self.old.setup }
-        ensures reply { reply.new ≡ told_by self.old.setup self.old.world
+        ensures reply { reply.new ≡ printed_by_events self.old.setup self.old.world
             (grants self.old.setup self.old.world (OperatorCommand.Run user))
             ++ text 42 (granted_line (length (grants self.old.setup self.old.world (OperatorCommand.Run user))) ∷ []) }
     {
@@ -93,7 +93,7 @@ impl<A: Allocator> Machine<'_, A> {
         ensures world { self.new.world
             ≡ after_events self.old.setup self.old.world (grants self.old.setup self.old.world command) }
         ensures setup { self.new.setup ≡ self.old.setup }
-        ensures reply { reply.new ≡ told_by self.old.setup self.old.world (grants self.old.setup self.old.world command)
+        ensures reply { reply.new ≡ printed_by_events self.old.setup self.old.world (grants self.old.setup self.old.world command)
             ++ text 42 (operator_line self.old.setup self.old.world (Ok command) ∷ []) }
     {
         match command {
@@ -101,7 +101,7 @@ impl<A: Allocator> Machine<'_, A> {
             OperatorCommand::Run(user) => self.carry_out_run(user, reply),
             OperatorCommand::List => {
                 reply.clear();
-                monitor_cmds::list_line(reply, &self.users.standings());
+                monitor_cmds::list_line(reply, &self.users.run_states());
             }
             OperatorCommand::Stats => {
                 reply.clear();
@@ -120,7 +120,7 @@ impl<A: Allocator> Machine<'_, A> {
             ≡ after_events self.old.setup self.old.world
             (grants_of self.old.setup self.old.world (operator_parse line.now)) }
         ensures setup { self.new.setup ≡ self.old.setup }
-        ensures reply { reply.new ≡ told_by self.old.setup self.old.world
+        ensures reply { reply.new ≡ printed_by_events self.old.setup self.old.world
             (grants_of self.old.setup self.old.world (operator_parse line.now))
             ++ text 42 (operator_line self.old.setup self.old.world (operator_parse line.now) ∷ []) }
         ensures in_turn { AreInTurn self.old.setup self.old.world

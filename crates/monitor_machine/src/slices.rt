@@ -7,7 +7,7 @@ ghost use Rattle.rv_model.specs.machine.World.{sliced};
 ghost use Rattle.rv_model.specs.machine.VectorUnit.{unit_after_uses};
 ghost use Rattle.rv_model.specs.text.Lines.{text};
 ghost use Rattle.monitor_machine.specs.PartMoves.{PartsMove, machine_of};
-ghost use Rattle.monitor_machine.specs.StopRoom.{stop_room};
+ghost use Rattle.monitor_machine.specs.StopLineBounds.{stop_line_bound};
 
 use crate::parts::Parts;
 use crate::stepping;
@@ -32,7 +32,7 @@ fn run_slice<A: Allocator>(
         (sliced quantum (machine_of parts.old trace.old)).uses (record_of parts.old.unit.now)) }
     ensures reply { reply.new
         ≡ reply.old ++ text (48 + parts.old.user) (sliced quantum (machine_of parts.old trace.old)).lines }
-    ensures bound { length reply.new + stop_room (machine_of parts.new trace.new) ≤ length reply.old + 80 }
+    ensures bound { length reply.new + stop_line_bound (machine_of parts.new trace.new) ≤ length reply.old + 80 }
 {
     if let Some(stop) = stepping::slice(parts, trace, quantum) {
         parts.context.running = false;
@@ -49,15 +49,15 @@ pub(crate) fn grant<A: Allocator>(
     quantum: usize,
     reply: &mut Reply,
 ) -> bool
-    requires room { length reply.old + stop_room (machine_of parts.old trace.old) ≤ 4096 }
+    requires room { length reply.old + stop_line_bound (machine_of parts.old trace.old) ≤ 4096 }
     ensures next { machine_of parts.new trace.new ≡ (sliced quantum (machine_of parts.old trace.old)).next }
     ensures parts { PartsMove parts.old parts.new (unit_after_uses parts.old.user
         (sliced quantum (machine_of parts.old trace.old)).uses (record_of parts.old.unit.now)) }
     ensures reply { reply.new
         ≡ reply.old ++ text (48 + parts.old.user) (sliced quantum (machine_of parts.old trace.old)).lines }
     ensures ran { result ≡ runs (machine_of parts.old trace.old) }
-    ensures bound { length reply.new + stop_room (machine_of parts.new trace.new)
-        ≤ length reply.old + stop_room (machine_of parts.old trace.old) }
+    ensures bound { length reply.new + stop_line_bound (machine_of parts.new trace.new)
+        ≤ length reply.old + stop_line_bound (machine_of parts.old trace.old) }
     ensures configured { IsConfigured (machine_of parts.old trace.old) }
 {
     // For the proof alone: the vector length is valid for the vector type.

@@ -2,7 +2,7 @@
 ghost use Rattle.std.specs.Prelude.{◌≡◌, ◌+◌, ◌≤◌, ◌++◌, [], length, map, replicate, IfOk, IfNone, IfSome};
 ghost use Rattle.rv_model.specs.commands.Commands.{commanded, parse as parse_spec};
 ghost use Rattle.rv_model.specs.machine.Cuts.{IsConfigured};
-ghost use Rattle.rv_model.specs.machine.Grants.{next_running, runs, standing};
+ghost use Rattle.rv_model.specs.machine.Grants.{next_running, runs, run_state};
 ghost use Rattle.rv_model.specs.machine.World.{sliced};
 ghost use Rattle.rv_model.specs.machine.Script.{new_world, user_machine};
 ghost use Rattle.rv_model.specs.machine.Setup.{user_count};
@@ -10,8 +10,8 @@ ghost use Rattle.rv_model.specs.machine.VectorUnit.{stats_of};
 ghost use Rattle.rv_model.specs.text.Lines.{text};
 ghost use Rattle.monitor_machine.specs.Images.{named_images};
 ghost use Rattle.monitor_machine.specs.MachineState.{after_command, after_slice};
-ghost use Rattle.monitor_machine.specs.Parts.{context_standing, is_running, new_context};
-ghost use Rattle.monitor_machine.specs.StopRoom.{stops_room};
+ghost use Rattle.monitor_machine.specs.Parts.{context_run_state, is_running, new_context};
+ghost use Rattle.monitor_machine.specs.StopLineBounds.{stop_lines_bound};
 
 use crate::answers::refuse;
 use crate::commands::carry_out;
@@ -22,7 +22,7 @@ use crate::slices::grant;
 use crate::trace::Trace;
 use lazy_context::Unit;
 use monitor_cmds::{Reply, parse};
-use rv_model::{Standing, Stats, USER_COUNT, User};
+use rv_model::{RunState, Stats, USER_COUNT, User};
 use slice_sched::next;
 use std::alloc::{AllocError, Allocator};
 use std::marker::Model;
@@ -93,14 +93,14 @@ fn running_of(contexts: &[Context; USER_COUNT]) -> [bool; USER_COUNT]
 }
 
 /// Return the state of each context's program.
-fn standings_of(contexts: &[Context; USER_COUNT]) -> [Standing; USER_COUNT]
-    ensures { result ≡ map context_standing contexts.now }
+fn run_states_of(contexts: &[Context; USER_COUNT]) -> [RunState; USER_COUNT]
+    ensures { result ≡ map context_run_state contexts.now }
 {
-    let mut standings = [Standing::Absent; USER_COUNT];
+    let mut run_states = [RunState::Absent; USER_COUNT];
     for index in 0..USER_COUNT {
-        standings[index] = contexts[index].standing();
+        run_states[index] = contexts[index].run_state();
     }
-    standings
+    run_states
 }
 
 impl<A: Allocator> Users<A> {
@@ -157,12 +157,12 @@ impl<A: Allocator> Users<A> {
     /// stop line to the reply if the program stopped. Return whether the program was running.
     #[tactic(auto, using(crate::proofs::PartLaws::part_put_back))]
     pub(crate) fn slice(&mut self, user: User, quantum: usize, reply: &mut Reply) -> bool
-        requires { length reply.old + stops_room self.old.parts ≤ 4096 }
+        requires { length reply.old + stop_lines_bound self.old.parts ≤ 4096 }
         ensures world { self.new ≡ after_slice quantum user self.old }
         ensures reply { reply.new ≡ reply.old ++ text (48 + user) (sliced quantum (user_machine user self.old)).lines }
         ensures ran { result ≡ runs (user_machine user self.old) }
-        ensures bound { length reply.new + stops_room self.new.parts
-            ≤ length reply.old + stops_room self.old.parts }
+        ensures bound { length reply.new + stop_lines_bound self.new.parts
+            ≤ length reply.old + stop_lines_bound self.old.parts }
         ensures next { user_machine user self.new ≡ (sliced quantum (user_machine user self.old)).next }
         ensures configured { IsConfigured (user_machine user self.old) }
     {
@@ -199,11 +199,11 @@ impl<A: Allocator> Users<A> {
     }
 
     /// Return the state of each user's program, user 1 first.
-    #[tactic(auto, using(crate::proofs::GrantLaws::standings_of_parts))]
-    pub(crate) fn standings(&self) -> [Standing; USER_COUNT]
-        ensures { result ≡ map standing self.now.parts }
+    #[tactic(auto, using(crate::proofs::GrantLaws::run_states_of_parts))]
+    pub(crate) fn run_states(&self) -> [RunState; USER_COUNT]
+        ensures { result ≡ map run_state self.now.parts }
     {
-        standings_of(&self.contexts)
+        run_states_of(&self.contexts)
     }
 
     /// Return the counts and the owner of the vector unit.

@@ -4,7 +4,7 @@ use Rattle.std.proofs.lemmas.Bool.{eqb-true}
 use Rattle.std.proofs.Math.Seq.{take-append_seam}
 use Rattle.monitor_machine.specs.MachineState.{MachineState, after_line, line_output}
 use Rattle.rv_model.specs.machine.Setup.{Setup}
-use Rattle.rv_model.specs.machine.Script.{World, after_all, told, told_all, world_after}
+use Rattle.rv_model.specs.machine.Script.{World, after_all, printed_by_line, printed_by_lines, world_after}
 use Rattle.rv_model.specs.text.Lines.{is_newline, pieces}
 use Rattle.rv_model.proofs.Choices.{of_bool}
 use Rattle.rv_model.proofs.text_lemmas.Newlines.{IsLine}
@@ -92,15 +92,15 @@ after_all-push : (s : Setup) (w : World) (ls : List (List ℕ)) (l : List ℕ) �
 after_all-push s w [] l = refl
 after_all-push s w (x ∷ ls) l = after_all-push s (world_after s w x) ls l
 
-pub told_all-append : (s : Setup) (w : World) (ls more : List (List ℕ)) → told_all s w (ls ++ more) ≡ told_all s w ls ++ told_all s (after_all s w ls) more
-told_all-append s w [] more = refl
-told_all-append s w (x ∷ ls) more =
-    ap (λ (t : List ℕ). told s w x ++ t) (told_all-append s (world_after s w x) ls more)
-    ∙ sym (append_assoc (told s w x) (told_all s (world_after s w x) ls) (told_all s (after_all s (world_after s w x) ls) more))
+pub printed_by_lines-append : (s : Setup) (w : World) (ls more : List (List ℕ)) → printed_by_lines s w (ls ++ more) ≡ printed_by_lines s w ls ++ printed_by_lines s (after_all s w ls) more
+printed_by_lines-append s w [] more = refl
+printed_by_lines-append s w (x ∷ ls) more =
+    ap (λ (t : List ℕ). printed_by_line s w x ++ t) (printed_by_lines-append s (world_after s w x) ls more)
+    ∙ sym (append_assoc (printed_by_line s w x) (printed_by_lines s (world_after s w x) ls) (printed_by_lines s (after_all s (world_after s w x) ls) more))
 
-told_all-push : (s : Setup) (w : World) (ls : List (List ℕ)) (l : List ℕ) → told_all s w (ls ++ l ∷ []) ≡ told_all s w ls ++ told s (after_all s w ls) l
-told_all-push s w ls l =
-    told_all-append s w ls (l ∷ []) ∙ ap (λ (t : List ℕ). told_all s w ls ++ t) (append-nil (told s (after_all s w ls) l))
+printed_by_lines-push : (s : Setup) (w : World) (ls : List (List ℕ)) (l : List ℕ) → printed_by_lines s w (ls ++ l ∷ []) ≡ printed_by_lines s w ls ++ printed_by_line s (after_all s w ls) l
+printed_by_lines-push s w ls l =
+    printed_by_lines-append s w ls (l ∷ []) ∙ ap (λ (t : List ℕ). printed_by_lines s w ls ++ t) (append-nil (printed_by_line s (after_all s w ls) l))
 
 -- processing a script byte by byte and then its last line is the same as executing it line by line
 pub machine_of_all : (m : MachineState) (s : List ℕ) → after_line (fed m [] s).machine (fed m [] s).line ≡ after_lines m (pieces s)
@@ -112,7 +112,7 @@ machine_of_all m s =
 pub output_of_all : (m : MachineState) (s : List ℕ) → (fed m [] s).output ++ line_output (fed m [] s).machine (fed m [] s).line ≡ lines_output m (pieces s)
 output_of_all m s =
     let t = from_start_leaves m s in
-    rw (t.line, output_clipped, t.machine, t.output) (sym (told_all-push m.setup m.world t.before t.last) ∙ ap (lines_output m) (sym t.all))
+    rw (t.line, output_clipped, t.machine, t.output) (sym (printed_by_lines-push m.setup m.world t.before t.last) ∙ ap (lines_output m) (sym t.all))
 
 -- each text has at least one piece
 pub some_piece : (m : MachineState) (s : List ℕ) → pieces s ≡ [] → ⊥

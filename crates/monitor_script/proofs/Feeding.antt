@@ -7,7 +7,7 @@ use Rattle.monitor_machine.specs.MachineState.{MachineState, after_line, line_ou
 use Rattle.rv_model.specs.machine.Setup.{Setup}
 use Rattle.rv_model.specs.text.Lines.{is_newline, text}
 use Rattle.rv_model.proofs.text_lemmas.Newlines.{is_line, IsLine}
-use Rattle.rv_model.specs.machine.Script.{World, Kind, kind_of, prefixed, Long, events_of, common, after_events, told_by, told, after_all, told_all, world_after}
+use Rattle.rv_model.specs.machine.Script.{World, Kind, kind_of, prefixed, Long, events_of, common, after_events, printed_by_events, printed_by_line, after_all, printed_by_lines, world_after}
 use Rattle.monitor_script.specs.Feed.{Fed, longer, feed, fed}
 
 -- truncating a line preserves its kind
@@ -23,8 +23,8 @@ kind_clipped a = elim (cases_lt (length a) 1025) [
 ]
 
 pub output_clipped : (m : MachineState) (a : List ℕ) → line_output m (take 1025 a) ≡ line_output m a
-unfolding told
-output_clipped m a = ap (λ (k : Kind). told_by m.setup m.world (events_of m.setup m.world k) ++ text 42 (common m.setup m.world k)) (kind_clipped a)
+unfolding printed_by_line
+output_clipped m a = ap (λ (k : Kind). printed_by_events m.setup m.world (events_of m.setup m.world k) ++ text 42 (common m.setup m.world k)) (kind_clipped a)
 
 world_clipped : (s : Setup) (w : World) (a : List ℕ) → world_after s w (take 1025 a) ≡ world_after s w a
 unfolding world_after
@@ -52,7 +52,7 @@ abbrev pub after_lines : MachineState → List (List ℕ) → MachineState
 after_lines m lines = record m { world = after_all m.setup m.world lines }
 
 abbrev pub lines_output : MachineState → List (List ℕ) → List ℕ
-lines_output m lines = told_all m.setup m.world lines
+lines_output m lines = printed_by_lines m.setup m.world lines
 
 -- processing one byte, and then the others
 abbrev pub and_then : Fed → List ℕ → Fed

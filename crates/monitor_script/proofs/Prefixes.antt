@@ -5,12 +5,12 @@ use Rattle.std.specs.Io.{StartsWith}
 use Rattle.std.proofs.lemmas.List.{take-append-drop, take_all}
 use Rattle.std.proofs.Math.Seq.{take-append-add, take-append_seam}
 use Rattle.monitor_machine.specs.MachineState.{MachineState, line_output}
-use Rattle.rv_model.specs.machine.Script.{World, after_all, told, told_all, whole_from, world_after}
+use Rattle.rv_model.specs.machine.Script.{World, after_all, printed_by_line, printed_by_lines, whole_from, world_after}
 use Rattle.rv_model.specs.text.Lines.{pieces}
 use Rattle.monitor_script.specs.EndedLines.{ended_lines}
 use Rattle.monitor_script.specs.FailedWrites.{CutShort}
 use Rattle.monitor_script.specs.Feed.{Fed, fed}
-use Rattle.monitor_script.proofs.EndedLaws.{output_of_all, told_all-append}
+use Rattle.monitor_script.proofs.EndedLaws.{output_of_all, printed_by_lines-append}
 use Rattle.monitor_script.proofs.Feeding.{fed-append}
 use Rattle.monitor_script.proofs.Runs.{output_before_end}
 
@@ -20,7 +20,7 @@ begins xs prefix rest e = ap (take (length prefix)) e ∙ take-append_seam prefi
 -- ---- the ended lines
 
 -- the output after that of the ended lines
-after_ended : (m : MachineState) (text rest : List ℕ) → (more : List ℕ) × (whole_from m.setup m.world (text ++ rest) ≡ told_all m.setup m.world (ended_lines text) ++ more)
+after_ended : (m : MachineState) (text rest : List ℕ) → (more : List ℕ) × (whole_from m.setup m.world (text ++ rest) ≡ printed_by_lines m.setup m.world (ended_lines text) ++ more)
 unfolding whole_from
 after_ended m text rest =
     let one : Fed = fed m [] text in
@@ -30,19 +30,19 @@ after_ended m text rest =
       two ++ last,
       sym (output_of_all m (text ++ rest))
           ∙ ap (λ (t : List ℕ). t ++ last) ((fed-append m [] text rest).output ∙ ap (λ (t : List ℕ). t ++ two) (output_before_end m text))
-          ∙ append_assoc (told_all m.setup m.world (ended_lines text)) two last,
+          ∙ append_assoc (printed_by_lines m.setup m.world (ended_lines text)) two last,
     )
 
-pub ended_begin : (m : MachineState) (text rest : List ℕ) → StartsWith (whole_from m.setup m.world (text ++ rest)) (told_all m.setup m.world (ended_lines text))
+pub ended_begin : (m : MachineState) (text rest : List ℕ) → StartsWith (whole_from m.setup m.world (text ++ rest)) (printed_by_lines m.setup m.world (ended_lines text))
 ended_begin m text rest = let after = after_ended m text rest in begins _ _ after.0 after.1
 
 -- the first n bytes of the text, and its other bytes
 first_bytes : (n : ℕ) (text rest : List ℕ) → text ++ rest ≡ take n text ++ (drop n text ++ rest)
 first_bytes n text rest = ap (λ (t : List ℕ). t ++ rest) (sym (take-append-drop n text)) ∙ append_assoc (take n text) (drop n text) rest
 
-pub first_begin : (m : MachineState) (n : ℕ) (text rest : List ℕ) → StartsWith (whole_from m.setup m.world (text ++ rest)) (told_all m.setup m.world (ended_lines (take n text)))
+pub first_begin : (m : MachineState) (n : ℕ) (text rest : List ℕ) → StartsWith (whole_from m.setup m.world (text ++ rest)) (printed_by_lines m.setup m.world (ended_lines (take n text)))
 first_begin m n text rest =
-    subst (λ (t : List ℕ). StartsWith (whole_from m.setup m.world t) (told_all m.setup m.world (ended_lines (take n text))))
+    subst (λ (t : List ℕ). StartsWith (whole_from m.setup m.world t) (printed_by_lines m.setup m.world (ended_lines (take n text))))
     (sym (first_bytes n text rest)) (ended_begin m (take n text) (drop n text ++ rest))
 
 -- ---- an incomplete reply
@@ -74,26 +74,26 @@ of_list (y ∷ ys) P none some = some y ys refl
 
 pub cut_short_begins : (m : MachineState) (text rest : List ℕ) (Ended : Type 0) (now : World) (Took : List ℕ → Type 0) (cut : CutShort m text Ended now Took)
     → (Ended → rest ≡ [])
-    → StartsWith (whole_from m.setup m.world (text ++ rest)) (told_all m.setup m.world cut.before ++ take cut.count (told m.setup (after_all m.setup m.world cut.before) cut.line))
+    → StartsWith (whole_from m.setup m.world (text ++ rest)) (printed_by_lines m.setup m.world cut.before ++ take cut.count (printed_by_line m.setup (after_all m.setup m.world cut.before) cut.line))
 unfolding whole_from
 cut_short_begins m text rest Ended now Took cut none =
     let w : World = after_all m.setup m.world cut.before in
     let whole : List ℕ = whole_from m.setup m.world (text ++ rest) in
-    let before : List ℕ = told_all m.setup m.world cut.before in
-    let answer : List ℕ = told m.setup w cut.line in
+    let before : List ℕ = printed_by_lines m.setup m.world cut.before in
+    let answer : List ℕ = printed_by_line m.setup w cut.line in
     let lines : (more : List (List ℕ)) → cut.more ≡ more → pieces (take 16777216 text) ≡ cut.before ++ cut.line ∷ more =
     λ more e. cut.lines ∙ ap (λ (ls : List (List ℕ)). cut.before ++ cut.line ∷ ls) e in
-    let told_so : (more : List (List ℕ)) → told_all m.setup m.world (cut.before ++ cut.line ∷ more) ≡ before ++ (answer ++ told_all m.setup (world_after m.setup w cut.line) more) =
-    λ more. told_all-append m.setup m.world cut.before (cut.line ∷ more) in
+    let told_so : (more : List (List ℕ)) → printed_by_lines m.setup m.world (cut.before ++ cut.line ∷ more) ≡ before ++ (answer ++ printed_by_lines m.setup (world_after m.setup w cut.line) more) =
+    λ more. printed_by_lines-append m.setup m.world cut.before (cut.line ∷ more) in
     of_list cut.more (StartsWith whole (before ++ take cut.count answer))
     (λ e.
     let end = cut.last e in
     let all : text ++ rest ≡ take 16777216 text = ap (λ (t : List ℕ). text ++ t) (none end.0) ∙ append-nil text ∙ sym (take_all 16777216 text end.1) in
     part_begins whole before answer [] [] cut.count
-    (ap (λ (t : List ℕ). told_all m.setup m.world (pieces t)) all ∙ ap (told_all m.setup m.world) (lines [] e) ∙ told_so [] ∙ sym (append-nil (before ++ (answer ++ [])))))
+    (ap (λ (t : List ℕ). printed_by_lines m.setup m.world (pieces t)) all ∙ ap (printed_by_lines m.setup m.world) (lines [] e) ∙ told_so [] ∙ sym (append-nil (before ++ (answer ++ [])))))
     (λ next more e.
     let others : List (List ℕ) = take (length more) (next ∷ more) in
     let after = after_ended m (take 16777216 text) (drop 16777216 text ++ rest) in
     let ended = ended_with (take 16777216 text) cut.line next cut.before more (lines (next ∷ more) e) in
-    part_begins whole before answer (told_all m.setup (world_after m.setup w cut.line) others) after.0 cut.count
-    (ap (whole_from m.setup m.world) (first_bytes 16777216 text rest) ∙ after.1 ∙ ap (λ (t : List ℕ). t ++ after.0) (ap (told_all m.setup m.world) ended ∙ told_so others)))
+    part_begins whole before answer (printed_by_lines m.setup (world_after m.setup w cut.line) others) after.0 cut.count
+    (ap (whole_from m.setup m.world) (first_bytes 16777216 text rest) ∙ after.1 ∙ ap (λ (t : List ℕ). t ++ after.0) (ap (printed_by_lines m.setup m.world) ended ∙ told_so others)))

@@ -3,7 +3,7 @@ use Rattle.std.proofs.Common.{◌≡◌, ℕ, ◌+◌, ◌-◌, ◌<◌, ◌≤�
 use Rattle.std.proofs.lemmas.List.{get_or-replicate, take_all}
 use Rattle.std.proofs.Math.Seq.{take-append-add}
 use Rattle.monitor_machine.specs.MachineState.{MachineState, after_line, line_output}
-use Rattle.rv_model.specs.machine.Script.{World, after_all, told, told_all, whole_from, after_script, lines, own, own_from, new_world, user_machine}
+use Rattle.rv_model.specs.machine.Script.{World, after_all, printed_by_line, printed_by_lines, whole_from, after_script, lines, own, own_from, new_world, user_machine}
 use Rattle.rv_model.specs.machine.World.{Private, solo, solo_from}
 use Rattle.rv_model.specs.text.Lines.{pieces}
 use Rattle.rv_model.proofs.machine_lemmas.Headline.{headline, length-after_all}
@@ -65,10 +65,10 @@ world_before_end m0 m text p =
     let l = from_start_leaves m0 text in
     ap (λ (v : MachineState). v.world) (p ∙ l.machine) ∙ ap (after_all m0.setup m0.world) (sym (ended_are m0 text (fed m0 [] text) l))
 
-pub output_before_end : (m0 : MachineState) (text : List ℕ) → (fed m0 [] text).output ≡ told_all m0.setup m0.world (ended_lines text)
+pub output_before_end : (m0 : MachineState) (text : List ℕ) → (fed m0 [] text).output ≡ printed_by_lines m0.setup m0.world (ended_lines text)
 output_before_end m0 text =
     let l = from_start_leaves m0 text in
-    l.output ∙ ap (told_all m0.setup m0.world) (sym (ended_are m0 text (fed m0 [] text) l))
+    l.output ∙ ap (printed_by_lines m0.setup m0.world) (sym (ended_are m0 text (fed m0 [] text) l))
 
 -- if the script is too long
 pub world_too_long : (m0 : MachineState) (front piece : List ℕ) (m m' : MachineState) (line : List ℕ) (left : ℕ) → SoFar m0 front m line left → m' ≡ (fed m line (take left piece)).machine → m'.world ≡ after_all m0.setup m0.world (ended_lines (take 16777216 (front ++ piece)))
@@ -77,7 +77,7 @@ world_too_long m0 front piece m m' line left s p =
     let on = goes_on m0 [] text front (take left piece) m line (first_limit front piece left s.limit) s.machine s.line in
     world_before_end m0 m' text (p ∙ sym on.machine)
 
-pub output_too_long : (m0 : MachineState) (front piece : List ℕ) (m : MachineState) (line : List ℕ) (left : ℕ) → SoFar m0 front m line left → (fed m0 [] front).output ++ (fed m line (take left piece)).output ≡ told_all m0.setup m0.world (ended_lines (take 16777216 (front ++ piece)))
+pub output_too_long : (m0 : MachineState) (front piece : List ℕ) (m : MachineState) (line : List ℕ) (left : ℕ) → SoFar m0 front m line left → (fed m0 [] front).output ++ (fed m line (take left piece)).output ≡ printed_by_lines m0.setup m0.world (ended_lines (take 16777216 (front ++ piece)))
 output_too_long m0 front piece m line left s =
     let text : List ℕ = take 16777216 (front ++ piece) in
     let on = goes_on m0 [] text front (take left piece) m line (first_limit front piece left s.limit) s.machine s.line in
@@ -91,7 +91,7 @@ cut_at : (m0 : MachineState) (text whole : List ℕ) (more : List (List ℕ)) (E
 cut_at m0 text whole more Ended m m' line n Took ps last p l e less took =
     let t = from_start_leaves m0 whole in
     let w : World = after_all m0.setup m0.world t.before in
-    let same : line_output m line ≡ told m0.setup w t.last =
+    let same : line_output m line ≡ printed_by_line m0.setup w t.last =
     ap (line_output m) (l ∙ t.line) ∙ output_clipped m t.last ∙ ap (λ (v : MachineState). line_output v t.last) (p ∙ t.machine) in
     record {
       before = t.before;
@@ -105,7 +105,7 @@ cut_at m0 text whole more Ended m m' line n Took ps last p l e less took =
           (e ∙ ap (after_line m) (l ∙ t.line) ∙ after_clipped m t.last ∙ ap (λ (v : MachineState). after_line v t.last) (p ∙ t.machine));
       less = omega (arith, less, ap length same);
       output = subst Took
-          (ap (λ (x : List ℕ). (fed m0 [] whole).output ++ take n x) same ∙ ap (λ (x : List ℕ). x ++ take n (told m0.setup w t.last)) t.output) took;
+          (ap (λ (x : List ℕ). (fed m0 [] whole).output ++ take n x) same ∙ ap (λ (x : List ℕ). x ++ take n (printed_by_line m0.setup w t.last)) t.output) took;
     }
 
 -- the reply to the last line

@@ -47,7 +47,7 @@ fn take_byte<A: Allocator, K: Sink>(
         K.took sink.old (feed machine.old line.old byte).output sink.new) }
     ensures unfailed { OnOk result (K.failures sink.new ≡ K.failures sink.old) }
     ensures newline { OnErr result (byte ≡ 10) }
-    ensures carried_out { OnErr result (machine.new ≡ after_line machine.old line.old) }
+    ensures command_outcome { OnErr result (machine.new ≡ after_line machine.old line.old) }
     ensures part { OnErr result ((n : ℕ) × ((n < length (line_output machine.old line.old))
         × K.took sink.old (take n (line_output machine.old line.old)) sink.new)) }
     ensures cause { OnErr result (Rose (K.failures sink.old) (K.failures sink.new)) }

@@ -4,7 +4,7 @@ ghost use Rattle.monitor_machine.specs.MachineState.{after_line, line_output};
 ghost use Rattle.rv_model.specs.machine.World.{solo, solo_from};
 ghost use Rattle.rv_model.specs.machine.Script.{
   after_all,
-  told_all,
+  printed_by_lines,
   whole_from,
   after_script,
   lines,
@@ -135,7 +135,7 @@ pub fn run<A: Allocator, S: Source, K: Sink>(
     ensures after_read { result ≡ Err RunFault.Read → (text : List ℕ) × (
         S.gave source.old text source.new × (length text ≤ 16777216)
         × (machine.new.world ≡ after_all machine.old.setup machine.old.world (ended_lines text))
-        × K.took sink.old (told_all machine.old.setup machine.old.world (ended_lines text)) sink.new) }
+        × K.took sink.old (printed_by_lines machine.old.setup machine.old.world (ended_lines text)) sink.new) }
     // If the script is too long, exactly the lines that end in its first 16,777,216 bytes have been executed, and their
     // replies written. At most 512 more bytes have been read.
     ensures after_too_long { result ≡ Err RunFault.TooLong → (text : List ℕ) × (
@@ -143,7 +143,7 @@ pub fn run<A: Allocator, S: Source, K: Sink>(
         × (16777216 < length text) × (length text ≤ 16777728)
         × (machine.new.world ≡ after_all machine.old.setup machine.old.world
         (ended_lines (take 16777216 text)))
-        × K.took sink.old (told_all machine.old.setup machine.old.world
+        × K.took sink.old (printed_by_lines machine.old.setup machine.old.world
         (ended_lines (take 16777216 text))) sink.new) }
     ensures write { result ≡ Err RunFault.Write → Rose (K.failures sink.old) (K.failures sink.new) }
     // After a failed write, the output ends within the reply to one line.

@@ -13,9 +13,9 @@ use Rattle.recording.specs.declared.class.Class.TheVariants.{Plain, Link, Length
 use Rattle.recording.specs.declared.found.Found.{Found}
 use Rattle.recording.specs.declared.key.Key.TheVariants.{Word}
 use Rattle.recording.specs.Found.{Finds, IsRowFor}
-use Rattle.recording.specs.Runs.{carried_out, counted, is_counted, key_beside, once_more, share, word_of}
+use Rattle.recording.specs.Runs.{carried_out, counted, is_counted, second_key, once_more, share, word_of}
 use Rattle.recording.specs.Sums.{HasMore, IsRowOf, Key, Row, Sums, more_of, no_more, plain}
-use Rattle.recording.proofs.Actives.{all_are_active, no_elements}
+use Rattle.recording.proofs.ActiveElements.{all_are_active, no_elements}
 use Rattle.recording.specs.CountLaws.{composed, none_more}
 
 -- ---- the row of the word, and the row of the second key
@@ -40,9 +40,9 @@ plain_is (Other extent) is = absurd (cc)
 -- a plain instruction is counted only in the row of its word, independent of the state before it
 plain_counted : (k : Class) (mask : List ℕ) (start ticks : ℕ) (c d : Configuration) (pc target : ℕ) (end : StepEnd) (key : Key) (made : Sums) (old new : List Row)
     → is_plain k ≡ true → is_counted end ≡ true → made ≡ plain ticks → HasMore (more_of key made) old new
-    → HasMore (counted end key (carried_out ticks (body k mask start c) (tail_end k start c)) (key_beside k d pc target)) old new
+    → HasMore (counted end key (carried_out ticks (body k mask start c) (tail_end k start c)) (second_key k d pc target)) old new
 plain_counted k mask start ticks c d pc target end key made old new is counts e one =
-    subst (λ (j : Class). HasMore (counted end key (carried_out ticks (body j mask start c) (tail_end j start c)) (key_beside j d pc target)) old new) (sym (plain_is k is))
+    subst (λ (j : Class). HasMore (counted end key (carried_out ticks (body j mask start c) (tail_end j start c)) (second_key j d pc target)) old new) (sym (plain_is k is))
     (both_counted end key made (carried_out ticks (body Plain mask start c) (tail_end Plain start c)) None old new new counts (e ∙ sym (no_elements mask start ticks)) one (none_more new))
 
 -- a key is counted in its row, which may be new
@@ -80,7 +80,7 @@ was_fetched s next ticks end made counts =
 abbrev share_of : HartState → Stepped → Bool → ℕ → Class → List ℕ → ℕ → (Sums → ℕ) → (Key → Bool) → ℕ
 share_of s one counts word k mask start =
     let c = one.state.vector.conf in
-    counted_if counts (Word s.scalar.pc word) (carried_out one.ticks (body k mask start c) (tail_end k start c)) (key_beside k s.vector.conf s.scalar.pc one.state.scalar.pc)
+    counted_if counts (Word s.scalar.pc word) (carried_out one.ticks (body k mask start c) (tail_end k start c)) (second_key k s.vector.conf s.scalar.pc one.state.scalar.pc)
 
 -- the code's word, class and mask equal those of the state if they affect the counts
 module _ (s : HartState) (word : ℕ) (k : Class) (mask : List ℕ) (start : ℕ) (old new : List Row)
@@ -92,20 +92,20 @@ module _ (s : HartState) (word : ℕ) (k : Class) (mask : List ℕ) (start : ℕ
       subst (λ (w : ℕ). HasMore (share_of s one true w (class_of (scan table w)) (register_of s.vector.file 0) s.vector.vstart) old new) (word_is refl)
       (subst (λ (j : Class). HasMore (share_of s one true word j (register_of s.vector.file 0) s.vector.vstart) old new) class_is
       (subst (λ (n : ℕ). HasMore (share_of s one true word k (register_of s.vector.file 0) n) old new) start_is
-      (subst (λ (sums : Sums). HasMore (counted_if true (Word s.scalar.pc word) sums (key_beside k s.vector.conf s.scalar.pc one.state.scalar.pc)) old new)
+      (subst (λ (sums : Sums). HasMore (counted_if true (Word s.scalar.pc word) sums (second_key k s.vector.conf s.scalar.pc one.state.scalar.pc)) old new)
       (same_sums k mask (register_of s.vector.file 0) start one.ticks one.state.vector.conf mask_is) more)))
 
   share_is : (next : HartState) (ticks : ℕ) (end : StepEnd) (c : Configuration) (pc : ℕ) → step 256 s ≡ ends_after ticks end next → c ≡ s.vector.conf → pc ≡ s.scalar.pc
       → (can_access Fetch s.memory s.scalar.pc 4 ≡ true → word ≡ word_of s)
-      → HasMore (counted end (Word s.scalar.pc word) (carried_out ticks (body k mask start next.vector.conf) (tail_end k start next.vector.conf)) (key_beside k c pc next.scalar.pc)) old new
+      → HasMore (counted end (Word s.scalar.pc word) (carried_out ticks (body k mask start next.vector.conf) (tail_end k start next.vector.conf)) (second_key k c pc next.scalar.pc)) old new
       → HasMore (share s) old new
   share_is next ticks end c pc made conf_is pc_is word_is more =
       let sums : Sums = carried_out ticks (body k mask start next.vector.conf) (tail_end k start next.vector.conf) in
       subst (λ (one : Stepped). HasMore (share_of s one (is_counted one.end) (word_of s) (class_of (scan table (word_of s))) (register_of s.vector.file 0) s.vector.vstart) old new)
       (sym made)
       (by_state (ends_after ticks end next) (is_counted end) (λ counts. word_is (was_fetched s next ticks end made counts))
-      (subst (λ (d : Configuration). HasMore (counted end (Word s.scalar.pc word) sums (key_beside k d s.scalar.pc next.scalar.pc)) old new) conf_is
-      (subst (λ (p : ℕ). HasMore (counted end (Word s.scalar.pc word) sums (key_beside k c p next.scalar.pc)) old new) pc_is more)))
+      (subst (λ (d : Configuration). HasMore (counted end (Word s.scalar.pc word) sums (second_key k d s.scalar.pc next.scalar.pc)) old new) conf_is
+      (subst (λ (p : ℕ). HasMore (counted end (Word s.scalar.pc word) sums (second_key k c p next.scalar.pc)) old new) pc_is more)))
 
 -- ---- counts from the saved state
 
@@ -134,10 +134,10 @@ module _ (s next : HartState) (k : Class) (index : ℕ) (found : Found) (ticks :
       (plain_counted k mask s.vector.vstart ticks next.vector.conf s.vector.conf s.scalar.pc next.scalar.pc end (Word s.scalar.pc noted.word) sums old new is counts e one)
 
   pub share_found : (mid : List Row) → is_plain k ≡ false → sums ≡ carried_out ticks (body k found.mask found.start next.vector.conf) (tail_end k found.start next.vector.conf)
-      → HasMore (more_of (Word s.scalar.pc noted.word) sums) old mid → HasMore (once_more (key_beside k found.conf found.pc next.scalar.pc)) mid new → HasMore (share s) old new
+      → HasMore (more_of (Word s.scalar.pc noted.word) sums) old mid → HasMore (once_more (second_key k found.conf found.pc next.scalar.pc)) mid new → HasMore (share s) old new
   share_found mid isnt e one two =
       let finds : Finds k s.scalar.pc s.vector found =
       subst (λ (j : Class). Finds j s.scalar.pc s.vector found) (sym class) (noted.finds (ap (λ (j : Class). is_plain j) (sym class) ∙ isnt)) in
       share_is s noted.word k found.mask found.start old new class finds.mask_is finds.start_is next ticks end found.conf found.pc made finds.conf_is finds.pc_is noted.word_is
       (both_counted end (Word s.scalar.pc noted.word) sums (carried_out ticks (body k found.mask found.start next.vector.conf) (tail_end k found.start next.vector.conf))
-      (key_beside k found.conf found.pc next.scalar.pc) old mid new counts e one two)
+      (second_key k found.conf found.pc next.scalar.pc) old mid new counts e one two)

@@ -1,4 +1,4 @@
-pub mod Actives
+pub mod ActiveElements
 pub mod AsSteps
 pub mod Bodies
 pub mod Counted

@@ -79,10 +79,10 @@ is_counted _ = false
 
 -- the second key of an instruction, in addition to its word. Instructions with elements have the vector type and length before them,
 -- and jumps have their address and target
-abbrev pub key_beside : Class → Configuration → ℕ → ℕ → Option Key
-key_beside class.Plain c pc target = None
-key_beside class.Link c pc target = Some (Jump pc target)
-key_beside k c pc target = Some (Length (vtype_number c.vtype) c.vl)
+abbrev pub second_key : Class → Configuration → ℕ → ℕ → Option Key
+second_key class.Plain c pc target = None
+second_key class.Link c pc target = Some (Jump pc target)
+second_key k c pc target = Some (Length (vtype_number c.vtype) c.vl)
 
 -- a count of 1 for a key, if there is one
 abbrev pub once_more : Option Key → (Sums → ℕ) → (Key → Bool) → ℕ
@@ -105,7 +105,7 @@ share s =
     let k = class_of (scan table (word_of s)) in
     let c = one.state.vector.conf in
     counted one.end (Word s.scalar.pc (word_of s)) (carried_out one.ticks (body k (register_of s.vector.file 0) s.vector.vstart c) (tail_end k s.vector.vstart c))
-    (key_beside k s.vector.conf s.scalar.pc one.state.scalar.pc)
+    (second_key k s.vector.conf s.scalar.pc one.state.scalar.pc)
 
 -- the sum of counts over the instructions executed from these states
 abbrev pub all_of : (HartState → (Sums → ℕ) → (Key → Bool) → ℕ) → List HartState → (Sums → ℕ) → (Key → Bool) → ℕ

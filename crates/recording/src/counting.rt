@@ -3,7 +3,7 @@ ghost use Rattle.std.specs.Prelude.{◌≡◌, true, OnOk};
 ghost use Rattle.rv_model.specs.declared.memory.Access.TheVariants.{Fetch};
 ghost use Rattle.rv_model.specs.memory.Memory.{can_access};
 ghost use Rattle.rv_model.specs.step.Step.{word_at as word_at_spec};
-ghost use Rattle.recording.specs.Runs.{is_counted, key_beside, once_more};
+ghost use Rattle.recording.specs.Runs.{is_counted, second_key, once_more};
 ghost use Rattle.recording.specs.Sums.{HasMore};
 
 use crate::class::Class;
@@ -37,13 +37,13 @@ pub fn is_counted(end: StepEnd) -> bool
 /// Count an instruction in the row of its length or jump, if its class has one. `target` is the address of the next
 /// instruction. Fails if the table is full.
 #[inline(always)]
-pub(crate) fn count_beside<A: Allocator>(
+pub(crate) fn count_second_key<A: Allocator>(
     table: &mut Table<A>,
     class: Class,
     found: &Found,
     target: u64,
 ) -> Result<(), TableFull>
-    ensures { OnOk result (HasMore (once_more (key_beside class found.now.conf found.now.pc target))
+    ensures { OnOk result (HasMore (once_more (second_key class found.now.conf found.now.pc target))
         table.old.rows.items table.new.rows.items) }
 {
     match class {

@@ -2,7 +2,7 @@
 ghost use Rattle.std.specs.Prelude.{◌≡◌, [], IfOk};
 
 use crate::alone::Alone;
-use crate::counting::{count_beside, is_counted, word_at};
+use crate::counting::{count_second_key, is_counted, word_at};
 use crate::elements::with_elements;
 use crate::fault::RecordFault;
 use crate::found::{Found, is_plain};
@@ -74,7 +74,7 @@ impl<M: UserBytes, A: Allocator> Recorder<M> for Counts<A> {
         let conf = alone.vectors.seat.state.conf;
         let sums = with_elements(row.class, found, conf, ticks);
         self.table.count_at(index, sums);
-        count_beside(&mut self.table, row.class, found, alone.scalar.pc)?;
+        count_second_key(&mut self.table, row.class, found, alone.scalar.pc)?;
         Ok(())
     }
 

@@ -51,7 +51,7 @@ fn extent_bounds(extent: Extent, start: usize, conf: VConf) -> (usize, usize, us
 }
 
 /// Return the number of active elements of a masked body.
-#[tactic(auto, using(crate::proofs::Actives::set_are_active))]
+#[tactic(auto, using(crate::proofs::ActiveElements::set_are_active))]
 fn active_under(found: &Found, end: usize) -> usize
     requires { end ≤ GROUP_BYTES }
     ensures { result
@@ -64,7 +64,7 @@ fn active_under(found: &Found, end: usize) -> usize
 }
 
 /// Return the number of active elements of an unmasked body.
-#[tactic(auto, using(crate::proofs::Actives::all_are_active))]
+#[tactic(auto, using(crate::proofs::ActiveElements::all_are_active))]
 fn active_of_all(start: usize, end: usize) -> usize
     ensures { (mask : List ℕ) → result ≡ active_count (record { unmasked = true; mask = mask; start = start; end = end }) }
 {
@@ -123,7 +123,7 @@ fn with_extent(extent: Extent, found: &Found, conf: VConf, ticks: usize) -> Sums
 
 /// Return the counts of an instruction from its class, the state before it, the configuration after it, and its ticks.
 #[inline(always)]
-#[tactic(auto, using(crate::proofs::Actives::no_elements))]
+#[tactic(auto, using(crate::proofs::ActiveElements::no_elements))]
 pub(crate) fn with_elements(class: Class, found: &Found, conf: VConf, ticks: usize) -> Sums
     ensures { result ≡ carried_out ticks (body class found.now.mask found.now.start conf)
         (tail_end class found.now.start conf) }

@@ -36,7 +36,7 @@ fn is_masked(class: Class) -> bool
 
 /// Copy v0 to the mask.
 #[inline(never)]
-fn keep_mask(mask: &mut [u8; VLENB], state: &VState)
+fn copy_mask(mask: &mut [u8; VLENB], state: &VState)
     ensures { mask.new ≡ register_of state.now.file 0 }
 {
     *mask = mask_register(&state.file);
@@ -66,7 +66,7 @@ impl Found {
         self.conf = state.conf;
         self.start = usize::from(state.vstart);
         if is_masked(class) {
-            keep_mask(&mut self.mask, state);
+            copy_mask(&mut self.mask, state);
         }
     }
 }

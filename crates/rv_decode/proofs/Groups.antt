@@ -38,8 +38,8 @@ or_none : (o : Option Instr) → option_or o None ≡ o
 or_none None = refl
 or_none (Some i) = refl
 
-first_alone : (xs ys : List Row) (word : ℕ) → scan ys word ≡ None → scan (xs ++ ys) word ≡ scan xs word
-first_alone xs ys word nothing =
+element_zero : (xs ys : List Row) (word : ℕ) → scan ys word ≡ None → scan (xs ++ ys) word ≡ scan xs word
+element_zero xs ys word nothing =
     scan_append xs ys word ∙ ap (option_or (scan xs word)) nothing ∙ or_none (scan xs word)
 
 -- two lists of rows give the same scan if the same rows remain for the word's bits under two masks
@@ -188,7 +188,7 @@ pub mask_other : (word : ℕ) → DiffersFrom (0x40000000 ∷ 0x48000000 ∷ 0x5
     → scan (rows MaskLogics) word ≡ scan mask_rows word
 unfolding rows
 mask_other word h =
-    sym (first_alone (rows MaskLogics) (rows Compresses ++ rows MasksToScalar ++ rows Extends ++ rows MaskUnaries ++ rows ElementIndices ++ rows MovesToScalar) word
+    sym (element_zero (rows MaskLogics) (rows Compresses ++ rows MasksToScalar ++ rows Extends ++ rows MaskUnaries ++ rows ElementIndices ++ rows MovesToScalar) word
     (no_scan 0xfc000000 (0x40000000 ∷ 0x48000000 ∷ 0x50000000 ∷ 0x5c000000 ∷ []) word _ refl h))
 
 -- ---- accesses
@@ -228,7 +228,7 @@ pub distances_alone : (word : ℕ) → bit_and word 0x0c000000 ≢ 0 → scan (r
 unfolding rows
 distances_alone word other =
     ap (λ t. scan t word) other_rows
-    ∙ first_alone (rows Strideds ++ rows Indexeds) (rows WholeLoads ++ rows WholeStores ++ rows MaskMemories) word
+    ∙ element_zero (rows Strideds ++ rows Indexeds) (rows WholeLoads ++ rows WholeStores ++ rows MaskMemories) word
     (no_scan 0x0c000000 (0 ∷ []) word _ refl (other, tt))
 
 -- ---- calls and breakpoints

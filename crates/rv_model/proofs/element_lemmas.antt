@@ -1,6 +1,6 @@
 -- Laws about elements. In this order, each module uses only modules before it: `Widths`, `Writes`, `Ranges`, `Reads`, `Sets`, `Bits`,
--- `Actives`, `Packed`, `Arithmetic`, `Tails`, `KeptBits`, `Numbers`, `Rounding`.
-pub mod Actives
+-- `ActiveElements`, `Packed`, `Arithmetic`, `Tails`, `KeptBits`, `Numbers`, `Rounding`.
+pub mod ActiveElements
 pub mod Arithmetic
 pub mod Bits
 pub mod KeptBits

@@ -24,8 +24,8 @@ pub use instructions::{
 };
 pub use legality::{Content, Operand, Role, Shape};
 pub use machine::{
-    Standing, Stats, USER_COUNT, User, absent_users_have_nothing, configurations_that_stay,
-    each_user_alone, output_that_grows, refusals_change_nothing, registers_that_stay,
+    RunState, Stats, USER_COUNT, User, absent_users_have_nothing, each_user_alone,
+    output_only_grows, preserved_configurations, preserved_registers, refusals_change_nothing,
     slices_add_up, small_scripts_print, turns_are_fair,
 };
 pub use memory::{

@@ -18,7 +18,7 @@ pub use program_fault::{
     STATUS_USAGE,
 };
 pub use rv_model::{
-    absent_users_have_nothing, configurations_that_stay, each_user_alone, refusals_change_nothing,
+    absent_users_have_nothing, each_user_alone, preserved_configurations, refusals_change_nothing,
     slices_add_up, steps_take_ticks, turns_are_fair,
 };
 pub use words::options;

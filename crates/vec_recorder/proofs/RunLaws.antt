@@ -15,7 +15,7 @@ use Rattle.memory_changes.specs.Recorded.{IsRecorded}
 use Rattle.memory_changes.specs.declared.changes.Changes.{Changes}
 use Rattle.memory_changes.proofs.Lists.{first_more}
 use Rattle.recording.specs.Classes.{class_of}
-use Rattle.recording.specs.Runs.{is_counted, key_beside, once_more, ran, share, shares, word_of as found_word}
+use Rattle.recording.specs.Runs.{is_counted, second_key, once_more, ran, share, shares, word_of as found_word}
 use Rattle.recording.specs.Sums.{HasMore, is_word, part_of, total}
 use Rattle.recording.specs.Totals.{AddsUp, counted_ticks, times_of}
 use Rattle.recording.specs.declared.class.Class.{Class}
@@ -80,7 +80,7 @@ end_is ticks s left rows end counts left_is stops = last_is ticks _ _ s left end
 -- ---- the totals of all instructions
 
 -- a key counted in addition to the word's key isn't a word's key
-none_beside : (number : Sums → ℕ) (k : Class) (c : Configuration) (pc target : ℕ) → once_more (key_beside k c pc target) number is_word ≡ 0
+none_beside : (number : Sums → ℕ) (k : Class) (c : Configuration) (pc target : ℕ) → once_more (second_key k c pc target) number is_word ≡ 0
 none_beside number class.Plain c pc target = refl
 none_beside number class.Link c pc target = refl
 none_beside number _ c pc target = refl

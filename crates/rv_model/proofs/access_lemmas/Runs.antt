@@ -16,7 +16,7 @@ use Rattle.rv_model.specs.declared.step.memory_end.MemEnd.TheVariants.{Cut, Done
 use Rattle.rv_model.specs.declared.vector.state.VState.{VState}
 use Rattle.rv_model.specs.declared.vector.types.VType.{VType}
 use Rattle.rv_model.specs.accesses.AccessRuns.{AccessRun, access_ends, access_run, directed_run, load_run, run_or_nothing, runs_to, store_run}
-use Rattle.rv_model.specs.accesses.Restarts.{AccessLeavesOff, IsStopped, LeavesOff}
+use Rattle.rv_model.specs.accesses.Restarts.{AccessStopIndex, IsStopped, StopIndex}
 use Rattle.rv_model.specs.accesses.Transfers.{Plan, end_at, registers_loaded, stop_index, memory_stored, transfers}
 use Rattle.rv_model.specs.accesses.VectorAccess.{VectorAccess, access_of, indexed_access, mask_length, element_start, plan, strided_access, unit_access, unmasked_access}
 use Rattle.rv_model.specs.vector.Groups.{access_type, group_type, register_of}
@@ -250,7 +250,7 @@ of_access limit fill i v x m P nothing each = of_option (access_of i v x) (λ o.
 
 -- ---- the index where it stops
 
-leaves_off : (limit count : ℕ) (d : Direction) (first_only : Bool) (v : VState) (m : Memory) (run : AccessRun) → Facts limit v.vstart count d first_only v m run → LeavesOff limit v run
+leaves_off : (limit count : ℕ) (d : Direction) (first_only : Bool) (v : VState) (m : Memory) (run : AccessRun) → Facts limit v.vstart count d first_only v m run → StopIndex limit v run
 leaves_off limit count d first_only v m run f = record {
   cut = λ index e.
       let at : CutAt limit v.vstart count v run index =
@@ -262,9 +262,9 @@ leaves_off limit count d first_only v m run f = record {
       (at.before, at.stopped.vstart);
 }
 
-pub access_leaves_off : AccessLeavesOff
+pub access_leaves_off : AccessStopIndex
 access_leaves_off i limit fill v x m =
-    of_access limit fill i v x m (λ o run. LeavesOff limit v run)
+    of_access limit fill i v x m (λ o run. StopIndex limit v run)
     (record { cut = λ index e. absurd (cc); fault = λ index addr e. absurd (cc) })
     (λ a e. leaves_off limit a.body.end a.direction a.first_only v m _ (run_facts limit fill i v x m a e))
 

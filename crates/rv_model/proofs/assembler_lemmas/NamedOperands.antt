@@ -27,32 +27,32 @@ use Rattle.rv_model.proofs.instruction_lemmas.Scans.{In}
 use Rattle.rv_model.proofs.instruction_lemmas.RoundTrips.{template_of}
 use Rattle.rv_model.proofs.instruction_lemmas.Words.{form_source_of}
 use Rattle.rv_model.proofs.assembler_lemmas.Naming.{none}
-use Rattle.rv_model.proofs.assembler_lemmas.NamedOperations.{of_name, same_flag, told, told_by_operation}
+use Rattle.rv_model.proofs.assembler_lemmas.NamedOperations.{of_name, same_flag, name_bits, operation_bits}
 
 -- ---- words of one row that agree in the bits of the name have the same slots
 
-arith_same : (op : VectorOp) (f : Form) (w v : ℕ) → bit_and w (told_by_operation op) ≡ bit_and v (told_by_operation op) → arith_slots op f (flag w) ≡ arith_slots op f (flag v)
-arith_same (vector_op.CarryOut op) f w v told_same = ap (λ (vm : Bool). carry_out_slots vm f) (same_flag w v told_same)
-arith_same op f w v told_same = refl
+arith_same : (op : VectorOp) (f : Form) (w v : ℕ) → bit_and w (operation_bits op) ≡ bit_and v (operation_bits op) → arith_slots op f (flag w) ≡ arith_slots op f (flag v)
+arith_same (vector_op.CarryOut op) f w v same_bits_named = ap (λ (vm : Bool). carry_out_slots vm f) (same_flag w v same_bits_named)
+arith_same op f w v same_bits_named = refl
 
 same_form : (f : Form) (w v : ℕ) → form_of (source_of f (field 15 5 w)) ≡ form_of (source_of f (field 15 5 v))
 same_form f w v = form_source_of f (field 15 5 w) ∙ sym (form_source_of f (field 15 5 v))
 
-same_slots : (t : Instr) (w v : ℕ) → bit_and w (told (filled t v)) ≡ bit_and v (told (filled t v)) → slots (filled t w) ≡ slots (filled t v)
-same_slots (instr.Vector (Arith arith vd vs2 vm)) w v told_same =
+same_slots : (t : Instr) (w v : ℕ) → bit_and w (name_bits (filled t v)) ≡ bit_and v (name_bits (filled t v)) → slots (filled t w) ≡ slots (filled t v)
+same_slots (instr.Vector (Arith arith vd vs2 vm)) w v same_bits_named =
     let f = form_of arith.1 in
-    ap (λ (g : Form). arith_slots arith.0 g (flag w)) (same_form f w v) ∙ arith_same arith.0 (form_of (source_of f (field 15 5 v))) w v told_same
-same_slots (instr.Vector (Carry carry vd vs2)) w v told_same = ap carry_slots (same_form (form_of carry.1) w v)
-same_slots (instr.Vector (Move source vd)) w v told_same = ap (λ (g : Form). Vector Rd ∷ Comma ∷ second false g ∷ []) (same_form (form_of source) w v)
-same_slots (instr.Scalar (Fence rd rs1 ordering)) w v told_same = refl
-same_slots (instr.Csr (Immediate op rd imm csr)) w v told_same = refl
-same_slots (instr.Access (UnitStride op width nf vd rs1 vm)) w v told_same = refl
-same_slots _ w v told_same = refl
+    ap (λ (g : Form). arith_slots arith.0 g (flag w)) (same_form f w v) ∙ arith_same arith.0 (form_of (source_of f (field 15 5 v))) w v same_bits_named
+same_slots (instr.Vector (Carry carry vd vs2)) w v same_bits_named = ap carry_slots (same_form (form_of carry.1) w v)
+same_slots (instr.Vector (Move source vd)) w v same_bits_named = ap (λ (g : Form). Vector Rd ∷ Comma ∷ second false g ∷ []) (same_form (form_of source) w v)
+same_slots (instr.Scalar (Fence rd rs1 ordering)) w v same_bits_named = refl
+same_slots (instr.Csr (Immediate op rd imm csr)) w v same_bits_named = refl
+same_slots (instr.Access (UnitStride op width nf vd rs1 vm)) w v same_bits_named = refl
+same_slots _ w v same_bits_named = refl
 
-same_in_row : (r : Row) → In r table → (w v : ℕ) → bit_and w (told (r.instr v)) ≡ bit_and v (told (r.instr v)) → slots (r.instr w) ≡ slots (r.instr v)
+same_in_row : (r : Row) → In r table → (w v : ℕ) → bit_and w (name_bits (r.instr v)) ≡ bit_and v (name_bits (r.instr v)) → slots (r.instr w) ≡ slots (r.instr v)
 same_in_row r here w v =
     let t = template_of r here in
-    let P : Row → Type 0 = λ s. bit_and w (told (s.instr v)) ≡ bit_and v (told (s.instr v)) → slots (s.instr w) ≡ slots (s.instr v) in
+    let P : Row → Type 0 = λ s. bit_and w (name_bits (s.instr v)) ≡ bit_and v (name_bits (s.instr v)) → slots (s.instr w) ≡ slots (s.instr v) in
     subst P t.1 (same_slots t.0 w v)
 
 -- ---- each row of the code's table has these slots

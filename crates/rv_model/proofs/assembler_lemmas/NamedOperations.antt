@@ -37,17 +37,17 @@ use Rattle.rv_model.proofs.assembler_lemmas.ListedTexts.{NamesOperation}
 -- ---- the bits that determine a name in addition to the operation
 
 -- bit 25 of vmadc and vmsbc, which selects a carry or borrow input
-abbrev pub told_by_operation : VectorOp → ℕ
-told_by_operation (vector_op.CarryOut op) = 2 ^ 25
-told_by_operation op = 0
+abbrev pub operation_bits : VectorOp → ℕ
+operation_bits (vector_op.CarryOut op) = 2 ^ 25
+operation_bits op = 0
 
 -- that bit, and the number of fields of a segment
-abbrev pub told : Instr → ℕ
-told (instr.Vector (Arith arith vd vs2 vm)) = told_by_operation arith.0
-told (instr.Access (UnitStride op width nf vd rs1 vm)) = 7 * 2 ^ 29
-told (instr.Access (Strided direction width nf vd rs1 rs2 vm)) = 7 * 2 ^ 29
-told (instr.Access (Indexed direction order width nf vd rs1 vs2 vm)) = 7 * 2 ^ 29
-told i = 0
+abbrev pub name_bits : Instr → ℕ
+name_bits (instr.Vector (Arith arith vd vs2 vm)) = operation_bits arith.0
+name_bits (instr.Access (UnitStride op width nf vd rs1 vm)) = 7 * 2 ^ 29
+name_bits (instr.Access (Strided direction width nf vd rs1 rs2 vm)) = 7 * 2 ^ 29
+name_bits (instr.Access (Indexed direction order width nf vd rs1 vs2 vm)) = 7 * 2 ^ 29
+name_bits i = 0
 
 pub same_flag : (w v : ℕ) → bit_and w (2 ^ 25) ≡ bit_and v (2 ^ 25) → flag w ≡ flag v
 same_flag w v h =
@@ -60,12 +60,12 @@ same_fields w v h = omega (arith, h, and_high w 3 29, and_high v 3 29)
 abbrev vector_name : VectorOp → Form → Bool → List ℕ
 vector_name op f vm = (vector_entry op).0 ++ vector_suffix op f vm
 
-vector_same : (op : VectorOp) (f : Form) (w v : ℕ) → bit_and w (told_by_operation op) ≡ bit_and v (told_by_operation op) → vector_name op f (flag w) ≡ vector_name op f (flag v)
+vector_same : (op : VectorOp) (f : Form) (w v : ℕ) → bit_and w (operation_bits op) ≡ bit_and v (operation_bits op) → vector_name op f (flag w) ≡ vector_name op f (flag v)
 vector_same (vector_op.CarryOut op) f w v h = ap (λ (vm : Bool). vector_name (vector_op.CarryOut op) f vm) (same_flag w v h)
 vector_same op f w v h = refl
 
 -- words that agree in those bits have the same name
-same_name : (t : Instr) (w v : ℕ) → bit_and w (told (filled t v)) ≡ bit_and v (told (filled t v)) → mnemonic (filled t w) ≡ mnemonic (filled t v)
+same_name : (t : Instr) (w v : ℕ) → bit_and w (name_bits (filled t v)) ≡ bit_and v (name_bits (filled t v)) → mnemonic (filled t w) ≡ mnemonic (filled t v)
 same_name (instr.Vector (Arith arith vd vs2 vm)) w v h =
     let f = form_of arith.1 in
     ap (λ (g : Form). vector_name arith.0 g (flag w)) (form_source_of f (field 15 5 w))
@@ -91,7 +91,7 @@ same_name _ w v h = refl
 -- the name is that of an instruction's operation, and fixes the bits that determine it
 abbrev named_by : Mnemonic → Option Instr → Bool
 named_by m None = false
-named_by m (Some i) = bytes_eq (mnemonic i) (unpadded m.0) && nat_eq (bit_and (told i) (fixed_mask (slots_of m.1))) (told i)
+named_by m (Some i) = bytes_eq (mnemonic i) (unpadded m.0) && nat_eq (bit_and (name_bits i) (fixed_mask (slots_of m.1))) (name_bits i)
 
 abbrev names_its_own : Mnemonic → Bool
 names_its_own m = named_by m (scan table m.2)
@@ -110,10 +110,10 @@ own_name row lt =
     subst P (get_or-take NAME_COUNT MNEMONICS row none lt) (all_at names_its_own (take NAME_COUNT MNEMONICS) row none each_names_its_own lt)
 
 -- words that match a row of the instruction table and agree in the bits that determine the name have the same name
-same_in_row : (r : Row) → In r table → (w v : ℕ) → bit_and w (told (r.instr v)) ≡ bit_and v (told (r.instr v)) → mnemonic (r.instr w) ≡ mnemonic (r.instr v)
+same_in_row : (r : Row) → In r table → (w v : ℕ) → bit_and w (name_bits (r.instr v)) ≡ bit_and v (name_bits (r.instr v)) → mnemonic (r.instr w) ≡ mnemonic (r.instr v)
 same_in_row r here w v =
     let t = template_of r here in
-    let P : Row → Type 0 = λ s. bit_and w (told (s.instr v)) ≡ bit_and v (told (s.instr v)) → mnemonic (s.instr w) ≡ mnemonic (s.instr v) in
+    let P : Row → Type 0 = λ s. bit_and w (name_bits (s.instr v)) ≡ bit_and v (name_bits (s.instr v)) → mnemonic (s.instr w) ≡ mnemonic (s.instr v) in
     subst P t.1 (same_name t.0 w v)
 
 -- bits outside a mask may differ
@@ -133,7 +133,7 @@ pub record OfName (row word : ℕ) : Type 0 where
   pub is : scan table word ≡ Some (r.instr word)
   pub at_zeros : scan table (bits_at row) ≡ Some (r.instr (bits_at row))
   pub named : mnemonic (r.instr (bits_at row)) ≡ name_at row
-  pub agrees : bit_and word (told (r.instr (bits_at row))) ≡ bit_and (bits_at row) (told (r.instr (bits_at row)))
+  pub agrees : bit_and word (name_bits (r.instr (bits_at row))) ≡ bit_and (bits_at row) (name_bits (r.instr (bits_at row)))
 
 pub of_name : (row word : ℕ) → row < NAME_COUNT → HasBitsOf row word → OfName row word
 unfolding name_at slots_at bits_at
@@ -148,14 +148,14 @@ of_name row word lt is =
     let at_zeros : scan table m.2 ≡ Some (r.0.instr m.2) = found table table_apart r.0 r.1 m.2 (covers_all (pattern_of_row r.0) name m.2 r.2 (bits_of_name row m.2 lt own)) in
     let i = r.0.instr m.2 in
     let P : Option Instr → Type 0 = λ o. named_by m o ≡ true in
-    let tests = and_parts (bytes_eq (mnemonic i) (unpadded m.0)) (nat_eq (bit_and (told i) mask) (told i)) (subst P at_zeros (own_name row lt)) in
+    let tests = and_parts (bytes_eq (mnemonic i) (unpadded m.0)) (nat_eq (bit_and (name_bits i) mask) (name_bits i)) (subst P at_zeros (own_name row lt)) in
     record {
       r = r.0;
       of_table = r.1;
       is = here;
       at_zeros = at_zeros;
       named = (bytes_eq-Decides (mnemonic i) (unpadded m.0)).0 tests.0;
-      agrees = within_mask word m.2 mask (told i) (eqb-true (bit_and (told i) mask) (told i) tests.1) is;
+      agrees = within_mask word m.2 mask (name_bits i) (eqb-true (bit_and (name_bits i) mask) (name_bits i) tests.1) is;
     }
 
 pub names_operation : (row word : ℕ) → row < NAME_COUNT → HasBitsOf row word → NamesOperation row word

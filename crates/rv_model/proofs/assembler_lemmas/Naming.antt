@@ -63,10 +63,10 @@ unfolding names table fixed_mask
 each_has_row = refl
 
 -- no fence except the one with a name has the bits of a name
-abbrev spares_fences : Pattern → Bool
-spares_fences name = (nat_eq name.0 (2 ^ 32 - 1) && nat_eq name.1 0x0ff0000f) || not (nat_eq (bit_and name.1 0x707f) (bit_and 0x0f name.0))
+abbrev excludes_fences : Pattern → Bool
+excludes_fences name = (nat_eq name.0 (2 ^ 32 - 1) && nat_eq name.1 0x0ff0000f) || not (nat_eq (bit_and name.1 0x707f) (bit_and 0x0f name.0))
 
-each_spares_fences : list_all spares_fences names ≡ true
+each_spares_fences : list_all excludes_fences names ≡ true
 unfolding names fixed_mask
 each_spares_fences = refl
 
@@ -227,7 +227,7 @@ fence_named n w small lt is fence =
     let name = get_or names n (0, 0) in
     let exact = nat_eq name.0 (2 ^ 32 - 1) && nat_eq name.1 0x0ff0000f in
     let same = nat_eq (bit_and name.1 0x707f) (bit_and 0x0f name.0) in
-    let h = all_at spares_fences names n (0, 0) each_spares_fences lt in
+    let h = all_at excludes_fences names n (0, 0) each_spares_fences lt in
     elim (cases_Bool exact) [
       | inl y ↦
           let k = and_parts (nat_eq name.0 (2 ^ 32 - 1)) (nat_eq name.1 0x0ff0000f) y in

@@ -27,7 +27,7 @@ use Rattle.rv_model.specs.declared.step.step_end.Stop.{Stop}
 use Rattle.rv_model.specs.assembler.Table.{spelled}
 use Rattle.rv_model.specs.commands.Arguments.{Pages}
 use Rattle.rv_model.specs.commands.Breakpoints.{breakpoint_command, breakpoint_limit, breaks_line}
-use Rattle.rv_model.specs.commands.Commands.{Parsed, needs_stopped, of_absent, of_present, carried_out, commanded}
+use Rattle.rv_model.specs.commands.Commands.{Parsed, needs_stopped, of_absent, of_present, command_outcome, commanded}
 use Rattle.rv_model.specs.commands.Entering.{entering_absent, entering}
 use Rattle.rv_model.specs.commands.Memory.{mapping, peek_line, memory_command, why_not_mapped}
 use Rattle.rv_model.specs.commands.Printing.{refused}
@@ -210,16 +210,16 @@ unfolding of_absent entering_absent
 absent_answers (Entering Enter) = inr ((refl, refl), tt)
 absent_answers _ = inl (refusal.NotEntered, refl)
 
-carried_out_answers : (images : List Image) (c : Cmd) (p : Private) → Answered p (carried_out images c p)
-unfolding carried_out
-carried_out_answers images c None = absent_answers c
-carried_out_answers images c (Some p) =
+command_outcome_answers : (images : List Image) (c : Cmd) (p : Private) → Answered p (command_outcome images c p)
+unfolding command_outcome
+command_outcome_answers images c None = absent_answers c
+command_outcome_answers images c (Some p) =
     of_either (λ (o : Outcome). Answered (Some p) o) (p.running && needs_stopped c) (refuses (Some p) refusal.Running) (of_present images c p)
     (inl (refusal.Running, refl)) (answered (Stays p c) (Some p) (of_present images c p) (present_answers images p c))
 
 commanded_answers : (images : List Image) (p : Private) (r : Parsed) → Answered p (commanded images p r)
 commanded_answers images p (Err reason) = inl (reason, refl)
-commanded_answers images p (Ok c) = carried_out_answers images c p
+commanded_answers images p (Ok c) = command_outcome_answers images c p
 
 -- the machine is unchanged and the vector unit isn't used, or none of the lines is a refusal
 abbrev pub Settles : Private → Outcome → Type 0

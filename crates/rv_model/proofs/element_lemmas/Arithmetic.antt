@@ -11,34 +11,34 @@ use Rattle.rv_model.proofs.element_lemmas.Widths.{bytes_positive}
 use Rattle.rv_model.proofs.element_lemmas.Writes.{writes_are, written_are}
 
 -- results of another function that agrees in the body, written to the destination
-pub results_are : (g : GroupType) (vd : ℕ) (body : Body) (fill_masked_off fill_tail : Bool) (told result : ℕ → ℕ) (file new : List ℕ)
-    → ((i : ℕ) → i < body.end → told i ≡ result i)
-    → Writes (width_bytes g.width) (is_changed body fill_masked_off fill_tail) (result_or_ones body told (ones g.width)) (group_of file vd g.emul) new
+pub results_are : (g : GroupType) (vd : ℕ) (body : Body) (fill_masked_off fill_tail : Bool) (computed result : ℕ → ℕ) (file new : List ℕ)
+    → ((i : ℕ) → i < body.end → computed i ≡ result i)
+    → Writes (width_bytes g.width) (is_changed body fill_masked_off fill_tail) (result_or_ones body computed (ones g.width)) (group_of file vd g.emul) new
     → with_group file vd new ≡ with_results g vd body fill_masked_off fill_tail result file
 unfolding with_results
-results_are g vd body fill_masked_off fill_tail told result file new same was =
+results_are g vd body fill_masked_off fill_tail computed result file new same was =
     let k : ℕ = width_bytes g.width in
-    let so = same_results k body fill_masked_off fill_tail told result (ones g.width) (group_of file vd g.emul) new same was in
+    let so = same_results k body fill_masked_off fill_tail computed result (ones g.width) (group_of file vd g.emul) new same was in
     ap (λ bytes. with_group file vd bytes)
     (writes_are k (is_changed body fill_masked_off fill_tail) (result_or_ones body result (ones g.width)) (group_of file vd g.emul) new
     (bytes_positive g.width) so)
 
 -- the same for a mask
-pub mask_results_are : (vd : ℕ) (body : Body) (told bit : ℕ → Bool) (file new : List ℕ)
-    → ((i : ℕ) → i < body.end → told i ≡ bit i)
-    → WritesBits (is_active body) told (group_of file vd 8) new
+pub mask_results_are : (vd : ℕ) (body : Body) (computed bit : ℕ → Bool) (file new : List ℕ)
+    → ((i : ℕ) → i < body.end → computed i ≡ bit i)
+    → WritesBits (is_active body) computed (group_of file vd 8) new
     → with_group file vd new ≡ with_mask_results vd body bit file
 unfolding with_mask_results
-mask_results_are vd body told bit file new same was =
+mask_results_are vd body computed bit file new same was =
     ap (λ bytes. with_group file vd bytes)
-    (writes_bits_are (is_active body) bit (group_of file vd 8) new (same_bits (is_active body) told bit (group_of file vd 8) new (λ i active. same i (active_end body i active)) was))
+    (writes_bits_are (is_active body) bit (group_of file vd 8) new (same_bits (is_active body) computed bit (group_of file vd 8) new (λ i active. same i (active_end body i active)) was))
 
 -- results of two functions that agree in the body leave the same registers
-pub results_same : (g : GroupType) (vd : ℕ) (body : Body) (fill_masked_off fill_tail : Bool) (told result : ℕ → ℕ) (file : List ℕ)
-    → ((i : ℕ) → i < body.end → told i ≡ result i)
-    → with_results g vd body fill_masked_off fill_tail told file ≡ with_results g vd body fill_masked_off fill_tail result file
+pub results_same : (g : GroupType) (vd : ℕ) (body : Body) (fill_masked_off fill_tail : Bool) (computed result : ℕ → ℕ) (file : List ℕ)
+    → ((i : ℕ) → i < body.end → computed i ≡ result i)
+    → with_results g vd body fill_masked_off fill_tail computed file ≡ with_results g vd body fill_masked_off fill_tail result file
 unfolding with_results
-results_same g vd body fill_masked_off fill_tail told result file same =
-    results_are g vd body fill_masked_off fill_tail told result file _ same
-    (written_are (width_bytes g.width) (is_changed body fill_masked_off fill_tail) (result_or_ones body told (ones g.width)) (group_of file vd g.emul)
+results_same g vd body fill_masked_off fill_tail computed result file same =
+    results_are g vd body fill_masked_off fill_tail computed result file _ same
+    (written_are (width_bytes g.width) (is_changed body fill_masked_off fill_tail) (result_or_ones body computed (ones g.width)) (group_of file vd g.emul)
     (bytes_positive g.width))

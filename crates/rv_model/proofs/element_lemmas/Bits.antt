@@ -85,10 +85,10 @@ module _ (changed bit : ℕ → Bool) where
       w.bytes j l ∙ sym (get_or-map-range_with_len f 0 (length old) j j 0 l (zero-add j)))
 
 -- two functions that agree on the changed bits write the same bits
-pub same_bits : (changed told bit : ℕ → Bool) (old new : List ℕ) → ((i : ℕ) → changed i ≡ true → told i ≡ bit i) → WritesBits changed told old new → WritesBits changed bit old new
-same_bits changed told bit old new same was = record {
+pub same_bits : (changed computed bit : ℕ → Bool) (old new : List ℕ) → ((i : ℕ) → changed i ≡ true → computed i ≡ bit i) → WritesBits changed computed old new → WritesBits changed bit old new
+same_bits changed computed bit old new same was = record {
   same_length = was.same_length;
-  bytes = λ q h. was.bytes q h ∙ same_byte (λ j. bit_or changed told old (8 * q + j)) (λ j. bit_or changed bit old (8 * q + j)) (λ j l.
-      of_bool (changed (8 * q + j)) (λ c. cond c (told (8 * q + j)) (mask_bit old (8 * q + j)) ≡ cond c (bit (8 * q + j)) (mask_bit old (8 * q + j)))
+  bytes = λ q h. was.bytes q h ∙ same_byte (λ j. bit_or changed computed old (8 * q + j)) (λ j. bit_or changed bit old (8 * q + j)) (λ j l.
+      of_bool (changed (8 * q + j)) (λ c. cond c (computed (8 * q + j)) (mask_bit old (8 * q + j)) ≡ cond c (bit (8 * q + j)) (mask_bit old (8 * q + j)))
       (same (8 * q + j)) (λ e. refl));
 }

@@ -10,7 +10,7 @@ use Rattle.rv_model.specs.elements.Arithmetic.{fills_tail, is_ones, with_first_r
 use Rattle.rv_model.specs.vector.Groups.{GroupType, width_bytes, group_of, registers, with_group, single_type}
 use Rattle.rv_model.specs.elements.Elements.{Body, in_range, is_changed, result_or_ones}
 use Rattle.rv_model.specs.elements.Formulas.{ones}
-use Rattle.rv_model.specs.lending.Writes.{Writes, first_alone}
+use Rattle.rv_model.specs.lending.Writes.{Writes, element_zero}
 use Rattle.rv_model.specs.step.MemoryStep.{tail_filled, tails_filled}
 use Rattle.rv_model.proofs.element_lemmas.Widths.{bytes_positive}
 use Rattle.rv_model.proofs.element_lemmas.Writes.{writes_are, writes_same, written_are}
@@ -41,12 +41,12 @@ one_changes p a some e =
 
 -- An instruction with one result writes it like an instruction whose body has the first element alone or no element.
 pub first_result_is : (width : Width) (vd : ℕ) (policy : Policy) (t : VType) (body : Body) (result : ℕ) (file : List ℕ)
-    → with_results (single_type width) vd (first_alone body) false (fills_tail policy t body) (λ i. result) file
+    → with_results (single_type width) vd (element_zero body) false (fills_tail policy t body) (λ i. result) file
     ≡ with_first_result width vd body (fills_tail policy t body) result file
 unfolding with_results with_first_result
 first_result_is width vd policy t body result file =
     let k : ℕ = width_bytes width in
-    let one : Body = first_alone body in
+    let one : Body = element_zero body in
     let group : List ℕ = group_of file vd 8 in
     let fill : Bool = fills_tail policy t body in
     ap (λ bytes. with_group file vd bytes)

@@ -61,11 +61,11 @@ each_has_room _ _ _ = refl
 pub elements_fit : (s : Sew) (t : VType) (vl : ℕ) → vl ≤ vlmax t → width_bytes (sew_width s) * vl ≤ VLENB * registers (emul (sew_bits s) t)
 elements_fit s t vl h =
     let up : width_bytes (sew_width s) * vl ≤ width_bytes (sew_width s) * vlmax t = mul-le-mul_left (width_bytes (sew_width s)) h in
-    let most : width_bytes (sew_width s) * vlmax t ≤ VLENB * registers (emul (sew_bits s) t) = told (each_has_room s t.sew t.lmul) in
+    let most : width_bytes (sew_width s) * vlmax t ≤ VLENB * registers (emul (sew_bits s) t) = from_test (each_has_room s t.sew t.lmul) in
     omega (arith, up, most)
   where
-    told : {a b : ℕ} → nat_le a b ≡ true → a ≤ b
-    told h = grind (arith, nat_tests, h)
+    from_test : {a b : ℕ} → nat_le a b ≡ true → a ≤ b
+    from_test h = grind (arith, nat_tests, h)
 
 -- the type of a group of elements of a width, with the VLMAX of the vector type
 abbrev pub sew_groups : Sew → VType → GroupType

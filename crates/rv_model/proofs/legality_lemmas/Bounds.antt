@@ -390,11 +390,11 @@ pub part_groups_have_room : (o : ExtendOp) (t : VType) (vl : ℕ) → vl ≤ vlm
 part_groups_have_room o t vl h wide least =
     let up : width_bytes (part_width o (sew_width t.sew)) * vl ≤ width_bytes (part_width o (sew_width t.sew)) * vlmax t =
     mul-le-mul_left (width_bytes (part_width o (sew_width t.sew))) h in
-    let all = told _ _ _ _ (part_fits o t.sew t.lmul) wide least in
+    let all = from_test _ _ _ _ (part_fits o t.sew t.lmul) wide least in
     record { most = omega (arith, fewer_part o (lmul_eighths t.lmul), multiplier_fits t.lmul); room = omega (arith, up, all) }
   where
-    told : (a b c d : ℕ) → (nat_lt a 8 || (nat_lt b 1 || nat_le c d)) ≡ true → 8 ≤ a → 1 ≤ b → c ≤ d
-    told a b c d h wide least = grind (arith, nat_tests)
+    from_test : (a b c d : ℕ) → (nat_lt a 8 || (nat_lt b 1 || nat_le c d)) ≡ true → 8 ≤ a → 1 ≤ b → c ≤ d
+    from_test a b c d h wide least = grind (arith, nat_tests)
 
 -- the operands of an extension
 pub record ExtensionInside (o : ExtendOp) (vd vs2 : ℕ) (t : VType) : Type 0 where

@@ -19,7 +19,7 @@ use Rattle.rv_model.specs.declared.vector.types.Sew.{Sew}
 use Rattle.rv_model.specs.declared.vector.types.Lmul.TheVariants.{Mf8}
 use Rattle.rv_model.specs.declared.vector.types.Sew.TheVariants.{E8}
 use Rattle.rv_model.specs.declared.vector.types.VType.{VType}
-use Rattle.rv_model.specs.accesses.Restarts.{IsByteOf, LaterIndicesStay}
+use Rattle.rv_model.specs.accesses.Restarts.{IsByteOf, LaterIndicesUnchanged}
 use Rattle.rv_model.specs.legality.Legality.{IsLegal, indexed_role, operands}
 use Rattle.rv_model.specs.legality.OperandShapes.{field_groups, group, mask, v0}
 use Rattle.rv_model.specs.legality.RegisterOperands.{Overlap, is_mask, may_share}
@@ -52,14 +52,14 @@ group_filled s t some = elim (or_cases _ _ (and_parts _ _ (each_fills s t.sew t.
 ]
 
 wider : (s : Sew) (t : VType) → 8 ≤ emul (sew_bits s) t → sew_bits s ≤ sew_bits t.sew → 8 ≤ emul (sew_bits t.sew) t
-wider s t some h = told (or_cases (nat_lt (emul (sew_bits s) t) 8) narrow (and_parts _ _ (each_fills s t.sew t.lmul)).1)
+wider s t some h = from_test (or_cases (nat_lt (emul (sew_bits s) t) 8) narrow (and_parts _ _ (each_fills s t.sew t.lmul)).1)
   where
     narrow : Bool
     narrow = nat_lt (sew_bits t.sew) (sew_bits s) || nat_le 8 (emul (sew_bits t.sew) t)
 
-    told : ((nat_lt (emul (sew_bits s) t) 8 ≡ true) ⊎ (narrow ≡ true)) → 8 ≤ emul (sew_bits t.sew) t
-    told (inl l) = let a : emul (sew_bits s) t < 8 = ltb-true _ _ l in absurd (omega arith)
-    told (inr o) = elim (or_cases (nat_lt (sew_bits t.sew) (sew_bits s)) (nat_le 8 (emul (sew_bits t.sew) t)) o) [
+    from_test : ((nat_lt (emul (sew_bits s) t) 8 ≡ true) ⊎ (narrow ≡ true)) → 8 ≤ emul (sew_bits t.sew) t
+    from_test (inl l) = let a : emul (sew_bits s) t < 8 = ltb-true _ _ l in absurd (omega arith)
+    from_test (inr o) = elim (or_cases (nat_lt (sew_bits t.sew) (sew_bits s)) (nat_le 8 (emul (sew_bits t.sew) t)) o) [
       | inl l ↦ let a : sew_bits t.sew < sew_bits s = ltb-true _ _ l in absurd (omega arith)
       | inr g ↦ leb-true _ _ g
     ]
@@ -209,6 +209,6 @@ later_stay w nf vd vs2 t legal f i k b hf hi hk x y =
       ]
     ]
 
-pub later_indices_stay : LaterIndicesStay
+pub later_indices_stay : LaterIndicesUnchanged
 later_indices_stay order w nf vd rs1 vs2 vm t vstart legal f i k b hf hi hk x =
     later_stay w nf vd vs2 t (indexed_operands order w nf vd rs1 vs2 vm t vstart legal) f i k b hf hi hk x

@@ -9,10 +9,10 @@ use Rattle.rv_model.specs.declared.commands.command.Cmd.{Cmd}
 use Rattle.rv_model.specs.declared.commands.command.Cmd.TheVariants.{Entering}
 use Rattle.rv_model.specs.declared.commands.entering.EnteringCommand.TheVariants.{Enter, Leave}
 use Rattle.rv_model.specs.declared.commands.refusal.Refusal.TheVariants as refusal
-use Rattle.rv_model.specs.commands.Commands.{Parsed, carried_out, commanded, needs_stopped, of_absent, of_present, parse}
+use Rattle.rv_model.specs.commands.Commands.{Parsed, command_outcome, commanded, needs_stopped, of_absent, of_present, parse}
 use Rattle.rv_model.specs.commands.Entering.{entering, entering_absent}
-use Rattle.rv_model.specs.machine.AbsentUsers.{AbsentUsersHaveNothing, AbsentUsersLeaveTheUnit, HappeningsKeepNothing, HasNothing, ScriptsKeepNothing}
-use Rattle.rv_model.specs.machine.World.{Private, Event, Command, Slice, event, sliced, World, Happening, after_events, after_one, outcome_of, unit_after, with_unit, user_machine, with_user_machine}
+use Rattle.rv_model.specs.machine.AbsentUsers.{AbsentUsersHaveNothing, AbsentUsersLeaveTheUnit, UserEventsKeepNothing, HasNothing, ScriptsKeepNothing}
+use Rattle.rv_model.specs.machine.World.{Private, Event, Command, Slice, event, sliced, World, UserEvent, after_events, after_one, outcome_of, unit_after, with_unit, user_machine, with_user_machine}
 use Rattle.rv_model.specs.machine.Script.{after_all, after_script, events_of, kind_of, new_world, world_after}
 use Rattle.rv_model.specs.machine.Setup.{Image, Setup}
 use Rattle.rv_model.specs.machine.UserMachine.{Outcome, Present, Use, Tries, Writes, Drops, refuses}
@@ -159,7 +159,7 @@ module _ (user : ℕ) (low : 1 ≤ user) (high : user ≤ 8) where
 
   absent_event : (s : Setup) (e : Event) (unit : VectorUnit) → HasNothing user unit
       → unit_after_uses user (event s None e).uses unit ≡ unit
-  unfolding event carried_out sliced
+  unfolding event command_outcome sliced
   absent_event s (Command line) unit nothing = parsed (parse line)
     where
       parsed : (r : Parsed) → unit_after_uses user (commanded s.images None r).uses unit ≡ unit
@@ -177,8 +177,8 @@ module _ (user : ℕ) (low : 1 ≤ user) (high : user ≤ 8) where
   left images p (Entering Leave) unit none = nothing_left unit
   left images p c unit none = absurd (not_gone p (of_present images c p).next (stays_there images p c) none)
 
-  present_leaves : (images : List Image) (p : Present) (c : Cmd) (unit : VectorUnit) → LeavesNothing (carried_out images c (Some p)) unit
-  unfolding carried_out
+  present_leaves : (images : List Image) (p : Present) (c : Cmd) (unit : VectorUnit) → LeavesNothing (command_outcome images c (Some p)) unit
+  unfolding command_outcome
   present_leaves images p c unit =
       of_either (λ (o : Outcome). LeavesNothing o unit) (p.running && needs_stopped c) (refuses (Some p) refusal.Running) (of_present images c p)
       (λ none. absurd (not_gone p (Some p) (λ is. is) none)) (left images p c unit)
@@ -206,11 +206,11 @@ unit_after_turn : (turn : Bool) (u : ℕ) (w : World) → (if turn then record w
 unit_after_turn true u w = refl
 unit_after_turn false u w = refl
 
-unit_after_one : (s : Setup) (w : World) (h : Happening) → (after_one s w h).unit ≡ unit_after s w h
+unit_after_one : (s : Setup) (w : World) (h : UserEvent) → (after_one s w h).unit ≡ unit_after s w h
 unit_after_one s w h = unit_after_turn h.turn h.user (with_unit (unit_after s w h) (with_user_machine h.user (outcome_of s w h).next w))
 
-pub happenings_keep_nothing : HappeningsKeepNothing
-happenings_keep_nothing s w h low high eight nothing =
+pub user_events_keep_nothing : UserEventsKeepNothing
+user_events_keep_nothing s w h low high eight nothing =
     let moves : Moves h.user w.unit (unit_after s w h) = all_used h.user low high (outcome_of s w h).uses w.unit in
     let is_unit = sym (unit_after_one s w h) in
     let next : Private = (outcome_of s w h).next in (
@@ -230,12 +230,12 @@ happenings_keep_nothing s w h low high eight nothing =
           ]),
     )
 
-all_keep_nothing : (s : Setup) (w : World) (hs : List Happening) → length w.parts ≡ 8 → AreUsers hs → AbsentUsersHaveNothing w
+all_keep_nothing : (s : Setup) (w : World) (hs : List UserEvent) → length w.parts ≡ 8 → AreUsers hs → AbsentUsersHaveNothing w
     → AbsentUsersHaveNothing (after_events s w hs)
 all_keep_nothing s w [] eight users nothing = nothing
 all_keep_nothing s w (h ∷ hs) eight users nothing =
     all_keep_nothing s (after_one s w h) hs (length-after_one s w h ∙ eight) users.2
-    (happenings_keep_nothing s w h users.0 users.1 eight nothing)
+    (user_events_keep_nothing s w h users.0 users.1 eight nothing)
 
 lines_keep_nothing : (s : Setup) (w : World) (lines : List (List ℕ)) → length w.parts ≡ 8 → AbsentUsersHaveNothing w
     → AbsentUsersHaveNothing (after_all s w lines)

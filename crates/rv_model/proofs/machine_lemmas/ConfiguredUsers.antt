@@ -4,11 +4,11 @@ use Rattle.std.specs.Prelude.{◌&&◌, replicate}
 use Rattle.rv_model.specs.declared.commands.command.Cmd.{Cmd}
 use Rattle.rv_model.specs.declared.commands.command.Cmd.TheVariants.{Entering}
 use Rattle.rv_model.specs.declared.commands.entering.EnteringCommand.TheVariants.{Enter, Leave}
-use Rattle.rv_model.specs.commands.Commands.{Parsed, carried_out, commanded, needs_stopped, of_absent, of_present, parse}
+use Rattle.rv_model.specs.commands.Commands.{Parsed, command_outcome, commanded, needs_stopped, of_absent, of_present, parse}
 use Rattle.rv_model.specs.commands.Entering.{entering, entering_absent}
-use Rattle.rv_model.specs.machine.ConfiguredUsers.{HappeningsKeepConfigurations, ScriptsKeepConfigurations, SlicesAddUpAfterScripts, UsersAreConfigured}
+use Rattle.rv_model.specs.machine.ConfiguredUsers.{UserEventsKeepConfigurations, ScriptsKeepConfigurations, SlicesAddUpAfterScripts, UsersAreConfigured}
 use Rattle.rv_model.specs.machine.Cuts.{IsConfigured}
-use Rattle.rv_model.specs.machine.World.{Event, Command, Slice, event, World, Happening, after_events, after_one, outcome_of, user_machine}
+use Rattle.rv_model.specs.machine.World.{Event, Command, Slice, event, World, UserEvent, after_events, after_one, outcome_of, user_machine}
 use Rattle.rv_model.specs.machine.Script.{after_script, events_of, kind_of, new_world, world_after}
 use Rattle.rv_model.specs.machine.Setup.{Image, Setup}
 use Rattle.rv_model.specs.machine.UserMachine.{Outcome, Present, Private}
@@ -33,7 +33,7 @@ present_command images p (Entering Leave) is = tt
 present_command images p c is = stays_configured p (of_present images c p).next (stays_there images p c) is
 
 line_keeps : (images : List Image) (p : Private) (r : Parsed) → IsConfigured p → IsConfigured (commanded images p r).next
-unfolding carried_out
+unfolding command_outcome
 line_keeps images p (Err reason) is = is
 line_keeps images None (Ok c) is = absent_command c
 line_keeps images (Some p) (Ok c) is =
@@ -63,15 +63,15 @@ pub new_users_are_configured : UsersAreConfigured new_world
 unfolding new_world
 new_users_are_configured u = nobody 8 (u - 1)
 
-pub happenings_keep_configurations : HappeningsKeepConfigurations
-happenings_keep_configurations s w h are = λ u.
+pub user_events_keep_configurations : UserEventsKeepConfigurations
+user_events_keep_configurations s w h are = λ u.
     let next : Private = (outcome_of s w h).next in
     subst IsConfigured (sym (part_after_one s u w h))
     (of_element IsConfigured w.parts (h.user - 1) (u - 1) next None (event_keeps s (user_machine h.user w) h.event (are h.user)) (are u))
 
-all_keep : (s : Setup) (w : World) (hs : List Happening) → UsersAreConfigured w → UsersAreConfigured (after_events s w hs)
+all_keep : (s : Setup) (w : World) (hs : List UserEvent) → UsersAreConfigured w → UsersAreConfigured (after_events s w hs)
 all_keep s w [] are = are
-all_keep s w (h ∷ hs) are = all_keep s (after_one s w h) hs (happenings_keep_configurations s w h are)
+all_keep s w (h ∷ hs) are = all_keep s (after_one s w h) hs (user_events_keep_configurations s w h are)
 
 pub scripts_keep_configurations : ScriptsKeepConfigurations
 unfolding world_after

@@ -9,7 +9,7 @@ use Rattle.rv_model.specs.declared.step.step_end.StepEnd.TheVariants.{Ran, Exit,
 use Rattle.rv_model.specs.declared.step.step_end.Stop.{Stop}
 use Rattle.rv_model.specs.declared.step.step_end.Stop.TheVariants as stop
 use Rattle.rv_model.specs.accesses.Restarts.{overlay}
-use Rattle.rv_model.specs.machine.Cuts.{ComeToTheSame, CutsAreInvisible, IsConfigured, KeepsWordIfCut, SliceKeepsConfiguration, SlicesAddUp, joined, slices}
+use Rattle.rv_model.specs.machine.Cuts.{HaveEqualEffects, CutsAreInvisible, IsConfigured, KeepsWordIfCut, SliceKeepsConfiguration, SlicesAddUp, joined, slices}
 use Rattle.rv_model.specs.machine.World.{slice_ends, sliced}
 use Rattle.rv_model.specs.machine.UserMachine.{stop_of, at_breakpoint, recorded, after, Halted, halted, slice_steps, ticked, Outcome, Present, Private, Use, Tries}
 use Rattle.rv_model.specs.memory.Memory.{Memory}
@@ -250,7 +250,7 @@ steps_run (suc a) (suc left) p =
 abbrev seen : Outcome → Outcome
 seen o = record o { uses = [] }
 
-come_to_the_same : (one other : Outcome) → seen one ≡ seen other → ComeToTheSame one other
+come_to_the_same : (one other : Outcome) → seen one ≡ seen other → HaveEqualEffects one other
 come_to_the_same one other same = (ap (λ (o : Outcome). o.next) same, ap (λ (o : Outcome). o.lines) same)
 
 sliced_running : (quantum : ℕ) (p : Present) → p.running ≡ true

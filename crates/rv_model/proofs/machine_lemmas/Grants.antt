@@ -3,14 +3,14 @@ use Rattle.std.proofs.Common.{ℕ, zero, suc, ◌-◌, ◌≤◌, List, [], ◌�
 use Rattle.std.specs.Prelude.{drop, take, find, map, codes, flat_map, slice_index_or, unwrap_or}
 use Rattle.std.specs.Option.{option_map_or}
 use Rattle.rv_model.specs.declared.commands.operator.OperatorCommand.TheVariants.{Slices, Run, List as ListUsers, Stats as ShowStats}
-use Rattle.rv_model.specs.declared.machine.standing.Standing.{Standing}
-use Rattle.rv_model.specs.declared.machine.standing.Standing.TheVariants.{Absent}
+use Rattle.rv_model.specs.declared.machine.run_state.RunState.{RunState}
+use Rattle.rv_model.specs.declared.machine.run_state.RunState.TheVariants.{Absent}
 use Rattle.rv_model.specs.declared.machine.stats.Stats.{Stats}
-use Rattle.rv_model.specs.commands.Operator.{OperatorParsed, granted_line, standing_word, listed_user, list_line, stats_line}
-use Rattle.rv_model.specs.machine.Grants.{turns_after, next_user, runs, next_running, slice_of, granted, grants, grants_of, standing, operator_line}
+use Rattle.rv_model.specs.commands.Operator.{OperatorParsed, granted_line, run_state_word, listed_user, list_line, stats_line}
+use Rattle.rv_model.specs.machine.Grants.{turns_after, next_user, runs, next_running, slice_of, granted, grants, grants_of, run_state, operator_line}
 use Rattle.rv_model.specs.machine.Setup.{users, Setup}
 use Rattle.rv_model.specs.machine.VectorUnit.{stats_of}
-use Rattle.rv_model.specs.machine.World.{World, Happening, after_one, user_machine}
+use Rattle.rv_model.specs.machine.World.{World, UserEvent, after_one, user_machine}
 use Rattle.rv_model.proofs.text_lemmas.Newlines.{IsLine}
 use Rattle.rv_model.proofs.command_lemmas.Operator.{ParsedNamesUser}
 use Rattle.rv_model.proofs.command_lemmas.Printing.{no_newline_in_refusal}
@@ -60,7 +60,7 @@ next_is_user cursor flags =
     (all-append (drop cursor users) (take cursor users) (all-drop cursor users all_users) (all-take cursor users all_users))
 
 -- all events are those of users
-abbrev pub AreUsers : List Happening → Type 0
+abbrev pub AreUsers : List UserEvent → Type 0
 AreUsers [] = Unit {0}
 AreUsers (h ∷ hs) = (1 ≤ h.user) × (h.user ≤ 8) × AreUsers hs
 
@@ -83,24 +83,24 @@ no_newline_in_granted_line : (n : ℕ) → IsLine (granted_line n)
 unfolding granted_line
 no_newline_in_granted_line n = let word : Piece = (codes "granted ", refl) in (word ▸ number n).1
 
-no_newline_in_standing : (s : Standing) → IsLine (standing_word s)
-no_newline_in_standing Absent = refl
-no_newline_in_standing _ = refl
+no_newline_in_run_state : (s : RunState) → IsLine (run_state_word s)
+no_newline_in_run_state Absent = refl
+no_newline_in_run_state _ = refl
 
-no_newline_in_listed_user : (standings : List Standing) (u : ℕ) → IsLine (listed_user standings u)
+no_newline_in_listed_user : (run_states : List RunState) (u : ℕ) → IsLine (listed_user run_states u)
 unfolding listed_user
-no_newline_in_listed_user standings u =
+no_newline_in_listed_user run_states u =
     let gap : Piece = (codes " ", refl) in
     let colon : Piece = (codes ":", refl) in
-    let standing : Standing = slice_index_or standings (u - 1) Absent in
-    let word : Piece = (standing_word standing, no_newline_in_standing standing) in
+    let run_state : RunState = slice_index_or run_states (u - 1) Absent in
+    let word : Piece = (run_state_word run_state, no_newline_in_run_state run_state) in
     (gap ▸ number u ▸ colon ▸ word).1
 
-no_newline_in_list_line : (standings : List Standing) → IsLine (list_line standings)
+no_newline_in_list_line : (run_states : List RunState) → IsLine (list_line run_states)
 unfolding list_line
-no_newline_in_list_line standings =
+no_newline_in_list_line run_states =
     let word : Piece = (codes "list", refl) in
-    let all : Piece = (flat_map (listed_user standings) users, flat_map_line (listed_user standings) users (no_newline_in_listed_user standings)) in
+    let all : Piece = (flat_map (listed_user run_states) users, flat_map_line (listed_user run_states) users (no_newline_in_listed_user run_states)) in
     (word ▸ all).1
 
 no_newline_in_stats_line : (stats : Stats) → IsLine (stats_line stats)
@@ -117,5 +117,5 @@ pub no_newline_in_operator_line : (s : Setup) (w : World) (r : OperatorParsed) �
 no_newline_in_operator_line s w (Err reason) = no_newline_in_refusal reason
 no_newline_in_operator_line s w (Ok (Slices n)) = no_newline_in_granted_line (length (granted s n w))
 no_newline_in_operator_line s w (Ok (Run u)) = no_newline_in_granted_line (length (grants s w (Run u)))
-no_newline_in_operator_line s w (Ok ListUsers) = no_newline_in_list_line (map standing w.parts)
+no_newline_in_operator_line s w (Ok ListUsers) = no_newline_in_list_line (map run_state w.parts)
 no_newline_in_operator_line s w (Ok ShowStats) = no_newline_in_stats_line (stats_of w.unit)

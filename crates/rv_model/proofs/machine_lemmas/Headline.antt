@@ -8,7 +8,7 @@ use Rattle.rv_model.specs.text.Lines.{pieces, text}
 use Rattle.rv_model.proofs.text_lemmas.Newlines.{AreLines}
 use Rattle.rv_model.specs.machine.Setup.{Setup}
 use Rattle.rv_model.specs.machine.World.{Private, Event, event, solo_from, solo, end_of}
-use Rattle.rv_model.specs.machine.Script.{World, new_world, with_unit, Kind, Long, Bad, Operator, Of, prefixed, kind_of, events_of, common, Happening, outcome_of, unit_after, after_one, after_events, told_by, told, after_all, told_all, schedule, whole_from, after_script, mine, own_from, own, lines, user_machine, with_user_machine, world_after}
+use Rattle.rv_model.specs.machine.Script.{World, new_world, with_unit, Kind, Long, Bad, Operator, Of, prefixed, kind_of, events_of, common, UserEvent, outcome_of, unit_after, after_one, after_events, printed_by_events, printed_by_line, after_all, printed_by_lines, schedule, whole_from, after_script, mine, own_from, own, lines, user_machine, with_user_machine, world_after}
 use Rattle.rv_model.specs.machine.Laws.{EachUserAlone, EachNewUserAlone, EachUserEndsAlone, OthersChangeNothing, EqualPartsAnswerAlike, MachinesStayEight}
 use Rattle.rv_model.proofs.text_lemmas.Lines.{lines_text}
 use Rattle.rv_model.specs.commands.Operator.{operator_parse}
@@ -42,31 +42,31 @@ pub parts_after_turn : (turn : Bool) (u : ℕ) (w : World) → (if turn then rec
 parts_after_turn true u w = refl
 parts_after_turn false u w = refl
 
-pub part_after_one : (s : Setup) (u : ℕ) (w : World) (h : Happening) → user_machine u (after_one s w h) ≡ user_machine u (with_user_machine h.user (outcome_of s w h).next w)
+pub part_after_one : (s : Setup) (u : ℕ) (w : World) (h : UserEvent) → user_machine u (after_one s w h) ≡ user_machine u (with_user_machine h.user (outcome_of s w h).next w)
 part_after_one s u w h =
     ap (λ parts. get_or parts (u - 1) None) (parts_after_turn h.turn h.user (with_unit (unit_after s w h) (with_user_machine h.user (outcome_of s w h).next w)))
 
-pub length-after_one : (s : Setup) (w : World) (h : Happening) → length (after_one s w h).parts ≡ length w.parts
+pub length-after_one : (s : Setup) (w : World) (h : UserEvent) → length (after_one s w h).parts ≡ length w.parts
 length-after_one s w h =
     ap length (parts_after_turn h.turn h.user (with_unit (unit_after s w h) (with_user_machine h.user (outcome_of s w h).next w)))
     ∙ length-set w.parts (h.user - 1) (outcome_of s w h).next
 
 -- the lines of one event, before those of the other events
-abbrev Splits : Setup → ℕ → List (List ℕ) → World → Event → List Happening → ℕ → Type 0
+abbrev Splits : Setup → ℕ → List (List ℕ) → World → Event → List UserEvent → ℕ → Type 0
 Splits s u others w e es v = cond (eqb v u) (event s (user_machine v w) e).lines [] ++ (solo_from s (user_machine u (with_user_machine v (event s (user_machine v w) e).next w)) (mine u es) ++ others) ≡ solo_from s (user_machine u w) (cond (eqb v u) (e ∷ mine u es) (mine u es)) ++ others
 
-splits_same : (s : Setup) (u : ℕ) (others : List (List ℕ)) (w : World) (e : Event) (es : List Happening) → 1 ≤ u → u ≤ length w.parts → Splits s u others w e es u
+splits_same : (s : Setup) (u : ℕ) (others : List (List ℕ)) (w : World) (e : Event) (es : List UserEvent) → 1 ≤ u → u ≤ length w.parts → Splits s u others w e es u
 splits_same s u others w e es low high =
     let p : Private = (event s (user_machine u w) e).next in
     rw (same_number u)
     (ap (λ (q : Private). (event s (user_machine u w) e).lines ++ (solo_from s q (mine u es) ++ others)) (part_same u p w low high)
     ∙ sym (append_assoc (event s (user_machine u w) e).lines (solo_from s p (mine u es)) others))
 
-splits_other : (s : Setup) (u : ℕ) (others : List (List ℕ)) (w : World) (e : Event) (es : List Happening) (v : ℕ) → 1 ≤ u → 1 ≤ v → v ≢ u → Splits s u others w e es v
+splits_other : (s : Setup) (u : ℕ) (others : List (List ℕ)) (w : World) (e : Event) (es : List UserEvent) (v : ℕ) → 1 ≤ u → 1 ≤ v → v ≢ u → Splits s u others w e es v
 splits_other s u others w e es v low low' ne =
     rw (other_number u v ne) (ap (λ (q : Private). solo_from s q (mine u es) ++ others) (part_other u v (event s (user_machine v w) e).next w low low' ne))
 
-splits : (s : Setup) (u : ℕ) (others : List (List ℕ)) (w : World) (e : Event) (es : List Happening) (v : ℕ) → 1 ≤ u → u ≤ length w.parts → 1 ≤ v → Splits s u others w e es v
+splits : (s : Setup) (u : ℕ) (others : List (List ℕ)) (w : World) (e : Event) (es : List UserEvent) (v : ℕ) → 1 ≤ u → u ≤ length w.parts → 1 ≤ v → Splits s u others w e es v
 splits s u others w e es v low high low' =
     elim (cases_eq v u) [
       | inl h ↦ subst (Splits s u others w e es) (sym h) (splits_same s u others w e es low high)
@@ -74,33 +74,33 @@ splits s u others w e es v low high low' =
     ]
 
 -- the lines that events print for a user
-pub lines_told_by : (s : Setup) (u : ℕ) (w : World) (es : List Happening) (rest : List ℕ) → 1 ≤ u → u ≤ 8 → length w.parts ≡ 8 → AreUsers es → lines u (told_by s w es ++ rest) ≡ solo_from s (user_machine u w) (mine u es) ++ lines u rest
-lines_told_by s u w [] rest low high eight users = refl
-lines_told_by s u w (h ∷ es) rest low high eight users =
+pub lines_printed_by_events : (s : Setup) (u : ℕ) (w : World) (es : List UserEvent) (rest : List ℕ) → 1 ≤ u → u ≤ 8 → length w.parts ≡ 8 → AreUsers es → lines u (printed_by_events s w es ++ rest) ≡ solo_from s (user_machine u w) (mine u es) ++ lines u rest
+lines_printed_by_events s u w [] rest low high eight users = refl
+lines_printed_by_events s u w (h ∷ es) rest low high eight users =
     let v = h.user in
     let e = h.event in
     let w' : World = after_one s w h in
-    let ih = lines_told_by s u w' es rest low high (length-after_one s w h ∙ eight) users.2 in
-    ap (lines u) (append_assoc (text (48 + v) (event s (user_machine v w) e).lines) (told_by s w' es) rest)
-    ∙ lines_text u (48 + v) (event s (user_machine v w) e).lines (told_by s w' es ++ rest) (no_newline v) (event_lines s (user_machine v w) e)
-    ∙ ap (λ (b : Bool). cond b (event s (user_machine v w) e).lines [] ++ lines u (told_by s w' es ++ rest)) (same_digit u v)
+    let ih = lines_printed_by_events s u w' es rest low high (length-after_one s w h ∙ eight) users.2 in
+    ap (lines u) (append_assoc (text (48 + v) (event s (user_machine v w) e).lines) (printed_by_events s w' es) rest)
+    ∙ lines_text u (48 + v) (event s (user_machine v w) e).lines (printed_by_events s w' es ++ rest) (no_newline v) (event_lines s (user_machine v w) e)
+    ∙ ap (λ (b : Bool). cond b (event s (user_machine v w) e).lines [] ++ lines u (printed_by_events s w' es ++ rest)) (same_digit u v)
     ∙ ap (λ (x : List (List ℕ)). cond (eqb v u) (event s (user_machine v w) e).lines [] ++ x) ih
     ∙ ap (λ (q : Private). cond (eqb v u) (event s (user_machine v w) e).lines [] ++ (solo_from s q (mine u es) ++ lines u rest)) (part_after_one s u w h)
     ∙ splits s u (lines u rest) w e es v low (omega (arith, high, eight)) users.0
 
 -- the user's machine after events
-abbrev Ends : Setup → ℕ → World → Event → List Happening → ℕ → Type 0
+abbrev Ends : Setup → ℕ → World → Event → List UserEvent → ℕ → Type 0
 Ends s u w e es v = end_of s (user_machine u (with_user_machine v (event s (user_machine v w) e).next w)) (mine u es) ≡ end_of s (user_machine u w) (cond (eqb v u) (e ∷ mine u es) (mine u es))
 
-ends_same : (s : Setup) (u : ℕ) (w : World) (e : Event) (es : List Happening) → 1 ≤ u → u ≤ length w.parts → Ends s u w e es u
+ends_same : (s : Setup) (u : ℕ) (w : World) (e : Event) (es : List UserEvent) → 1 ≤ u → u ≤ length w.parts → Ends s u w e es u
 ends_same s u w e es low high =
     rw (same_number u) (ap (λ (q : Private). end_of s q (mine u es)) (part_same u (event s (user_machine u w) e).next w low high))
 
-ends_other : (s : Setup) (u : ℕ) (w : World) (e : Event) (es : List Happening) (v : ℕ) → 1 ≤ u → 1 ≤ v → v ≢ u → Ends s u w e es v
+ends_other : (s : Setup) (u : ℕ) (w : World) (e : Event) (es : List UserEvent) (v : ℕ) → 1 ≤ u → 1 ≤ v → v ≢ u → Ends s u w e es v
 ends_other s u w e es v low low' ne =
     rw (other_number u v ne) (ap (λ (q : Private). end_of s q (mine u es)) (part_other u v (event s (user_machine v w) e).next w low low' ne))
 
-pub part_after_events : (s : Setup) (u : ℕ) (w : World) (es : List Happening) → 1 ≤ u → u ≤ 8 → length w.parts ≡ 8 → AreUsers es → user_machine u (after_events s w es) ≡ end_of s (user_machine u w) (mine u es)
+pub part_after_events : (s : Setup) (u : ℕ) (w : World) (es : List UserEvent) → 1 ≤ u → u ≤ 8 → length w.parts ≡ 8 → AreUsers es → user_machine u (after_events s w es) ≡ end_of s (user_machine u w) (mine u es)
 part_after_events s u w [] low high eight users = refl
 part_after_events s u w (h ∷ es) low high eight users =
     let v = h.user in
@@ -112,7 +112,7 @@ part_after_events s u w (h ∷ es) low high eight users =
       | inr ne ↦ ends_other s u w e es v low users.0 ne
     ]
 
-pub length-after_events : (s : Setup) (w : World) (es : List Happening) → length (after_events s w es).parts ≡ length w.parts
+pub length-after_events : (s : Setup) (w : World) (es : List UserEvent) → length (after_events s w es).parts ≡ length w.parts
 length-after_events s w [] = refl
 length-after_events s w (h ∷ hs) = length-after_events s (after_one s w h) hs ∙ length-after_one s w h
 
@@ -148,7 +148,7 @@ solo-append : (s : Setup) (p : Private) (a b : List Event) → solo_from s p (a 
 solo-append s p [] b = refl
 solo-append s p (e ∷ a) b = ap (λ (x : List (List ℕ)). (event s p e).lines ++ x) (solo-append s (event s p e).next a b) ∙ sym (append_assoc (event s p e).lines (solo_from s (event s p e).next a) (solo_from s (end_of s (event s p e).next a) b))
 
-mine-append : (u : ℕ) (a b : List Happening) → mine u (a ++ b) ≡ mine u a ++ mine u b
+mine-append : (u : ℕ) (a b : List UserEvent) → mine u (a ++ b) ≡ mine u a ++ mine u b
 mine-append u [] b = refl
 mine-append u (h ∷ a) b =
     of_bool (eqb h.user u) (λ t. cond t (h.event ∷ mine u (a ++ b)) (mine u (a ++ b)) ≡ cond t (h.event ∷ mine u a) (mine u a) ++ mine u b)
@@ -162,12 +162,12 @@ part_after : (s : Setup) (u : ℕ) (w : World) (line : List ℕ) → 1 ≤ u →
 unfolding world_after
 part_after s u w line low high eight = part_after_events s u w (events_of s w (kind_of line)) low high eight (users_of s w line)
 
-lines_told : (s : Setup) (u : ℕ) (w : World) (line rest : List ℕ) → 1 ≤ u → u ≤ 8 → length w.parts ≡ 8 → lines u (told s w line ++ rest) ≡ solo_from s (user_machine u w) (mine u (events_of s w (kind_of line))) ++ lines u rest
-unfolding told
-lines_told s u w line rest low high eight =
-    let es : List Happening = events_of s w (kind_of line) in
-    ap (lines u) (append_assoc (told_by s w es) (text 42 (common s w (kind_of line))) rest)
-    ∙ lines_told_by s u w es (text 42 (common s w (kind_of line)) ++ rest) low high eight (users_of s w line)
+lines_printed_by_line : (s : Setup) (u : ℕ) (w : World) (line rest : List ℕ) → 1 ≤ u → u ≤ 8 → length w.parts ≡ 8 → lines u (printed_by_line s w line ++ rest) ≡ solo_from s (user_machine u w) (mine u (events_of s w (kind_of line))) ++ lines u rest
+unfolding printed_by_line
+lines_printed_by_line s u w line rest low high eight =
+    let es : List UserEvent = events_of s w (kind_of line) in
+    ap (lines u) (append_assoc (printed_by_events s w es) (text 42 (common s w (kind_of line))) rest)
+    ∙ lines_printed_by_events s u w es (text 42 (common s w (kind_of line)) ++ rest) low high eight (users_of s w line)
     ∙ ap (λ (x : List (List ℕ)). solo_from s (user_machine u w) (mine u es) ++ x) (lines_common s u w (kind_of line) rest)
 
 lines_none : (u : ℕ) → lines u [] ≡ []
@@ -177,19 +177,19 @@ lines_none u =
     rw other refl
 
 -- For all lines of a script: the user's lines are those of the user's machine run alone.
-pub lines_told_all : (s : Setup) (u : ℕ) (w : World) (ls : List (List ℕ)) → 1 ≤ u → u ≤ 8 → length w.parts ≡ 8 → lines u (told_all s w ls) ≡ solo_from s (user_machine u w) (mine u (schedule s w ls))
-lines_told_all s u w [] low high eight = lines_none u
-lines_told_all s u w (l ∷ ls) low high eight =
-    let es : List Happening = events_of s w (kind_of l) in
-    lines_told s u w l (told_all s (world_after s w l) ls) low high eight
-    ∙ ap (λ (x : List (List ℕ)). solo_from s (user_machine u w) (mine u es) ++ x) (lines_told_all s u (world_after s w l) ls low high (length-after s w l ∙ eight))
+pub lines_printed_by_lines : (s : Setup) (u : ℕ) (w : World) (ls : List (List ℕ)) → 1 ≤ u → u ≤ 8 → length w.parts ≡ 8 → lines u (printed_by_lines s w ls) ≡ solo_from s (user_machine u w) (mine u (schedule s w ls))
+lines_printed_by_lines s u w [] low high eight = lines_none u
+lines_printed_by_lines s u w (l ∷ ls) low high eight =
+    let es : List UserEvent = events_of s w (kind_of l) in
+    lines_printed_by_line s u w l (printed_by_lines s (world_after s w l) ls) low high eight
+    ∙ ap (λ (x : List (List ℕ)). solo_from s (user_machine u w) (mine u es) ++ x) (lines_printed_by_lines s u (world_after s w l) ls low high (length-after s w l ∙ eight))
     ∙ ap (λ (p : Private). solo_from s (user_machine u w) (mine u es) ++ solo_from s p (mine u (schedule s (world_after s w l) ls))) (part_after s u w l low high eight)
     ∙ sym (solo-append s (user_machine u w) (mine u es) (mine u (schedule s (world_after s w l) ls)))
     ∙ ap (solo_from s (user_machine u w)) (sym (mine-append u es (schedule s (world_after s w l) ls)))
 
 pub headline : (s : Setup) (u : ℕ) (w : World) (script : List ℕ) → 1 ≤ u → u ≤ 8 → length w.parts ≡ 8 → lines u (whole_from s w script) ≡ solo_from s (user_machine u w) (own_from s u w script)
 unfolding whole_from own_from
-headline s u w script low high eight = lines_told_all s u w (pieces script) low high eight
+headline s u w script low high eight = lines_printed_by_lines s u w (pieces script) low high eight
 
 pub length-after_all : (s : Setup) (w : World) (ls : List (List ℕ)) → length (after_all s w ls).parts ≡ length w.parts
 length-after_all s w [] = refl
@@ -203,7 +203,7 @@ end_of-append s p (e ∷ a) b = end_of-append s (event s p e).next a b
 part_after_all : (s : Setup) (u : ℕ) (w : World) (ls : List (List ℕ)) → 1 ≤ u → u ≤ 8 → length w.parts ≡ 8 → user_machine u (after_all s w ls) ≡ end_of s (user_machine u w) (mine u (schedule s w ls))
 part_after_all s u w [] low high eight = refl
 part_after_all s u w (l ∷ ls) low high eight =
-    let es : List Happening = events_of s w (kind_of l) in
+    let es : List UserEvent = events_of s w (kind_of l) in
     part_after_all s u (world_after s w l) ls low high (length-after s w l ∙ eight)
     ∙ ap (λ (p : Private). end_of s p (mine u (schedule s (world_after s w l) ls))) (part_after s u w l low high eight)
     ∙ sym (end_of-append s (user_machine u w) (mine u es) (mine u (schedule s (world_after s w l) ls)))
@@ -224,7 +224,7 @@ pub others_change_nothing : OthersChangeNothing
 others_change_nothing s one two u low high same =
     each_new_user_alone s one u low high ∙ ap (solo s) same ∙ sym (each_new_user_alone s two u low high)
 
-part_moves : (s : Setup) (w : World) (h : Happening) → 1 ≤ h.user → h.user ≤ 8 → length w.parts ≡ 8
+part_moves : (s : Setup) (w : World) (h : UserEvent) → 1 ≤ h.user → h.user ≤ 8 → length w.parts ≡ 8
     → user_machine h.user (after_one s w h) ≡ (outcome_of s w h).next
 part_moves s w h low high eight =
     part_after_one s h.user w h ∙ part_same h.user (outcome_of s w h).next w low (omega (arith, high, eight))

@@ -10,9 +10,9 @@ use Rattle.rv_model.specs.declared.commands.operator.OperatorCommand.TheVariants
 use Rattle.rv_model.specs.commands.Commands.{parse}
 use Rattle.rv_model.specs.commands.Operator.{OperatorParsed, granted_line, list_line, operator_parse, stats_line}
 use Rattle.rv_model.specs.machine.Grants.{granted, grants, grants_of, next_running, operator_line, runs, slice_of}
-use Rattle.rv_model.specs.machine.World.{Private, Event, Command, Slice, event, World, Happening, after_events, after_one, outcome_of, told_by, unit_after, with_unit, user_machine, with_user_machine}
-use Rattle.rv_model.specs.machine.Refusals.{IsRefusal, RefusedHappeningsChangeNothing, RefusedLinesChangeNothing}
-use Rattle.rv_model.specs.machine.Script.{Kind, Empty, Long, Bad, Operator, Of, commands, common, events_of, kind_of, told, world_after}
+use Rattle.rv_model.specs.machine.World.{Private, Event, Command, Slice, event, World, UserEvent, after_events, after_one, outcome_of, printed_by_events, unit_after, with_unit, user_machine, with_user_machine}
+use Rattle.rv_model.specs.machine.Refusals.{IsRefusal, RefusedUserEventsChangeNothing, RefusedLinesChangeNothing}
+use Rattle.rv_model.specs.machine.Script.{Kind, Empty, Long, Bad, Operator, Of, commands, common, events_of, kind_of, printed_by_line, world_after}
 use Rattle.rv_model.specs.machine.Setup.{Setup}
 use Rattle.rv_model.specs.machine.UserMachine.{Use}
 use Rattle.rv_model.specs.machine.VectorUnit.{unit_after_uses}
@@ -83,7 +83,7 @@ event_settles s p (Command line) = commanded_settles s.images p (parse line)
 event_settles s p Slice = inr (sliced_printed s.quantum p).1
 
 -- the world is unchanged if the user's machine is unchanged, the vector unit isn't used, and the event isn't a turn
-same_world : (s : Setup) (w : World) (h : Happening) → h.turn ≡ false → (outcome_of s w h).next ≡ user_machine h.user w
+same_world : (s : Setup) (w : World) (h : UserEvent) → h.turn ≡ false → (outcome_of s w h).next ≡ user_machine h.user w
     → (outcome_of s w h).uses ≡ [] → after_one s w h ≡ w
 same_world s w h turn same unused =
     let moved : World = with_unit (unit_after s w h) (with_user_machine h.user (outcome_of s w h).next w) in
@@ -92,8 +92,8 @@ same_world s w h turn same unused =
     ∙ ap (λ (uses : List Use). with_unit (unit_after_uses h.user uses w.unit) (with_user_machine h.user (user_machine h.user w) w)) unused
     ∙ ap (λ (parts : List Private). record w { parts = parts }) (set-get_or w.parts (h.user - 1) None)
 
-pub refused_happenings_change_nothing : RefusedHappeningsChangeNothing
-refused_happenings_change_nothing s w h slices refused =
+pub refused_user_events_change_nothing : RefusedUserEventsChangeNothing
+refused_user_events_change_nothing s w h slices refused =
     of_bool h.turn (λ b. after_one s w h ≡ w)
     (λ turn. absurd (none_refused (outcome_of s w h).lines (slice_plain s (user_machine h.user w) h.event (slices turn)) refused))
     (λ turn. elim (event_settles s (user_machine h.user w) h.event) [
@@ -103,7 +103,7 @@ refused_happenings_change_nothing s w h slices refused =
 
 -- ---- grants of the operator
 
-abbrev AreSlices : List Happening → Type 0
+abbrev AreSlices : List UserEvent → Type 0
 AreSlices [] = Unit {0}
 AreSlices (h ∷ hs) = (h.event ≡ Slice) × AreSlices hs
 
@@ -119,15 +119,15 @@ grants_are_slices s w (Slices n) = granted_are_slices s n w
 grants_are_slices s w (Run u) = of_either AreSlices (runs (user_machine u w)) _ _ (refl, tt) tt
 grants_are_slices s w _ = tt
 
-plain_told_by : (s : Setup) (w : World) (hs : List Happening) (rest : List ℕ) → AreSlices hs
-    → are_plain (answers_in rest) ≡ true → are_plain (answers_in (told_by s w hs ++ rest)) ≡ true
-plain_told_by s w [] rest slices k = k
-plain_told_by s w (h ∷ hs) rest slices k =
+plain_printed_by_events : (s : Setup) (w : World) (hs : List UserEvent) (rest : List ℕ) → AreSlices hs
+    → are_plain (answers_in rest) ≡ true → are_plain (answers_in (printed_by_events s w hs ++ rest)) ≡ true
+plain_printed_by_events s w [] rest slices k = k
+plain_printed_by_events s w (h ∷ hs) rest slices k =
     let ls : List (List ℕ) = (outcome_of s w h).lines in
-    ap (λ (t : List ℕ). are_plain (answers_in t)) (append_assoc (text (48 + h.user) ls) (told_by s (after_one s w h) hs) rest)
-    ∙ plain_text (48 + h.user) ls (told_by s (after_one s w h) hs ++ rest) (no_newline h.user)
+    ap (λ (t : List ℕ). are_plain (answers_in t)) (append_assoc (text (48 + h.user) ls) (printed_by_events s (after_one s w h) hs) rest)
+    ∙ plain_text (48 + h.user) ls (printed_by_events s (after_one s w h) hs ++ rest) (no_newline h.user)
     (event_lines s (user_machine h.user w) h.event) (slice_plain s (user_machine h.user w) h.event slices.0)
-    (plain_told_by s (after_one s w h) hs rest slices.1 k)
+    (plain_printed_by_events s (after_one s w h) hs rest slices.1 k)
 
 operator_line_plain : (s : Setup) (w : World) (c : OperatorCommand) → is_plain (operator_line s w (Ok c)) ≡ true
 unfolding granted_line list_line stats_line
@@ -138,9 +138,9 @@ operator_line_plain s w _ = refl
 
 -- the lines that a user's line prints
 user_line : (s : Setup) (w : World) (u : ℕ) (line : List ℕ)
-    → Any IsRefusal (answers_in (told_by s w (commands u line ∷ []) ++ [])) → after_one s w (commands u line) ≡ w
+    → Any IsRefusal (answers_in (printed_by_events s w (commands u line ∷ []) ++ [])) → after_one s w (commands u line) ≡ w
 user_line s w u line refused =
-    let h : Happening = commands u line in
+    let h : UserEvent = commands u line in
     elim (event_settles s (user_machine u w) (Command line)) [
       | inl same ↦ same_world s w h refl same.0 same.1
       | inr plain ↦
@@ -150,20 +150,20 @@ user_line s w u line refused =
     ]
 
 operator_line_refused : (s : Setup) (w : World) (r : OperatorParsed)
-    → Any IsRefusal (answers_in (told_by s w (grants_of s w r) ++ text 42 (operator_line s w r ∷ [])))
+    → Any IsRefusal (answers_in (printed_by_events s w (grants_of s w r) ++ text 42 (operator_line s w r ∷ [])))
     → after_events s w (grants_of s w r) ≡ w
 operator_line_refused s w (Err reason) refused = refl
 operator_line_refused s w (Ok c) refused =
     let line : List ℕ = operator_line s w (Ok c) in
     let last = plain_all 42 (line ∷ []) refl (one_line line (no_newline_in_operator_line s w (Ok c)))
     (plain_line line (operator_line_plain s w c)) in
-    absurd (none_refused _ (plain_told_by s w (grants s w c) (text 42 (line ∷ [])) (grants_are_slices s w c) last) refused)
+    absurd (none_refused _ (plain_printed_by_events s w (grants s w c) (text 42 (line ∷ [])) (grants_are_slices s w c) last) refused)
 
 pub refused_lines_change_nothing : RefusedLinesChangeNothing
-unfolding world_after told common
+unfolding world_after printed_by_line common
 refused_lines_change_nothing s w line refused = named (kind_of line) refused
   where
-    named : (k : Kind) → Any IsRefusal (answers_in (told_by s w (events_of s w k) ++ text 42 (common s w k)))
+    named : (k : Kind) → Any IsRefusal (answers_in (printed_by_events s w (events_of s w k) ++ text 42 (common s w k)))
         → after_events s w (events_of s w k) ≡ w
     named Empty refused = refl
     named Long refused = refl

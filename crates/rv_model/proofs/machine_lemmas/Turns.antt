@@ -7,7 +7,7 @@ use Rattle.std.specs.Option.{option_map_or}
 use Rattle.rv_model.specs.declared.commands.operator.OperatorCommand.TheVariants.{Slices, Run}
 use Rattle.rv_model.specs.commands.Operator.{operator_parse}
 use Rattle.rv_model.specs.machine.Grants.{turns_after, next_user, runs, next_running, slice_of, granted}
-use Rattle.rv_model.specs.machine.World.{Private, Slice, World, Happening, with_unit, outcome_of, unit_after, after_one, after_events, user_machine, with_user_machine}
+use Rattle.rv_model.specs.machine.World.{Private, Slice, World, UserEvent, with_unit, outcome_of, unit_after, after_one, after_events, user_machine, with_user_machine}
 use Rattle.rv_model.specs.machine.Script.{Kind, Operator, Of, kind_of, events_of, schedule, world_after}
 use Rattle.rv_model.specs.machine.Setup.{Setup}
 use Rattle.rv_model.specs.machine.Turns.{AtEachTurn, AreInTurn, RunsAtEachTurn, turns_of, NobodyHasTwoTurns, EachRunningUserHasATurn, GrantsAreInTurn, ScriptsAreInTurn, OneTurnBetweenTurns}
@@ -77,9 +77,9 @@ flag_of (p ∷ ps) (suc i) = flag_of ps i
 -- ---- the users of consecutive turns
 
 -- the users of the turns among events, in order
-abbrev takers : List Happening → List ℕ
-takers [] = []
-takers (h ∷ hs) = if h.turn then h.user ∷ takers hs else takers hs
+abbrev turn_users : List UserEvent → List ℕ
+turn_users [] = []
+turn_users (h ∷ hs) = if h.turn then h.user ∷ turn_users hs else turn_users hs
 
 -- the number of occurrences of a number
 abbrev count : ℕ → List ℕ → ℕ
@@ -92,23 +92,23 @@ NoneIsLater u cursor [] = Unit {0}
 NoneIsLater u cursor (x ∷ xs) = IsUser x × (cursor ≤ 8 → ahead cursor x ≤ ahead cursor u) × NoneIsLater u x xs
 
 -- the number of turns
-abbrev turns : List Happening → ℕ
+abbrev turns : List UserEvent → ℕ
 turns hs = length (filter (λ h. h.turn) hs)
 
-turns_are : (hs : List Happening) → turns hs ≡ length (takers hs)
+turns_are : (hs : List UserEvent) → turns hs ≡ length (turn_users hs)
 turns_are [] = refl
 turns_are (h ∷ hs) =
-    let all : List Happening = filter (λ h. h.turn) hs in
-    of_bool h.turn (λ b. length (if b then h ∷ all else all) ≡ length (if b then h.user ∷ takers hs else takers hs))
+    let all : List UserEvent = filter (λ h. h.turn) hs in
+    of_bool h.turn (λ b. length (if b then h ∷ all else all) ≡ length (if b then h.user ∷ turn_users hs else turn_users hs))
     (λ e. ap (λ n. suc n) (turns_are hs)) (λ e. turns_are hs)
 
-turns_of_are : (u : ℕ) (hs : List Happening) → turns_of u hs ≡ count u (takers hs)
+turns_of_are : (u : ℕ) (hs : List UserEvent) → turns_of u hs ≡ count u (turn_users hs)
 turns_of_are u [] = refl
 turns_of_are u (h ∷ hs) =
-    let mine : List Happening = filter (λ h. h.turn && h.user == u) hs in
-    let same : turns_of u hs ≡ count u (takers hs) = turns_of_are u hs in
-    of_bool h.turn (λ b. length (if b && h.user == u then h ∷ mine else mine) ≡ count u (if b then h.user ∷ takers hs else takers hs))
-    (λ e. of_bool (h.user == u) (λ b. length (if b then h ∷ mine else mine) ≡ (if b then 1 else 0) + count u (takers hs))
+    let mine : List UserEvent = filter (λ h. h.turn && h.user == u) hs in
+    let same : turns_of u hs ≡ count u (turn_users hs) = turns_of_are u hs in
+    of_bool h.turn (λ b. length (if b && h.user == u then h ∷ mine else mine) ≡ count u (if b then h.user ∷ turn_users hs else turn_users hs))
+    (λ e. of_bool (h.user == u) (λ b. length (if b then h ∷ mine else mine) ≡ (if b then 1 else 0) + count u (turn_users hs))
     (λ e. omega (arith, same)) (λ e. omega (arith, same))) (λ e. same)
 
 first_counts : (u x : ℕ) (xs : List ℕ) → x ≡ u → count u (x ∷ xs) ≡ suc (count u xs)
@@ -174,7 +174,7 @@ below_eight u cursor (x ∷ xs) is_u turns none =
 -- ---- the turns of events
 
 -- a slice of the user whose turn it is
-abbrev IsTurn : World → Happening → Type 0
+abbrev IsTurn : World → UserEvent → Type 0
 IsTurn w h = (h.event ≡ Slice) × (next_running w ≡ Some h.user)
 
 cursor_after_turn : (turn : Bool) (u : ℕ) (w : World)
@@ -183,40 +183,40 @@ cursor_after_turn true u w = refl
 cursor_after_turn false u w = refl
 
 -- a turn moves the cursor to its user, and nothing else moves it
-cursor_after : (s : Setup) (w : World) (h : Happening) (b : Bool) → h.turn ≡ b
+cursor_after : (s : Setup) (w : World) (h : UserEvent) (b : Bool) → h.turn ≡ b
     → (after_one s w h).cursor ≡ (if b then h.user else w.cursor)
 cursor_after s w h b turn =
     cursor_after_turn h.turn h.user (with_unit (unit_after s w h) (with_user_machine h.user (outcome_of s w h).next w))
     ∙ ap (λ (b : Bool). if b then h.user else w.cursor) turn
 
 -- if user u's program is running at each turn, no turn skips u
-none_is_later : (s : Setup) (w : World) (hs : List Happening) (u : ℕ) → IsUser u → AreInTurn s w hs → RunsAtEachTurn u s w hs
-    → NoneIsLater u w.cursor (takers hs)
+none_is_later : (s : Setup) (w : World) (hs : List UserEvent) (u : ℕ) → IsUser u → AreInTurn s w hs → RunsAtEachTurn u s w hs
+    → NoneIsLater u w.cursor (turn_users hs)
 none_is_later s w [] u is_u in_turn running = tt
 none_is_later s w (h ∷ hs) u is_u in_turn running =
-    let rest : NoneIsLater u (after_one s w h).cursor (takers hs) = none_is_later s (after_one s w h) hs u is_u in_turn.1 running.1 in
-    of_bool h.turn (λ b. NoneIsLater u w.cursor (if b then h.user ∷ takers hs else takers hs))
+    let rest : NoneIsLater u (after_one s w h).cursor (turn_users hs) = none_is_later s (after_one s w h) hs u is_u in_turn.1 running.1 in
+    of_bool h.turn (λ b. NoneIsLater u w.cursor (if b then h.user ∷ turn_users hs else turn_users hs))
     (λ is.
     let next = (in_turn.0 is).1 in
     let is_user = subst IsUserIfAny next (next_is_user w.cursor (map runs w.parts)) in
     let first : w.cursor ≤ 8 → ahead w.cursor h.user ≤ ahead w.cursor u =
     λ low. next_comes_first w.cursor u h.user (map runs w.parts) low is_u (flag_of w.parts (u - 1) ∙ running.0 is) next in
-    (is_user, first, subst (λ c. NoneIsLater u c (takers hs)) (cursor_after s w h true is) rest))
-    (λ is. subst (λ c. NoneIsLater u c (takers hs)) (cursor_after s w h false is) rest)
+    (is_user, first, subst (λ c. NoneIsLater u c (turn_users hs)) (cursor_after s w h true is) rest))
+    (λ is. subst (λ c. NoneIsLater u c (turn_users hs)) (cursor_after s w h false is) rest)
 
 -- ---- events in turn
 
-at_each-append : (P : World → Happening → Type 0) (s : Setup) (w : World) (one two : List Happening)
+at_each-append : (P : World → UserEvent → Type 0) (s : Setup) (w : World) (one two : List UserEvent)
     → AtEachTurn P s w one → AtEachTurn P s (after_events s w one) two → AtEachTurn P s w (one ++ two)
 at_each-append P s w [] two first second = second
 at_each-append P s w (h ∷ hs) two first second = (first.0, at_each-append P s (after_one s w h) hs two first.1 second)
 
-at_each-front : (P : World → Happening → Type 0) (s : Setup) (w : World) (one two : List Happening)
+at_each-front : (P : World → UserEvent → Type 0) (s : Setup) (w : World) (one two : List UserEvent)
     → AtEachTurn P s w (one ++ two) → AtEachTurn P s w one
 at_each-front P s w [] two all = tt
 at_each-front P s w (h ∷ hs) two all = (all.0, at_each-front P s (after_one s w h) hs two all.1)
 
-at_each-rest : (P : World → Happening → Type 0) (s : Setup) (w : World) (one two : List Happening)
+at_each-rest : (P : World → UserEvent → Type 0) (s : Setup) (w : World) (one two : List UserEvent)
     → AtEachTurn P s w (one ++ two) → AtEachTurn P s (after_events s w one) two
 at_each-rest P s w [] two all = all
 at_each-rest P s w (h ∷ hs) two all = at_each-rest P s (after_one s w h) hs two all.1
@@ -253,12 +253,12 @@ scripts_are_in_turn s w script = lines_in_turn s w (pieces script)
 pub nobody_has_two_turns : NobodyHasTwoTurns
 nobody_has_two_turns s w hs u v low high in_turn running none =
     let none_later = none_is_later s w hs u (low, high) in_turn running in
-    rw (turns_of_are v hs) (one_at_most u v w.cursor (takers hs) (low, high) none_later (sym (turns_of_are u hs) ∙ none))
+    rw (turns_of_are v hs) (one_at_most u v w.cursor (turn_users hs) (low, high) none_later (sym (turns_of_are u hs) ∙ none))
 
 pub each_running_user_has_a_turn : EachRunningUserHasATurn
 each_running_user_has_a_turn s w hs u low high in_turn running eight =
     let none_later = none_is_later s w hs u (low, high) in_turn running in
-    let few_turns = below_eight u w.cursor (takers hs) (low, high) none_later in
+    let few_turns = below_eight u w.cursor (turn_users hs) (low, high) none_later in
     elim (cases_eq (turns_of u hs) 0) [
       | inl none ↦ absurd (omega (arith, eight, turns_are hs, few_turns (sym (turns_of_are u hs) ∙ none)))
       | inr some ↦ omega (arith, some)
@@ -266,8 +266,8 @@ each_running_user_has_a_turn s w hs u low high in_turn running eight =
 
 pub one_turn_between_turns : OneTurnBetweenTurns
 one_turn_between_turns s w script before between later u v split none running =
-    let one : List Happening = slice_of u true ∷ [] in
-    let rest : List Happening = between ++ slice_of u true ∷ later in
+    let one : List UserEvent = slice_of u true ∷ [] in
+    let rest : List UserEvent = between ++ slice_of u true ∷ later in
     let all : AreInTurn s w (before ++ slice_of u true ∷ rest) = subst (AreInTurn s w) split (scripts_are_in_turn s w script) in
     let mine = at_each-rest IsTurn s w before (slice_of u true ∷ rest) all in
     let here : World = after_events s w before in

@@ -12,7 +12,7 @@ use Rattle.rv_model.specs.declared.step.memory_end.MemEnd.TheVariants as memory_
 use Rattle.rv_model.specs.declared.step.vector_end.VEnd.{VEnd}
 use Rattle.rv_model.specs.declared.step.vector_end.VEnd.TheVariants as vector_end
 use Rattle.rv_model.specs.step.Hart.{HartState, Stepped, StepEnd}
-use Rattle.rv_model.specs.step.Effects.{FaultsWriteNoRegister, FirstRegisterStays, OutputGrowsWithin, PutsOut}
+use Rattle.rv_model.specs.step.Effects.{FaultsWriteNoRegister, X0Unchanged, OutputGrowsWithin, AppendsOutput}
 use Rattle.rv_model.specs.legality.Legality.{is_legal}
 use Rattle.rv_model.specs.memory.Memory.{bytes_at}
 use Rattle.rv_model.specs.step.Step.{step, VectorStepped, access_step, accessed, after_vector, operation_step, performed, vector_executed, vector_step, vector_ticks, vset_step}
@@ -33,10 +33,10 @@ OnFault _ P = Unit {0}
 record Keeps (s : HartState) (r : Stepped) : Type 0 where
   fault : OnFault r.end (r.state.scalar ≡ s.scalar)
   first : SameFirst s.scalar r.state.scalar
-  output : PutsOut s.output r.state.output
+  output : AppendsOutput s.output r.state.output
 
 -- no output
-nothing : (output : List ℕ) → PutsOut output output
+nothing : (output : List ℕ) → AppendsOutput output output
 nothing output = record { more = []; added = sym (append-nil output); fits = omega arith }
 
 -- a fact about a vector instruction that doesn't complete
@@ -95,8 +95,8 @@ vector_keeps limit i s =
     of_either (VectorKeeps s) (is_legal i s.vector.conf.vtype s.vector.vstart) _ _ (performed_keeps limit i s) (record { refused = refl; first = refl; output = refl; illegal = refl })
 
 -- an unchanged output buffer
-as_before : {old new : List ℕ} → new ≡ old → PutsOut old new
-as_before {old} same = subst (λ (output : List ℕ). PutsOut old output) (sym same) (nothing old)
+as_before : {old new : List ℕ} → new ≡ old → AppendsOutput old new
+as_before {old} same = subst (λ (output : List ℕ). AppendsOutput old output) (sym same) (nothing old)
 
 after_vector_keeps : (ticks : ℕ) (end : VEnd) (word : ℕ) (s s' : HartState) → UnlessDone end (s'.scalar ≡ s.scalar) → SameFirst s.scalar s'.scalar → s'.output ≡ s.output
     → Keeps s (after_vector ticks end word s')
@@ -131,7 +131,7 @@ step_keeps limit s = of_step limit s (Keeps s) (record {
 pub faults_write_no_register : FaultsWriteNoRegister
 faults_write_no_register limit s cause pc value is = subst (λ (end : StepEnd). OnFault end ((step limit s).state.scalar ≡ s.scalar)) is (step_keeps limit s).fault
 
-pub first_register_stays : FirstRegisterStays
+pub first_register_stays : X0Unchanged
 first_register_stays limit s = (step_keeps limit s).first
 
 pub output_grows_within : OutputGrowsWithin

@@ -24,7 +24,7 @@ use Rattle.rv_model.proofs.step_lemmas.Cuts.{cut_index, cut_short, uncut}
 use Rattle.rv_model.proofs.step_lemmas.Effects.{IfIllegal, vector_keeps}
 use Rattle.rv_model.proofs.step_lemmas.StepsResume.{after_short, instruction_leaves_off, instruction_stops, part_keeps_word, step_resumes}
 use Rattle.rv_model.specs.step.Ticks.{is_scalar}
-use Rattle.rv_model.proofs.step_lemmas.StepCases.{Fetches, IsScalarStep, IsVector, IsVectorStep, step_of, told}
+use Rattle.rv_model.proofs.step_lemmas.StepCases.{Fetches, IsScalarStep, IsVector, IsVectorStep, step_of, by_case}
 use Rattle.rv_model.proofs.step_lemmas.StoredWords.{SameWord}
 
 -- ---- an instruction other than a vector instruction is never cut, and changes nothing if it faults
@@ -33,7 +33,7 @@ abbrev AllOrNothing : HartState → Stepped → Type 0
 AllOrNothing s r = IsUndone r.end → (r.state ≡ s) × (r.end ≢ Cut)
 
 whole : (s : HartState) → IsScalarStep (AllOrNothing s) (is_scalar (fetched s.memory s.scalar.pc)) (λ n. step n s) ⊎ IsVector s
-whole s = told s (AllOrNothing s) (record {
+whole s = by_case s (AllOrNothing s) (record {
   fault = λ cause value u. (refl, λ e. cc);
   runs = λ scalar first u. absurd u;
   stores = λ addr bytes u. absurd u;

@@ -184,10 +184,10 @@ pub record IsVector (s : HartState) : Type 0 where
   pub same : (n : ℕ) → step n s ≡ vector_step n vector.instr (word_at s.memory s.scalar.pc) s
 
 -- a step is one of the cases, or the step of a vector instruction
-pub told : (s : HartState) (P : Stepped → Type 0) → Cases s (target_at s) P
+pub by_case : (s : HartState) (P : Stepped → Type 0) → Cases s (target_at s) P
     → IsScalarStep P (is_scalar (fetched s.memory s.scalar.pc)) (λ n. step n s) ⊎ IsVector s
 unfolding step
-told s P c =
+by_case s P c =
     let word : ℕ = word_at s.memory s.scalar.pc in
     let at : Bool → Option Instr = λ b. cond b (scan table word) None in
     let makes : Bool → ℕ → Stepped = λ b n. cond b (executed n (scan table word) word s) (faults FetchAccess s.scalar.pc s) in
@@ -202,7 +202,7 @@ told s P c =
 
 pub of_step : (limit : ℕ) (s : HartState) (P : Stepped → Type 0) → Cases s (target_at s) P
     → ((i : Instr) (word : ℕ) → target_at s ≡ scalar_target i → P (vector_step limit i word s)) → P (step limit s)
-of_step limit s P c vector = elim (told s P c) [
+of_step limit s P c vector = elim (by_case s P c) [
   | inl t ↦ subst P (sym (t.same limit)) t.holds
   | inr v ↦ subst P (sym (v.same limit)) (vector v.vector.instr (word_at s.memory s.scalar.pc) (ap target_of v.vector.is))
 ]

@@ -5,7 +5,7 @@ use Rattle.rv_model.specs.declared.step.step_end.StepEnd.TheVariants.{Cut}
 use Rattle.rv_model.specs.step.Hart.{HartState, Stepped}
 use Rattle.rv_model.specs.step.Step.{fetched, step, word_at}
 use Rattle.rv_model.specs.step.Ticks.{ScalarStepsTakeOneTick, TakesTicks, is_scalar}
-use Rattle.rv_model.proofs.step_lemmas.StepCases.{IsScalarStep, IsVector, told}
+use Rattle.rv_model.proofs.step_lemmas.StepCases.{IsScalarStep, IsVector, by_case}
 use Rattle.rv_model.proofs.step_lemmas.Ticks.{vector_steps_take_ticks}
 
 -- ---- an instruction other than a vector instruction takes one tick and is never cut
@@ -15,7 +15,7 @@ record AtOnce (r : Stepped) : Type 0 where
   uncut : r.end ≢ Cut
 
 timed : (s : HartState) → IsScalarStep AtOnce (is_scalar (fetched s.memory s.scalar.pc)) (λ n. step n s) ⊎ IsVector s
-timed s = told s AtOnce (record {
+timed s = by_case s AtOnce (record {
   fault = λ cause value. record { ticks = refl; uncut = λ e. cc };
   runs = λ scalar first. record { ticks = refl; uncut = λ e. cc };
   stores = λ addr bytes. record { ticks = refl; uncut = λ e. cc };

@@ -34,8 +34,8 @@ abbrev pub IsByteOf : ℕ → ℕ → ℕ → ℕ → Type 0
 IsByteOf register k i b = (VLENB * register + i * k ≤ b) × (b < VLENB * register + i * k + k)
 
 -- a legal indexed load that changes element i of a field changes no index element past i
-abbrev pub LaterIndicesStay : Type 0
-LaterIndicesStay = (order : Order) (width : Eew) (nf vd rs1 vs2 : ℕ) (vm : Bool) (t : VType) (vstart : ℕ)
+abbrev pub LaterIndicesUnchanged : Type 0
+LaterIndicesUnchanged = (order : Order) (width : Eew) (nf vd rs1 vs2 : ℕ) (vm : Bool) (t : VType) (vstart : ℕ)
     → IsLegal (instr.Access (Indexed direction.Load order width nf vd rs1 vs2 vm)) (Some t) vstart
     → (field i k b : ℕ) → field ≤ nf → i < k → k < vlmax t
     → IsByteOf (vd + field * registers (group_type t).emul) (width_bytes (group_type t).width) i b
@@ -54,13 +54,13 @@ pub record IsStopped (a : VectorAccess) (before after : VState) : Type 0 where
   pub registers : a.direction ≡ direction.Store → after.file ≡ before.file
 
 -- A run that is cut has completed exactly `limit` indices, and a run that faults fewer. Its vstart is the first index that isn't complete.
-pub record LeavesOff (limit : ℕ) (v : VState) (run : AccessRun) : Type 0 where
+pub record StopIndex (limit : ℕ) (v : VState) (run : AccessRun) : Type 0 where
   pub cut : (index : ℕ) → run.end ≡ Cut index → (index ≡ v.vstart + limit) × (run.vector.vstart ≡ index)
   pub fault : (index addr : ℕ) → run.end ≡ Fault index addr → (index < v.vstart + limit) × (run.vector.vstart ≡ index)
 
-abbrev pub AccessLeavesOff : Type 0
-AccessLeavesOff = (i : AccessInstr) (limit : ℕ) (fill_masked_off : Bool) (v : VState) (x : Scalar) (m : Memory)
-    → LeavesOff limit v (access_run limit fill_masked_off i v x m)
+abbrev pub AccessStopIndex : Type 0
+AccessStopIndex = (i : AccessInstr) (limit : ℕ) (fill_masked_off : Bool) (v : VState) (x : Scalar) (m : Memory)
+    → StopIndex limit v (access_run limit fill_masked_off i v x m)
 
 -- ---- instructions that stop and resume any number of times
 

@@ -66,12 +66,12 @@ of_present images (Breakpoints c) p = breakpoint_command c p
 of_present images (Running c) p = running_command c p
 
 -- for any user
-unfoldable pub carried_out : List Image → Cmd → Private → Outcome
-carried_out images c None = of_absent c
-carried_out images c (Some p) =
+unfoldable pub command_outcome : List Image → Cmd → Private → Outcome
+command_outcome images c None = of_absent c
+command_outcome images c (Some p) =
     if p.running && needs_stopped c then refuses (Some p) refusal.Running else of_present images c p
 
 -- the outcome of a parsed line; a line without a valid command is refused
 abbrev pub commanded : List Image → Private → Parsed → Outcome
 commanded images p (Err reason) = refuses p reason
-commanded images p (Ok c) = carried_out images c p
+commanded images p (Ok c) = command_outcome images c p

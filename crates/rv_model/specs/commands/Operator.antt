@@ -5,8 +5,8 @@ use Rattle.rv_model.specs.declared.commands.operator.OperatorCommand.{OperatorCo
 use Rattle.rv_model.specs.declared.commands.operator.OperatorCommand.TheVariants.{Slices, Run, List as ListUsers, Stats as ShowStats}
 use Rattle.rv_model.specs.declared.commands.refusal.Refusal.{Refusal}
 use Rattle.rv_model.specs.declared.commands.refusal.Refusal.TheVariants as refusal
-use Rattle.rv_model.specs.declared.machine.standing.Standing.{Standing}
-use Rattle.rv_model.specs.declared.machine.standing.Standing.TheVariants.{Absent, Stopped, Running}
+use Rattle.rv_model.specs.declared.machine.run_state.RunState.{RunState}
+use Rattle.rv_model.specs.declared.machine.run_state.RunState.TheVariants.{Absent, Stopped, Running}
 use Rattle.rv_model.specs.declared.machine.stats.Stats.{Stats}
 use Rattle.rv_model.specs.commands.Arguments.{number_between}
 use Rattle.rv_model.specs.commands.Reading.{done, in_group, meaning_in, one_argument}
@@ -22,17 +22,17 @@ granted_line n = codes "granted " ++ decimal n
 -- ---- list
 
 -- the state of a user's program
-abbrev pub standing_word : Standing → List ℕ
-standing_word Absent = codes "-"
-standing_word Stopped = codes "stopped"
-standing_word Running = codes "running"
+abbrev pub run_state_word : RunState → List ℕ
+run_state_word Absent = codes "-"
+run_state_word Stopped = codes "stopped"
+run_state_word Running = codes "running"
 
 -- a user's number and the state of the user's program, from the states of all users
-unfoldable pub listed_user : List Standing → ℕ → List ℕ
-listed_user standings u = codes " " ++ decimal u ++ codes ":" ++ standing_word (slice_index_or standings (u - 1) Absent)
+unfoldable pub listed_user : List RunState → ℕ → List ℕ
+listed_user run_states u = codes " " ++ decimal u ++ codes ":" ++ run_state_word (slice_index_or run_states (u - 1) Absent)
 
-unfoldable pub list_line : List Standing → List ℕ
-list_line standings = codes "list" ++ flat_map (listed_user standings) users
+unfoldable pub list_line : List RunState → List ℕ
+list_line run_states = codes "list" ++ flat_map (listed_user run_states) users
 
 -- ---- stats
 

@@ -18,5 +18,5 @@ pub record WritesBits (changed bit : ℕ → Bool) (old new : List ℕ) : Type 0
   pub bytes : (q : ℕ) → q < length old → slice_index new q ≡ byte_with_bits changed bit old q
 
 -- element 0 alone, if the body is not empty: an instruction with a single result writes it there
-abbrev pub first_alone : Body → Body
-first_alone body = record { unmasked = true; mask = body.mask; start = 0; end = from_bool (nat_lt body.start body.end) }
+abbrev pub element_zero : Body → Body
+element_zero body = record { unmasked = true; mask = body.mask; start = 0; end = from_bool (nat_lt body.start body.end) }

@@ -4,7 +4,7 @@ use Rattle.std.specs.Prelude.{ℕ, ◌≡◌, ◌≤◌, false, List, length, No
 use Rattle.rv_model.specs.machine.Script.{after_script}
 use Rattle.rv_model.specs.machine.Setup.{Setup, user_count}
 use Rattle.rv_model.specs.machine.VectorUnit.{VectorUnit, is_marked, is_owned_by}
-use Rattle.rv_model.specs.machine.World.{World, Happening, after_one, unit_after, user_machine}
+use Rattle.rv_model.specs.machine.World.{World, UserEvent, after_one, unit_after, user_machine}
 
 -- the user isn't the owner of the unit, and the unit has no saved state of the user
 abbrev pub HasNothing : ℕ → VectorUnit → Type 0
@@ -18,9 +18,9 @@ AbsentUsersHaveNothing w = IfSome w.unit.owner (λ owner. (1 ≤ owner) × (owne
 -- ---- the laws
 
 -- The new world satisfies this, and each event of a user preserves it.
-abbrev pub HappeningsKeepNothing : Type 0
-HappeningsKeepNothing =
-    (setup : Setup) (w : World) (h : Happening) → 1 ≤ h.user → h.user ≤ user_count → length w.parts ≡ user_count
+abbrev pub UserEventsKeepNothing : Type 0
+UserEventsKeepNothing =
+    (setup : Setup) (w : World) (h : UserEvent) → 1 ≤ h.user → h.user ≤ user_count → length w.parts ≡ user_count
     → AbsentUsersHaveNothing w → AbsentUsersHaveNothing (after_one setup w h)
 
 -- So each script preserves it.
@@ -31,5 +31,5 @@ ScriptsKeepNothing = (setup : Setup) (w : World) (script : List ℕ) → length 
 -- Then no event of an absent user, `enter` included, changes the vector unit.
 abbrev pub AbsentUsersLeaveTheUnit : Type 0
 AbsentUsersLeaveTheUnit =
-    (setup : Setup) (w : World) (h : Happening) → 1 ≤ h.user → h.user ≤ user_count → AbsentUsersHaveNothing w
+    (setup : Setup) (w : World) (h : UserEvent) → 1 ≤ h.user → h.user ≤ user_count → AbsentUsersHaveNothing w
     → user_machine h.user w ≡ None → unit_after setup w h ≡ w.unit

@@ -18,8 +18,8 @@ slices zero quantum p = record { next = p; lines = []; uses = [] }
 slices (suc k) quantum p = joined (sliced quantum p) (slices k quantum (sliced quantum p).next)
 
 -- two outcomes agree: they leave the same machine, and print the same lines
-abbrev pub ComeToTheSame : Outcome → Outcome → Type 0
-ComeToTheSame one other = (one.next ≡ other.next) × (one.lines ≡ other.lines)
+abbrev pub HaveEqualEffects : Outcome → Outcome → Type 0
+HaveEqualEffects one other = (one.next ≡ other.next) × (one.lines ≡ other.lines)
 
 -- if this use tries an instruction and the end of the ticks cuts it, the instruction hasn't overwritten its own word before the cut
 abbrev pub KeepsWordIfCut : Use → Type 0
@@ -41,9 +41,9 @@ SliceKeepsConfiguration = (quantum : ℕ) (p : Private) → IsConfigured p → I
 -- the first slice cuts an instruction that has already overwritten its own word.
 abbrev pub CutsAreInvisible : Type 0
 CutsAreInvisible = (m n : ℕ) (p : Private) → IsConfigured p → All KeepsWordIfCut (sliced m p).uses
-    → ComeToTheSame (joined (sliced m p) (sliced n (sliced m p).next)) (sliced (m + n) p)
+    → HaveEqualEffects (joined (sliced m p) (sliced n (sliced m p).next)) (sliced (m + n) p)
 
 -- So k slices equal one slice of all their ticks, with the same exception.
 abbrev pub SlicesAddUp : Type 0
 SlicesAddUp = (k quantum : ℕ) (p : Private) → IsConfigured p → All KeepsWordIfCut (slices k quantum p).uses
-    → ComeToTheSame (slices k quantum p) (sliced (k * quantum) p)
+    → HaveEqualEffects (slices k quantum p) (sliced (k * quantum) p)

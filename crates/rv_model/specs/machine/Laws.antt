@@ -1,7 +1,7 @@
 -- Laws of isolation: a user's lines in the output depend on that user's machine alone.
 use Rattle.std.specs.Prelude.{ℕ, ◌≡◌, ◌≤◌, List, [], ◌∷◌, length}
 use Rattle.rv_model.specs.machine.World.{solo_from, solo, end_of}
-use Rattle.rv_model.specs.machine.Script.{World, Happening, after_one, told_by, whole_from, whole, after_script, own_from, own, lines, user_machine}
+use Rattle.rv_model.specs.machine.Script.{World, UserEvent, after_one, printed_by_events, whole_from, whole, after_script, own_from, own, lines, user_machine}
 use Rattle.rv_model.specs.machine.Setup.{Setup, user_count}
 
 -- For all machines of the users and all scripts, a user's lines in the output are exactly the lines that the user's machine prints alone.
@@ -29,9 +29,9 @@ OthersChangeNothing = (setup : Setup) (one two : List ℕ) (u : ℕ) → 1 ≤ u
 -- user. The rest of the two worlds may differ.
 abbrev pub EqualPartsAnswerAlike : Type 0
 EqualPartsAnswerAlike =
-    (setup : Setup) (one two : World) (h : Happening) → 1 ≤ h.user → h.user ≤ user_count → length one.parts ≡ user_count
+    (setup : Setup) (one two : World) (h : UserEvent) → 1 ≤ h.user → h.user ≤ user_count → length one.parts ≡ user_count
     → length two.parts ≡ user_count → user_machine h.user one ≡ user_machine h.user two
-    → (told_by setup one (h ∷ []) ≡ told_by setup two (h ∷ []))
+    → (printed_by_events setup one (h ∷ []) ≡ printed_by_events setup two (h ∷ []))
     × (user_machine h.user (after_one setup one h) ≡ user_machine h.user (after_one setup two h))
 
 -- No script changes the number of machines.

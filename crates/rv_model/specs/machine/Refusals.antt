@@ -4,8 +4,8 @@ use Rattle.std.specs.Prelude.{ℕ, ◌≡◌, true, List, drop, map, slice_index
 use Rattle.std.specs.List.{Any}
 use Rattle.rv_model.specs.declared.commands.refusal.Refusal.{Refusal}
 use Rattle.rv_model.specs.commands.Printing.{refused}
-use Rattle.rv_model.specs.machine.World.{Slice, World, Happening, after_one, outcome_of}
-use Rattle.rv_model.specs.machine.Script.{told, world_after}
+use Rattle.rv_model.specs.machine.World.{Slice, World, UserEvent, after_one, outcome_of}
+use Rattle.rv_model.specs.machine.Script.{printed_by_line, world_after}
 use Rattle.rv_model.specs.machine.Setup.{Setup}
 use Rattle.rv_model.specs.text.Lines.{pieces}
 
@@ -21,11 +21,11 @@ ReasonsAreRefusals = (reason : Refusal) → IsRefusal (refused reason)
 
 -- An event whose reply is a refusal leaves the world unchanged: the machines of all users, the cursor, and the vector unit with its
 -- counts. A turn is a slice, as in `AreInTurn`.
-abbrev pub RefusedHappeningsChangeNothing : Type 0
-RefusedHappeningsChangeNothing = (setup : Setup) (w : World) (h : Happening) → (h.turn ≡ true → h.event ≡ Slice)
+abbrev pub RefusedUserEventsChangeNothing : Type 0
+RefusedUserEventsChangeNothing = (setup : Setup) (w : World) (h : UserEvent) → (h.turn ≡ true → h.event ≡ Slice)
     → Any IsRefusal (outcome_of setup w h).lines → after_one setup w h ≡ w
 
 -- So does a line of a script, of any user or of the operator, that prints a refusal after a digit or star and a space.
 abbrev pub RefusedLinesChangeNothing : Type 0
 RefusedLinesChangeNothing = (setup : Setup) (w : World) (line : List ℕ)
-    → Any IsRefusal (map (λ answer. drop 2 answer) (pieces (told setup w line))) → world_after setup w line ≡ w
+    → Any IsRefusal (map (λ answer. drop 2 answer) (pieces (printed_by_line setup w line))) → world_after setup w line ≡ w

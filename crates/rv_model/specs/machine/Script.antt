@@ -6,7 +6,7 @@ use Rattle.rv_model.specs.machine.Grants.{grants_of, operator_line}
 use Rattle.rv_model.specs.machine.World.{Event, Command}
 use Rattle.rv_model.specs.machine.Setup.{Setup, user_count}
 unfoldable pub use Rattle.rv_model.specs.machine.World.{new_world}
-pub use Rattle.rv_model.specs.machine.World.{World, with_unit, Happening, outcome_of, unit_after, after_one, after_events, told_by, user_machine, with_user_machine}
+pub use Rattle.rv_model.specs.machine.World.{World, with_unit, UserEvent, outcome_of, unit_after, after_one, after_events, printed_by_events, user_machine, with_user_machine}
 use Rattle.rv_model.specs.text.Lines.{text, pieces}
 
 -- the kind of a line: empty, too long, without a valid prefix, the operator's, or a user's
@@ -29,11 +29,11 @@ unfoldable pub kind_of : List ℕ → Kind
 kind_of line = if nat_lt 1024 (length line) then Long else prefixed line
 
 -- a user's own command
-abbrev pub commands : ℕ → List ℕ → Happening
+abbrev pub commands : ℕ → List ℕ → UserEvent
 commands u line = record { user = u; event = Command line; turn = false }
 
 -- the events of a line
-abbrev pub events_of : Setup → World → Kind → List Happening
+abbrev pub events_of : Setup → World → Kind → List UserEvent
 events_of setup w (Operator line) = grants_of setup w (operator_parse line)
 events_of setup w (Of u line) = commands u line ∷ []
 events_of setup w _ = []
@@ -49,25 +49,25 @@ common setup w _ = []
 unfoldable pub world_after : Setup → World → List ℕ → World
 world_after setup w line = after_events setup w (events_of setup w (kind_of line))
 
-unfoldable pub told : Setup → World → List ℕ → List ℕ
-told setup w line = told_by setup w (events_of setup w (kind_of line)) ++ text 42 (common setup w (kind_of line))
+unfoldable pub printed_by_line : Setup → World → List ℕ → List ℕ
+printed_by_line setup w line = printed_by_events setup w (events_of setup w (kind_of line)) ++ text 42 (common setup w (kind_of line))
 
 abbrev pub after_all : Setup → World → List (List ℕ) → World
 after_all setup w [] = w
 after_all setup w (line ∷ lines) = after_all setup (world_after setup w line) lines
 
-abbrev pub told_all : Setup → World → List (List ℕ) → List ℕ
-told_all setup w [] = []
-told_all setup w (line ∷ lines) = told setup w line ++ told_all setup (world_after setup w line) lines
+abbrev pub printed_by_lines : Setup → World → List (List ℕ) → List ℕ
+printed_by_lines setup w [] = []
+printed_by_lines setup w (line ∷ lines) = printed_by_line setup w line ++ printed_by_lines setup (world_after setup w line) lines
 
 -- the events of all lines, in order
-abbrev pub schedule : Setup → World → List (List ℕ) → List Happening
+abbrev pub schedule : Setup → World → List (List ℕ) → List UserEvent
 schedule setup w [] = []
 schedule setup w (line ∷ lines) = events_of setup w (kind_of line) ++ schedule setup (world_after setup w line) lines
 
 -- the output of a script, and the world after it
 unfoldable pub whole_from : Setup → World → List ℕ → List ℕ
-whole_from setup w script = told_all setup w (pieces script)
+whole_from setup w script = printed_by_lines setup w (pieces script)
 
 unfoldable pub after_script : Setup → World → List ℕ → World
 after_script setup w script = after_all setup w (pieces script)
@@ -77,7 +77,7 @@ abbrev pub whole : Setup → List ℕ → List ℕ
 whole setup script = whole_from setup new_world script
 
 -- one user's events of a schedule
-abbrev pub mine : ℕ → List Happening → List Event
+abbrev pub mine : ℕ → List UserEvent → List Event
 mine u [] = []
 mine u (h ∷ hs) = if h.user == u then h.event ∷ mine u hs else mine u hs
 

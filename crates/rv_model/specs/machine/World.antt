@@ -68,33 +68,33 @@ abbrev pub with_unit : VectorUnit → World → World
 with_unit unit w = record w { unit = unit }
 
 -- an event of a user. If `turn` is true, the user has the turn, and the next user's turn follows.
-pub record Happening : Type 0 where
+pub record UserEvent : Type 0 where
   pub user : ℕ
   pub event : Event
   pub turn : Bool
 
 -- the outcome for the user's machine
-abbrev pub outcome_of : Setup → World → Happening → Outcome
+abbrev pub outcome_of : Setup → World → UserEvent → Outcome
 outcome_of setup w h = event setup (user_machine h.user w) h.event
 
 -- the vector unit after the event
-abbrev pub unit_after : Setup → World → Happening → VectorUnit
+abbrev pub unit_after : Setup → World → UserEvent → VectorUnit
 unit_after setup w h = unit_after_uses h.user (outcome_of setup w h).uses w.unit
 
 -- the world with the cursor at the user, if the user had the turn
-abbrev pub with_turn : Happening → World → World
+abbrev pub with_turn : UserEvent → World → World
 with_turn h w = if h.turn then record w { cursor = h.user } else w
 
 -- the world after one event
-abbrev pub after_one : Setup → World → Happening → World
+abbrev pub after_one : Setup → World → UserEvent → World
 after_one setup w h = with_turn h (with_unit (unit_after setup w h) (with_user_machine h.user (outcome_of setup w h).next w))
 
 -- the world after several events
-abbrev pub after_events : Setup → World → List Happening → World
+abbrev pub after_events : Setup → World → List UserEvent → World
 after_events setup w [] = w
 after_events setup w (h ∷ hs) = after_events setup (after_one setup w h) hs
 
 -- the output of several events, each line after its user's digit
-abbrev pub told_by : Setup → World → List Happening → List ℕ
-told_by setup w [] = []
-told_by setup w (h ∷ hs) = text (48 + h.user) (outcome_of setup w h).lines ++ told_by setup (after_one setup w h) hs
+abbrev pub printed_by_events : Setup → World → List UserEvent → List ℕ
+printed_by_events setup w [] = []
+printed_by_events setup w (h ∷ hs) = text (48 + h.user) (outcome_of setup w h).lines ++ printed_by_events setup (after_one setup w h) hs

@@ -16,18 +16,18 @@ FaultsWriteNoRegister = (limit : ℕ) (s : HartState) (cause : Cause) (pc value 
     → (step limit s).end ≡ Fault cause pc value → (step limit s).state.scalar ≡ s.scalar
 
 -- No instruction changes the value that x0 reads.
-abbrev pub FirstRegisterStays : Type 0
-FirstRegisterStays = (limit : ℕ) (s : HartState) → read_register (step limit s).state.scalar 0 ≡ read_register s.scalar 0
+abbrev pub X0Unchanged : Type 0
+X0Unchanged = (limit : ℕ) (s : HartState) → read_register (step limit s).state.scalar 0 ≡ read_register s.scalar 0
 
 -- The output of a step: it appends bytes to the output buffer, possibly none, and the buffer has room for them.
-pub record PutsOut (old new : List ℕ) : Type 0 where
+pub record AppendsOutput (old new : List ℕ) : Type 0 where
   pub more : List ℕ
   pub added : new ≡ old ++ more
   pub fits : length more ≤ output_room old
 
 -- No instruction removes output, and none writes more output than there is room for.
 abbrev pub OutputGrowsWithin : Type 0
-OutputGrowsWithin = (limit : ℕ) (s : HartState) → PutsOut s.output (step limit s).state.output
+OutputGrowsWithin = (limit : ℕ) (s : HartState) → AppendsOutput s.output (step limit s).state.output
 
 -- If the vector length is valid for the vector type before an instruction, it is valid after it.
 abbrev pub StepKeepsConfiguration : Type 0

@@ -1,14 +1,14 @@
 //! Laws about machines, and small examples.
 ghost use Rattle.rv_model.specs.machine.AbsentUsers.{AbsentUsersHaveNothing, AbsentUsersLeaveTheUnit};
-ghost use Rattle.rv_model.specs.machine.AbsentUsers.{HappeningsKeepNothing, ScriptsKeepNothing};
-ghost use Rattle.rv_model.specs.machine.ConfiguredUsers.{HappeningsKeepConfigurations, ScriptsKeepConfigurations};
+ghost use Rattle.rv_model.specs.machine.AbsentUsers.{UserEventsKeepNothing, ScriptsKeepNothing};
+ghost use Rattle.rv_model.specs.machine.ConfiguredUsers.{UserEventsKeepConfigurations, ScriptsKeepConfigurations};
 ghost use Rattle.rv_model.specs.machine.ConfiguredUsers.{SlicesAddUpAfterScripts, UsersAreConfigured};
 ghost use Rattle.rv_model.specs.machine.Cuts.{CutsAreInvisible, SliceKeepsConfiguration, SlicesAddUp};
 ghost use Rattle.rv_model.specs.machine.Laws.{EachUserAlone, EachNewUserAlone, EachUserEndsAlone, OthersChangeNothing};
 ghost use Rattle.rv_model.specs.machine.Laws.{EqualPartsAnswerAlike, MachinesStayEight};
-ghost use Rattle.rv_model.specs.machine.Refusals.{ReasonsAreRefusals, RefusedHappeningsChangeNothing};
+ghost use Rattle.rv_model.specs.machine.Refusals.{ReasonsAreRefusals, RefusedUserEventsChangeNothing};
 ghost use Rattle.rv_model.specs.machine.Refusals.{RefusedLinesChangeNothing};
-ghost use Rattle.rv_model.specs.step.Effects.{FaultsWriteNoRegister, FirstRegisterStays, OutputGrowsWithin};
+ghost use Rattle.rv_model.specs.step.Effects.{FaultsWriteNoRegister, X0Unchanged, OutputGrowsWithin};
 ghost use Rattle.rv_model.specs.step.Effects.{StepKeepsConfiguration, StepKeepsPermissions};
 ghost use Rattle.rv_model.specs.machine.Examples.{SmallScriptsPrint};
 ghost use Rattle.rv_model.specs.machine.World.{new_world};
@@ -32,19 +32,19 @@ pub fn small_scripts_print()
 {}
 
 /// An instruction that faults writes neither a scalar register nor the program counter; no instruction changes x0.
-pub fn registers_that_stay()
+pub fn preserved_registers()
     ensures fault { FaultsWriteNoRegister }
-    ensures first { FirstRegisterStays }
+    ensures first { X0Unchanged }
 {}
 
 /// No instruction removes a byte from the output buffer, and none adds more bytes than the buffer has room for.
-pub fn output_that_grows()
+pub fn output_only_grows()
     ensures { OutputGrowsWithin }
 {}
 
 /// If the vector type allows the vector length before an instruction, the same is true after it. No instruction maps an
 /// address or changes its permissions.
-pub fn configurations_that_stay()
+pub fn preserved_configurations()
     ensures length { StepKeepsConfiguration }
     ensures permissions { StepKeepsPermissions }
 {}
@@ -58,7 +58,7 @@ pub fn slices_add_up()
     ensures slices { SlicesAddUp }
     ensures configuration { SliceKeepsConfiguration }
     ensures new { UsersAreConfigured new_world }
-    ensures happenings { HappeningsKeepConfigurations }
+    ensures user_events { UserEventsKeepConfigurations }
     ensures scripts { ScriptsKeepConfigurations }
     ensures after_scripts { SlicesAddUpAfterScripts }
 {}
@@ -78,7 +78,7 @@ pub fn turns_are_fair()
 /// vector unit with its counts.
 pub fn refusals_change_nothing()
     ensures reasons { ReasonsAreRefusals }
-    ensures happenings { RefusedHappeningsChangeNothing }
+    ensures user_events { RefusedUserEventsChangeNothing }
     ensures lines { RefusedLinesChangeNothing }
 {}
 
@@ -86,7 +86,7 @@ pub fn refusals_change_nothing()
 /// So no event of an absent user, `enter` included, changes the record of the unit.
 pub fn absent_users_have_nothing()
     ensures new { AbsentUsersHaveNothing new_world }
-    ensures happenings { HappeningsKeepNothing }
+    ensures user_events { UserEventsKeepNothing }
     ensures scripts { ScriptsKeepNothing }
     ensures unit { AbsentUsersLeaveTheUnit }
 {}

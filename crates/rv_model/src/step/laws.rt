@@ -4,7 +4,7 @@ ghost use Rattle.rv_model.specs.declared.instructions.access.AccessInstr.{Access
 ghost use Rattle.rv_model.specs.declared.instructions.instruction.Instr.{Instr};
 ghost use Rattle.rv_model.specs.declared.scalar.Scalar.{Scalar};
 ghost use Rattle.rv_model.specs.declared.vector.state.VState.{VState};
-ghost use Rattle.rv_model.specs.accesses.Restarts.{AccessLeavesOff, AccessesGoOn, LargerLimitIsSame, LaterIndicesStay};
+ghost use Rattle.rv_model.specs.accesses.Restarts.{AccessStopIndex, AccessesGoOn, LargerLimitIsSame, LaterIndicesUnchanged};
 ghost use Rattle.rv_model.specs.accesses.Restarts.{OverlayIsEither, OverlayOfGrown, access_from};
 ghost use Rattle.rv_model.specs.step.AccessChanges.{AccessesKeepOthers};
 ghost use Rattle.rv_model.specs.step.Changes.{StepsKeepOthers};
@@ -18,8 +18,8 @@ ghost use Rattle.rv_model.specs.step.Ticks.{ScalarStepsTakeOneTick, TakesTicks};
 /// reason is that a legal indexed load changes no index element that it still needs. A cut advances `vstart` by the
 /// whole limit of indices, and a store leaves the registers unchanged.
 pub fn loads_and_stores_resume()
-    ensures indices { LaterIndicesStay }
-    ensures leaves { AccessLeavesOff }
+    ensures indices { LaterIndicesUnchanged }
+    ensures leaves { AccessStopIndex }
     ensures again { AccessesGoOn }
     ensures limit { (fill : Bool) (i : AccessInstr) (x : Scalar) (v : VState)
         → LargerLimitIsSame (access_from fill i x v) }

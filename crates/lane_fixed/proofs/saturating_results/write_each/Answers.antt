@@ -3,7 +3,7 @@ use Rattle.std.specs.Int.{bytes_low_first}
 use lib.Lanes.{put_chunk}
 use Rattle.rv_model.specs.elements.Elements.{Body}
 use Rattle.rv_model.specs.vector.Groups.{width_bytes}
-use Rattle.rv_model.proofs.element_lemmas.Actives.{some_begins, some_ends, some_off, some_step}
+use Rattle.rv_model.proofs.element_lemmas.ActiveElements.{some_begins, some_ends, some_off, some_step}
 use Rattle.rv_model.proofs.element_lemmas.Sets.{step_result, step_ones, step_off, body_begins, body_ends, room_for}
 use Rattle.lane_fixed.proofs.saturating_results.write_each.Goals as goal
 use Rattle.lane_fixed.proofs.saturating_results.write_each.Goals.{then-is_enabled, else-is_enabled+then-fill_masked_off, else-is_enabled+else-fill_masked_off}

@@ -4,7 +4,7 @@ use Rattle.rv_model.specs.elements.Elements.{is_changed, result_or_ones}
 use Rattle.rv_model.specs.lending.Writes.{Writes}
 use Rattle.rv_model.specs.vector.Groups.{width_bytes}
 use Rattle.rv_model.specs.elements.Formulas.{ones}
-use Rattle.rv_model.proofs.element_lemmas.Actives.{some_before}
+use Rattle.rv_model.proofs.element_lemmas.ActiveElements.{some_before}
 use Rattle.lane_fixed.proofs.saturating_results.write_each.Given as goal
 
 abbrev pub invariant-loop-i : goal.invariant-loop-i

@@ -2,7 +2,7 @@ use Rattle.std.proofs.Common.{◌≡◌, ◌≤◌, ℕ, nat_le, List, length, O
 use Rattle.rv_model.specs.declared.step.step_end.Stop.{Stop}
 use Rattle.rv_model.specs.declared.step.step_end.Stop.TheVariants as stop
 use Rattle.monitor_machine.specs.Lent.{Lent, TriesTo, lent}
-use Rattle.monitor_machine.proofs.StepLaws.{no_ticks, slice_goes_on, slice_held, slice_stops, took_some}
+use Rattle.monitor_machine.proofs.StepLaws.{no_ticks, slices_add_up, slice_held, slice_stops, took_some}
 use Rattle.monitor_machine.proofs.UnitSteps.{lent_twice}
 use Rattle.monitor_machine.proofs.stepping.slice_lent.Goals as goal
 
@@ -61,7 +61,7 @@ loop-left-preserved g c =
     record {
       left = λ end reason later.
           c.loop-left.invariant.left end reason
-          (slice_goes_on c.loop-left.left ticks a b end reason (omega (arith, c.loop-left-test.true)) (sym c.is_held.ensures ∙ c.if-is_held.false)
+          (slices_add_up c.loop-left.left ticks a b end reason (omega (arith, c.loop-left-test.true)) (sym c.is_held.ensures ∙ c.if-is_held.false)
           (subst (λ (o : Option Stop). TriesTo c.loop-left.left a b o ticks) c.in_default.is c.try_instruction-stop.ensures.run) c.try_instruction-stop.ensures.vectors.user later);
       watched = λ none. ap (λ (xs : List ℕ). nat_le (length xs) 0) c.try_instruction-stop.ensures.breakpoints ∙ c.loop-left.invariant.watched none;
       vectors = lent_twice c.args.vectors.now c.loop-left.vectors c.try_instruction-stop.new.vectors c.loop-left.invariant.vectors c.try_instruction-stop.ensures.vectors;

@@ -40,7 +40,7 @@ returns-in_err-take_byte-clause-cut g c =
       count = n;
       newline = split_at_byte bytes i 10 c.loop-byte-test.true c.in_err-take_byte.ensures.newline;
       machine =
-          c.in_err-take_byte.ensures.carried_out
+          c.in_err-take_byte.ensures.command_outcome
           ∙ ap (λ (v : MachineState). after_line v line) c.loop-byte.invariant.machine
           ∙ ap (after_line before.machine) c.loop-byte.invariant.line;
       less = omega (arith, few, ap length same);

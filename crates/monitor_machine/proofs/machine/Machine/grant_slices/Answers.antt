@@ -1,11 +1,11 @@
 use Rattle.std.proofs.Common.{◌≡◌, ℕ, suc, ◌+◌, ◌-◌, List, ◌++◌, length, length-set, ap, ◌∙◌, sym, arith, append-nil}
 use Rattle.rv_model.specs.machine.Grants.{granted}
 use Rattle.rv_model.specs.machine.World.{sliced}
-use Rattle.rv_model.specs.machine.Script.{World, Happening, after_events, told_by, user_machine}
+use Rattle.rv_model.specs.machine.Script.{World, UserEvent, after_events, printed_by_events, user_machine}
 use Rattle.rv_model.specs.machine.Setup.{Setup}
 use Rattle.rv_model.specs.text.Lines.{text}
 use Rattle.monitor_machine.specs.MachineState.{after_slice}
-use Rattle.monitor_machine.specs.StopRoom.{stops_room}
+use Rattle.monitor_machine.specs.StopLineBounds.{stop_lines_bound}
 use Rattle.monitor_machine.proofs.GrantLaws.{count_granted_on, granted_to_nobody, none_granted, told_granted_on, world_granted_on}
 use Rattle.monitor_machine.proofs.machine.Machine.grant_slices.Goals as goal
 
@@ -22,7 +22,7 @@ returns-in_default-clause-reply g c =
     let setup = c.args.self.now.setup in
     let now = c.loop-granted.self-inside.users in
     let nobody = granted_to_nobody setup (c.args.count - c.loop-granted.granted) now (sym c.take_turn.ensures.user ∙ c.in_default.is) in
-    sym (append-nil c.loop-granted.reply) ∙ sym (ap (λ (hs : List Happening). c.loop-granted.reply ++ told_by setup now hs) nobody) ∙ c.loop-granted.invariant.told
+    sym (append-nil c.loop-granted.reply) ∙ sym (ap (λ (hs : List UserEvent). c.loop-granted.reply ++ printed_by_events setup now hs) nobody) ∙ c.loop-granted.invariant.printed_by_line
 
 pub returns-in_default-clause-count : goal.returns-in_default-clause-count
 returns-in_default-clause-count g c =
@@ -56,12 +56,12 @@ loop-granted-preserved g c =
           sym (world_granted_on setup left user now turned next turns turn moved)
           ∙ ap (λ (n : ℕ). after_events setup now (granted setup n now)) (sym one_less)
           ∙ c.loop-granted.invariant.world;
-      told =
+      printed_by_line =
           sym (told_granted_on setup left user now turned next c.loop-granted.reply c.slice.new.reply turns turn moved (c.slice.ensures.reply ∙ ap (λ (q : ℕ). c.loop-granted.reply ++ text (48 + user) (sliced q (user_machine user turned)).lines) quantum))
-          ∙ ap (λ (n : ℕ). c.loop-granted.reply ++ told_by setup now (granted setup n now)) (sym one_less)
-          ∙ c.loop-granted.invariant.told;
+          ∙ ap (λ (n : ℕ). c.loop-granted.reply ++ printed_by_events setup now (granted setup n now)) (sym one_less)
+          ∙ c.loop-granted.invariant.printed_by_line;
       number = omega (arith, count_granted_on setup left user now turned next turns turn moved, ap (λ (n : ℕ). length (granted setup n now)) one_less, c.loop-granted.invariant.number);
-      room = omega (arith, c.slice.ensures.bound, c.loop-granted.invariant.room, ap (λ (w : World). stops_room w.parts) turn);
+      room = omega (arith, c.slice.ensures.bound, c.loop-granted.invariant.room, ap (λ (w : World). stop_lines_bound w.parts) turn);
     }
 
 -- all slices were granted
@@ -78,8 +78,8 @@ returns-clause-reply g c =
     let now = c.loop-granted.self-inside.users in
     let none_left : c.args.count - c.loop-granted.granted ≡ 0 = omega (arith, c.loop-granted-test.false) in
     sym (append-nil c.loop-granted.reply)
-    ∙ sym (ap (λ (n : ℕ). c.loop-granted.reply ++ told_by setup now (granted setup n now)) none_left ∙ ap (λ (hs : List Happening). c.loop-granted.reply ++ told_by setup now hs) (none_granted setup now))
-    ∙ c.loop-granted.invariant.told
+    ∙ sym (ap (λ (n : ℕ). c.loop-granted.reply ++ printed_by_events setup now (granted setup n now)) none_left ∙ ap (λ (hs : List UserEvent). c.loop-granted.reply ++ printed_by_events setup now hs) (none_granted setup now))
+    ∙ c.loop-granted.invariant.printed_by_line
 
 pub returns-clause-count : goal.returns-clause-count
 returns-clause-count g c =

@@ -2,9 +2,9 @@ use Rattle.std.proofs.Common.{◌+◌, ◌++◌, List, [], ℕ, ap, subst, ◌�
 use Rattle.rv_model.specs.machine.World.{Outcome, sliced}
 use Rattle.rv_model.specs.machine.Script.{World, user_machine}
 use Rattle.rv_model.specs.text.Lines.{text}
-use Rattle.monitor_machine.specs.MachineState.{MachineState, SliceGoesOn}
+use Rattle.monitor_machine.specs.MachineState.{MachineState, SlicesAddUp}
 use Rattle.monitor_machine.specs.Images.{setup_of}
-use Rattle.monitor_machine.proofs.CutLaws.{slice_goes_on}
+use Rattle.monitor_machine.proofs.CutLaws.{slices_add_up}
 use Rattle.monitor_machine.proofs.GrantLaws.{not_sliced, nothing_sliced}
 use Rattle.monitor_machine.proofs.machine.Machine.slice.Goals as goal
 
@@ -30,5 +30,5 @@ returns-clause-adds_up g c =
     let now : MachineState = record { setup = before.setup; world = c.slice.new.self } in
     let lines : List (List ℕ) = (sliced c.self.inside.quantum (user_machine user c.self.inside.users)).lines in
     let printed = c.slice.ensures.reply ∙ ap (λ (bytes : List ℕ). bytes ++ text (48 + user) lines) c.clear.ensures in
-    subst (λ (m : MachineState). SliceGoesOn m user now c.slice.new.reply) c.self.view_is
-    (slice_goes_on before now user c.slice.new.reply c.slice.ensures.configured c.slice.ensures.next printed)
+    subst (λ (m : MachineState). SlicesAddUp m user now c.slice.new.reply) c.self.view_is
+    (slices_add_up before now user c.slice.new.reply c.slice.ensures.configured c.slice.ensures.next printed)

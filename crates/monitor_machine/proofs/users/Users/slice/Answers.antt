@@ -7,7 +7,7 @@ use Rattle.rv_model.specs.machine.Script.{World, user_machine}
 use Rattle.rv_model.specs.machine.VectorUnit.{unit_after_uses}
 use Rattle.rv_model.specs.text.Lines.{text}
 use Rattle.monitor_machine.specs.MachineState.{after_slice}
-use Rattle.monitor_machine.specs.StopRoom.{stop_room, stops_room}
+use Rattle.monitor_machine.specs.StopLineBounds.{stop_line_bound, stop_lines_bound}
 use Rattle.monitor_machine.proofs.GrantLaws.{room_left, stop_room_within, stops_room_set}
 use Rattle.monitor_machine.proofs.PartLaws.{eight_parts, machine_in, whole_with, world_with}
 use Rattle.monitor_machine.proofs.users.Users.slice.Goals as goal
@@ -22,7 +22,7 @@ grant-requires g c =
     sym (ap (λ (w : World). length w.parts) c.self.view_is)
     ∙ eight_parts inside.contexts inside.traces.items inside.unit inside.pool c.self.invariant in
     let within = stop_room_within c.args.self.now.parts (user - 1) (omega (arith, count, c.index-index.ensures.value, c.index-index.ensures.small)) in
-    record { room = omega (arith, ap stop_room before, within, c.requires) }
+    record { room = omega (arith, ap stop_line_bound before, within, c.requires) }
 
 pub returns-clause-world : goal.returns-clause-world
 returns-clause-world g c =
@@ -59,7 +59,7 @@ returns-clause-bound g c =
     sym (ap (λ (w : World). length w.parts) c.self.view_is)
     ∙ eight_parts inside.contexts inside.traces.items inside.unit inside.pool c.self.invariant in
     let changed = stops_room_set c.args.self.now.parts (user - 1) (sliced c.args.quantum (user_machine user c.args.self.now)).next (omega (arith, count, c.index-index.ensures.value, c.index-index.ensures.small)) in
-    room_left _ _ _ _ _ _ _ _ _ c.grant.ensures.bound (ap stop_room after) (ap stop_room before) (ap (λ (w : World). stops_room w.parts) (returns-clause-world g c)) changed
+    room_left _ _ _ _ _ _ _ _ _ c.grant.ensures.bound (ap stop_line_bound after) (ap stop_line_bound before) (ap (λ (w : World). stop_lines_bound w.parts) (returns-clause-world g c)) changed
 
 pub returns-clause-next : goal.returns-clause-next
 returns-clause-next g c =

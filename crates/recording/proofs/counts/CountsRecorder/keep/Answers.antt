@@ -37,9 +37,9 @@ pub returns : goal.returns
 returns g c =
     let rows : List Row = c.args.self.now.table.rows.items in
     λ before found noted made.
-    one_shared found before.table.rows.items rows c.count_beside.new.table.rows.items noted.0
+    one_shared found before.table.rows.items rows c.count_second_key.new.table.rows.items noted.0
     (share_found found (state_of g.M.UserBytes.memory c.args.alone.now) c.index-row.result.now.class c.args.self.now.index c.args.self.now.found c.args.ticks c.args.end c.with_elements-sums.result
-    rows c.count_beside.new.table.rows.items noted.1
+    rows c.count_second_key.new.table.rows.items noted.1
     (class_noted c.index-row.result.now found c.args.self.now.index c.args.self.now.found rows noted.1 c.index-row.ensures) made (sym c.is_counted.ensures ∙ c.if-not-is_counted.false)
     c.count_at-2.new.self.rows.items (sym c.is_plain.ensures ∙ c.if-is_plain.false) c.with_elements-sums.ensures (c.count_at-2.ensures (Word found.scalar.pc noted.1.word) noted.1.row)
-    c.in_ok-count_beside.ensures)
+    c.in_ok-count_second_key.ensures)

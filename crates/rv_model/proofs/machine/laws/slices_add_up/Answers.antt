@@ -15,8 +15,8 @@ returns-clause-configuration c = law.slice_keeps_configuration
 pub returns-clause-new : goal.returns-clause-new
 returns-clause-new c = users.new_users_are_configured
 
-pub returns-clause-happenings : goal.returns-clause-happenings
-returns-clause-happenings c = users.happenings_keep_configurations
+pub returns-clause-user_events : goal.returns-clause-user_events
+returns-clause-user_events c = users.user_events_keep_configurations
 
 pub returns-clause-scripts : goal.returns-clause-scripts
 returns-clause-scripts c = users.scripts_keep_configurations

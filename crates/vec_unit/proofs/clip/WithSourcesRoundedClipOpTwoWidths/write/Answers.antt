@@ -3,7 +3,7 @@ use Rattle.rv_model.specs.elements.Arithmetic.{clip_result, clip_saturates_at, s
 use Rattle.rv_model.specs.vector.Groups.{GroupType, width_bytes}
 use Rattle.rv_model.specs.elements.FixedPoint.{clip_formula, clip_saturates}
 use Rattle.rv_model.specs.elements.Formulas.{ones, wrap}
-use Rattle.rv_model.proofs.element_lemmas.Actives.{some_same}
+use Rattle.rv_model.proofs.element_lemmas.ActiveElements.{some_same}
 use Rattle.vec_unit.proofs.CopiedOperands.{two_operands}
 use Rattle.vec_unit.proofs.MadeResults.{active_written}
 use Rattle.vec_unit.proofs.clip.WithSourcesRoundedClipOpTwoWidths.write.Goals as goal

@@ -3,7 +3,7 @@ use Rattle.rv_model.specs.elements.Arithmetic.{fixed_point_result, saturates_at,
 use Rattle.rv_model.specs.vector.Groups.{GroupType, width_bytes}
 use Rattle.rv_model.specs.elements.FixedPoint.{fixed_point_formula, has_unsigned_shift, saturates}
 use Rattle.rv_model.specs.elements.Formulas.{ones, wrap}
-use Rattle.rv_model.proofs.element_lemmas.Actives.{some_same}
+use Rattle.rv_model.proofs.element_lemmas.ActiveElements.{some_same}
 use Rattle.vec_unit.proofs.CopiedOperands.{two_operands}
 use Rattle.vec_unit.proofs.MadeResults.{active_written}
 use Rattle.vec_unit.proofs.fixed_point.WithSourcesRoundedFixedPointOpTwoWidths.write.Goals as goal

@@ -1,6 +1,6 @@
 -- Each instruction preserves a valid vector length and the permissions.
 use Rattle.rv_model.proofs.step_lemmas.Configurations as law
-use Rattle.rv_model.proofs.machine.laws.configurations_that_stay.Goals as goal
+use Rattle.rv_model.proofs.machine.laws.preserved_configurations.Goals as goal
 
 pub returns-clause-length : goal.returns-clause-length
 returns-clause-length c = law.step_keeps_configuration

@@ -2,7 +2,7 @@
 
 /// State of a user's program.
 #[derive(Clone, Copy, Debug, PartialEq, Eq)]
-pub enum Standing {
+pub enum RunState {
     /// The user has not entered.
     Absent,
     /// The program is stopped.

@@ -4,10 +4,10 @@ use Rattle.rv_model.specs.machine.Grants.{runs}
 use Rattle.rv_model.specs.machine.World.{Private}
 
 -- bound on the bytes of a user's stop line, with its digit and newline
-abbrev pub stop_room : Private → ℕ
-stop_room p = if runs p then 80 else 0
+abbrev pub stop_line_bound : Private → ℕ
+stop_line_bound p = if runs p then 80 else 0
 
 -- the same for all users
-abbrev pub stops_room : List Private → ℕ
-stops_room [] = 0
-stops_room (p ∷ ps) = stop_room p + stops_room ps
+abbrev pub stop_lines_bound : List Private → ℕ
+stop_lines_bound [] = 0
+stop_lines_bound (p ∷ ps) = stop_line_bound p + stop_lines_bound ps

@@ -72,13 +72,13 @@ module _ (body : Body) (test : ℕ → Bool) where
   some_ends i h = let e : i ≡ body.end + (i - body.end) = omega arith in ap some_before e ∙ past_end (i - body.end)
 
 -- Tests that agree on each element of the body have the same result.
-pub some_same : (body : Body) (told test : ℕ → Bool) → ((i : ℕ) → i < body.end → told i ≡ test i) → some_active body told ≡ some_active body test
-some_same body told test same = upto body.end (λ i h. same i h)
+pub some_same : (body : Body) (computed test : ℕ → Bool) → ((i : ℕ) → i < body.end → computed i ≡ test i) → some_active body computed ≡ some_active body test
+some_same body computed test same = upto body.end (λ i h. same i h)
   where
-    upto : (n : ℕ) → ((i : ℕ) → i < n → told i ≡ test i) → some_before body told n ≡ some_before body test n
+    upto : (n : ℕ) → ((i : ℕ) → i < n → computed i ≡ test i) → some_before body computed n ≡ some_before body test n
     upto zero h = refl
     upto (suc n) h =
-        ap (some_before body told) (sym (add-one n)) ∙ some_more body told n
-        ∙ ap (λ t. some_before body told n || (is_active body n && t)) (h n (omega arith))
+        ap (some_before body computed) (sym (add-one n)) ∙ some_more body computed n
+        ∙ ap (λ t. some_before body computed n || (is_active body n && t)) (h n (omega arith))
         ∙ ap (λ t. t || (is_active body n && test n)) (upto n (λ i l. h i (omega arith)))
         ∙ sym (ap (some_before body test) (sym (add-one n)) ∙ some_more body test n)

@@ -1,6 +1,6 @@
 -- Both laws about one instruction.
 use Rattle.rv_model.proofs.step_lemmas.Effects as law
-use Rattle.rv_model.proofs.machine.laws.registers_that_stay.Goals as goal
+use Rattle.rv_model.proofs.machine.laws.preserved_registers.Goals as goal
 
 pub returns-clause-fault : goal.returns-clause-fault
 returns-clause-fault c = law.faults_write_no_register
