@@ -66,14 +66,14 @@ impl<A: Allocator> UserBytes for OwnBytes<A> {
     }
 
     #[inline(always)]
-    fn read_at_once(&self, addr: u64, access: Access, bytes: &mut [u8]) -> bool {
-        self.pool.read_at_once(own_user(), addr, access, bytes)
+    fn try_read(&self, addr: u64, access: Access, bytes: &mut [u8]) -> bool {
+        self.pool.try_read(own_user(), addr, access, bytes)
     }
 
     #[tactic(auto, using(crate::specs::Replaced::own_memory_there))]
     #[inline(always)]
-    fn write_at_once(&mut self, addr: u64, access: Access, bytes: &[u8]) -> bool {
-        self.pool.write_at_once(own_user(), addr, access, bytes)
+    fn try_write(&mut self, addr: u64, access: Access, bytes: &[u8]) -> bool {
+        self.pool.try_write(own_user(), addr, access, bytes)
     }
 
     #[tactic(auto, using(crate::specs::Replaced::own_memory_there))]

@@ -10,7 +10,7 @@ unfolding end_by ticks_by
 took_ticks zero e some = absurd (omega (arith, some))
 took_ticks (suc n) e some = (refl, refl)
 
-pub noted_ticks : (ticks : ℕ) (e : Ending) → ticks ≤ 0 → (end_by ticks e ≡ e.end) × (ticks_by ticks e ≡ e.ticks)
+pub set_ticks : (ticks : ℕ) (e : Ending) → ticks ≤ 0 → (end_by ticks e ≡ e.end) × (ticks_by ticks e ≡ e.ticks)
 unfolding end_by ticks_by
-noted_ticks zero e none = (refl, refl)
-noted_ticks (suc n) e none = absurd (omega (arith, none))
+set_ticks zero e none = (refl, refl)
+set_ticks (suc n) e none = absurd (omega (arith, none))

@@ -40,7 +40,7 @@ impl Ending {
     /// Save how an instruction ended and the ticks that it took, and return 0.
     #[tactic(auto, unfolding(crate::specs::States::end_by, crate::specs::States::ticks_by))]
     #[inline(always)]
-    pub(crate) fn note(&mut self, end: StepEnd, ticks: usize) -> usize
+    pub(crate) fn set(&mut self, end: StepEnd, ticks: usize) -> usize
         ensures end { end_by result self.new ≡ end }
         ensures ticks { ticks_by result self.new ≡ ticks }
     {
@@ -59,14 +59,14 @@ impl Ending {
     {
         match end {
             StepEnd::Ran => 1,
-            _ => self.note(end, 1),
+            _ => self.set(end, 1),
         }
     }
 
     /// Return the end and the ticks of the instruction whose function returned `ticks`.
-    #[tactic(auto, using(crate::proofs::Endings::took_ticks, crate::proofs::Endings::noted_ticks))]
+    #[tactic(auto, using(crate::proofs::Endings::took_ticks, crate::proofs::Endings::set_ticks))]
     #[inline(always)]
-    pub fn told(&self, ticks: usize) -> (StepEnd, usize)
+    pub fn unpack(&self, ticks: usize) -> (StepEnd, usize)
         ensures end { result.0 ≡ end_by ticks self.now }
         ensures ticks { result.1 ≡ ticks_by ticks self.now }
     {

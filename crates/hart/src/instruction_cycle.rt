@@ -20,7 +20,7 @@ use vector_memory::UserBytes;
 
 /// Return the 32-bit word at an address, without the fast path; `None` if it may not be fetched.
 #[inline(never)]
-fn fetch_anywhere<M: UserBytes>(memory: &M, pc: u64) -> Option<u32>
+fn fetch_slow<M: UserBytes>(memory: &M, pc: u64) -> Option<u32>
     ensures { result ≡ (if can_access Fetch (M.memory memory.now) pc 4
         then Some (word_at (M.memory memory.now) pc)
         else None) }
@@ -39,11 +39,11 @@ pub fn fetch<M: UserBytes>(memory: &M, pc: u64, word: &mut u32) -> bool
     ensures value { result ≡ true → word.new ≡ word_at (M.memory memory.now) pc }
 {
     let mut bytes = [0; 4];
-    if memory.read_at_once(pc, Access::Fetch, &mut bytes) {
+    if memory.try_read(pc, Access::Fetch, &mut bytes) {
         *word = u32::from_le_bytes(bytes);
         return true;
     }
-    match fetch_anywhere(memory, pc) {
+    match fetch_slow(memory, pc) {
         Some(found) => {
             *word = found;
             true
@@ -126,5 +126,5 @@ pub fn step<M: UserBytes, V: Vectors>(
 {
     let mut ending = Ending::new();
     let ticks = cycle(view, limit, &mut ending);
-    ending.told(ticks)
+    ending.unpack(ticks)
 }

@@ -21,5 +21,5 @@ pub use ending::{Ending, stop_of};
 pub use instruction_cycle::{cycle, fetch, step};
 pub use rv_model::StepEnd;
 pub use ticks::MAX_TICKS;
-pub use vectors::{OneSeat, Vectors};
+pub use vectors::{SingleSlot, Vectors};
 pub use view::{StepTerms, View};

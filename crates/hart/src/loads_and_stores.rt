@@ -80,7 +80,7 @@ fn read_first<M: UserBytes>(
 
 /// Return the value of a load, without the fast path.
 #[inline(never)]
-fn load_anywhere<M: UserBytes>(op: LoadOp, addr: u64, memory: &M) -> Result<u64, Fault>
+fn load_slow<M: UserBytes>(op: LoadOp, addr: u64, memory: &M) -> Result<u64, Fault>
     ensures { result ≡ (if can_access Load (M.memory memory.now) addr (byte_len (load_width op))
         then Ok (extended op (number_at (load_width op) (M.memory memory.now) addr))
         else Err (record { addr = addr })) }
@@ -99,11 +99,11 @@ fn load_value<M: UserBytes>(op: LoadOp, addr: u64, memory: &M, value: &mut u64) 
         → value.new ≡ extended op (number_at (load_width op) (M.memory memory.now) addr) }
 {
     let mut bytes = [0; 8];
-    if memory.read_at_once(addr, Access::Load, &mut bytes) {
+    if memory.try_read(addr, Access::Load, &mut bytes) {
         *value = loaded(op, &bytes);
         return true;
     }
-    match load_anywhere(op, addr, memory) {
+    match load_slow(op, addr, memory) {
         Ok(found) => {
             *value = found;
             true
@@ -148,7 +148,7 @@ fn stored(op: StoreOp, bytes: &[u8; 8]) -> &[u8]
 /// Store the low bytes of a value, without the fast path. Return whether they were stored; if not, nothing
 /// changes.
 #[inline(never)]
-fn store_anywhere<M: UserBytes>(op: StoreOp, addr: u64, value: u64, memory: &mut M) -> bool
+fn store_slow<M: UserBytes>(op: StoreOp, addr: u64, value: u64, memory: &mut M) -> bool
     ensures allowed { result ≡ can_access Store (M.memory memory.old) addr (byte_len (store_width op)) }
     ensures value { result ≡ true → M.memory memory.new
         ≡ put_bytes (M.memory memory.old) addr (to_le_bytes (store_width op) value) }
@@ -172,10 +172,10 @@ fn store_value<M: UserBytes>(op: StoreOp, addr: u64, value: u64, memory: &mut M)
     ensures unchanged { result ≡ false → memory.new ≡ memory.old }
 {
     let bytes = value.to_le_bytes();
-    if memory.write_at_once(addr, Access::Store, stored(op, &bytes)) {
+    if memory.try_write(addr, Access::Store, stored(op, &bytes)) {
         return true;
     }
-    store_anywhere(op, addr, value, memory)
+    store_slow(op, addr, value, memory)
 }
 
 /// Execute a store of the low bytes of a value; it faults if one of its bytes may not be written.

@@ -67,11 +67,11 @@ fn retire_vector(
         VEnd::Illegal => ending.in_one_tick(illegal(word, scalar)),
         VEnd::Fault { store, addr } => {
             seat.dirty = true;
-            ending.note(fault(access_cause(store), addr, scalar), ticks)
+            ending.set(fault(access_cause(store), addr, scalar), ticks)
         }
         VEnd::Cut { .. } => {
             seat.dirty = true;
-            ending.note(StepEnd::Cut, ticks)
+            ending.set(StepEnd::Cut, ticks)
         }
     }
 }

@@ -33,11 +33,11 @@ pub trait Vectors {
 
 /// Adapter that provides the same vector state to each instruction.
 #[derive(Drop)]
-pub struct OneSeat {
+pub struct SingleSlot {
     pub seat: Seat,
 }
 
-impl Vectors for OneSeat {
+impl Vectors for SingleSlot {
     ghost use Rattle.std.specs.Prelude.{⊤};
     ghost use Rattle.std.proofs.Common.{refl};
 

@@ -32,7 +32,7 @@ fn write_count(asked: u64, output: &ArrayVec<u8, OUTPUT_SIZE>) -> usize
 
 /// Append `count` bytes of the user's memory to the output buffer; append nothing if some of them can't be
 /// read.
-fn put_out<M: UserBytes>(
+fn append_output<M: UserBytes>(
     addr: u64,
     count: usize,
     memory: &M,
@@ -74,7 +74,7 @@ pub(crate) fn write<M: UserBytes>(
         return StepEnd::OutputFull;
     }
     let count = write_count(asked, output);
-    match put_out(scalar.read(Reg::new(11)), count, memory, output) {
+    match append_output(scalar.read(Reg::new(11)), count, memory, output) {
         Ok(()) => write_rd(Reg::new(10), count as u64, scalar),
         Err(_) => write_rd(Reg::new(10), BAD_ADDRESS.wrapping_neg(), scalar),
     }

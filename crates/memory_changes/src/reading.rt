@@ -20,7 +20,7 @@ pub(crate) fn read_bytes<M: UserBytes>(
 ) -> Result<(), RecordFault>
     ensures { OnOk result (bytes.new ≡ bytes_at (M.memory memory.now) addr (length bytes.old)) }
 {
-    if memory.read_at_once(addr, Access::Monitor, bytes) {
+    if memory.try_read(addr, Access::Monitor, bytes) {
         return Ok(());
     }
     match memory.read(addr, Access::Monitor, bytes) {

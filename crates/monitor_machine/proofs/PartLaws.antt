@@ -75,14 +75,14 @@ states_moved user old new count low high moves =
           ∙ sym (get_or-set_same before (user - 1) (state_of new user) initial_vector (omega (arith, eight_states old, low, high))))
       | inr other ↦
           states_at new k (omega (arith, lt, eight_states new))
-          ∙ moves.strangers (1 + k) (omega arith) (λ e. other (omega (arith, e)))
+          ∙ moves.others_keep (1 + k) (omega arith) (λ e. other (omega (arith, e)))
           ∙ sym (states_at old k (omega (arith, lt, eight_states new)))
           ∙ sym (get_or-set_other before (user - 1) k (state_of new user) initial_vector other)
     ])
 
 -- nothing has changed
 pub unit_stays : (user : ℕ) (unit : Unit) → IsSettled unit → UnitMoves user unit unit (record_of unit)
-unit_stays user unit settled = record { settled = settled; strangers = λ other low apart. refl; counts = refl }
+unit_stays user unit settled = record { settled = settled; others_keep = λ other low apart. refl; counts = refl }
 
 -- ---- the private machines of a world
 

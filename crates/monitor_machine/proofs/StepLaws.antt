@@ -59,25 +59,25 @@ run_goes_on left ticks held rest a b end reason h tried same later =
 
 -- ---- at most `count` instructions
 
-pub no_steps : (count : ℕ) (exempt : Bool) (a : Lent) → count ≡ 0 → StepsTo count exempt a a None
-no_steps count exempt a e = subst (λ (k : ℕ). StepsTo k exempt a a None) (sym e) (refl, refl, refl)
+pub no_steps : (count : ℕ) (skip_once : Bool) (a : Lent) → count ≡ 0 → StepsTo count skip_once a a None
+no_steps count skip_once a e = subst (λ (k : ℕ). StepsTo k skip_once a a None) (sym e) (refl, refl, refl)
 
-pub steps_held : (count n : ℕ) (exempt : Bool) (a : Lent) → count ≡ suc n → (not exempt && at_breakpoint a.machine) ≡ true → StepsTo count exempt a a (Some stop.Breakpoint)
-steps_held count n exempt a e held =
-    subst (λ (k : ℕ). StepsTo k exempt a a (Some stop.Breakpoint)) (sym e)
-    (run_held 256 (not exempt && at_breakpoint a.machine) (steps n false (next_at 256 a.machine)) a held)
+pub steps_broken : (count n : ℕ) (skip_once : Bool) (a : Lent) → count ≡ suc n → (not skip_once && at_breakpoint a.machine) ≡ true → StepsTo count skip_once a a (Some stop.Breakpoint)
+steps_broken count n skip_once a e held =
+    subst (λ (k : ℕ). StepsTo k skip_once a a (Some stop.Breakpoint)) (sym e)
+    (run_held 256 (not skip_once && at_breakpoint a.machine) (steps n false (next_at 256 a.machine)) a held)
 
-pub steps_stop : (count n ticks : ℕ) (exempt : Bool) (a b : Lent) (reason : Stop) → count ≡ suc n → (not exempt && at_breakpoint a.machine) ≡ false → TriesTo 256 a b (Some reason) ticks
-    → StepsTo count exempt a b (Some reason)
-steps_stop count n ticks exempt a b reason e free tried =
-    subst (λ (k : ℕ). StepsTo k exempt a b (Some reason)) (sym e)
-    (run_stops 256 ticks (not exempt && at_breakpoint a.machine) (steps n false (next_at 256 a.machine)) a b reason free tried)
+pub steps_stop : (count n ticks : ℕ) (skip_once : Bool) (a b : Lent) (reason : Stop) → count ≡ suc n → (not skip_once && at_breakpoint a.machine) ≡ false → TriesTo 256 a b (Some reason) ticks
+    → StepsTo count skip_once a b (Some reason)
+steps_stop count n ticks skip_once a b reason e free tried =
+    subst (λ (k : ℕ). StepsTo k skip_once a b (Some reason)) (sym e)
+    (run_stops 256 ticks (not skip_once && at_breakpoint a.machine) (steps n false (next_at 256 a.machine)) a b reason free tried)
 
-pub steps_go_on : (count n ticks : ℕ) (exempt : Bool) (a b end : Lent) (reason : Option Stop) → count ≡ suc n → (not exempt && at_breakpoint a.machine) ≡ false → TriesTo 256 a b None ticks → b.user ≡ a.user
-    → StepsTo n false b end reason → StepsTo count exempt a end reason
-steps_go_on count n ticks exempt a b end reason e free tried same later =
-    subst (λ (k : ℕ). StepsTo k exempt a end reason) (sym e)
-    (run_goes_on 256 ticks (not exempt && at_breakpoint a.machine) (steps n false (next_at 256 a.machine)) a b end reason free tried same
+pub steps_go_on : (count n ticks : ℕ) (skip_once : Bool) (a b end : Lent) (reason : Option Stop) → count ≡ suc n → (not skip_once && at_breakpoint a.machine) ≡ false → TriesTo 256 a b None ticks → b.user ≡ a.user
+    → StepsTo n false b end reason → StepsTo count skip_once a end reason
+steps_go_on count n ticks skip_once a b end reason e free tried same later =
+    subst (λ (k : ℕ). StepsTo k skip_once a end reason) (sym e)
+    (run_goes_on 256 ticks (not skip_once && at_breakpoint a.machine) (steps n false (next_at 256 a.machine)) a b end reason free tried same
     (subst (λ (p : Present). RunsTo (steps n false p) b end reason) (sym tried.0) later))
 
 -- ---- the instructions of `left` ticks

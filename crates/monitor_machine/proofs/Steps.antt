@@ -1,5 +1,5 @@
 -- Rule sets with which the tactics determine a user's machine and the output after commands and slices.
-use Rattle.monitor_machine.specs.Lenders.{memory_there, same_memory}
+use Rattle.monitor_machine.specs.UserAdapters.{memory_there, same_memory}
 use Rattle.monitor_machine.proofs.CutLaws.{configured_as}
 use Rattle.monitor_machine.proofs.GrantLaws.{one_run_count, one_run_told, one_run_world, stops_room_is_small}
 use Rattle.monitor_machine.proofs.MemoryOutcomes.{maps_accepted, maps_refused, pokes_accepted, pokes_refused}

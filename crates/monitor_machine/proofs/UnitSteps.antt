@@ -6,7 +6,7 @@ use Rattle.rv_model.specs.declared.vector.state.VState.{VState}
 use Rattle.rv_model.specs.machine.VectorUnit.{VectorUnit, unit_after_instruction, unit_touched}
 use Rattle.lazy_context.specs.declared.unit.Unit.{Unit}
 use Rattle.lazy_context.specs.LazyUnit.{AllKeep, OthersKeep, record_of, state_of, touched, with_seat}
-use Rattle.monitor_machine.specs.declared.lenders.UserVectors.{UserVectors}
+use Rattle.monitor_machine.specs.declared.user_adapters.UserVectors.{UserVectors}
 use Rattle.monitor_machine.specs.Lent.{VectorsMove}
 
 -- the unit after the return: touched, with the user's new seat, if an instruction touches it; otherwise unchanged
@@ -29,7 +29,7 @@ lender_back false old new back =
 pub lent_twice : (first second third : UserVectors) → VectorsMove first second → VectorsMove second third → VectorsMove first third
 lent_twice first second third h k = record {
   settled = k.settled;
-  strangers = λ other low apart. k.strangers other low (λ e. apart (e ∙ h.user)) ∙ h.strangers other low apart;
+  others_keep = λ other low apart. k.others_keep other low (λ e. apart (e ∙ h.user)) ∙ h.others_keep other low apart;
   user = k.user ∙ h.user;
   same_unit = k.same_unit ∙ h.same_unit;
 }

@@ -8,7 +8,7 @@ use Rattle.rv_model.specs.memory.Memory.{Memory}
 use Rattle.rv_model.specs.step.Step.{step}
 use Rattle.lazy_context.specs.LazyUnit.{IsSettled, OthersKeep, record_of, state_of}
 use Rattle.monitor_machine.specs.declared.context.Context.{Context}
-use Rattle.monitor_machine.specs.declared.lenders.UserVectors.{UserVectors}
+use Rattle.monitor_machine.specs.declared.user_adapters.UserVectors.{UserVectors}
 use Rattle.monitor_machine.specs.Parts.{Addresses, present}
 
 -- the vector state of the adapter's user
@@ -19,7 +19,7 @@ lent_state v = state_of v.unit.now v.user
 -- are unchanged
 pub record VectorsMove (old new : UserVectors) : Type 0 where
   pub settled : IsSettled new.unit.now
-  pub strangers : OthersKeep old.user old.unit.now new.unit.now
+  pub others_keep : OthersKeep old.user old.unit.now new.unit.now
   pub user : new.user ≡ old.user
   pub same_unit : new.unit.ghost_name ≡ old.unit.ghost_name
 
@@ -52,7 +52,7 @@ RunsTo run old new stop =
 
 -- the same for at most `count` instructions, and for the instructions of `left` ticks
 abbrev pub StepsTo : ℕ → Bool → Lent → Lent → Option Stop → Type 0
-StepsTo count exempt old = RunsTo (steps count exempt old.machine) old
+StepsTo count skip_once old = RunsTo (steps count skip_once old.machine) old
 
 abbrev pub TicksTo : ℕ → Lent → Lent → Option Stop → Type 0
 TicksTo left old = RunsTo (ticked left old.machine) old

@@ -1,7 +1,7 @@
 pub mod AddressSets
 pub mod Addressees
 pub mod Images
-pub mod Lenders
+pub mod UserAdapters
 pub mod Lent
 pub mod MachineState
 pub mod NewFaults

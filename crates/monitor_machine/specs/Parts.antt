@@ -95,5 +95,5 @@ pub record IsWhole (cs : List Context) (ts : List Addresses) (unit : Unit) (ms :
 -- `count`
 pub record UnitMoves (user : ℕ) (old new : Unit) (count : VectorUnit) : Type 0 where
   pub settled : IsSettled new
-  pub strangers : OthersKeep user old new
+  pub others_keep : OthersKeep user old new
   pub counts : record_of new ≡ count

@@ -13,7 +13,7 @@ use rv_model::{BreakpointCommand, Refusal, User};
 
 /// Execute a command on the breakpoints of a user who has entered, and replace the reply.
 #[tactic(auto, unfolding(rv_model::specs::commands::Breakpoints::breakpoint_command))]
-pub(crate) fn carry_out(
+pub(crate) fn execute(
     context: &mut Context,
     user: User,
     command: &BreakpointCommand,

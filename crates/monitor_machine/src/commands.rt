@@ -18,7 +18,7 @@ use std::alloc::Allocator;
 
 /// Execute a command of a user, and replace the reply.
 #[tactic(auto, unfolding(rv_model::specs::commands::Commands::command_outcome), using(crate::proofs::Steps::either))]
-pub(crate) fn carry_out<A: Allocator>(
+pub(crate) fn execute<A: Allocator>(
     images: &[Image<'_>],
     parts: &mut Parts<'_, '_, '_, A>,
     trace: &mut Trace<A>,
@@ -34,11 +34,11 @@ pub(crate) fn carry_out<A: Allocator>(
         (command_outcome (named_images images.now) cmd.now (machine_of parts.old trace.old)).lines }
 {
     if !parts.context.entered {
-        carry_out_absent(parts, trace, cmd, reply);
+        execute_absent(parts, trace, cmd, reply);
     } else if parts.context.running && needs_stopped(cmd) {
         refuse(reply, parts.user, Refusal::Running);
     } else {
-        carry_out_present(images, parts, trace, cmd, reply);
+        execute_present(images, parts, trace, cmd, reply);
     }
 }
 
@@ -55,7 +55,7 @@ fn needs_stopped(cmd: &Cmd<'_>) -> bool
 
 /// Execute a command of an absent user: only `enter` is accepted.
 #[tactic(auto, unfolding(rv_model::specs::commands::Commands::of_absent), using(crate::proofs::Steps::absent))]
-fn carry_out_absent<A: Allocator>(
+fn execute_absent<A: Allocator>(
     parts: &mut Parts<'_, '_, '_, A>,
     trace: &mut Trace<A>,
     cmd: &Cmd<'_>,
@@ -68,7 +68,7 @@ fn carry_out_absent<A: Allocator>(
     ensures reply { reply.new ≡ text (48 + parts.old.user) (of_absent cmd.now).lines }
 {
     if let Cmd::Entering(command) = cmd {
-        entering::carry_out_absent(parts, trace, *command, reply);
+        entering::execute_absent(parts, trace, *command, reply);
     } else {
         refuse(reply, parts.user, Refusal::NotEntered);
     }
@@ -76,7 +76,7 @@ fn carry_out_absent<A: Allocator>(
 
 /// Execute a command of a user who has entered.
 #[tactic(auto, unfolding(rv_model::specs::commands::Commands::of_present), using(crate::proofs::Steps::groups))]
-fn carry_out_present<A: Allocator>(
+fn execute_present<A: Allocator>(
     images: &[Image<'_>],
     parts: &mut Parts<'_, '_, '_, A>,
     trace: &mut Trace<A>,
@@ -94,15 +94,15 @@ fn carry_out_present<A: Allocator>(
 {
     let user = parts.user;
     match cmd {
-        Cmd::Entering(command) => entering::carry_out(parts, &*trace, *command, reply),
-        Cmd::Memory(command) => memory::carry_out(&mut *parts.pool, user, command, reply),
+        Cmd::Entering(command) => entering::execute(parts, &*trace, *command, reply),
+        Cmd::Memory(command) => memory::execute(&mut *parts.pool, user, command, reply),
         Cmd::Registers(command) => {
-            registers::carry_out(&mut *parts.context, &mut *parts.unit, user, command, reply)
+            registers::execute(&mut *parts.context, &mut *parts.unit, user, command, reply)
         }
-        Cmd::Programs(command) => programs::carry_out(images, parts, trace, command, reply),
+        Cmd::Programs(command) => programs::execute(images, parts, trace, command, reply),
         Cmd::Breakpoints(command) => {
-            breakpoints::carry_out(&mut *parts.context, user, command, reply)
+            breakpoints::execute(&mut *parts.context, user, command, reply)
         }
-        Cmd::Running(command) => running::carry_out(parts, trace, command, reply),
+        Cmd::Running(command) => running::execute(parts, trace, command, reply),
     }
 }

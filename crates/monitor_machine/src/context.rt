@@ -77,14 +77,14 @@ impl Context {
     /// `watched` may be false if there are no breakpoints.
     #[tactic(auto, using(crate::proofs::AddressLaws::none_holds))]
     #[inline(always)]
-    pub(crate) fn is_held(&self, watched: bool, exempt: bool) -> bool
+    pub(crate) fn should_break(&self, watched: bool, skip_once: bool) -> bool
         requires { watched ≡ false → nat_le (length self.now.breakpoints) 0 ≡ true }
-        ensures { result ≡ (not exempt && list_any (λ a. a == self.now.scalar.pc) self.now.breakpoints) }
+        ensures { result ≡ (not skip_once && list_any (λ a. a == self.now.scalar.pc) self.now.breakpoints) }
     {
         if !watched {
             return false;
         }
-        !exempt && self.breakpoints.contains(self.scalar.pc)
+        !skip_once && self.breakpoints.contains(self.scalar.pc)
     }
     /// Return whether the user has entered and the program is running.
     pub(crate) fn is_running(&self) -> bool

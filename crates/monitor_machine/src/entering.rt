@@ -8,16 +8,16 @@ ghost use Rattle.monitor_machine.specs.PartMoves.{PartsMove, machine_of, present
 
 use crate::answers::refuse;
 use crate::context::Context;
-use crate::lenders::memory_law;
 use crate::parts::Parts;
 use crate::trace::Trace;
+use crate::user_adapters::memory_law;
 use monitor_cmds::{Reply, Tag};
 use rv_model::{EnteringCommand, Refusal};
 use std::alloc::Allocator;
 
 /// Execute a command of an absent user, and replace the reply.
 #[tactic(auto, unfolding(rv_model::specs::commands::Entering::entering_absent), using(crate::proofs::Steps::entering))]
-pub(crate) fn carry_out_absent<A: Allocator>(
+pub(crate) fn execute_absent<A: Allocator>(
     parts: &mut Parts<'_, '_, '_, A>,
     trace: &mut Trace<A>,
     command: EnteringCommand,
@@ -47,7 +47,7 @@ pub(crate) fn carry_out_absent<A: Allocator>(
 
 /// Execute a command of a user who has entered, and replace the reply.
 #[tactic(auto, unfolding(rv_model::specs::commands::Entering::entering), using(crate::proofs::Steps::leaving))]
-pub(crate) fn carry_out<A: Allocator>(
+pub(crate) fn execute<A: Allocator>(
     parts: &mut Parts<'_, '_, '_, A>,
     trace: &Trace<A>,
     command: EnteringCommand,

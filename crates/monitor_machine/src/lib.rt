@@ -10,7 +10,6 @@ mod commands;
 mod context;
 mod entering;
 mod image;
-mod lenders;
 mod machine;
 mod memory;
 mod new_fault;
@@ -22,6 +21,7 @@ mod running;
 mod slices;
 mod stepping;
 mod trace;
+mod user_adapters;
 mod users;
 
 pub use image::Image;

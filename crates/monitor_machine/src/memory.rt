@@ -8,7 +8,7 @@ ghost use Rattle.monitor_machine.specs.declared.context.Context.{Context};
 ghost use Rattle.monitor_machine.specs.Parts.{present};
 
 use crate::answers::{accept, refuse};
-use crate::lenders::memory_law;
+use crate::user_adapters::memory_law;
 use monitor_cmds::{Reply, Tag};
 use rv_model::{
     Access, ByteString, Count, MapRefusal, MemoryCommand, PageRange, Permissions, Refusal, User,
@@ -20,8 +20,8 @@ use user_mem::Pool;
 const MAX_SHOWN: usize = 256;
 
 /// Execute a command on the memory of a user who has entered, and replace the reply.
-#[tactic(auto, unfolding(rv_model::specs::commands::Memory::memory_command), using(crate::specs::Lenders::same_memory))]
-pub(crate) fn carry_out<A: Allocator>(
+#[tactic(auto, unfolding(rv_model::specs::commands::Memory::memory_command), using(crate::specs::UserAdapters::same_memory))]
+pub(crate) fn execute<A: Allocator>(
     pool: &mut Pool<A>,
     user: User,
     command: &MemoryCommand,

@@ -60,7 +60,7 @@ impl<A: Allocator> Machine<'_, A> {
     }
 
     /// `* slices N`: grant slices in turn, and reply with their number.
-    fn carry_out_slices(&mut self, count: usize, reply: &mut Reply)
+    fn execute_slices(&mut self, count: usize, reply: &mut Reply)
         ensures world { self.new.world
             ≡ after_events self.old.setup self.old.world (granted self.old.setup count self.old.world) }
         ensures setup { self.new.setup ≡ self.old.setup }
@@ -74,7 +74,7 @@ impl<A: Allocator> Machine<'_, A> {
     /// `* run U`: grant a slice to a user, if the user's program is running, and reply with the
     /// number of slices, 0 or 1.
     #[tactic(auto, using(crate::proofs::Steps::running))]
-    fn carry_out_run(&mut self, user: User, reply: &mut Reply)
+    fn execute_run(&mut self, user: User, reply: &mut Reply)
         ensures world { self.new.world
             ≡ after_events self.old.setup self.old.world
             (grants self.old.setup self.old.world (OperatorCommand.Run user)) }
@@ -89,7 +89,7 @@ impl<A: Allocator> Machine<'_, A> {
     }
 
     /// Execute a valid command of the operator, and replace the reply.
-    fn carry_out_accepted(&mut self, command: OperatorCommand, reply: &mut Reply)
+    fn execute_accepted(&mut self, command: OperatorCommand, reply: &mut Reply)
         ensures world { self.new.world
             ≡ after_events self.old.setup self.old.world (grants self.old.setup self.old.world command) }
         ensures setup { self.new.setup ≡ self.old.setup }
@@ -97,8 +97,8 @@ impl<A: Allocator> Machine<'_, A> {
             ++ text 42 (operator_line self.old.setup self.old.world (Ok command) ∷ []) }
     {
         match command {
-            OperatorCommand::Slices(count) => self.carry_out_slices(count.get(), reply),
-            OperatorCommand::Run(user) => self.carry_out_run(user, reply),
+            OperatorCommand::Slices(count) => self.execute_slices(count.get(), reply),
+            OperatorCommand::Run(user) => self.execute_run(user, reply),
             OperatorCommand::List => {
                 reply.clear();
                 monitor_cmds::list_line(reply, &self.users.run_states());
@@ -127,7 +127,7 @@ impl<A: Allocator> Machine<'_, A> {
             (grants_of self.old.setup self.old.world (operator_parse line.now)) }
     {
         match parse_operator(line) {
-            Ok(command) => self.carry_out_accepted(command, reply),
+            Ok(command) => self.execute_accepted(command, reply),
             Err(refusal) => {
                 reply.clear();
                 monitor_cmds::refused(reply, Tag::Common, refusal);

@@ -25,9 +25,9 @@ ghost use Rattle.monitor_machine.specs.Parts.{present};
 use crate::answers::refuse;
 use crate::context::Context;
 use crate::image::Image;
-use crate::lenders::memory_law;
 use crate::parts::Parts;
 use crate::trace::Trace;
+use crate::user_adapters::memory_law;
 use elf_load::{Plan, check, place};
 use monitor_cmds::{Reply, Tag};
 use rv_asm::assemble;
@@ -43,7 +43,7 @@ const MAX_SHOWN: usize = 16;
 
 /// Execute a command on programs in the memory of a user who has entered, and replace the reply.
 #[tactic(auto, unfolding(rv_model::specs::commands::Programs::program_command), using(crate::proofs::Steps::programs))]
-pub(crate) fn carry_out<A: Allocator>(
+pub(crate) fn execute<A: Allocator>(
     images: &[Image<'_>],
     parts: &mut Parts<'_, '_, '_, A>,
     trace: &mut Trace<A>,

@@ -16,7 +16,7 @@ use rv_model::{RegisterCommand, User};
 /// elements, and replace the reply. Vector registers are read and written where the user's vector
 /// state is, in the vector unit or in the save area; no switch takes place.
 #[tactic(auto, unfolding(rv_model::specs::commands::Registers::register_command), using(crate::proofs::Steps::stays))]
-pub(crate) fn carry_out(
+pub(crate) fn execute(
     context: &mut Context,
     unit: &mut Unit,
     user: User,

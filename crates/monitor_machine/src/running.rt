@@ -22,7 +22,7 @@ use std::alloc::Allocator;
 /// Execute a command that runs instructions of a user who has entered, or shows the program's state
 /// or output, and replace the reply.
 #[tactic(auto, unfolding(rv_model::specs::commands::Running::running_command), using(crate::proofs::Steps::telling))]
-pub(crate) fn carry_out<A: Allocator>(
+pub(crate) fn execute<A: Allocator>(
     parts: &mut Parts<'_, '_, '_, A>,
     trace: &mut Trace<A>,
     command: &RunningCommand,

@@ -11,9 +11,9 @@ ghost use Rattle.monitor_machine.specs.PartMoves.{PartsMove, present_of};
 ghost use Rattle.monitor_machine.specs.Parts.{context_state, try_of};
 
 use crate::context::Context;
-use crate::lenders::{UserMemory, UserVectors};
 use crate::parts::Parts;
 use crate::trace::Trace;
+use crate::user_adapters::{UserMemory, UserVectors};
 use hart::{Ending, MAX_TICKS, StepTerms, Vectors, View, cycle, stop_of};
 use rv_model::{StepEnd, Stop};
 use std::alloc::Allocator;
@@ -102,7 +102,7 @@ fn try_instruction<A: Allocator, M: UserBytes>(
 {
     let addr = context.scalar.pc;
     let ticks = step_lent(context, memory, vectors, terms, ending);
-    let (end, ticks) = ending.told(ticks);
+    let (end, ticks) = ending.unpack(ticks);
     context.fresh = false;
     if matches!(end, StepEnd::Ran) {
         trace.record(addr);
@@ -132,12 +132,12 @@ fn steps_lent<A: Allocator, M: UserBytes>(
 {
     let policy = context.policy;
     let mut ending = Ending::new();
-    let mut exempt = true;
+    let mut skip_once = true;
     for _ in 0..count {
-        if context.is_held(context.is_watched(), exempt) {
+        if context.should_break(context.is_watched(), skip_once) {
             return Some(Stop::Breakpoint);
         }
-        exempt = false;
+        skip_once = false;
         let limit = MAX_TICKS;
         let terms = StepTerms { limit, policy };
         let (stop, _) = try_instruction(context, trace, vectors, memory, terms, &mut ending);
@@ -196,7 +196,7 @@ fn slice_lent<A: Allocator, M: UserBytes>(
     let mut ending = Ending::new();
     let mut left = quantum;
     while left > 0 {
-        if context.is_held(watched, context.fresh) {
+        if context.should_break(watched, context.fresh) {
             return Some(Stop::Breakpoint);
         }
         let limit = left;

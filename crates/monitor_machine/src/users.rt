@@ -14,7 +14,7 @@ ghost use Rattle.monitor_machine.specs.Parts.{context_run_state, is_running, new
 ghost use Rattle.monitor_machine.specs.StopLineBounds.{stop_lines_bound};
 
 use crate::answers::refuse;
-use crate::commands::carry_out;
+use crate::commands::execute;
 use crate::context::Context;
 use crate::image::Image;
 use crate::parts::Parts;
@@ -148,7 +148,7 @@ impl<A: Allocator> Users<A> {
                     pool: &mut self.pool,
                     user,
                 };
-                carry_out(images, &mut parts, &mut self.traces[index], &cmd, reply);
+                execute(images, &mut parts, &mut self.traces[index], &cmd, reply);
             }
             Err(refusal) => refuse(reply, user, refusal),
         }

@@ -26,7 +26,7 @@ after_breaks _ h p = refl
 none_holds : (p : Present) → p.breakpoints ≡ [] → at_breakpoint p ≡ false
 none_holds p none = subst (λ (bs : List ℕ). at_breakpoint (record p { breakpoints = bs }) ≡ false) (sym none) refl
 
-never_held : (exempt held : Bool) → held ≡ false → (not exempt && held) ≡ false
+never_held : (skip_once held : Bool) → held ≡ false → (not skip_once && held) ≡ false
 never_held true held e = refl
 never_held false held e = e
 
@@ -52,16 +52,16 @@ by_choice false true p next others why = refl
 by_choice false false p next others why = refl
 
 -- the first instruction of a run, if the others equal steps
-module _ (x : HartState) (o : List ℕ) (exempt : Bool) (p : Present) (rest : Run) (none : p.breakpoints ≡ []) (at : p.hart ≡ with_output o x) where
+module _ (x : HartState) (o : List ℕ) (skip_once : Bool) (p : Present) (rest : Run) (none : p.breakpoints ≡ []) (at : p.hart ≡ with_output o x) where
   first_is : (m : ℕ) (goes : Bool) → length o ≤ 768 → is_none (stop_of (step 256 (taken x)).end) ≡ goes
-      → (steps (suc m) exempt p).state.hart
+      → (steps (suc m) skip_once p).state.hart
       ≡ (if goes then (steps m false (after (step 256 (taken x)).end (joined o (step 256 (taken x))).state p)).state.hart else (joined o (step 256 (taken x))).state)
   first_is m goes few whether =
       let one : Stepped = step 256 (taken x) in
       let next : Present = after one.end (joined o one).state p in
-      ap (λ (j : Stepped). (runs_by (not exempt && at_breakpoint p) p (λ q. steps m false q) j).state.hart) (ap (λ (h : HartState). step 256 h) at ∙ step_joins o x few)
-      ∙ by_choice (not exempt && at_breakpoint p) (is_none (stop_of one.end)) p next (steps m false next) (stop_of one.end)
-      ∙ ap (λ (b : Bool). hart_by b (is_none (stop_of one.end)) (steps m false next) p.hart next.hart) (never_held exempt (at_breakpoint p) (none_holds p none))
+      ap (λ (j : Stepped). (runs_by (not skip_once && at_breakpoint p) p (λ q. steps m false q) j).state.hart) (ap (λ (h : HartState). step 256 h) at ∙ step_joins o x few)
+      ∙ by_choice (not skip_once && at_breakpoint p) (is_none (stop_of one.end)) p next (steps m false next) (stop_of one.end)
+      ∙ ap (λ (b : Bool). hart_by b (is_none (stop_of one.end)) (steps m false next) p.hart next.hart) (never_held skip_once (at_breakpoint p) (none_holds p none))
       ∙ ap (λ (b : Bool). if b then (steps m false next).state.hart else next.hart) whether
       ∙ ap (λ (h : HartState). if goes then (steps m false next).state.hart else h) (after_hart one.end (joined o one).state p)
 
@@ -70,7 +70,7 @@ module _ (x : HartState) (o : List ℕ) (exempt : Bool) (p : Present) (rest : Ru
       → ((next : Present) → next.breakpoints ≡ [] → next.hart ≡ with_output (o ++ put_out (taken x)) (step 256 (taken x)).state
       → length ((o ++ put_out (taken x)) ++ flat_map put_out rest.found) ≤ 768
       → (steps (length rest.found) false next).state.hart ≡ with_output ((o ++ put_out (taken x)) ++ flat_map put_out rest.found) rest.state)
-      → (steps (length (begins (taken x) goes (step 256 (taken x)).end (taken (step 256 (taken x)).state) rest).found) exempt p).state.hart
+      → (steps (length (begins (taken x) goes (step 256 (taken x)).end (taken (step 256 (taken x)).state) rest).found) skip_once p).state.hart
       ≡ with_output (o ++ flat_map put_out (begins (taken x) goes (step 256 (taken x)).end (taken (step 256 (taken x)).state) rest).found) (begins (taken x) goes (step 256 (taken x)).end (taken (step 256 (taken x)).state) rest).state
   begun true whether fits others =
       let one : Stepped = step 256 (taken x) in
@@ -86,16 +86,16 @@ module _ (x : HartState) (o : List ℕ) (exempt : Bool) (p : Present) (rest : Ru
       first_is 0 false few whether
       ∙ ap (λ (l : List ℕ). with_output (o ++ l) (step 256 (taken x)).state) (sym (append-nil (put_out (taken x))))
 
-steps_from : (n left : ℕ) (x : HartState) (o : List ℕ) (exempt : Bool) (p : Present) → p.breakpoints ≡ [] → p.hart ≡ with_output o x
+steps_from : (n left : ℕ) (x : HartState) (o : List ℕ) (skip_once : Bool) (p : Present) → p.breakpoints ≡ [] → p.hart ≡ with_output o x
     → length (o ++ flat_map put_out (run n left (taken x)).found) ≤ 768
-    → (steps (length (run n left (taken x)).found) exempt p).state.hart ≡ with_output (o ++ flat_map put_out (run n left (taken x)).found) (run n left (taken x)).state
+    → (steps (length (run n left (taken x)).found) skip_once p).state.hart ≡ with_output (o ++ flat_map put_out (run n left (taken x)).found) (run n left (taken x)).state
 unfolding run
-steps_from zero left x o exempt p none at fits = at ∙ ap (λ (l : List ℕ). with_output l x) (sym (append-nil o))
-steps_from (suc n) zero x o exempt p none at fits = at ∙ ap (λ (l : List ℕ). with_output l x) (sym (append-nil o))
-steps_from (suc n) (suc left) x o exempt p none at fits =
+steps_from zero left x o skip_once p none at fits = at ∙ ap (λ (l : List ℕ). with_output l x) (sym (append-nil o))
+steps_from (suc n) zero x o skip_once p none at fits = at ∙ ap (λ (l : List ℕ). with_output l x) (sym (append-nil o))
+steps_from (suc n) (suc left) x o skip_once p none at fits =
     let one : Stepped = step 256 (taken x) in
-    begun x o exempt p (run n (suc left - one.ticks) (taken one.state)) none at (is_none (stop_of one.end)) refl fits
+    begun x o skip_once p (run n (suc left - one.ticks) (taken one.state)) none at (is_none (stop_of one.end)) refl fits
     (λ next breaks here few. steps_from n (suc left - one.ticks) one.state (o ++ put_out (taken x)) false next breaks here few)
 
 pub runs_as_steps : RunsAsSteps
-runs_as_steps ticks exempt p none fits = steps_from ticks ticks p.hart p.hart.output exempt p none refl (omega (arith, fits))
+runs_as_steps ticks skip_once p none fits = steps_from ticks ticks p.hart p.hart.output skip_once p none refl (omega (arith, fits))

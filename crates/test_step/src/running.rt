@@ -5,7 +5,7 @@ use crate::lending::{CODE, UserMemory};
 use crate::rules::{greatest_length, is_legal, type_read};
 use crate::shapes::Shape;
 use crate::ways::{Case, LIMIT, Way};
-use hart::OneSeat;
+use hart::SingleSlot;
 use rv_asm::assemble;
 use rv_model::{
     FILE_BYTES, Policy, RequestedLength, Scalar, Seat, VConf, VEnd, VLENB, VState, VectorRequest,
@@ -127,7 +127,7 @@ impl Counts {
             state,
             dirty: false,
         };
-        let mut vectors = OneSeat { seat };
+        let mut vectors = SingleSlot { seat };
         let mut scalar = Scalar {
             x: [u64::MAX; 32],
             pc: CODE,

@@ -6,7 +6,7 @@ use crate::ends::Ending;
 use crate::lending::{CODE, UserMemory};
 use crate::shapes::Shape;
 use arrayvec::ArrayVec;
-use hart::{OneSeat, Vectors, View, step};
+use hart::{SingleSlot, Vectors, View, step};
 use rv_decode::decode;
 use rv_model::{Cause, Instr, OUTPUT_SIZE, Policy, Scalar, StepEnd, VEnd, VState};
 use vec_unit::exec;
@@ -99,7 +99,7 @@ impl Case<'_> {
         &self,
         wanted: Ending,
         policy: Policy,
-        vectors: &mut OneSeat,
+        vectors: &mut SingleSlot,
         scalar: &mut Scalar,
         memory: &mut UserMemory,
     ) -> bool {

@@ -35,7 +35,7 @@ pub(crate) fn is_allowed(
 
 /// Read bytes from `addr` on if a single cached page contains them and permits the access; return whether it does.
 #[inline(always)]
-pub(crate) fn read_at_once(
+pub(crate) fn try_read(
     entries: &[Entry],
     translations: &Translations,
     frames: &[u8],
@@ -95,7 +95,7 @@ fn room_of(len: usize) -> usize
 
 /// Write bytes from `addr` on if a single cached page has room for them and permits the access; return whether it does.
 #[inline(always)]
-pub(crate) fn write_at_once(
+pub(crate) fn try_write(
     entries: &[Entry],
     translations: &Translations,
     frames: &mut [u8],

@@ -9,14 +9,14 @@ ghost use Rattle.rv_model.specs.machine.Setup.{user_count};
 ghost use Rattle.user_mem.specs.Users.{no_memories, memory_of_user, with_memory};
 ghost use Rattle.user_mem.specs.Pool.{entries_of};
 
-use crate::access::{is_allowed, read_at_once, read_pages};
+use crate::access::{is_allowed, read_pages, try_read};
 use crate::frames::FRAME_SIZE;
 use crate::free::{FreeFrames, all_free};
 use crate::table::refusal;
 use crate::translations::Translations;
 use crate::users::{
-    AllTranslations, PageRange, Tables, Target, drop_pages, map_user, translate_user, user_entries,
-    write_user, write_user_at_once,
+    AllTranslations, PageRange, Tables, Target, drop_pages, map_user, translate_user,
+    try_write_user, user_entries, write_user,
 };
 use arrayvec::ArrayVec;
 use rv_model::{Access, FRAME_COUNT, Fault, MapRefusal, Permissions, USER_COUNT, User};
@@ -165,7 +165,7 @@ impl<A: Allocator> Pool<A> {
 
     /// Read as `read` does if a single lookup in the user's translations suffices; return whether it does.
     #[inline(always)]
-    pub fn read_at_once(&self, user: User, addr: u64, access: Access, buffer: &mut [u8]) -> bool
+    pub fn try_read(&self, user: User, addr: u64, access: Access, buffer: &mut [u8]) -> bool
         ensures users { length self.now ≡ user_count }
         ensures allowed { result ≡ true
             → can_access access (memory_of_user self.now user) addr (length buffer.old) ≡ true }
@@ -176,7 +176,7 @@ impl<A: Allocator> Pool<A> {
         let user = user.index();
         let entries = user_entries(&self.tables, user);
         let frames = self.frames.as_slice();
-        read_at_once(
+        try_read(
             entries,
             &self.translations[user],
             frames,
@@ -204,7 +204,7 @@ impl<A: Allocator> Pool<A> {
         ensures err { OnErr result (buffer.new ≡ buffer.old) }
         ensures fault { IfErr result (λ fault. fault.addr ≡ addr) }
     {
-        if self.read_at_once(user, addr, access, buffer) {
+        if self.try_read(user, addr, access, buffer) {
             return Ok(());
         }
         let user = user.index();
@@ -215,7 +215,7 @@ impl<A: Allocator> Pool<A> {
 
     /// Write as `write` does if a single lookup in the user's translations suffices; return whether it does.
     #[inline(always)]
-    pub fn write_at_once(&mut self, user: User, addr: u64, access: Access, bytes: &[u8]) -> bool
+    pub fn try_write(&mut self, user: User, addr: u64, access: Access, bytes: &[u8]) -> bool
         ensures users { length self.old ≡ user_count }
         ensures allowed { result ≡ true
             → can_access access (memory_of_user self.old user) addr (length bytes.now) ≡ true }
@@ -223,7 +223,7 @@ impl<A: Allocator> Pool<A> {
             (put_bytes (memory_of_user self.old user) addr bytes.now) }
         ensures unchanged { result ≡ false → self.new ≡ self.old }
     {
-        write_user_at_once(
+        try_write_user(
             &self.tables,
             &self.translations,
             user.index(),
@@ -253,7 +253,7 @@ impl<A: Allocator> Pool<A> {
         let user = user.index();
         let target = Target { access, addr };
         let frames = self.frames.as_mut_slice();
-        if write_user_at_once(
+        if try_write_user(
             &self.tables,
             &self.translations,
             user,

@@ -102,7 +102,7 @@ pub(crate) struct Target {
 /// Write bytes of the user at an index if a single cached page has room for them and permits the access; return whether
 /// it does.
 #[inline(always)]
-pub(crate) fn write_user_at_once(
+pub(crate) fn try_write_user(
     tables: &Tables,
     all: &AllTranslations,
     user: usize,
@@ -123,7 +123,7 @@ pub(crate) fn write_user_at_once(
     ensures unchanged { result ≡ false → frames.new ≡ frames.old }
     ensures size { length frames.new ≡ length frames.old }
 {
-    access::write_at_once(
+    access::try_write(
         user_entries(tables, user),
         &all[user],
         frames,

@@ -303,7 +303,7 @@ fn run_in_turn<M: UserBytes>(
 /// Execute a load or store as one block, if possible. Return whether it is done. Strided instructions aren't
 /// tried, because their elements are seldom contiguous.
 #[inline(always)]
-fn run_at_once<M: UserBytes>(
+fn try_block<M: UserBytes>(
     access: &AccessInstr,
     extent: Extent,
     scalar: &Scalar,
@@ -357,7 +357,7 @@ pub fn run<M: UserBytes>(
         limit,
         fill_masked_off,
     };
-    if run_at_once(access, extent, scalar, memory, state) {
+    if try_block(access, extent, scalar, memory, state) {
         return MemEnd::Done;
     }
     // A copy to pass to the other function, so that the compiler can keep the operands in registers.

@@ -28,7 +28,7 @@ pub trait UserBytes {
     /// Fill the buffer with the bytes from an address on, if a fast path finds them. Return whether it did;
     /// an implementation may always return `false`.
     #[inline(always)]
-    fn read_at_once(&self, _addr: u64, _access: Access, _bytes: &mut [u8]) -> bool
+    fn try_read(&self, _addr: u64, _access: Access, _bytes: &mut [u8]) -> bool
         ensures allowed { result ≡ true → can_access _access (memory self.now) _addr (length _bytes.old) ≡ true }
         ensures value { result ≡ true → _bytes.new ≡ bytes_at (memory self.now) _addr (length _bytes.old) }
         ensures unchanged { result ≡ false → _bytes.new ≡ _bytes.old }
@@ -39,7 +39,7 @@ pub trait UserBytes {
     /// Write the bytes from an address on, if a fast path finds their place. Return whether it did; an
     /// implementation may always return `false`.
     #[inline(always)]
-    fn write_at_once(&mut self, _addr: u64, _access: Access, _bytes: &[u8]) -> bool
+    fn try_write(&mut self, _addr: u64, _access: Access, _bytes: &[u8]) -> bool
         ensures allowed { result ≡ true → can_access _access (memory self.old) _addr (length _bytes.now) ≡ true }
         ensures value { result ≡ true → memory self.new ≡ put_bytes (memory self.old) _addr _bytes.now }
         ensures others { result ≡ true → self.new ≡ with_memory self.old (memory self.new) }

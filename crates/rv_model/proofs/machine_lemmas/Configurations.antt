@@ -32,22 +32,22 @@ hart_after : (e : StepEnd) (state : HartState) (p : Present) → (after e state 
 hart_after Ran state p = refl
 hart_after _ state p = refl
 
-run_stays : (exempt : Bool) (limit : ℕ) (p : Present) (others : ℕ → Present → Halted)
+run_stays : (skip_once : Bool) (limit : ℕ) (p : Present) (others : ℕ → Present → Halted)
     → ((later : ℕ) (q : Present) → HasLength q → HasLength (others later q).state)
-    → HasLength p → HasLength (runs_on exempt limit p others).state
-run_stays exempt limit p others rest is =
+    → HasLength p → HasLength (runs_on skip_once limit p others).state
+run_stays skip_once limit p others rest is =
     let one : Stepped = step limit p.hart in
     let q : Present = after one.end one.state p in
     let left : HasLength q = subst (λ (s : HartState). IsConfiguration s.vector.conf) (sym (hart_after one.end one.state p))
     (step_keeps_configuration limit p.hart is) in
-    of_either (λ (r : Halted). HasLength r.state) (not exempt && at_breakpoint p) _ _ is
+    of_either (λ (r : Halted). HasLength r.state) (not skip_once && at_breakpoint p) _ _ is
     (of_either (λ (r : Halted). HasLength r.state) (is_none (stop_of one.end)) (others (limit - one.ticks) q)
     (halted q (stop_of one.end)) (rest (limit - one.ticks) q left) left)
 
-pub steps_stay : (n : ℕ) (exempt : Bool) (p : Present) → HasLength p → HasLength (steps n exempt p).state
-steps_stay zero exempt p is = is
-steps_stay (suc n) exempt p is =
-    run_stays exempt 256 p (λ later next. steps n false next) (λ later next. steps_stay n false next) is
+pub steps_stay : (n : ℕ) (skip_once : Bool) (p : Present) → HasLength p → HasLength (steps n skip_once p).state
+steps_stay zero skip_once p is = is
+steps_stay (suc n) skip_once p is =
+    run_stays skip_once 256 p (λ later next. steps n false next) (λ later next. steps_stay n false next) is
 
 pub slice_stays : (n left : ℕ) (p : Present) → HasLength p → HasLength (slice_steps n left p).state
 slice_stays zero left p is = is

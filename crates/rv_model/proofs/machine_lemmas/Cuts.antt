@@ -89,8 +89,8 @@ uses_either true x y = refl
 uses_either false x y = refl
 
 -- a breakpoint stops the program before its next instruction
-abbrev is_held : Present → Bool
-is_held p = not p.fresh && at_breakpoint p
+abbrev should_break : Present → Bool
+should_break p = not p.fresh && at_breakpoint p
 
 -- the run after an instruction
 follows : ℕ → ℕ → Present → Stepped → Halted
@@ -102,12 +102,12 @@ steps_none : (n : ℕ) (p : Present) → comes_to n 0 p ≡ halted p None
 steps_none zero p = refl
 steps_none (suc n) p = refl
 
-steps_held : (n left : ℕ) (p : Present) → is_held p ≡ true → 1 ≤ left
+steps_broken : (n left : ℕ) (p : Present) → should_break p ≡ true → 1 ≤ left
     → comes_to (suc n) left p ≡ halted p (Some stop.Breakpoint)
-steps_held n zero p h l = absurd (omega (arith, l))
-steps_held n (suc left) p h l = rw h refl
+steps_broken n zero p h l = absurd (omega (arith, l))
+steps_broken n (suc left) p h l = rw h refl
 
-steps_tried : (n left : ℕ) (p : Present) → is_held p ≡ false → 1 ≤ left
+steps_tried : (n left : ℕ) (p : Present) → should_break p ≡ false → 1 ≤ left
     → comes_to (suc n) left p ≡ follows n left p (step left p.hart)
 unfolding follows
 steps_tried n zero p h l = absurd (omega (arith, l))
@@ -121,7 +121,7 @@ uses_after : ℕ → ℕ → Present → Stepped → List Use
 uses_after n left p one =
     if is_none (stop_of one.end) then (slice_steps n (left - one.ticks) (after one.end one.state p)).uses else []
 
-uses_tried : (n left : ℕ) (p : Present) → is_held p ≡ false → 1 ≤ left
+uses_tried : (n left : ℕ) (p : Present) → should_break p ≡ false → 1 ≤ left
     → (slice_steps (suc n) left p).uses ≡ Tries left p.hart ∷ uses_after n left p (step left p.hart)
 unfolding uses_after
 uses_tried n zero p h l = absurd (omega (arith, l))
@@ -188,8 +188,8 @@ adds (suc a) (suc b) (suc c) (suc left) more p la lb lc some is keeps =
     let one : Stepped = step (suc left) p.hart in
     let ticks = step_takes_ticks (suc left) p.hart here in
     let onwards : Halted → Halted = λ r. goes_on r (λ q. comes_to (suc c) more q) in
-    elim (cases_Bool (is_held p)) [
-      | inl h ↦ steps_held b (suc left + more) p h both ∙ ap onwards (sym (steps_held a (suc left) p h here))
+    elim (cases_Bool (should_break p)) [
+      | inl h ↦ steps_broken b (suc left + more) p h both ∙ ap onwards (sym (steps_broken a (suc left) p h here))
       | inr h ↦
           let whole = steps_tried b (suc left + more) p h both in
           let first = ap onwards (sym (steps_tried a (suc left) p h here)) in
@@ -240,7 +240,7 @@ steps_run (suc a) (suc left) p =
     let one : Stepped = step (suc left) p.hart in
     let q : Present = after one.end one.state p in
     let on : q.running ≡ p.running = running_after one.end one.state p in
-    of_either (λ (r : Halted). r.state.running ≡ p.running) (is_held p) _ _ refl
+    of_either (λ (r : Halted). r.state.running ≡ p.running) (should_break p) _ _ refl
     (of_either (λ (r : Halted). r.state.running ≡ p.running) (is_none (stop_of one.end)) (slice_steps a (suc left - one.ticks) q)
     (halted q (stop_of one.end)) (steps_run a (suc left - one.ticks) q ∙ on) on)
 

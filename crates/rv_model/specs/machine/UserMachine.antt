@@ -94,18 +94,18 @@ halted p reason = record { state = p; stop = reason; uses = [] }
 -- one instruction in the ticks that are left, and then the others in the ticks that remain. A breakpoint stops the program before the
 -- instruction, unless it is exempt.
 abbrev pub runs_on : Bool → ℕ → Present → (ℕ → Present → Halted) → Halted
-runs_on exempt left p others =
+runs_on skip_once left p others =
     let one = step left p.hart in
     let next = after one.end one.state p in
     let rest : Halted = if is_none (stop_of one.end) then others (left - one.ticks) next else halted next (stop_of one.end) in
-    if not exempt && at_breakpoint p then halted p (Some stop.Breakpoint)
+    if not skip_once && at_breakpoint p then halted p (Some stop.Breakpoint)
     else record rest { uses = Tries left p.hart ∷ rest.uses }
 
 -- at most n instructions. A breakpoint stops the program before each, except before an exempt first one. No memory instruction has more
 -- than 256 elements, so none is cut.
 abbrev pub steps : ℕ → Bool → Present → Halted
-steps zero exempt p = halted p None
-steps (suc n) exempt p = runs_on exempt 256 p (λ left next. steps n false next)
+steps zero skip_once p = halted p None
+steps (suc n) skip_once p = runs_on skip_once 256 p (λ left next. steps n false next)
 
 -- at most n instructions in the ticks that are left. A breakpoint stops the program before each, except before the first one if the
 -- program skips the breakpoint once. An instruction takes at least one tick, and one that is cut takes all that are left.

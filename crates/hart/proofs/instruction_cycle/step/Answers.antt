@@ -11,7 +11,7 @@ use Rattle.hart.proofs.instruction_cycle.step.Goals as goal
 pub returns-clause-goes_on : goal.returns-clause-goes_on
 returns-clause-goes_on g c =
     let before : HartState = hart_of g.M.UserBytes.memory g.V.Vectors.lent c.args.view.now in
-    let after : Stepped = ends_after c.told.result.1 c.told.result.0 (hart_of g.M.UserBytes.memory g.V.Vectors.lent c.cycle-ticks.new.view) in
+    let after : Stepped = ends_after c.unpack.result.1 c.unpack.result.0 (hart_of g.M.UserBytes.memory g.V.Vectors.lent c.cycle-ticks.new.view) in
     let is : step c.args.limit before ≡ after = grind (arith, common_steps) in
     step_goes_on c.args.limit before after c.cycle-ticks.ensures.vectors.0.2 is
 

@@ -3,7 +3,7 @@ use Rattle.rv_model.specs.images.Image.{memory_of_image}
 use Rattle.rv_model.specs.memory.Memory.{Memory, page_count}
 use Rattle.lazy_context.specs.LazyUnit.{record_of, state_of}
 use Rattle.user_mem.specs.Users.{memory_of_user, with_memory}
-use Rattle.monitor_machine.specs.Lenders.{memory_there, same_memory}
+use Rattle.monitor_machine.specs.UserAdapters.{memory_there, same_memory}
 use Rattle.monitor_machine.proofs.ProgramOutcomes.{few_pages, loaded_unit, placed_next, placed_reply, too_large_next, too_large_reply, too_large_unit}
 use Rattle.monitor_machine.proofs.programs.load_plan.Goals as goal
 
@@ -29,7 +29,7 @@ returns-in-Ok-clause-parts g c =
     record {
       unit = record {
         settled = c.discard.ensures.settled old.settled;
-        strangers = c.discard.ensures.others;
+        others_keep = c.discard.ensures.others;
         counts = c.discard.ensures.counts ∙ sym (loaded_unit old.context.now c.args.trace.now (state_of old.unit.now old.user) (memory_of_user old.pool.now old.user) old.user c.args.plan.now (record_of old.unit.now) few);
       };
       others = c.in-Ok.ensures.memory ∙ ap (λ (m : Memory). with_memory old.pool.now old.user m) (sym memory);
@@ -59,7 +59,7 @@ returns-in-Err-clause-parts g c =
     record {
       unit = record {
         settled = old.settled;
-        strangers = λ other low apart. refl;
+        others_keep = λ other low apart. refl;
         counts = sym (too_large_unit old.context.now c.args.trace.now (state_of old.unit.now old.user) (memory_of_user old.pool.now old.user) old.user c.args.plan.now (record_of old.unit.now) many);
       };
       others = same ∙ sym (same_memory old.pool.now old.user) ∙ ap (λ (ms : List Memory). with_memory old.pool.now old.user (memory_of_user ms old.user)) (sym same);

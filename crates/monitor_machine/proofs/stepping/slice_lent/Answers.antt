@@ -13,7 +13,7 @@ returns-in-Some-clause-run g c =
     let b : Lent = lent g.M.UserBytes.memory c.try_instruction-stop.new.context c.try_instruction-stop.new.trace c.try_instruction-stop.new.vectors c.try_instruction-stop.new.memory in
     let ticks : ℕ = c.try_instruction-stop.result.1 in
     c.loop-left.invariant.left b (Some c.in-Some.stop)
-    (slice_stops c.loop-left.left ticks a b c.in-Some.stop (omega (arith, c.loop-left-test.true)) (sym c.is_held.ensures ∙ c.if-is_held.false)
+    (slice_stops c.loop-left.left ticks a b c.in-Some.stop (omega (arith, c.loop-left-test.true)) (sym c.should_break.ensures ∙ c.if-should_break.false)
     (subst (λ (reason : Option Stop). TriesTo c.loop-left.left a b reason ticks) c.in-Some.is c.try_instruction-stop.ensures.run))
 
 pub returns-in-Some-clause-memory : goal.returns-in-Some-clause-memory
@@ -27,11 +27,11 @@ returns-in-Some-clause-vectors g c =
     lent_twice c.args.vectors.now c.loop-left.vectors c.try_instruction-stop.new.vectors c.loop-left.invariant.vectors c.try_instruction-stop.ensures.vectors
 
 -- a breakpoint stops the program
-pub returns-then-is_held-clause-run : goal.returns-then-is_held-clause-run
-returns-then-is_held-clause-run g c =
+pub returns-then-should_break-clause-run : goal.returns-then-should_break-clause-run
+returns-then-should_break-clause-run g c =
     let a : Lent = lent g.M.UserBytes.memory c.loop-left.context c.loop-left.trace c.loop-left.vectors c.loop-left.memory in
     c.loop-left.invariant.left a (Some stop.Breakpoint)
-    (slice_held c.loop-left.left a (omega (arith, c.loop-left-test.true)) (sym c.is_held.ensures ∙ c.if-is_held.true))
+    (slice_held c.loop-left.left a (omega (arith, c.loop-left-test.true)) (sym c.should_break.ensures ∙ c.if-should_break.true))
 
 -- all ticks were used
 pub returns-clause-run : goal.returns-clause-run
@@ -61,7 +61,7 @@ loop-left-preserved g c =
     record {
       left = λ end reason later.
           c.loop-left.invariant.left end reason
-          (slices_add_up c.loop-left.left ticks a b end reason (omega (arith, c.loop-left-test.true)) (sym c.is_held.ensures ∙ c.if-is_held.false)
+          (slices_add_up c.loop-left.left ticks a b end reason (omega (arith, c.loop-left-test.true)) (sym c.should_break.ensures ∙ c.if-should_break.false)
           (subst (λ (o : Option Stop). TriesTo c.loop-left.left a b o ticks) c.in_default.is c.try_instruction-stop.ensures.run) c.try_instruction-stop.ensures.vectors.user later);
       watched = λ none. ap (λ (xs : List ℕ). nat_le (length xs) 0) c.try_instruction-stop.ensures.breakpoints ∙ c.loop-left.invariant.watched none;
       vectors = lent_twice c.args.vectors.now c.loop-left.vectors c.try_instruction-stop.new.vectors c.loop-left.invariant.vectors c.try_instruction-stop.ensures.vectors;

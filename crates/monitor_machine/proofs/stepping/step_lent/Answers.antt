@@ -28,7 +28,7 @@ returns-clause-vectors g c =
     let back = lender_back (touches instruction) old new c.step_context.ensures.vectors.1 in
     record {
       settled = c.step_context.ensures.vectors.2;
-      strangers = strangers_keep (touches instruction) old.user old.unit.now new.unit.now back.0 (c.lending_law.ensures.states c.requires.settled);
+      others_keep = strangers_keep (touches instruction) old.user old.unit.now new.unit.now back.0 (c.lending_law.ensures.states c.requires.settled);
       user = back.2;
       same_unit = back.1;
     }

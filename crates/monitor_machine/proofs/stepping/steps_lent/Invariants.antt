@@ -7,7 +7,7 @@ use Rattle.monitor_machine.proofs.stepping.steps_lent.Given as goal
 abbrev pub invariant-loop : goal.invariant-loop
 invariant-loop g l = record {
   left :
-      (end : Lent) (reason : Option Stop) → StepsTo (l.count - l.counter) l.exempt (lent g.M.UserBytes.memory l.context l.trace l.vectors l.memory) end reason
+      (end : Lent) (reason : Option Stop) → StepsTo (l.count - l.counter) l.skip_once (lent g.M.UserBytes.memory l.context l.trace l.vectors l.memory) end reason
       → StepsTo l.count true (lent g.M.UserBytes.memory l.fn.context l.fn.trace l.fn.vectors l.fn.memory) end reason;
   vectors : VectorsMove l.fn.vectors l.vectors;
   entered : l.context.entered ≡ l.fn.context.entered;

@@ -13,12 +13,12 @@ read_pages-requires g c = rw (c.as_slice-frames.ensures.value, c.user_entries-en
 pub returns-clause-allowed : goal.returns-clause-allowed
 returns-clause-allowed g c =
     let memory = memory_at c.self.inside.frames.items c.as_slice-frames.result.now (map (λ t. t.items) c.self.inside.tables) c.args.user c.index-user.result c.user_entries-entries.result.now c.args.self.now c.self.view_is c.index-user.ensures.value (omega (arith, c.self.invariant.0.users)) c.user_entries-entries.ensures c.as_slice-frames.ensures.value in
-    rw (memory, ← c.read_at_once.ensures.unchanged c.if-read_at_once.false) c.read_pages.ensures.allowed
+    rw (memory, ← c.try_read.ensures.unchanged c.if-try_read.false) c.read_pages.ensures.allowed
 
 pub returns-clause-ok : goal.returns-clause-ok
 returns-clause-ok g c =
     let memory = memory_at c.self.inside.frames.items c.as_slice-frames.result.now (map (λ t. t.items) c.self.inside.tables) c.args.user c.index-user.result c.user_entries-entries.result.now c.args.self.now c.self.view_is c.index-user.ensures.value (omega (arith, c.self.invariant.0.users)) c.user_entries-entries.ensures c.as_slice-frames.ensures.value in
-    rw (memory, ← c.read_at_once.ensures.unchanged c.if-read_at_once.false) c.read_pages.ensures.ok
+    rw (memory, ← c.try_read.ensures.unchanged c.if-try_read.false) c.read_pages.ensures.ok
 
-pub returns-then-read_at_once-clause-allowed : goal.returns-then-read_at_once-clause-allowed
-returns-then-read_at_once-clause-allowed g c = (λ _. c.read_at_once.ensures.allowed c.if-read_at_once.true, λ _. refl)
+pub returns-then-try_read-clause-allowed : goal.returns-then-try_read-clause-allowed
+returns-then-try_read-clause-allowed g c = (λ _. c.try_read.ensures.allowed c.if-try_read.true, λ _. refl)

@@ -8,11 +8,11 @@ pub returns-clause-allowed : goal.returns-clause-allowed
 returns-clause-allowed g c =
     let seen = memory_of_table c.self.inside.frames.items (map (λ t. t.items) c.self.inside.tables) c.args.user c.index-user.result c.args.self.now c.self.view_is c.index-user.ensures.value (omega (arith, c.self.invariant.0.users)) in
     let memory = seen ∙ ap (λ (frames : List ℕ). memory_of frames (table_at (map (λ t. t.items) c.self.inside.tables) c.index-user.result)) (sym c.as_mut_slice-frames.ensures.value) in
-    let kept = ap (λ (frames : List ℕ). memory_of frames (table_at (map (λ t. t.items) c.self.inside.tables) c.index-user.result)) (sym (c.write_user_at_once.ensures.unchanged c.if-write_user_at_once.false)) in
+    let kept = ap (λ (frames : List ℕ). memory_of frames (table_at (map (λ t. t.items) c.self.inside.tables) c.index-user.result)) (sym (c.try_write_user.ensures.unchanged c.if-try_write_user.false)) in
     rw (memory ∙ kept) c.write_user.ensures.allowed
 
-pub returns-then-write_user_at_once-clause-allowed : goal.returns-then-write_user_at_once-clause-allowed
-returns-then-write_user_at_once-clause-allowed g c =
+pub returns-then-try_write_user-clause-allowed : goal.returns-then-try_write_user-clause-allowed
+returns-then-try_write_user-clause-allowed g c =
     let seen = memory_of_table c.self.inside.frames.items (map (λ t. t.items) c.self.inside.tables) c.args.user c.index-user.result c.args.self.now c.self.view_is c.index-user.ensures.value (omega (arith, c.self.invariant.0.users)) in
     let memory = seen ∙ ap (λ (frames : List ℕ). memory_of frames (table_at (map (λ t. t.items) c.self.inside.tables) c.index-user.result)) (sym c.as_mut_slice-frames.ensures.value) in
-    (λ _. rw memory (c.write_user_at_once.ensures.allowed c.if-write_user_at_once.true), λ _. refl)
+    (λ _. rw memory (c.try_write_user.ensures.allowed c.if-try_write_user.true), λ _. refl)

@@ -1,7 +1,7 @@
 use Rattle.std.proofs.Common.{length, arith}
 use Rattle.user_mem.proofs.RunLaws.{run_written, others_unwritten}
 use Rattle.user_mem.proofs.TranslationLaws.{lies_accessed, lies_allowed, lies_first, lies_from, lies_within}
-use Rattle.user_mem.proofs.access.write_at_once.Goals as goal
+use Rattle.user_mem.proofs.access.try_write.Goals as goal
 
 pub paste-requires : goal.paste-requires
 paste-requires c =

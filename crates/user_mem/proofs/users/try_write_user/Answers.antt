@@ -3,10 +3,10 @@ use Rattle.rv_model.specs.memory.Memory.{put_bytes}
 use Rattle.user_mem.specs.declared.entry.Entry.{Entry}
 use Rattle.user_mem.specs.Table.{memory_of}
 use Rattle.user_mem.proofs.PoolLaws.{table_fits, table_is_separate, IsPool-written, memories_of-written}
-use Rattle.user_mem.proofs.users.write_user_at_once.Goals as goal
+use Rattle.user_mem.proofs.users.try_write_user.Goals as goal
 
-pub write_at_once-requires : goal.write_at_once-requires
-write_at_once-requires c =
+pub try_write-requires : goal.try_write-requires
+try_write-requires c =
     let tables = map (λ t. t.items) c.args.tables.now in
     rw c.user_entries.ensures
     (record {
@@ -16,9 +16,9 @@ write_at_once-requires c =
     })
 
 pub returns-clause-pool : goal.returns-clause-pool
-returns-clause-pool c free pool = IsPool-written (map (λ t. t.items) c.args.tables.now) free c.args.frames.now c.write_at_once.new.frames pool c.write_at_once.ensures.size
+returns-clause-pool c free pool = IsPool-written (map (λ t. t.items) c.args.tables.now) free c.args.frames.now c.try_write.new.frames pool c.try_write.ensures.size
 
 pub returns-clause-value : goal.returns-clause-value
 returns-clause-value c = λ done.
-    memories_of-written (map (λ t. t.items) c.args.tables.now) c.requires.pool.0 c.args.frames.now c.write_at_once.new.frames c.args.user _ _ c.requires.pool.1 c.requires.user c.user_entries.ensures c.write_at_once.ensures.others
-    (c.write_at_once.ensures.value done ∙ ap (λ (t : List Entry). put_bytes (memory_of c.args.frames.now t) c.args.target.addr c.args.bytes.now) c.user_entries.ensures)
+    memories_of-written (map (λ t. t.items) c.args.tables.now) c.requires.pool.0 c.args.frames.now c.try_write.new.frames c.args.user _ _ c.requires.pool.1 c.requires.user c.user_entries.ensures c.try_write.ensures.others
+    (c.try_write.ensures.value done ∙ ap (λ (t : List Entry). put_bytes (memory_of c.args.frames.now t) c.args.target.addr c.args.bytes.now) c.user_entries.ensures)

@@ -1,7 +1,7 @@
 use Rattle.std.proofs.Common.{◌∙◌, length, take, drop, ◌+◌, ◌-◌, arith}
 use Rattle.user_mem.proofs.RunLaws.{page_read, part_at, part_length}
 use Rattle.user_mem.proofs.TranslationLaws.{lies_accessed, lies_allowed, lies_from, lies_within}
-use Rattle.user_mem.proofs.access.read_at_once.Goals as goal
+use Rattle.user_mem.proofs.access.try_read.Goals as goal
 
 pub overflow_add-at : goal.overflow_add-at
 overflow_add-at c = record { fits = omega (arith, lies_within c.args.entries.now c.args.access c.args.addr (length c.args.buffer.now) c.in-Some.at (c.in-Some.ensures c.args.entries.now c.requires.translated) (length c.args.frames.now) c.requires.fit, c.type_inv.frames) }

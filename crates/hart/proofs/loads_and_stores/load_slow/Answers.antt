@@ -4,7 +4,7 @@ use Rattle.rv_model.specs.declared.memory.Access.TheVariants.{Load}
 use Rattle.rv_model.specs.memory.Memory.{bytes_at, can_access}
 use Rattle.rv_model.specs.scalar.LoadsAndStores.{extended, load_width}
 use Rattle.hart.proofs.FirstBytes.{load_len-le, number_of}
-use Rattle.hart.proofs.loads_and_stores.load_anywhere.Goals as goal
+use Rattle.hart.proofs.loads_and_stores.load_slow.Goals as goal
 
 pub returns : goal.returns
 returns g c =

@@ -19,7 +19,7 @@ pub(crate) struct UserMemory<'a, A: Allocator> {
 impl<A: Allocator> UserBytes for UserMemory<'_, A> {
     ghost use Rattle.user_mem.specs.Users.{memory_of_user, with_memory as with_user_memory};
     ghost use Rattle.std.proofs.Common.{ap};
-    ghost use Rattle.monitor_machine.specs.Lenders.{same_memory, later_memory};
+    ghost use Rattle.monitor_machine.specs.UserAdapters.{same_memory, later_memory};
 
     ghost memory = { λ m. memory_of_user m.pool.now m.user };
 
@@ -43,17 +43,17 @@ impl<A: Allocator> UserBytes for UserMemory<'_, A> {
     }
 
     #[inline(always)]
-    fn read_at_once(&self, addr: u64, access: Access, bytes: &mut [u8]) -> bool {
-        self.pool.read_at_once(self.user, addr, access, bytes)
+    fn try_read(&self, addr: u64, access: Access, bytes: &mut [u8]) -> bool {
+        self.pool.try_read(self.user, addr, access, bytes)
     }
 
-    #[tactic(auto, using(crate::specs::Lenders::memory_written))]
+    #[tactic(auto, using(crate::specs::UserAdapters::memory_written))]
     #[inline(always)]
-    fn write_at_once(&mut self, addr: u64, access: Access, bytes: &[u8]) -> bool {
-        self.pool.write_at_once(self.user, addr, access, bytes)
+    fn try_write(&mut self, addr: u64, access: Access, bytes: &[u8]) -> bool {
+        self.pool.try_write(self.user, addr, access, bytes)
     }
 
-    #[tactic(auto, using(crate::specs::Lenders::memory_written))]
+    #[tactic(auto, using(crate::specs::UserAdapters::memory_written))]
     #[inline(always)]
     fn write(&mut self, addr: u64, access: Access, bytes: &[u8]) -> Result<(), Fault> {
         self.pool.write(self.user, addr, access, bytes)
@@ -70,7 +70,7 @@ pub(crate) struct UserVectors<'a> {
 impl Vectors for UserVectors<'_> {
     ghost use Rattle.lazy_context.specs.LazyUnit.{IsSettled, touched, with_seat};
     ghost use Rattle.std.proofs.Common.{ap};
-    ghost use Rattle.monitor_machine.specs.Lenders.{settled_again, touched_again};
+    ghost use Rattle.monitor_machine.specs.UserAdapters.{settled_again, touched_again};
 
     ghost ready = { λ v. IsSettled v.unit.now };
 

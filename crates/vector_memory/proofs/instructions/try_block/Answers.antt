@@ -1,7 +1,7 @@
 use Rattle.std.proofs.Common.{sym, ◌∙◌, arith}
 use Rattle.vector_memory.proofs.MovedRuns.{leaves}
 use Rattle.vector_memory.proofs.Transferred.{fits, runs}
-use Rattle.vector_memory.proofs.instructions.run_at_once.Goals as goal
+use Rattle.vector_memory.proofs.instructions.try_block.Goals as goal
 
 pub run_block-requires : goal.run_block-requires
 run_block-requires g c =
