@@ -4,7 +4,7 @@
 
 ghost use Rattle.std.specs.Prelude.{◌≡◌, ◌||◌, ◌≤◌, ◌⊎◌, List, bit_and, ℕ};
 ghost use Rattle.std.specs.Option.{option_map};
-ghost use Rattle.rv_decode.specs.Groups.{rows_where, is_irregular_instr};
+ghost use Rattle.rv_decode.specs.Groups.{rows_where, is_other_operation_instr};
 ghost use Rattle.rv_model.specs.declared.vector.policy.Policy.{Policy};
 ghost use Rattle.rv_model.specs.instructions.Table.{scan, table};
 ghost use Rattle.rv_model.specs.memory.Memory.{Memory};
@@ -19,8 +19,8 @@ use crate::ticks::access_ticks;
 use crate::vectors::Vectors;
 use crate::view::StepTerms;
 use rv_decode::{
-    decode_irregular, decode_other_access, decode_regular, decode_unit_stride,
-    has_irregular_funct6, is_unit_stride,
+    decode_other_access, decode_other_operation, decode_table_operation, decode_unit_stride,
+    has_funct6_outside_table, is_unit_stride,
 };
 use rv_model::{AccessInstr, Cause, Instr, Scalar, Seat, StepEnd, VEnd};
 use vec_unit::{exec_access, exec_arith, exec_operation};
@@ -79,7 +79,7 @@ fn retire_vector(
 /// Execute the vector operation that a word encodes, if it has no row of its own in the manual's table of
 /// funct6. The memory is a parameter for the contract only, which says that it is unchanged.
 #[inline(never)]
-fn execute_irregular<M: UserBytes, V: Vectors>(
+fn execute_other_operation<M: UserBytes, V: Vectors>(
     word: u32,
     scalar: &mut Scalar,
     memory: &mut M,
@@ -89,13 +89,13 @@ fn execute_irregular<M: UserBytes, V: Vectors>(
 ) -> usize
     requires ready { V.ready vectors.old }
     requires opcode { bit_and word 0x7c ≡ 0x54 }
-    requires row { scan table word ≡ scan (rows_where is_irregular_instr) word }
+    requires row { scan table word ≡ scan (rows_where is_other_operation_instr) word }
     ensures model { Executes M.memory V.lent terms word scalar.old memory.old vectors.old
         scalar.new memory.new vectors.new result ending.new }
     ensures memory { memory.new ≡ M.with_memory memory.old (M.memory memory.new) }
     ensures vectors { Seats M.memory V.ready V.lent V.back terms word scalar.old memory.old vectors.old vectors.new }
 {
-    let decoded = decode_irregular(word);
+    let decoded = decode_other_operation(word);
     let Some(operation) = &decoded else {
         return ending.in_one_tick(illegal(word, scalar));
     };
@@ -124,8 +124,8 @@ fn execute_operation<M: UserBytes, V: Vectors>(
     ensures memory { memory.new ≡ M.with_memory memory.old (M.memory memory.new) }
     ensures vectors { Seats M.memory V.ready V.lent V.back terms word scalar.old memory.old vectors.old vectors.new }
 {
-    let Some(operation) = decode_regular(word) else {
-        return execute_irregular(word, scalar, memory, vectors, terms, ending);
+    let Some(operation) = decode_table_operation(word) else {
+        return execute_other_operation(word, scalar, memory, vectors, terms, ending);
     };
     let seat = vectors.seat();
     // For the proof only: the vector length is one that the vector type allows.
@@ -188,8 +188,8 @@ pub(crate) fn operation<M: UserBytes, V: Vectors>(
     ensures memory { memory.new ≡ M.with_memory memory.old (M.memory memory.new) }
     ensures vectors { Seats M.memory V.ready V.lent V.back terms word scalar.old memory.old vectors.old vectors.new }
 {
-    if has_irregular_funct6(word) {
-        execute_irregular(word, scalar, memory, vectors, terms, ending)
+    if has_funct6_outside_table(word) {
+        execute_other_operation(word, scalar, memory, vectors, terms, ending)
     } else {
         execute_operation(word, scalar, memory, vectors, terms, ending)
     }

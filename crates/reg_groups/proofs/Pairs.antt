@@ -25,7 +25,7 @@ use Rattle.rv_model.specs.vector.TypeNames.{lmuls, sews}
 use Rattle.rv_model.proofs.legality_lemmas.Accesses.{of_lmuls, of_sews}
 use Rattle.rv_model.proofs.legality_lemmas.Bounds.{first_of}
 use Rattle.rv_model.proofs.legality_lemmas.Meaning.{are_legal_means, groups_are}
-use Rattle.reg_groups.specs.Roles.{groups_of, is_beside_mask, is_mask_outside, is_other_group, is_wide_beside, stands_beside}
+use Rattle.reg_groups.specs.Roles.{groups_of, may_be_compared_into, is_mask_outside, is_other_group, is_narrowing_source, is_compatible_source}
 use Rattle.reg_groups.proofs.EqualWidths.{holds_v0, role_allows, some_registers}
 use Rattle.reg_groups.proofs.Sources.{guarded, lone_legal, masked_legal, pair_legal, sources_legal}
 
@@ -88,8 +88,8 @@ of_each p h w l a b in_a in_b =
     of_below 32 (p w l a) (of_below 32 (λ x. below 32 (p w l x)) types a in_a) b in_b
 
 -- for a destination and a source that are groups, `allows` equals a test of their first registers
-abbrev comes_to : Role → (Sew → Lmul → Kind) → (Sew → Lmul → Kind) → (Lmul → ℕ → ℕ → Bool) → Sew → Lmul → ℕ → ℕ → Bool
-comes_to r d s test w l a b =
+abbrev is_test_of : Role → (Sew → Lmul → Kind) → (Sew → Lmul → Kind) → (Lmul → ℕ → ℕ → Bool) → Sew → Lmul → ℕ → ℕ → Bool
+is_test_of r d s test w l a b =
     not (is_group (operand r a (d w l)) && is_group (operand Read b (s w l))) || alike (allows (operand r a (d w l)) (operand Read b (s w l))) (test l a b)
 
 under_both : (g h b : Bool) → g ≡ true → h ≡ true → (not (g && h) || b) ≡ true → b ≡ true
@@ -102,13 +102,13 @@ in_file r a k h =
     let inside : a + 1 * registers k.1 ≤ 32 = (first_of (operand r a k) [] (groups_are legal)).inside in
     omega (arith, inside, some_registers k.1)
 
-told : (r : Role) (d s : Sew → Lmul → Kind) (test : Lmul → ℕ → ℕ → Bool) → each (comes_to r d s test) ≡ true
+pair_test_holds : (r : Role) (d s : Sew → Lmul → Kind) (test : Lmul → ℕ → ℕ → Bool) → each (is_test_of r d s test) ≡ true
     → (w : Sew) (l : Lmul) (a b : ℕ) → is_group (operand r a (d w l)) ≡ true
-    → stands_beside (operand r a (d w l)) (operand Read b (s w l)) ≡ (is_group (operand Read b (s w l)) && test l a b)
-told r d s test all w l a b is_destination =
+    → is_compatible_source (operand r a (d w l)) (operand Read b (s w l)) ≡ (is_group (operand Read b (s w l)) && test l a b)
+pair_test_holds r d s test all w l a b is_destination =
     guarded (is_group (operand Read b (s w l))) _ _ (λ is_source.
     alike_same _ _ (under_both _ _ _ is_destination is_source
-    (of_each (comes_to r d s test) all w l a b (in_file r a (d w l) is_destination) (in_file Read b (s w l) is_source))))
+    (of_each (is_test_of r d s test) all w l a b (in_file r a (d w l) is_destination) (in_file Read b (s w l) is_source))))
 
 abbrev masks : Sew → Lmul → Kind
 masks w l = (Mask, 8)
@@ -129,39 +129,39 @@ abbrev outside : Lmul → ℕ → ℕ → Bool
 outside l a b = nat_lt b a || nat_le (a + registers (lmul_eighths l)) b
 
 -- a narrow source and a wide destination
-pub widening_beside : (vd b : ℕ) (t : VType) → is_group (group Write vd (wide_type t)) ≡ true
-    → stands_beside (group Write vd (wide_type t)) (group Read b (group_type t)) ≡ is_other_group vd b t
-widening_beside vd b t h = told Write wide narrow other refl t.sew t.lmul vd b h
+pub widening_compatible : (vd b : ℕ) (t : VType) → is_group (group Write vd (wide_type t)) ≡ true
+    → is_compatible_source (group Write vd (wide_type t)) (group Read b (group_type t)) ≡ is_other_group vd b t
+widening_compatible vd b t h = pair_test_holds Write wide narrow other refl t.sew t.lmul vd b h
 
 -- a wide source and a narrow destination
-pub narrowing_beside : (vd b : ℕ) (t : VType) → is_group (group Write vd (group_type t)) ≡ true
-    → stands_beside (group Write vd (group_type t)) (group Read b (wide_type t)) ≡ is_wide_beside vd b t
-narrowing_beside vd b t h = told Write narrow wide (after (λ l. 2 * lmul_eighths l)) refl t.sew t.lmul vd b h
+pub narrowing_compatible : (vd b : ℕ) (t : VType) → is_group (group Write vd (group_type t)) ≡ true
+    → is_compatible_source (group Write vd (group_type t)) (group Read b (wide_type t)) ≡ is_narrowing_source vd b t
+narrowing_compatible vd b t h = pair_test_holds Write narrow wide (after (λ l. 2 * lmul_eighths l)) refl t.sew t.lmul vd b h
 
 -- a source and a destination that may not overlap it
-pub apart_beside : (vd b : ℕ) (t : VType) → is_group (group Apart vd (group_type t)) ≡ true
-    → stands_beside (group Apart vd (group_type t)) (group Read b (group_type t)) ≡ is_other_group vd b t
-apart_beside vd b t h = told Apart narrow narrow other refl t.sew t.lmul vd b h
+pub apart_compatible : (vd b : ℕ) (t : VType) → is_group (group Apart vd (group_type t)) ≡ true
+    → is_compatible_source (group Apart vd (group_type t)) (group Read b (group_type t)) ≡ is_other_group vd b t
+apart_compatible vd b t h = pair_test_holds Apart narrow narrow other refl t.sew t.lmul vd b h
 
 -- a source of a comparison
-pub compare_beside : (vd b : ℕ) (t : VType) → is_group (mask Write vd) ≡ true
-    → stands_beside (mask Write vd) (group Read b (group_type t)) ≡ is_beside_mask vd b t
-compare_beside vd b t h = told Write masks narrow (after lmul_eighths) refl t.sew t.lmul vd b h
+pub compare_compatible : (vd b : ℕ) (t : VType) → is_group (mask Write vd) ≡ true
+    → is_compatible_source (mask Write vd) (group Read b (group_type t)) ≡ may_be_compared_into vd b t
+compare_compatible vd b t h = pair_test_holds Write masks narrow (after lmul_eighths) refl t.sew t.lmul vd b h
 
-mask_apart_beside : (vd b : ℕ) (t : VType) → is_group (group Apart vd (group_type t)) ≡ true
-    → stands_beside (group Apart vd (group_type t)) (mask Read b) ≡ is_mask_outside vd b t
-mask_apart_beside vd b t h = told Apart narrow masks outside refl t.sew t.lmul vd b h
+mask_apart_compatible : (vd b : ℕ) (t : VType) → is_group (group Apart vd (group_type t)) ≡ true
+    → is_compatible_source (group Apart vd (group_type t)) (mask Read b) ≡ is_mask_outside vd b t
+mask_apart_compatible vd b t h = pair_test_holds Apart narrow masks outside refl t.sew t.lmul vd b h
 
-masks_apart : (a b : ℕ) → is_group (mask Apart a) ≡ true → stands_beside (mask Apart a) (mask Read b) ≡ (is_group (mask Read b) && not (a == b))
-masks_apart a b h = told Apart masks masks other refl E8 M1 a b h
+masks_apart : (a b : ℕ) → is_group (mask Apart a) ≡ true → is_compatible_source (mask Apart a) (mask Read b) ≡ (is_group (mask Read b) && not (a == b))
+masks_apart a b h = pair_test_holds Apart masks masks other refl E8 M1 a b h
 
 -- a source with the destination's element width
-pub equal_beside : (a b : ℕ) (g : GroupType) → stands_beside (group Write a g) (group Read b g) ≡ is_group (group Read b g)
-equal_beside a b g = rw (eq-eqb (bits g.width), or-true (not (overlaps (group Write a g) (group Read b g)))) (and-true _)
+pub equal_compatible : (a b : ℕ) (g : GroupType) → is_compatible_source (group Write a g) (group Read b g) ≡ is_group (group Read b g)
+equal_compatible a b g = rw (eq-eqb (bits g.width), or-true (not (overlaps (group Write a g) (group Read b g)))) (and-true _)
 
 -- a source and a destination that may overlap any operand
-pub free_beside : (d : Operand) (s : Operand) → d.role ≡ Free → stands_beside d s ≡ is_group s
-free_beside d s h = rw (h, or-true (not (overlaps d s))) (and-true _)
+pub free_compatible : (d : Operand) (s : Operand) → d.role ≡ Free → is_compatible_source d s ≡ is_group s
+free_compatible d s h = rw (h, or-true (not (overlaps d s))) (and-true _)
 
 -- a mask may be written to v0, from which the instruction reads its mask
 pub mask_over_v0 : (a : ℕ) → allows (mask Write a) (mask Control 0) ≡ true
@@ -175,7 +175,7 @@ pub iota_legal : (vd vs2 : ℕ) (unmasked : Bool) (t : VType)
     ≡ (is_group (group Read vd (group_type t)) && (is_mask_outside vd vs2 t && (unmasked || not (vd == 0))))
 iota_legal vd vs2 unmasked t =
     pair_legal (group Apart vd (group_type t)) (mask Read vs2) unmasked refl
-    ∙ guarded (is_group (group Read vd (group_type t))) _ _ (λ h. rw (mask_apart_beside vd vs2 t h, role_allows Apart vd (group_type t)) refl)
+    ∙ guarded (is_group (group Read vd (group_type t))) _ _ (λ h. rw (mask_apart_compatible vd vs2 t h, role_allows Apart vd (group_type t)) refl)
 
 -- an operation from a mask to a mask
 pub scan_legal : (vd vs2 : ℕ) (unmasked : Bool)
@@ -184,7 +184,7 @@ pub scan_legal : (vd vs2 : ℕ) (unmasked : Bool)
 scan_legal vd vs2 unmasked =
     pair_legal (mask Apart vd) (mask Read vs2) unmasked refl
     ∙ guarded (is_group (mask Read vd))
-    (stands_beside (mask Apart vd) (mask Read vs2) && (unmasked || allows (mask Apart vd) (mask Control 0)))
+    (is_compatible_source (mask Apart vd) (mask Read vs2) && (unmasked || allows (mask Apart vd) (mask Control 0)))
     ((is_group (mask Read vs2) && not (vd == vs2)) && (unmasked || not (vd == 0)))
     (λ h. rw (masks_apart vd vs2 h, ap not (holds_v0 vd 1 (lit≤ tt)))
     (ap (λ b. (is_group (mask Read vs2) && not (vd == vs2)) && (unmasked || b)) (or-false _)))
@@ -195,7 +195,7 @@ mask_source_legal vs2 unmasked =
     masked_legal (mask Read vs2) unmasked ∙ ap (λ b. is_group (mask Read vs2) && (unmasked || b)) (or-true _)
     ∙ ap (λ b. is_group (mask Read vs2) && b) (or-true unmasked) ∙ and-true _
 
-mask_beside_mask : (a b : ℕ) → stands_beside (mask Write a) (mask Read b) ≡ is_group (mask Read b)
+mask_beside_mask : (a b : ℕ) → is_compatible_source (mask Write a) (mask Read b) ≡ is_group (mask Read b)
 mask_beside_mask a b = ap (λ x. is_group (mask Read b) && x) (or-true _) ∙ and-true _
 
 -- a logical operation on masks
@@ -205,7 +205,7 @@ pub mask_logic_legal : (vd vs1 vs2 : ℕ)
 mask_logic_legal vd vs1 vs2 =
     sources_legal (mask Write vd) (mask Read vs2 ∷ mask Read vs1 ∷ []) (tt, (tt, tt))
     ∙ ap (λ b. is_group (mask Read vd) && b)
-    (ap (λ b. b && list_all (stands_beside (mask Write vd)) (mask Read vs1 ∷ [])) (mask_beside_mask vd vs2)
+    (ap (λ b. b && list_all (is_compatible_source (mask Write vd)) (mask Read vs1 ∷ [])) (mask_beside_mask vd vs2)
     ∙ ap (λ b. is_group (mask Read vs2) && b) (and-true _ ∙ mask_beside_mask vd vs1))
 
 -- `vcompress.vm`
@@ -215,8 +215,8 @@ pub compress_legal : (vd vs1 vs2 : ℕ) (t : VType)
 compress_legal vd vs1 vs2 t =
     let d : Operand = group Apart vd (group_type t) in
     sources_legal d (group Read vs2 (group_type t) ∷ mask Read vs1 ∷ []) (tt, (tt, tt))
-    ∙ guarded (is_group d) _ _ (λ h. ap (λ b. b && (stands_beside d (mask Read vs1) && true)) (apart_beside vd vs2 t h)
-    ∙ ap (λ b. is_other_group vd vs2 t && b) (and-true _ ∙ mask_apart_beside vd vs1 t h))
+    ∙ guarded (is_group d) _ _ (λ h. ap (λ b. b && (is_compatible_source d (mask Read vs1) && true)) (apart_compatible vd vs2 t h)
+    ∙ ap (λ b. is_other_group vd vs2 t && b) (and-true _ ∙ mask_apart_compatible vd vs1 t h))
 
 -- a move of whole registers
 pub whole_move_legal : (count : RegisterCount) (vd vs2 : ℕ) (t : VType)
@@ -224,4 +224,4 @@ pub whole_move_legal : (count : RegisterCount) (vd vs2 : ℕ) (t : VType)
     ≡ (is_group (group Read vd (whole_type t count)) && is_group (group Read vs2 (whole_type t count)))
 whole_move_legal count vd vs2 t =
     sources_legal (group Write vd (whole_type t count)) (group Read vs2 (whole_type t count) ∷ []) (tt, tt)
-    ∙ ap (λ b. is_group (group Read vd (whole_type t count)) && b) (and-true _ ∙ equal_beside vd vs2 (whole_type t count))
+    ∙ ap (λ b. is_group (group Read vd (whole_type t count)) && b) (and-true _ ∙ equal_compatible vd vs2 (whole_type t count))

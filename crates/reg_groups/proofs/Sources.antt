@@ -13,7 +13,7 @@ use Rattle.rv_model.specs.declared.legality.Shape.TheVariants.{GatherIndices16, 
 use Rattle.rv_model.specs.declared.vector.types.VType.{VType}
 use Rattle.rv_model.specs.legality.OperandShapes.{destination, first_source, mask, second_source, shape_operands, v0, vector_source}
 use Rattle.rv_model.specs.legality.RegisterOperands.{allows, are_legal, is_group, may_share, overlaps}
-use Rattle.reg_groups.specs.Roles.{of_vector, stands_beside}
+use Rattle.reg_groups.specs.Roles.{of_vector, is_compatible_source}
 
 -- the instruction doesn't write the registers of the operand
 abbrev IsSource : Role → Type 0
@@ -42,9 +42,9 @@ itself_agrees : (r : Role) (d : Operand) → (not (overlaps d d) || may_share r 
 itself_agrees Read d = or-true _
 itself_agrees _ d = or-true _
 
-zipped : (d : Operand) (xs : List Operand) → (list_all is_group xs && list_all (allows d) xs) ≡ list_all (stands_beside d) xs
+zipped : (d : Operand) (xs : List Operand) → (list_all is_group xs && list_all (allows d) xs) ≡ list_all (is_compatible_source d) xs
 zipped d [] = refl
-zipped d (x ∷ xs) = pair (is_group x) _ (allows d x) _ ∙ ap (λ b. stands_beside d x && b) (zipped d xs)
+zipped d (x ∷ xs) = pair (is_group x) _ (allows d x) _ ∙ ap (λ b. is_compatible_source d x && b) (zipped d xs)
   where
     pair : (a b x y : Bool) → ((a && b) && (x && y)) ≡ ((a && x) && (b && y))
     pair true true x y = refl
@@ -53,7 +53,7 @@ zipped d (x ∷ xs) = pair (is_group x) _ (allows d x) _ ∙ ap (λ b. stands_be
     pair false b x y = refl
 
 -- a destination and sources
-pub sources_legal : (d : Operand) (xs : List Operand) → AreSources xs → are_legal (d ∷ xs) ≡ (is_group d && list_all (stands_beside d) xs)
+pub sources_legal : (d : Operand) (xs : List Operand) → AreSources xs → are_legal (d ∷ xs) ≡ (is_group d && list_all (is_compatible_source d) xs)
 unfolding are_legal
 sources_legal d xs h =
     rw (itself_agrees d.role d, sources_allow xs (d ∷ xs) h) (tests (is_group d) (list_all is_group xs) (list_all (allows d) xs))
@@ -64,9 +64,9 @@ sources_legal d xs h =
     tests false a b = refl
 
 -- v0 is a group, so only its pair with the destination needs a test
-mask_beside : (d : Operand) (unmasked : Bool) → list_all (stands_beside d) (v0 unmasked) ≡ (unmasked || allows d (mask Control 0))
-mask_beside d true = refl
-mask_beside d false = and-true _
+mask_compatible : (d : Operand) (unmasked : Bool) → list_all (is_compatible_source d) (v0 unmasked) ≡ (unmasked || allows d (mask Control 0))
+mask_compatible d true = refl
+mask_compatible d false = and-true _
 
 mask_is_source : (unmasked : Bool) → AreSources (v0 unmasked)
 mask_is_source true = tt
@@ -74,14 +74,14 @@ mask_is_source false = (tt, tt)
 
 -- one operand and the mask
 pub masked_legal : (o : Operand) (unmasked : Bool) → are_legal (o ∷ v0 unmasked) ≡ (is_group o && (unmasked || allows o (mask Control 0)))
-masked_legal o unmasked = sources_legal o (v0 unmasked) (mask_is_source unmasked) ∙ ap (λ b. is_group o && b) (mask_beside o unmasked)
+masked_legal o unmasked = sources_legal o (v0 unmasked) (mask_is_source unmasked) ∙ ap (λ b. is_group o && b) (mask_compatible o unmasked)
 
 -- a destination, a source and the mask
 pub pair_legal : (d s : Operand) (unmasked : Bool) → s.role ≡ Read
-    → are_legal (d ∷ s ∷ v0 unmasked) ≡ (is_group d && (stands_beside d s && (unmasked || allows d (mask Control 0))))
+    → are_legal (d ∷ s ∷ v0 unmasked) ≡ (is_group d && (is_compatible_source d s && (unmasked || allows d (mask Control 0))))
 pair_legal d s unmasked read =
     sources_legal d (s ∷ v0 unmasked) (subst IsSource (sym read) tt, mask_is_source unmasked)
-    ∙ ap (λ b. is_group d && (stands_beside d s && b)) (mask_beside d unmasked)
+    ∙ ap (λ b. is_group d && (is_compatible_source d s && b)) (mask_compatible d unmasked)
 
 -- one operand by itself
 pub lone_legal : (o : Operand) → are_legal (o ∷ []) ≡ is_group o
@@ -100,17 +100,17 @@ second_is_source shape (source.V vs1) t rest h = (vector_is_source shape vs1 t, 
 second_is_source shape _ t rest h = h
 
 -- the second source, if it is a vector
-second_beside : (d : Operand) (shape : Shape) (from : Source) (t : VType) (rest : List Operand)
-    → list_all (stands_beside d) (second_source shape from t ++ rest)
-    ≡ (of_vector from (λ vs1. stands_beside d (vector_source shape vs1 t)) && list_all (stands_beside d) rest)
-second_beside d shape (source.V vs1) t rest = refl
-second_beside d shape _ t rest = refl
+second_compatible : (d : Operand) (shape : Shape) (from : Source) (t : VType) (rest : List Operand)
+    → list_all (is_compatible_source d) (second_source shape from t ++ rest)
+    ≡ (of_vector from (λ vs1. is_compatible_source d (vector_source shape vs1 t)) && list_all (is_compatible_source d) rest)
+second_compatible d shape (source.V vs1) t rest = refl
+second_compatible d shape _ t rest = refl
 
 -- conditions of a shape on its operands
 pub shape_legal : (shape : Shape) (vd vs2 : ℕ) (from : Source) (unmasked : Bool) (t : VType)
     → are_legal (shape_operands shape vd vs2 from unmasked t)
-    ≡ (is_group (destination shape vd t) && (stands_beside (destination shape vd t) (first_source shape vs2 t)
-    && (of_vector from (λ vs1. stands_beside (destination shape vd t) (vector_source shape vs1 t))
+    ≡ (is_group (destination shape vd t) && (is_compatible_source (destination shape vd t) (first_source shape vs2 t)
+    && (of_vector from (λ vs1. is_compatible_source (destination shape vd t) (vector_source shape vs1 t))
     && (unmasked || allows (destination shape vd t) (mask Control 0)))))
 unfolding shape_operands
 shape_legal shape vd vs2 from unmasked t =
@@ -118,9 +118,9 @@ shape_legal shape vd vs2 from unmasked t =
     let a : Operand = first_source shape vs2 t in
     sources_legal d (a ∷ (second_source shape from t ++ v0 unmasked))
     (first_is_source shape vs2 t, second_is_source shape from t (v0 unmasked) (mask_is_source unmasked))
-    ∙ ap (λ b. is_group d && (stands_beside d a && b))
-    (second_beside d shape from t (v0 unmasked)
-    ∙ ap (λ b. of_vector from (λ vs1. stands_beside d (vector_source shape vs1 t)) && b) (mask_beside d unmasked))
+    ∙ ap (λ b. is_group d && (is_compatible_source d a && b))
+    (second_compatible d shape from t (v0 unmasked)
+    ∙ ap (λ b. of_vector from (λ vs1. is_compatible_source d (vector_source shape vs1 t)) && b) (mask_compatible d unmasked))
 
 -- the second of two tests may assume that the first holds
 pub guarded : (g a b : Bool) → (g ≡ true → a ≡ b) → (g && a) ≡ (g && b)

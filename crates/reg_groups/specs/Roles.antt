@@ -22,8 +22,8 @@ abbrev pub groups_of : Role → ℕ → ℕ → ℕ → ℕ → Operand
 groups_of role fields r width emul = record { role = role; first = r; content = Elements width; emul = emul; fields = fields }
 
 -- a source that is a legal group, and that the destination may be used with
-abbrev pub stands_beside : Operand → Operand → Bool
-stands_beside d s = is_group s && allows d s
+abbrev pub is_compatible_source : Operand → Operand → Bool
+is_compatible_source d s = is_group s && allows d s
 
 -- a test of the register of a second source, if it is a vector
 abbrev pub of_vector : Source → (ℕ → Bool) → Bool
@@ -36,13 +36,13 @@ abbrev pub is_other_group : ℕ → ℕ → VType → Bool
 is_other_group vd first t = is_group (group Read first (group_type t)) && not (vd == first)
 
 -- a group of elements of twice SEW; `vd` is outside of the group, or is its first register
-abbrev pub is_wide_beside : ℕ → ℕ → VType → Bool
-is_wide_beside vd first t =
+abbrev pub is_narrowing_source : ℕ → ℕ → VType → Bool
+is_narrowing_source vd first t =
     is_group (group Read first (wide_type t)) && (nat_le vd first || nat_le (first + registers (2 * lmul_eighths t.lmul)) vd)
 
 -- a group of the vector type; `vd` is outside of the group, or is its first register
-abbrev pub is_beside_mask : ℕ → ℕ → VType → Bool
-is_beside_mask vd first t =
+abbrev pub may_be_compared_into : ℕ → ℕ → VType → Bool
+may_be_compared_into vd first t =
     is_group (group Read first (group_type t)) && (nat_le vd first || nat_le (first + registers (lmul_eighths t.lmul)) vd)
 
 -- a mask outside of the group of the vector type that starts with `vd`

@@ -6,8 +6,8 @@ ghost use Rattle.rv_model.specs.legality.OperandShapes.{destination, second_sour
 ghost use Rattle.rv_model.specs.legality.RegisterOperands.{are_legal};
 
 use crate::positions::{
-    are_indices_apart, is_aligned, is_beside_mask, is_free_of_mask, is_mask_register,
-    is_other_group, is_register, is_wide_aligned, is_wide_beside, is_wide_register,
+    are_indices_apart, is_aligned, is_free_of_mask, is_mask_register, is_narrowing_source,
+    is_other_group, is_register, is_wide_aligned, is_wide_register, may_be_compared_into,
 };
 use rv_model::instructions::operations::{BinaryOp, FixedPointOp, PermuteOp, VectorOp};
 use rv_model::{Arith, Instr, Shape, Source, VConf, VReg, VType, VectorInstr};
@@ -70,7 +70,7 @@ fn is_legal_narrowing(vd: VReg, vs2: VReg, source: Source, unmasked: bool, vtype
     ensures { result ≡ are_legal (shape_operands Shape.Narrowing vd vs2 source unmasked vtype) }
 {
     is_aligned(vd, vtype)
-        && is_wide_beside(vd, vs2, vtype)
+        && is_narrowing_source(vd, vs2, vtype)
         && match source {
             Source::V(vs1) => is_aligned(vs1, vtype),
             Source::X(_) | Source::I(_) => true,
@@ -82,14 +82,14 @@ fn is_legal_narrowing(vd: VReg, vs2: VReg, source: Source, unmasked: bool, vtype
 #[inline(always)]
 #[tactic(auto, using(crate::proofs::Sources::shape_legal,
 // The mask and its sources.
-crate::proofs::Pairs::compare_beside, crate::proofs::Pairs::mask_over_v0))]
+crate::proofs::Pairs::compare_compatible, crate::proofs::Pairs::mask_over_v0))]
 fn is_legal_comparison(vd: VReg, vs2: VReg, source: Source, unmasked: bool, vtype: VType) -> bool
     ensures { result ≡ are_legal (shape_operands Shape.Compare vd vs2 source unmasked vtype) }
 {
     is_mask_register(vd)
-        && is_beside_mask(vd, vs2, vtype)
+        && may_be_compared_into(vd, vs2, vtype)
         && match source {
-            Source::V(vs1) => is_beside_mask(vd, vs1, vtype),
+            Source::V(vs1) => may_be_compared_into(vd, vs1, vtype),
             Source::X(_) | Source::I(_) => true,
         }
 }

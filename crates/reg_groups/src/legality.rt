@@ -7,7 +7,7 @@ ghost use Rattle.rv_model.specs.legality.Legality.{unit_role, whole_move_operand
 ghost use Rattle.rv_model.specs.legality.OperandShapes.{group, mask, v0};
 ghost use Rattle.rv_model.specs.legality.RegisterOperands.{are_legal, is_group};
 ghost use Rattle.rv_model.specs.vector.Groups.{group_type, sew_width, registers_type};
-ghost use Rattle.rv_model.specs.lending.Irregular.{is_irregular};
+ghost use Rattle.rv_model.specs.lending.OtherOperations.{is_other_operation};
 ghost use Rattle.reg_groups.specs.Roles.{is_apart_from_mask, is_mask_outside};
 
 use crate::agreement::is_group;
@@ -15,8 +15,8 @@ use crate::arithmetic::{is_legal_move, is_legal_single, legal_arith};
 use crate::groups::registers;
 use crate::operands::{access_groups, element_bits, extension_source, field_groups, group_operand};
 use crate::positions::{
-    allows_v0, is_aligned, is_free_of_mask, is_mask_register, is_other_group, is_register,
-    stands_beside,
+    allows_v0, is_aligned, is_compatible_source, is_free_of_mask, is_mask_register, is_other_group,
+    is_register,
 };
 use rv_model::instructions::operations::{
     Direction, Eew, ExtendOp, MaskUnaryOp, RegisterCount, UnitOp,
@@ -166,7 +166,9 @@ fn are_legal_with_mask(destination: &Operand, source: &Operand, unmasked: bool) 
     requires { source.now.role ≡ Role.Read }
     ensures { result ≡ are_legal (destination.now ∷ source.now ∷ v0 unmasked) }
 {
-    is_group(destination) && stands_beside(destination, source) && allows_v0(destination, unmasked)
+    is_group(destination)
+        && is_compatible_source(destination, source)
+        && allows_v0(destination, unmasked)
 }
 
 /// Whether the operands of an extension are legal.
@@ -301,7 +303,7 @@ rv_model::specs::legality::Legality::is_legal, rv_model::specs::legality::Legali
 rv_model::specs::legality::RegisterOperands::are_legal))]
 #[inline(always)]
 fn is_legal_typed(operation: VectorInstr, vtype: VType, vstart: u8) -> bool
-    requires { IsTrue (is_irregular operation) }
+    requires { IsTrue (is_other_operation operation) }
     ensures { result ≡ is_legal (Instr.Vector operation) (Some vtype) vstart }
 {
     match operation {
@@ -337,8 +339,8 @@ rv_model::specs::legality::Legality::is_legal, rv_model::specs::legality::Legali
 // The rule of operands together.
 rv_model::specs::legality::RegisterOperands::are_legal))]
 #[inline(always)]
-pub fn legal_irregular(operation: &VectorInstr, conf: &VConf, vstart: u8) -> bool
-    requires { IsTrue (is_irregular operation.now) }
+pub fn legal_other_operation(operation: &VectorInstr, conf: &VConf, vstart: u8) -> bool
+    requires { IsTrue (is_other_operation operation.now) }
     ensures { result ≡ is_legal (Instr.Vector operation.now) conf.now.vtype vstart }
 {
     match conf.vtype() {
@@ -383,7 +385,7 @@ fn is_legal(instr: &Instr, conf: &VConf, vstart: u8) -> bool
         Instr::Vector(VectorInstr::Arith { arith, vd, vs2, vm }) => {
             legal_arith(arith, vd, vs2, vm, conf, vstart)
         }
-        Instr::Vector(operation) => legal_irregular(&operation, conf, vstart),
+        Instr::Vector(operation) => legal_other_operation(&operation, conf, vstart),
         Instr::Access(access) => legal_access(&access, conf),
         Instr::Scalar(_) | Instr::Csr(_) => true,
     }

@@ -12,5 +12,5 @@ mod positions;
 pub use arithmetic::legal_arith;
 pub use copies::{group_copy, group_copy_mut, mask_register, put_group, register_copy};
 pub use groups::{group, group_mut, registers};
-pub use legality::{legal, legal_access, legal_irregular};
+pub use legality::{legal, legal_access, legal_other_operation};
 pub use operands::{emul, extension_divisor, register_count};

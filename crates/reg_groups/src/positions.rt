@@ -4,7 +4,7 @@ ghost use Rattle.std.specs.Prelude.{◌||◌, ◌≡◌, ◌==◌, ◌*◌, not}
 ghost use Rattle.rv_model.specs.legality.OperandShapes.{destination, group, mask, vector_source};
 ghost use Rattle.rv_model.specs.legality.RegisterOperands.{allows, is_group};
 ghost use Rattle.rv_model.specs.vector.Groups.{group_type, lmul_eighths, sew_width, single_type, wide_type};
-ghost use Rattle.reg_groups.specs.Roles.{groups_of, is_beside_mask, is_other_group, is_wide_beside, stands_beside};
+ghost use Rattle.reg_groups.specs.Roles.{groups_of, may_be_compared_into, is_other_group, is_narrowing_source, is_compatible_source};
 
 use crate::agreement::{allows, is_group};
 use crate::groups::registers;
@@ -36,8 +36,8 @@ pub(crate) fn is_free_of_mask(vd: VReg, unmasked: bool) -> bool
 
 /// Whether a source is a legal group, and the destination may be used together with it.
 #[inline(always)]
-pub(crate) fn stands_beside(destination: &Operand, source: &Operand) -> bool
-    ensures { result ≡ stands_beside destination.now source.now }
+pub(crate) fn is_compatible_source(destination: &Operand, source: &Operand) -> bool
+    ensures { result ≡ is_compatible_source destination.now source.now }
 {
     is_group(source) && allows(destination, source)
 }
@@ -53,8 +53,8 @@ pub(crate) fn allows_v0(operand: &Operand, unmasked: bool) -> bool
 /// Whether an instruction may read a group and write a mask to `vd`: the mask is outside of the group, or is its
 /// first register.
 #[inline(always)]
-pub(crate) fn is_beside_mask(vd: VReg, first: VReg, vtype: VType) -> bool
-    ensures { result ≡ is_beside_mask vd first vtype }
+pub(crate) fn may_be_compared_into(vd: VReg, first: VReg, vtype: VType) -> bool
+    ensures { result ≡ may_be_compared_into vd first vtype }
 {
     let size = registers(u32::from(vtype.lmul.eighths()));
     is_aligned(first, vtype)
@@ -128,8 +128,8 @@ pub(crate) fn is_other_group(vd: VReg, first: VReg, vtype: VType) -> bool
 /// Whether an instruction may read a group of elements of twice SEW and write a group of the vector type to `vd`:
 /// `vd` is outside of the source, or is its first register.
 #[inline(always)]
-pub(crate) fn is_wide_beside(vd: VReg, first: VReg, vtype: VType) -> bool
-    ensures { result ≡ is_wide_beside vd first vtype }
+pub(crate) fn is_narrowing_source(vd: VReg, first: VReg, vtype: VType) -> bool
+    ensures { result ≡ is_narrowing_source vd first vtype }
 {
     let size = registers(2 * u32::from(vtype.lmul.eighths()));
     is_wide_aligned(first, vtype)
@@ -140,8 +140,8 @@ pub(crate) fn is_wide_beside(vd: VReg, first: VReg, vtype: VType) -> bool
 #[inline(always)]
 pub(crate) fn are_indices_apart(vd: VReg, first: VReg, vtype: VType) -> bool
     ensures { result
-        ≡ stands_beside (destination Shape.GatherIndices16 vd vtype) (vector_source Shape.GatherIndices16 first vtype) }
+        ≡ is_compatible_source (destination Shape.GatherIndices16 vd vtype) (vector_source Shape.GatherIndices16 first vtype) }
 {
     let indices = index_group(Role::Read, first, vtype);
-    stands_beside(&group_operand(Role::Apart, vd, vtype), &indices)
+    is_compatible_source(&group_operand(Role::Apart, vd, vtype), &indices)
 }

@@ -16,7 +16,7 @@ use Rattle.rv_model.specs.instructions.Table.{Row, table, scan}
 use Rattle.rv_model.specs.lending.Families.{Family, rows, Systems, Csrs, CsrImmediates, Ariths, Carries, Moves, WholeMoves, MaskLogics, Compresses, MasksToScalar, Extends, MaskUnaries, ElementIndices, MovesToScalar, MovesToVector, SetVlis, SetIvlis, SetVls, Units, Strideds, Indexeds, WholeLoads, WholeStores, MaskMemories}
 use Rattle.rv_model.proofs.instruction_lemmas.Scans.{scan_append, scan_narrow, same_narrow, narrowed, no_scan, DiffersFrom}
 use Rattle.rv_model.specs.declared.instructions.arith_operation.ArithOperation.{ArithOperation}
-use Rattle.rv_decode.specs.Groups.{rows_where, is_irregular_instr, is_unit_stride, is_other_access, is_csr}
+use Rattle.rv_decode.specs.Groups.{rows_where, is_other_operation_instr, is_unit_stride, is_other_access, is_csr}
 use Rattle.rv_decode.proofs.Scan.{at_access, at_70, at_0057, at_2057, at_3057, at_4057, at_6057, at_7057, places}
 
 -- an instruction that a decoder finds in the first rows is the result of the scan of all rows
@@ -54,111 +54,111 @@ instr_of o = instr.Vector (Arith o.arith o.vd o.vs2 o.unmasked)
 
 -- ---- the rows outside of the funct6 table, by funct3 and opcode
 
-pub irregular_0057 : (word : ℕ) → bit_and word 0x707f ≡ 0x0057
-    → scan (rows_where is_irregular_instr) word ≡ scan (rows (Carries form.V) ++ rows (Moves form.V)) word
+pub other_operation_0057 : (word : ℕ) → bit_and word 0x707f ≡ 0x0057
+    → scan (rows_where is_other_operation_instr) word ≡ scan (rows (Carries form.V) ++ rows (Moves form.V)) word
 unfolding rows_where table rows
-irregular_0057 word is = same_narrow 0x707f 0x0057 word is (rows_where is_irregular_instr) _ refl
+other_operation_0057 word is = same_narrow 0x707f 0x0057 word is (rows_where is_other_operation_instr) _ refl
 
-pub irregular_4057 : (word : ℕ) → bit_and word 0x707f ≡ 0x4057
-    → scan (rows_where is_irregular_instr) word ≡ scan (rows (Carries form.X) ++ rows (Moves form.X)) word
+pub other_operation_4057 : (word : ℕ) → bit_and word 0x707f ≡ 0x4057
+    → scan (rows_where is_other_operation_instr) word ≡ scan (rows (Carries form.X) ++ rows (Moves form.X)) word
 unfolding rows_where table rows
-irregular_4057 word is = same_narrow 0x707f 0x4057 word is (rows_where is_irregular_instr) _ refl
+other_operation_4057 word is = same_narrow 0x707f 0x4057 word is (rows_where is_other_operation_instr) _ refl
 
-pub irregular_3057 : (word : ℕ) → bit_and word 0x707f ≡ 0x3057
-    → scan (rows_where is_irregular_instr) word ≡ scan (rows (Carries form.I) ++ rows (Moves form.I) ++ rows WholeMoves) word
+pub other_operation_3057 : (word : ℕ) → bit_and word 0x707f ≡ 0x3057
+    → scan (rows_where is_other_operation_instr) word ≡ scan (rows (Carries form.I) ++ rows (Moves form.I) ++ rows WholeMoves) word
 unfolding rows_where table rows
-irregular_3057 word is = same_narrow 0x707f 0x3057 word is (rows_where is_irregular_instr) _ refl
+other_operation_3057 word is = same_narrow 0x707f 0x3057 word is (rows_where is_other_operation_instr) _ refl
 
-pub irregular_2057 : (word : ℕ) → bit_and word 0x707f ≡ 0x2057
-    → scan (rows_where is_irregular_instr) word ≡ scan (rows MaskLogics ++ rows Compresses ++ rows MasksToScalar ++ rows Extends ++ rows MaskUnaries ++ rows ElementIndices ++ rows MovesToScalar) word
+pub other_operation_2057 : (word : ℕ) → bit_and word 0x707f ≡ 0x2057
+    → scan (rows_where is_other_operation_instr) word ≡ scan (rows MaskLogics ++ rows Compresses ++ rows MasksToScalar ++ rows Extends ++ rows MaskUnaries ++ rows ElementIndices ++ rows MovesToScalar) word
 unfolding rows_where table rows
-irregular_2057 word is = same_narrow 0x707f 0x2057 word is (rows_where is_irregular_instr) _ refl
+other_operation_2057 word is = same_narrow 0x707f 0x2057 word is (rows_where is_other_operation_instr) _ refl
 
-pub irregular_6057 : (word : ℕ) → bit_and word 0x707f ≡ 0x6057
-    → scan (rows_where is_irregular_instr) word ≡ scan (rows MovesToVector) word
+pub other_operation_6057 : (word : ℕ) → bit_and word 0x707f ≡ 0x6057
+    → scan (rows_where is_other_operation_instr) word ≡ scan (rows MovesToVector) word
 unfolding rows_where table rows
-irregular_6057 word is = same_narrow 0x707f 0x6057 word is (rows_where is_irregular_instr) _ refl
+other_operation_6057 word is = same_narrow 0x707f 0x6057 word is (rows_where is_other_operation_instr) _ refl
 
-pub irregular_7057 : (word : ℕ) → bit_and word 0x707f ≡ 0x7057
-    → scan (rows_where is_irregular_instr) word ≡ scan (rows SetVlis ++ rows SetIvlis ++ rows SetVls) word
+pub other_operation_7057 : (word : ℕ) → bit_and word 0x707f ≡ 0x7057
+    → scan (rows_where is_other_operation_instr) word ≡ scan (rows SetVlis ++ rows SetIvlis ++ rows SetVls) word
 unfolding rows_where table rows
-irregular_7057 word is = same_narrow 0x707f 0x7057 word is (rows_where is_irregular_instr) _ refl
+other_operation_7057 word is = same_narrow 0x707f 0x7057 word is (rows_where is_other_operation_instr) _ refl
 
-pub no_irregular : (word : ℕ) → DiffersFrom places (bit_and word 0x707f) → scan (rows_where is_irregular_instr) word ≡ None
+pub no_other_operation : (word : ℕ) → DiffersFrom places (bit_and word 0x707f) → scan (rows_where is_other_operation_instr) word ≡ None
 unfolding rows_where table
-no_irregular word h = no_scan 0x707f places word (rows_where is_irregular_instr) refl h
+no_other_operation word h = no_scan 0x707f places word (rows_where is_other_operation_instr) refl h
 
 -- ---- operations of the funct6 table
 
-abbrev pub FindsRegular : Family → ℕ → Option ArithOperation → Type 0
-FindsRegular family word found = option_map (λ o. instr.Vector (Arith o.arith o.vd o.vs2 o.unmasked)) found ≡ scan (rows family) word
+abbrev pub FindsTableOperation : Family → ℕ → Option ArithOperation → Type 0
+FindsTableOperation family word found = option_map (λ o. instr.Vector (Arith o.arith o.vd o.vs2 o.unmasked)) found ≡ scan (rows family) word
 
-abbrev pub IsRegular : ℕ → Option ArithOperation → Type 0
-IsRegular word found = IfSome found (λ o. scan table word ≡ Some (instr.Vector (Arith o.arith o.vd o.vs2 o.unmasked)))
+abbrev pub IsTableOperation : ℕ → Option ArithOperation → Type 0
+IsTableOperation word found = IfSome found (λ o. scan table word ≡ Some (instr.Vector (Arith o.arith o.vd o.vs2 o.unmasked)))
 
-abbrev pub IsIrregular : ℕ → Option ArithOperation → Type 0
-IsIrregular word found = IfNone found (scan table word ≡ scan (rows_where is_irregular_instr) word)
+abbrev pub IsOtherOperation : ℕ → Option ArithOperation → Type 0
+IsOtherOperation word found = IfNone found (scan table word ≡ scan (rows_where is_other_operation_instr) word)
 
-pub some_0057 : (word : ℕ) (found : Option ArithOperation) → bit_and word 0x707f ≡ 0x0057 → FindsRegular (Ariths Opi form.V) word found → IsRegular word found
+pub some_0057 : (word : ℕ) (found : Option ArithOperation) → bit_and word 0x707f ≡ 0x0057 → FindsTableOperation (Ariths Opi form.V) word found → IsTableOperation word found
 unfolding rows
 some_0057 word found is e = first_found instr_of found (scan table word) (rows (Ariths Opi form.V)) (rows (Carries form.V) ++ rows (Moves form.V)) word (at_0057 word is) e
 
-pub none_0057 : (word : ℕ) (found : Option ArithOperation) → bit_and word 0x707f ≡ 0x0057 → FindsRegular (Ariths Opi form.V) word found → IsIrregular word found
+pub none_0057 : (word : ℕ) (found : Option ArithOperation) → bit_and word 0x707f ≡ 0x0057 → FindsTableOperation (Ariths Opi form.V) word found → IsOtherOperation word found
 unfolding rows
-none_0057 word found is e = first_missed instr_of found (scan table word) (scan (rows_where is_irregular_instr) word) (rows (Ariths Opi form.V)) (rows (Carries form.V) ++ rows (Moves form.V)) word (at_0057 word is) (irregular_0057 word is) e
+none_0057 word found is e = first_missed instr_of found (scan table word) (scan (rows_where is_other_operation_instr) word) (rows (Ariths Opi form.V)) (rows (Carries form.V) ++ rows (Moves form.V)) word (at_0057 word is) (other_operation_0057 word is) e
 
-pub some_4057 : (word : ℕ) (found : Option ArithOperation) → bit_and word 0x707f ≡ 0x4057 → FindsRegular (Ariths Opi form.X) word found → IsRegular word found
+pub some_4057 : (word : ℕ) (found : Option ArithOperation) → bit_and word 0x707f ≡ 0x4057 → FindsTableOperation (Ariths Opi form.X) word found → IsTableOperation word found
 unfolding rows
 some_4057 word found is e = first_found instr_of found (scan table word) (rows (Ariths Opi form.X)) (rows (Carries form.X) ++ rows (Moves form.X)) word (at_4057 word is) e
 
-pub none_4057 : (word : ℕ) (found : Option ArithOperation) → bit_and word 0x707f ≡ 0x4057 → FindsRegular (Ariths Opi form.X) word found → IsIrregular word found
+pub none_4057 : (word : ℕ) (found : Option ArithOperation) → bit_and word 0x707f ≡ 0x4057 → FindsTableOperation (Ariths Opi form.X) word found → IsOtherOperation word found
 unfolding rows
-none_4057 word found is e = first_missed instr_of found (scan table word) (scan (rows_where is_irregular_instr) word) (rows (Ariths Opi form.X)) (rows (Carries form.X) ++ rows (Moves form.X)) word (at_4057 word is) (irregular_4057 word is) e
+none_4057 word found is e = first_missed instr_of found (scan table word) (scan (rows_where is_other_operation_instr) word) (rows (Ariths Opi form.X)) (rows (Carries form.X) ++ rows (Moves form.X)) word (at_4057 word is) (other_operation_4057 word is) e
 
-pub some_3057 : (word : ℕ) (found : Option ArithOperation) → bit_and word 0x707f ≡ 0x3057 → FindsRegular (Ariths Opi form.I) word found → IsRegular word found
+pub some_3057 : (word : ℕ) (found : Option ArithOperation) → bit_and word 0x707f ≡ 0x3057 → FindsTableOperation (Ariths Opi form.I) word found → IsTableOperation word found
 unfolding rows
 some_3057 word found is e = first_found instr_of found (scan table word) (rows (Ariths Opi form.I)) (rows (Carries form.I) ++ rows (Moves form.I) ++ rows WholeMoves) word (at_3057 word is) e
 
-pub none_3057 : (word : ℕ) (found : Option ArithOperation) → bit_and word 0x707f ≡ 0x3057 → FindsRegular (Ariths Opi form.I) word found → IsIrregular word found
+pub none_3057 : (word : ℕ) (found : Option ArithOperation) → bit_and word 0x707f ≡ 0x3057 → FindsTableOperation (Ariths Opi form.I) word found → IsOtherOperation word found
 unfolding rows
-none_3057 word found is e = first_missed instr_of found (scan table word) (scan (rows_where is_irregular_instr) word) (rows (Ariths Opi form.I)) (rows (Carries form.I) ++ rows (Moves form.I) ++ rows WholeMoves) word (at_3057 word is) (irregular_3057 word is) e
+none_3057 word found is e = first_missed instr_of found (scan table word) (scan (rows_where is_other_operation_instr) word) (rows (Ariths Opi form.I)) (rows (Carries form.I) ++ rows (Moves form.I) ++ rows WholeMoves) word (at_3057 word is) (other_operation_3057 word is) e
 
-pub some_2057 : (word : ℕ) (found : Option ArithOperation) → bit_and word 0x707f ≡ 0x2057 → FindsRegular (Ariths Opm form.V) word found → IsRegular word found
+pub some_2057 : (word : ℕ) (found : Option ArithOperation) → bit_and word 0x707f ≡ 0x2057 → FindsTableOperation (Ariths Opm form.V) word found → IsTableOperation word found
 unfolding rows
 some_2057 word found is e = first_found instr_of found (scan table word) (rows (Ariths Opm form.V)) (rows MaskLogics ++ rows Compresses ++ rows MasksToScalar ++ rows Extends ++ rows MaskUnaries ++ rows ElementIndices ++ rows MovesToScalar) word (at_2057 word is) e
 
-pub none_2057 : (word : ℕ) (found : Option ArithOperation) → bit_and word 0x707f ≡ 0x2057 → FindsRegular (Ariths Opm form.V) word found → IsIrregular word found
+pub none_2057 : (word : ℕ) (found : Option ArithOperation) → bit_and word 0x707f ≡ 0x2057 → FindsTableOperation (Ariths Opm form.V) word found → IsOtherOperation word found
 unfolding rows
-none_2057 word found is e = first_missed instr_of found (scan table word) (scan (rows_where is_irregular_instr) word) (rows (Ariths Opm form.V)) (rows MaskLogics ++ rows Compresses ++ rows MasksToScalar ++ rows Extends ++ rows MaskUnaries ++ rows ElementIndices ++ rows MovesToScalar) word (at_2057 word is) (irregular_2057 word is) e
+none_2057 word found is e = first_missed instr_of found (scan table word) (scan (rows_where is_other_operation_instr) word) (rows (Ariths Opm form.V)) (rows MaskLogics ++ rows Compresses ++ rows MasksToScalar ++ rows Extends ++ rows MaskUnaries ++ rows ElementIndices ++ rows MovesToScalar) word (at_2057 word is) (other_operation_2057 word is) e
 
-pub some_6057 : (word : ℕ) (found : Option ArithOperation) → bit_and word 0x707f ≡ 0x6057 → FindsRegular (Ariths Opm form.X) word found → IsRegular word found
+pub some_6057 : (word : ℕ) (found : Option ArithOperation) → bit_and word 0x707f ≡ 0x6057 → FindsTableOperation (Ariths Opm form.X) word found → IsTableOperation word found
 unfolding rows
 some_6057 word found is e = first_found instr_of found (scan table word) (rows (Ariths Opm form.X)) (rows MovesToVector) word (at_6057 word is) e
 
-pub none_6057 : (word : ℕ) (found : Option ArithOperation) → bit_and word 0x707f ≡ 0x6057 → FindsRegular (Ariths Opm form.X) word found → IsIrregular word found
+pub none_6057 : (word : ℕ) (found : Option ArithOperation) → bit_and word 0x707f ≡ 0x6057 → FindsTableOperation (Ariths Opm form.X) word found → IsOtherOperation word found
 unfolding rows
-none_6057 word found is e = first_missed instr_of found (scan table word) (scan (rows_where is_irregular_instr) word) (rows (Ariths Opm form.X)) (rows MovesToVector) word (at_6057 word is) (irregular_6057 word is) e
+none_6057 word found is e = first_missed instr_of found (scan table word) (scan (rows_where is_other_operation_instr) word) (rows (Ariths Opm form.X)) (rows MovesToVector) word (at_6057 word is) (other_operation_6057 word is) e
 
-pub none_7057 : (word : ℕ) → bit_and word 0x707f ≡ 0x7057 → scan table word ≡ scan (rows_where is_irregular_instr) word
-none_7057 word is = at_7057 word is ∙ sym (irregular_7057 word is)
+pub none_7057 : (word : ℕ) → bit_and word 0x707f ≡ 0x7057 → scan table word ≡ scan (rows_where is_other_operation_instr) word
+none_7057 word is = at_7057 word is ∙ sym (other_operation_7057 word is)
 
 -- ---- funct6 of operations outside of the funct6 table
 
-pub funct6_10 : (word : ℕ) → bit_and word 0x7c ≡ 0x54 → bit_and word 0xfc000000 ≡ 0x40000000 → scan table word ≡ scan (rows_where is_irregular_instr) word
+pub funct6_10 : (word : ℕ) → bit_and word 0x7c ≡ 0x54 → bit_and word 0xfc000000 ≡ 0x40000000 → scan table word ≡ scan (rows_where is_other_operation_instr) word
 unfolding rows_where table rows
-funct6_10 word opcode is = narrow_both 0x7c 0x54 0xfc000000 0x40000000 word opcode is table (rows_where is_irregular_instr) refl
+funct6_10 word opcode is = narrow_both 0x7c 0x54 0xfc000000 0x40000000 word opcode is table (rows_where is_other_operation_instr) refl
 
-pub funct6_12 : (word : ℕ) → bit_and word 0x7c ≡ 0x54 → bit_and word 0xfc000000 ≡ 0x48000000 → scan table word ≡ scan (rows_where is_irregular_instr) word
+pub funct6_12 : (word : ℕ) → bit_and word 0x7c ≡ 0x54 → bit_and word 0xfc000000 ≡ 0x48000000 → scan table word ≡ scan (rows_where is_other_operation_instr) word
 unfolding rows_where table rows
-funct6_12 word opcode is = narrow_both 0x7c 0x54 0xfc000000 0x48000000 word opcode is table (rows_where is_irregular_instr) refl
+funct6_12 word opcode is = narrow_both 0x7c 0x54 0xfc000000 0x48000000 word opcode is table (rows_where is_other_operation_instr) refl
 
-pub funct6_14 : (word : ℕ) → bit_and word 0x7c ≡ 0x54 → bit_and word 0xfc000000 ≡ 0x50000000 → scan table word ≡ scan (rows_where is_irregular_instr) word
+pub funct6_14 : (word : ℕ) → bit_and word 0x7c ≡ 0x54 → bit_and word 0xfc000000 ≡ 0x50000000 → scan table word ≡ scan (rows_where is_other_operation_instr) word
 unfolding rows_where table rows
-funct6_14 word opcode is = narrow_both 0x7c 0x54 0xfc000000 0x50000000 word opcode is table (rows_where is_irregular_instr) refl
+funct6_14 word opcode is = narrow_both 0x7c 0x54 0xfc000000 0x50000000 word opcode is table (rows_where is_other_operation_instr) refl
 
-pub funct6_17 : (word : ℕ) → bit_and word 0x7c ≡ 0x54 → bit_and word 0xfc000000 ≡ 0x5c000000 → scan table word ≡ scan (rows_where is_irregular_instr) word
+pub funct6_17 : (word : ℕ) → bit_and word 0x7c ≡ 0x54 → bit_and word 0xfc000000 ≡ 0x5c000000 → scan table word ≡ scan (rows_where is_other_operation_instr) word
 unfolding rows_where table rows
-funct6_17 word opcode is = narrow_both 0x7c 0x54 0xfc000000 0x5c000000 word opcode is table (rows_where is_irregular_instr) refl
+funct6_17 word opcode is = narrow_both 0x7c 0x54 0xfc000000 0x5c000000 word opcode is table (rows_where is_other_operation_instr) refl
 
 -- ---- OPMVV
 
@@ -261,7 +261,7 @@ pub ruleset register_steps = (registers_alone, distances_alone)
 
 pub ruleset call_steps = (call_found, call_missed)
 
-pub ruleset regular_steps =
+pub ruleset table_operation_steps =
     (some_0057, none_0057, some_4057, none_4057, some_3057, none_3057, some_2057, none_2057, some_6057, none_6057, none_7057)
 
-pub ruleset irregular_steps = (irregular_0057, irregular_4057, irregular_3057, irregular_2057, irregular_6057, irregular_7057)
+pub ruleset other_operation_steps = (other_operation_0057, other_operation_4057, other_operation_3057, other_operation_2057, other_operation_6057, other_operation_7057)

@@ -5,16 +5,16 @@ use Rattle.rv_model.specs.declared.instructions.instruction.Instr.{Instr}
 use Rattle.rv_model.specs.declared.instructions.instruction.Instr.TheVariants as instr
 use Rattle.rv_model.specs.declared.instructions.access.AccessInstr.TheVariants.{UnitStride}
 use Rattle.rv_model.specs.instructions.Table.{Row, table}
-use Rattle.rv_model.specs.lending.Irregular.{is_irregular}
+use Rattle.rv_model.specs.lending.OtherOperations.{is_other_operation}
 
 -- the rows whose instructions satisfy `is_one`
 unfoldable pub rows_where : (Instr → Bool) → List Row
 rows_where is_one = filter (λ r. is_one (r.instr 0)) table
 
 -- an instruction of OP-V outside of the funct6 table
-abbrev pub is_irregular_instr : Instr → Bool
-is_irregular_instr (instr.Vector i) = is_irregular i
-is_irregular_instr _ = false
+abbrev pub is_other_operation_instr : Instr → Bool
+is_other_operation_instr (instr.Vector i) = is_other_operation i
+is_other_operation_instr _ = false
 
 -- a unit-stride access whose number of elements is vl
 abbrev pub is_unit_stride : Instr → Bool

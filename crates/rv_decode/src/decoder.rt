@@ -2,9 +2,9 @@
 ghost use Rattle.std.specs.Prelude.{◌≡◌, ◌++◌, ◌⊎◌, bit_and, option_map, false, true, IfSome, IfNone, Some};
 ghost use Rattle.rv_model.specs.declared.instructions.operations.Form.TheVariants as form;
 ghost use Rattle.rv_model.specs.instructions.Table.{word_of, Row, IsRow, scan, table};
-ghost use Rattle.rv_decode.specs.Groups.{rows_where, is_irregular_instr, is_unit_stride, is_other_access, is_csr};
+ghost use Rattle.rv_decode.specs.Groups.{rows_where, is_other_operation_instr, is_unit_stride, is_other_access, is_csr};
 ghost use Rattle.rv_decode.specs.Opcodes.{IsKind, is_scalar};
-ghost use Rattle.rv_model.specs.lending.Irregular.{is_irregular};
+ghost use Rattle.rv_model.specs.lending.OtherOperations.{is_other_operation};
 ghost use Rattle.rv_model.specs.lending.Families.{rows, RegisterImmediates, ShiftImmediates, ShiftImmediateWords};
 ghost use Rattle.rv_model.specs.lending.Families.{SetVlis, SetIvlis, SetVls, Carries, Moves, WholeMoves};
 ghost use Rattle.rv_model.specs.lending.Families.{MaskLogics, Compresses, MasksToScalar, Extends, MaskUnaries};
@@ -51,13 +51,13 @@ fn word_immediates(word: u32) -> Option<ScalarInstr>
 
 /// Decode a word of OP-V to an operation of the funct6 table. Return `None` for any other word. funct3 selects the
 /// half of the table and the form of the second operand.
-#[tactic(auto, using(crate::proofs::Groups::regular_steps))]
+#[tactic(auto, using(crate::proofs::Groups::table_operation_steps))]
 #[inline(always)]
-pub fn decode_regular(word: u32) -> Option<ArithOperation>
+pub fn decode_table_operation(word: u32) -> Option<ArithOperation>
     requires { bit_and word 0x7c ≡ 0x54 }
     ensures some { IfSome result (λ o. scan table word
         ≡ Some (Instr.Vector (VectorInstr.Arith o.arith o.vd o.vs2 o.unmasked))) }
-    ensures none { IfNone result (scan table word ≡ scan (rows_where is_irregular_instr) word) }
+    ensures none { IfNone result (scan table word ≡ scan (rows_where is_other_operation_instr) word) }
 {
     match word & 0x707f {
         0x0057 => arith(word, Major::Opi, Form::V),
@@ -75,7 +75,7 @@ pub fn decode_regular(word: u32) -> Option<ArithOperation>
 fn carry_or_move(word: u32, form: Form) -> Option<VectorInstr>
     ensures row { option_map Instr.Vector result
         ≡ scan (rows (Carries form) ++ rows (Moves form)) word }
-    ensures group { IfSome result (λ i. is_irregular i ≡ true) }
+    ensures group { IfSome result (λ i. is_other_operation i ≡ true) }
 {
     if let Some(instr) = carry(word, form) {
         return Some(instr);
@@ -88,7 +88,7 @@ fn carry_or_move(word: u32, form: Form) -> Option<VectorInstr>
 fn immediate(word: u32) -> Option<VectorInstr>
     ensures row { option_map Instr.Vector result
         ≡ scan (rows (Carries form.I) ++ rows (Moves form.I) ++ rows WholeMoves) word }
-    ensures group { IfSome result (λ i. is_irregular i ≡ true) }
+    ensures group { IfSome result (λ i. is_other_operation i ≡ true) }
 {
     if let Some(instr) = carry_or_move(word, Form::I) {
         return Some(instr);
@@ -100,7 +100,7 @@ fn immediate(word: u32) -> Option<VectorInstr>
 #[tactic(auto, using(rv_model::proofs::instruction_lemmas::Scans::scan_append))]
 fn scalar_result(word: u32) -> Option<VectorInstr>
     ensures row { option_map Instr.Vector result ≡ scan (rows MasksToScalar ++ rows MovesToScalar) word }
-    ensures group { IfSome result (λ i. is_irregular i ≡ true) }
+    ensures group { IfSome result (λ i. is_other_operation i ≡ true) }
 {
     if let Some(instr) = mask_to_scalar(word) {
         return Some(instr);
@@ -112,7 +112,7 @@ fn scalar_result(word: u32) -> Option<VectorInstr>
 #[tactic(auto, using(rv_model::proofs::instruction_lemmas::Scans::scan_append))]
 fn mask_or_index(word: u32) -> Option<VectorInstr>
     ensures row { option_map Instr.Vector result ≡ scan (rows MaskUnaries ++ rows ElementIndices) word }
-    ensures group { IfSome result (λ i. is_irregular i ≡ true) }
+    ensures group { IfSome result (λ i. is_other_operation i ≡ true) }
 {
     if let Some(instr) = mask_unary(word) {
         return Some(instr);
@@ -128,7 +128,7 @@ fn mask_or_unary(word: u32) -> Option<VectorInstr>
         (rows MaskLogics ++ rows Compresses ++ rows MasksToScalar ++ rows Extends
         ++ rows MaskUnaries ++ rows ElementIndices ++ rows MovesToScalar)
         word }
-    ensures group { IfSome result (λ i. is_irregular i ≡ true) }
+    ensures group { IfSome result (λ i. is_other_operation i ≡ true) }
 {
     match word & 0xfc00_0000 {
         0x4000_0000 => scalar_result(word),
@@ -143,7 +143,7 @@ fn mask_or_unary(word: u32) -> Option<VectorInstr>
 #[tactic(auto, using(rv_model::proofs::instruction_lemmas::Scans::scan_append))]
 fn set_vector_length(word: u32) -> Option<VectorInstr>
     ensures row { option_map Instr.Vector result ≡ scan (rows SetVlis ++ rows SetIvlis ++ rows SetVls) word }
-    ensures group { IfSome result (λ i. is_irregular i ≡ true) }
+    ensures group { IfSome result (λ i. is_other_operation i ≡ true) }
 {
     if let Some(instr) = set_vli(word) {
         return Some(instr);
@@ -154,14 +154,14 @@ fn set_vector_length(word: u32) -> Option<VectorInstr>
     set_vl(word)
 }
 
-/// Decode a word of OP-V to an operation outside of the funct6 table: one for which `decode_regular` returns
+/// Decode a word of OP-V to an operation outside of the funct6 table: one for which `decode_table_operation` returns
 /// `None`. Return `None` if the word isn't one of these.
-#[tactic(auto, using(crate::proofs::Groups::irregular_steps))]
+#[tactic(auto, using(crate::proofs::Groups::other_operation_steps))]
 #[inline(always)]
-pub fn decode_irregular(word: u32) -> Option<VectorInstr>
+pub fn decode_other_operation(word: u32) -> Option<VectorInstr>
     requires { bit_and word 0x7c ≡ 0x54 }
-    ensures row { option_map Instr.Vector result ≡ scan (rows_where is_irregular_instr) word }
-    ensures group { IfSome result (λ i. is_irregular i ≡ true) }
+    ensures row { option_map Instr.Vector result ≡ scan (rows_where is_other_operation_instr) word }
+    ensures group { IfSome result (λ i. is_other_operation i ≡ true) }
 {
     match word & 0x707f {
         0x0057 => carry_or_move(word, Form::V),
@@ -175,12 +175,12 @@ pub fn decode_irregular(word: u32) -> Option<VectorInstr>
 }
 
 /// Return whether funct6 of a word of OP-V excludes all operations of the funct6 table. If the result is false,
-/// only `decode_regular` decides.
+/// only `decode_table_operation` decides.
 #[tactic(auto, using(crate::proofs::Groups::funct6_steps))]
 #[inline(always)]
-pub fn has_irregular_funct6(word: u32) -> bool
+pub fn has_funct6_outside_table(word: u32) -> bool
     requires { bit_and word 0x7c ≡ 0x54 }
-    ensures { result ≡ true → scan table word ≡ scan (rows_where is_irregular_instr) word }
+    ensures { result ≡ true → scan table word ≡ scan (rows_where is_other_operation_instr) word }
 {
     // The top three bits of these funct6 are 010, and those of most operations aren't.
     if word >> 29 != 0b010 {
@@ -273,7 +273,7 @@ fn operation(word: u32) -> Option<Instr>
     requires { bit_and word 0x7c ≡ 0x54 }
     ensures { result ≡ scan table word }
 {
-    if let Some(operation) = decode_regular(word) {
+    if let Some(operation) = decode_table_operation(word) {
         return Some(Instr::Vector(VectorInstr::Arith {
             arith: operation.arith,
             vd: operation.vd,
@@ -281,7 +281,7 @@ fn operation(word: u32) -> Option<Instr>
             vm: operation.unmasked,
         }));
     }
-    Some(Instr::Vector(decode_irregular(word)?))
+    Some(Instr::Vector(decode_other_operation(word)?))
 }
 
 /// Decode a word of LOAD-FP or STORE-FP to a vector load or store.

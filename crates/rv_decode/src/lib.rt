@@ -16,8 +16,8 @@ mod vector_operations;
 mod word_fields;
 
 pub use decoder::{
-    Kind, decode, decode_call, decode_csr, decode_irregular, decode_other_access, decode_regular,
-    decode_unit_stride, has_irregular_funct6, is_unit_stride, kind_of,
+    Kind, decode, decode_call, decode_csr, decode_other_access, decode_other_operation,
+    decode_table_operation, decode_unit_stride, has_funct6_outside_table, is_unit_stride, kind_of,
 };
 pub use encoder::encode;
 pub use laws::{decoded_again, encoded_again, one_row};

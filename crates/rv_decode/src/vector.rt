@@ -2,7 +2,7 @@
 #![tactic(auto, unfolding(rv_model::specs::instructions::Table::scan, rv_model::specs::lending::Families::rows))]
 
 ghost use Rattle.std.specs.Prelude.{◌≡◌, IfSome, bit_and, option_map, true};
-ghost use Rattle.rv_model.specs.lending.Irregular.{is_irregular};
+ghost use Rattle.rv_model.specs.lending.OtherOperations.{is_other_operation};
 ghost use Rattle.rv_model.specs.instructions.Operations.{major_bits};
 ghost use Rattle.rv_model.specs.instructions.Table.{scan};
 ghost use Rattle.rv_model.specs.lending.Families.{rows, SetVlis, SetIvlis, SetVls, WholeMoves, MaskLogics, Compresses};
@@ -41,7 +41,7 @@ pub(crate) fn arith(word: u32, major: Major, form: Form) -> Option<ArithOperatio
 #[tactic(auto, using(crate::proofs::Scan::scan_carry, rv_model::proofs::instruction_lemmas::Words::form_source_of))]
 pub(crate) fn carry(word: u32, form: Form) -> Option<VectorInstr>
     ensures row { option_map Instr.Vector result ≡ scan (rows (Carries form)) word }
-    ensures group { IfSome result (λ i. is_irregular i ≡ true) }
+    ensures group { IfSome result (λ i. is_other_operation i ≡ true) }
 {
     let op = carry_op(word & 0xfe00_707f, form)?;
     Some(VectorInstr::Carry {
@@ -54,7 +54,7 @@ pub(crate) fn carry(word: u32, form: Form) -> Option<VectorInstr>
 /// Decode `vmv.v.v`, `vmv.v.x` or `vmv.v.i`, whose vs2 is 0.
 pub(crate) fn vector_move(word: u32, form: Form) -> Option<VectorInstr>
     ensures row { option_map Instr.Vector result ≡ scan (rows (Moves form)) word }
-    ensures group { IfSome result (λ i. is_irregular i ≡ true) }
+    ensures group { IfSome result (λ i. is_other_operation i ≡ true) }
 {
     let code = match form {
         Form::V => 0x5e00_0057,
@@ -74,7 +74,7 @@ pub(crate) fn vector_move(word: u32, form: Form) -> Option<VectorInstr>
 /// Decode `vsetvli`.
 pub(crate) fn set_vli(word: u32) -> Option<VectorInstr>
     ensures row { option_map Instr.Vector result ≡ scan (rows SetVlis) word }
-    ensures group { IfSome result (λ i. is_irregular i ≡ true) }
+    ensures group { IfSome result (λ i. is_other_operation i ≡ true) }
 {
     if word & 0x8000_707f == 0x0000_7057 {
         Some(VectorInstr::SetVli {
@@ -90,7 +90,7 @@ pub(crate) fn set_vli(word: u32) -> Option<VectorInstr>
 /// Decode `vsetivli`.
 pub(crate) fn set_ivli(word: u32) -> Option<VectorInstr>
     ensures row { option_map Instr.Vector result ≡ scan (rows SetIvlis) word }
-    ensures group { IfSome result (λ i. is_irregular i ≡ true) }
+    ensures group { IfSome result (λ i. is_other_operation i ≡ true) }
 {
     if word & 0xc000_707f == 0xc000_7057 {
         Some(VectorInstr::SetIvli {
@@ -106,7 +106,7 @@ pub(crate) fn set_ivli(word: u32) -> Option<VectorInstr>
 /// Decode `vsetvl`.
 pub(crate) fn set_vl(word: u32) -> Option<VectorInstr>
     ensures row { option_map Instr.Vector result ≡ scan (rows SetVls) word }
-    ensures group { IfSome result (λ i. is_irregular i ≡ true) }
+    ensures group { IfSome result (λ i. is_other_operation i ≡ true) }
 {
     if word & 0xfe00_707f == 0x8000_7057 {
         Some(VectorInstr::SetVl {
@@ -123,7 +123,7 @@ pub(crate) fn set_vl(word: u32) -> Option<VectorInstr>
 #[tactic(auto, using(crate::proofs::Scan::scan_whole_move))]
 pub(crate) fn whole_move(word: u32) -> Option<VectorInstr>
     ensures row { option_map Instr.Vector result ≡ scan (rows WholeMoves) word }
-    ensures group { IfSome result (λ i. is_irregular i ≡ true) }
+    ensures group { IfSome result (λ i. is_other_operation i ≡ true) }
 {
     let count = whole_move_op(word & 0xfe0f_f07f)?;
     Some(VectorInstr::WholeMove {
@@ -137,7 +137,7 @@ pub(crate) fn whole_move(word: u32) -> Option<VectorInstr>
 #[tactic(auto, using(crate::proofs::Scan::scan_mask_logic))]
 pub(crate) fn mask_logic(word: u32) -> Option<VectorInstr>
     ensures row { option_map Instr.Vector result ≡ scan (rows MaskLogics) word }
-    ensures group { IfSome result (λ i. is_irregular i ≡ true) }
+    ensures group { IfSome result (λ i. is_other_operation i ≡ true) }
 {
     let op = mask_logic_op(word & 0xfe00_707f)?;
     Some(VectorInstr::MaskLogic {
@@ -151,7 +151,7 @@ pub(crate) fn mask_logic(word: u32) -> Option<VectorInstr>
 /// Decode `vcompress.vm`, which is always unmasked.
 pub(crate) fn compress(word: u32) -> Option<VectorInstr>
     ensures row { option_map Instr.Vector result ≡ scan (rows Compresses) word }
-    ensures group { IfSome result (λ i. is_irregular i ≡ true) }
+    ensures group { IfSome result (λ i. is_other_operation i ≡ true) }
 {
     if word & 0xfe00_707f == 0x5e00_2057 {
         Some(VectorInstr::Compress {
@@ -168,7 +168,7 @@ pub(crate) fn compress(word: u32) -> Option<VectorInstr>
 #[tactic(auto, using(crate::proofs::Scan::scan_mask_to_scalar))]
 pub(crate) fn mask_to_scalar(word: u32) -> Option<VectorInstr>
     ensures row { option_map Instr.Vector result ≡ scan (rows MasksToScalar) word }
-    ensures group { IfSome result (λ i. is_irregular i ≡ true) }
+    ensures group { IfSome result (λ i. is_other_operation i ≡ true) }
 {
     let op = mask_to_scalar_op(word & 0xfc0f_f07f)?;
     Some(VectorInstr::MaskToScalar {
@@ -183,7 +183,7 @@ pub(crate) fn mask_to_scalar(word: u32) -> Option<VectorInstr>
 #[tactic(auto, using(crate::proofs::Scan::scan_extend))]
 pub(crate) fn extend(word: u32) -> Option<VectorInstr>
     ensures row { option_map Instr.Vector result ≡ scan (rows Extends) word }
-    ensures group { IfSome result (λ i. is_irregular i ≡ true) }
+    ensures group { IfSome result (λ i. is_other_operation i ≡ true) }
 {
     let op = extend_op(word & 0xfc0f_f07f)?;
     Some(VectorInstr::Extend {
@@ -198,7 +198,7 @@ pub(crate) fn extend(word: u32) -> Option<VectorInstr>
 #[tactic(auto, using(crate::proofs::Scan::scan_mask_unary))]
 pub(crate) fn mask_unary(word: u32) -> Option<VectorInstr>
     ensures row { option_map Instr.Vector result ≡ scan (rows MaskUnaries) word }
-    ensures group { IfSome result (λ i. is_irregular i ≡ true) }
+    ensures group { IfSome result (λ i. is_other_operation i ≡ true) }
 {
     let op = mask_unary_op(word & 0xfc0f_f07f)?;
     Some(VectorInstr::MaskUnary {
@@ -212,7 +212,7 @@ pub(crate) fn mask_unary(word: u32) -> Option<VectorInstr>
 /// Decode `vid.v`.
 pub(crate) fn element_index(word: u32) -> Option<VectorInstr>
     ensures row { option_map Instr.Vector result ≡ scan (rows ElementIndices) word }
-    ensures group { IfSome result (λ i. is_irregular i ≡ true) }
+    ensures group { IfSome result (λ i. is_other_operation i ≡ true) }
 {
     if word & 0xfdff_f07f == 0x5008_a057 {
         Some(VectorInstr::ElementIndex {
@@ -227,7 +227,7 @@ pub(crate) fn element_index(word: u32) -> Option<VectorInstr>
 /// Decode `vmv.x.s`.
 pub(crate) fn move_to_scalar(word: u32) -> Option<VectorInstr>
     ensures row { option_map Instr.Vector result ≡ scan (rows MovesToScalar) word }
-    ensures group { IfSome result (λ i. is_irregular i ≡ true) }
+    ensures group { IfSome result (λ i. is_other_operation i ≡ true) }
 {
     if word & 0xfe0f_f07f == 0x4200_2057 {
         Some(VectorInstr::MoveToScalar {
@@ -242,7 +242,7 @@ pub(crate) fn move_to_scalar(word: u32) -> Option<VectorInstr>
 /// Decode `vmv.s.x`.
 pub(crate) fn move_to_vector(word: u32) -> Option<VectorInstr>
     ensures row { option_map Instr.Vector result ≡ scan (rows MovesToVector) word }
-    ensures group { IfSome result (λ i. is_irregular i ≡ true) }
+    ensures group { IfSome result (λ i. is_other_operation i ≡ true) }
 {
     if word & 0xfff0_707f == 0x4200_6057 {
         Some(VectorInstr::MoveToVector {

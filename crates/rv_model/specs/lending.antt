@@ -3,7 +3,7 @@
 -- `Writes`: the elements and bits that are already written.
 -- `Contiguous`: vector loads and stores that move one block of bytes.
 -- `Accesses`, `Families`, `ListedBits` and `Search`: the vocabulary of decoders.
--- `Irregular`: vector operations without a row of their own in the manual's table.
+-- `OtherOperations`: vector operations without a row of their own in the manual's table.
 -- `NameTable` and `Slots`: the vocabulary of an assembler.
 -- `Text`: tokens and numbers of a line.
 -- `Cells` and `Files`: bytes after a mutable borrow ends.
@@ -15,7 +15,7 @@ pub mod Contiguous
 pub mod Families
 pub mod Files
 pub mod GroupBounds
-pub mod Irregular
+pub mod OtherOperations
 pub mod ListedBits
 pub mod NameTable
 pub mod Search

@@ -77,9 +77,9 @@ pub keeps : (i : AccessInstr) (v : VState) → filled_by i Keep v ≡ nothing
 keeps i v = of_option v.conf.vtype (λ o. option_map_or (filled_under i Keep v) o nothing ≡ nothing) (λ e. refl) (λ t e. refl)
 
 -- no elements, if the access is unmasked and has no tail that is filled
-pub fills_nothing : (i : AccessInstr) (policy : Policy) (v : VState) → is_unmasked i ≡ true → ((t : VType) → tail_fields i t ≡ None)
+pub fills_no_elements : (i : AccessInstr) (policy : Policy) (v : VState) → is_unmasked i ≡ true → ((t : VType) → tail_fields i t ≡ None)
     → filled_by i policy v ≡ nothing
-fills_nothing i policy v unmasked tails =
+fills_no_elements i policy v unmasked tails =
     of_option v.conf.vtype (λ o. option_map_or (filled_under i policy v) o nothing ≡ nothing) (λ e. refl) (λ t e.
     ap₂ (λ b o. record { masked_off = b; tails = o }) (masked _ _ (is_unmasked i) unmasked) (of_either (λ (o : Option Fields). o ≡ None) _ _ _ (tails t) refl))
   where

@@ -2,6 +2,6 @@ mod AccessSteps
 mod CopiedOperands
 mod LegalGroups
 mod MadeResults
-mod Turns
+mod InPlaceLaws
 mod TypedSteps
 mod WrittenGroups

@@ -21,7 +21,7 @@ use Rattle.rv_model.proofs.element_lemmas.Sets.{changed_inside, to_end}
 use Rattle.rv_model.proofs.element_lemmas.Writes.{writes_same}
 use Rattle.lane_arith.proofs.ChunkWrites.{chunk_of_chunk, few_in_chunk, place}
 use Rattle.lane_arith.proofs.MaskBits.{count_positive}
-use Rattle.vec_unit.specs.InTurn.{number_from, second_in, second_number, test_from, turn_result}
+use Rattle.vec_unit.specs.InPlace.{number_from, second_in, second_number, test_from, in_place_result}
 
 -- ---- all registers as one group
 
@@ -47,7 +47,7 @@ second_is g n unsigned _ file x i e h = refl
 pub result_is : (g : GroupType) (n : ℕ) (op : BinaryOp) (vs2 : ℕ) (from : Source) (number : ℕ) (file : List ℕ) (x : Scalar) (i : ℕ)
     → number ≡ second_number (has_unsigned_immediate op) from x
     → width_bytes g.width * n ≡ 32 → width_bytes g.width * i + width_bytes g.width ≤ 32 * registers g.emul
-    → turn_result g.width n op vs2 from number file i ≡ binary_result g op vs2 from file x i
+    → in_place_result g.width n op vs2 from number file i ≡ binary_result g op vs2 from file x i
 result_is g n op vs2 from number file x i is e h =
     let k : ℕ = width_bytes g.width in
     let b = second_in k n from (number % 2 ^ bits g.width) file i in
@@ -179,12 +179,12 @@ pub turned_results : (g : GroupType) (n vd number : ℕ) (op : BinaryOp) (vs2 : 
     → number ≡ second_number (has_unsigned_immediate op) from x
     → width_bytes g.width * body.end ≤ 32 * registers g.emul → 32 * registers g.emul ≡ width_bytes g.width * count → (fill_tail ≡ true → body.end ≡ count)
     → Writes (width_bytes g.width) (test_from (n * vd) (is_changed body fill_masked_off false))
-    (number_from (n * vd) (result_or_ones body (turn_result g.width n op vs2 from number file) (ones g.width))) file new
+    (number_from (n * vd) (result_or_ones body (in_place_result g.width n op vs2 from number file) (ones g.width))) file new
     → new ≡ with_results g vd body fill_masked_off fill_tail (binary_result g op vs2 from file x) file
 turned_results g n vd number op vs2 from x body fill_masked_off fill_tail count file new some e long inside is room whole tail was =
     let k : ℕ = width_bytes g.width in
     let regs : ℕ = registers g.emul in
-    let told : ℕ → ℕ = turn_result g.width n op vs2 from number file in
+    let told : ℕ → ℕ = in_place_result g.width n op vs2 from number file in
     let changes : ℕ → Bool = is_changed body fill_masked_off false in
     let numbers : ℕ → ℕ = result_or_ones body told (ones g.width) in
     let fits : 32 * (vd + regs) ≤ length file = omega arith in

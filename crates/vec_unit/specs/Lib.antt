@@ -1,6 +1,6 @@
 pub mod Agnostic
 pub mod Arithmetic
-pub mod InTurn
+pub mod InPlace
 pub mod MemoryInstructions
 pub mod Results
 pub mod Steps

@@ -31,8 +31,8 @@ agnostic_of target body = record {
 }
 
 -- a state with these numbers in the target's group of this type; the flag says whether a result saturated
-abbrev pub carried_out : GroupType → Target → (ℕ → ℕ) → Bool → VState → VState
-carried_out t target number saturates state = record state {
+abbrev pub executed : GroupType → Target → (ℕ → ℕ) → Bool → VState → VState
+executed t target number saturates state = record state {
   file = with_elements target.vd (agnostic_of target (body_of target.unmasked state)) t (body_of target.unmasked state) number state.file;
   vxsat = state.vxsat || saturates;
 }
@@ -41,7 +41,7 @@ carried_out t target number saturates state = record state {
 abbrev pub performed : (GroupType → GroupType → List ℕ → Scalar → ℕ → ℕ) → (GroupType → GroupType → List ℕ → Scalar → Body → Bool)
     → GroupType → GroupType → Target → Scalar → VState → VState
 performed number saturates t u target x state =
-    carried_out t target (number t u state.file x) (saturates t u state.file x (body_of target.unmasked state)) state
+    executed t target (number t u state.file x) (saturates t u state.file x (body_of target.unmasked state)) state
 
 -- a state with the registers after an operation under the target's vector type
 abbrev pub registers_left : (ℕ → Agnostic → GroupType → Body → List ℕ → Scalar → List ℕ) → Target → Scalar → VState → VState

@@ -6,12 +6,12 @@ ghost use Rattle.rv_model.specs.step.Step.{arith_step, typed, typed_step};
 ghost use Rattle.vec_unit.specs.Arithmetic.{is_binary};
 ghost use Rattle.vec_unit.specs.Steps.{Performs};
 
-use crate::compare::Carried;
+use crate::compare::CarryOutOperands;
 use crate::destination::Target;
-use crate::operands::{Rounded, Sources, on};
+use crate::operands::{Sources, WithRounding, on};
 use crate::operation::perform;
 use crate::two_widths::{perform_narrowing, perform_single, perform_widening};
-use crate::widen::Added;
+use crate::widen::WidenAccumulate;
 use rv_model::instructions::operations::VectorOp;
 use rv_model::{
     ArithOperation, Instr, Policy, Scalar, Source, VEnd, VReg, VState, VType, VectorInstr,
@@ -46,12 +46,12 @@ fn perform_rest(
         VectorOp::Compare(op) => perform(&on(op, vs2, source), target, state, scalar),
         VectorOp::CarryOut(op) => {
             let alone = target.unmasked;
-            let op = Carried { op, alone };
+            let op = CarryOutOperands { op, alone };
             perform(&on(op, vs2, source), target.whole_body(), state, scalar);
         }
         VectorOp::FixedPoint(op) => {
             let mode = state.vxrm;
-            let op = Rounded { op, mode };
+            let op = WithRounding { op, mode };
             perform_single(&on(op, vs2, source), target, state, scalar);
         }
         VectorOp::Reduce(op) => perform(&on(op, vs2, source), target, state, scalar),
@@ -60,13 +60,13 @@ fn perform_rest(
         VectorOp::WideSource(op) => perform_widening(&on(op, vs2, source), target, state, scalar),
         VectorOp::WidenMultiplyAdd(op) => {
             let vd = target.vd;
-            let op = Added { op, vd };
+            let op = WidenAccumulate { op, vd };
             perform_widening(&on(op, vs2, source), target, state, scalar);
         }
         VectorOp::NarrowShift(op) => perform_narrowing(&on(op, vs2, source), target, state, scalar),
         VectorOp::Clip(op) => {
             let mode = state.vxrm;
-            let op = Rounded { op, mode };
+            let op = WithRounding { op, mode };
             perform_narrowing(&on(op, vs2, source), target, state, scalar);
         }
         VectorOp::WidenReduce(op) => on(op, vs2, source).perform(target, state, scalar),

@@ -1,10 +1,10 @@
 //! Operations on two operands whose elements and results have the same width ("V" Vector Extension 1.0, chapter
-//! 11). They run on copies of the operands or, faster, one register after another (`in_turn`).
+//! 11). They run on copies of the operands or, faster, one register after another (`in_place`).
 ghost use Rattle.rv_model.specs.elements.Arithmetic.{binary_result};
 ghost use Rattle.rv_model.specs.elements.Formulas.{has_unsigned_immediate};
 ghost use Rattle.rv_model.specs.lending.GroupBounds.{HoldsBody, IsInside, SourceIsInside};
 ghost use Rattle.std.specs.Prelude.{◌≡◌};
-ghost use Rattle.vec_unit.specs.InTurn.{with_binary_results};
+ghost use Rattle.vec_unit.specs.InPlace.{with_binary_results};
 ghost use Rattle.vec_unit.specs.Results.{with_elements};
 
 use crate::destination::{Destination, write_group};

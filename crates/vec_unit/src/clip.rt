@@ -3,7 +3,7 @@ ghost use Rattle.rv_model.specs.elements.Arithmetic.{clip_result, clip_saturates
 ghost use Rattle.rv_model.specs.elements.Elements.{some_active};
 ghost use Rattle.rv_model.specs.lending.GroupBounds.{IsInside, SourceIsInside};
 
-use crate::operands::{Rounded, SecondOperand, WithSources, second_in_place};
+use crate::operands::{SecondOperand, WithRounding, WithSources, second_in_place};
 use crate::two_widths::{Groups, TwoWidths};
 use lane_arith::{Body, Lane};
 use lane_fixed::{Clip, write_saturating_results};
@@ -12,7 +12,7 @@ use rv_model::instructions::operations::ClipOp;
 use rv_model::{GROUP_BYTES, Scalar, VFile};
 use std::marker::PhantomData;
 
-impl TwoWidths for WithSources<Rounded<ClipOp>> {
+impl TwoWidths for WithSources<WithRounding<ClipOp>> {
     ghost number = { λ o narrow wide file x. clip_result narrow wide o.op.mode o.op.op o.vs2 o.source file x };
 
     ghost saturates = { λ o narrow wide file x body.

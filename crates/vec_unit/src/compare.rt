@@ -4,7 +4,7 @@ ghost use Rattle.rv_model.specs.elements.Arithmetic.{carry_out_result, compare_r
 ghost use Rattle.rv_model.specs.lending.GroupBounds.{IsInside, SourceIsInside};
 
 use crate::destination::Destination;
-use crate::mask_wise::set_mask;
+use crate::mask_operations::set_mask;
 use crate::operands::{WithSources, second_elements, second_in_place, signed_operand};
 use crate::operation::Operation;
 use lane_arith::{Body, CarryOut, Compare, Lane, write_mask_results};
@@ -31,12 +31,12 @@ impl Operation for WithSources<CompareOp> {
 
 /// An operation that writes carries or borrows. Unless `alone`, the bits of v0 are the incoming carries or borrows.
 #[derive(Clone, Copy)]
-pub(crate) struct Carried {
+pub(crate) struct CarryOutOperands {
     pub op: CarryOutOp,
     pub alone: bool,
 }
 
-impl Operation for WithSources<Carried> {
+impl Operation for WithSources<CarryOutOperands> {
     ghost written = { λ o vd agnostic g body file x.
         with_mask_results vd body (carry_out_result g o.op.op o.op.alone o.vs2 o.source file x) file };
 

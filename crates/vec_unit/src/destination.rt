@@ -111,7 +111,7 @@ pub(crate) struct Destination {
 impl Destination {
     /// Return the same destination with masked-off elements unchanged.
     #[inline(always)]
-    pub(crate) fn keeping(self) -> Destination
+    pub(crate) fn with_masked_off_unchanged(self) -> Destination
         ensures { result ≡ record self { fill_masked_off = false } }
     {
         Destination {

@@ -4,27 +4,27 @@ ghost use Rattle.rv_model.specs.step.Hart.{hart_state};
 ghost use Rattle.rv_model.specs.step.Resumes.{InstructionGoesOn};
 ghost use Rattle.rv_model.specs.step.Step.{is_vector, operation_step, vector_ends, vector_executed};
 ghost use Rattle.rv_model.specs.legality.Legality.{is_legal};
-ghost use Rattle.rv_model.specs.lending.Irregular.{is_irregular};
+ghost use Rattle.rv_model.specs.lending.OtherOperations.{is_other_operation};
 ghost use Rattle.vec_unit.specs.Steps.{Performs};
 
 use crate::arithmetic::perform_arith;
-use crate::irregular_operations::perform_typed;
 use crate::memory_instructions::exec_access;
+use crate::other_operations::perform_typed;
 use crate::vset::{configure, requested_length};
-use reg_groups::{legal_arith, legal_irregular};
+use reg_groups::{legal_arith, legal_other_operation};
 use rv_model::{ArithOperation, Instr, Policy, RequestedLength, Scalar, VEnd, VState, VectorInstr};
 use vector_memory::UserBytes;
 
 /// Execute a legal vector operation outside of the funct6 table.
 #[tactic(auto, unfolding(rv_model::specs::step::Step::operation_step), using(crate::proofs::TypedSteps::by_type))]
 #[inline(always)]
-fn perform_irregular(
+fn perform_other_operation(
     operation: &VectorInstr,
     state: &mut VState,
     scalar: &mut Scalar,
     policy: Policy,
 ) -> VEnd
-    requires irregular { IsTrue (is_irregular operation.now) }
+    requires other_operation { IsTrue (is_other_operation operation.now) }
     requires legal { IsTrue (is_legal (Instr.Vector operation.now) state.old.conf.vtype state.old.vstart) }
     ensures model { Performs (operation_step operation.now) policy scalar.old state.old result scalar.new state.new }
     ensures illegal_state { result ≡ VEnd.Illegal → state.new ≡ state.old }
@@ -96,7 +96,7 @@ pub fn exec_operation(
     scalar: &mut Scalar,
     policy: Policy,
 ) -> VEnd
-    requires irregular { IsTrue (is_irregular operation.now) }
+    requires other_operation { IsTrue (is_other_operation operation.now) }
     ensures model { (limit : ℕ) → Performs (vector_executed limit (Instr.Vector operation.now))
         policy scalar.old state.old result scalar.new state.new }
 
@@ -104,10 +104,10 @@ pub fn exec_operation(
     ensures illegal_state { result ≡ VEnd.Illegal → state.new ≡ state.old }
     ensures illegal_scalar { result ≡ VEnd.Illegal → scalar.new ≡ scalar.old }
 {
-    if !legal_irregular(operation, &state.conf, state.vstart) {
+    if !legal_other_operation(operation, &state.conf, state.vstart) {
         return VEnd::Illegal;
     }
-    perform_irregular(operation, state, scalar, policy)
+    perform_other_operation(operation, state, scalar, policy)
 }
 
 /// Execute a vector instruction of a user, if it is legal. A load or store accesses the elements of at most `limit`

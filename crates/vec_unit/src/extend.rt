@@ -5,7 +5,7 @@ ghost use Rattle.rv_model.specs.elements.Arithmetic.{extend_result};
 ghost use Rattle.rv_model.specs.vector.Groups.{group_type, lmul_eighths, sew_bits, sew_width, vlmax};
 ghost use Rattle.rv_model.specs.vector.Groups.{extension_divisor, part_type, part_width};
 ghost use Rattle.rv_model.specs.lending.GroupBounds.{HasRoom, IsInside};
-ghost use Rattle.vec_unit.specs.Results.{carried_out};
+ghost use Rattle.vec_unit.specs.Results.{executed};
 
 use crate::destination::Target;
 use crate::two_widths::{Groups, TwoWidths, perform_at};
@@ -61,7 +61,7 @@ fn perform_part(
     requires wide { 8 ≤ sew_bits sew / extension_divisor operation.op }
     requires room { HasRoom (sew_width sew) groups.emul state.old.conf.vl }
     requires other_room { HasRoom (part_width operation.op (sew_width sew)) groups.other state.old.conf.vl }
-    ensures { state.new ≡ carried_out (record { width = sew_width sew; emul = groups.emul }) target
+    ensures { state.new ≡ executed (record { width = sew_width sew; emul = groups.emul }) target
         (extend_result (record { width = part_width operation.op (sew_width sew); emul = groups.other })
         (record { width = sew_width sew; emul = groups.emul }) operation.op operation.vs2 state.old.file) false state.old }
 {
@@ -101,7 +101,7 @@ impl ExtendOperation {
         requires wide { 8 ≤ sew_bits target.vtype.sew / extension_divisor self.now.op }
         requires least { 1 ≤ lmul_eighths target.vtype.lmul / extension_divisor self.now.op }
         requires length { state.old.conf.vl ≤ vlmax target.vtype }
-        ensures { state.new ≡ carried_out (group_type target.vtype) target
+        ensures { state.new ≡ executed (group_type target.vtype) target
             (extend_result (part_type self.now.op target.vtype) (group_type target.vtype) self.now.op self.now.vs2
             state.old.file) false state.old }
     {

@@ -32,7 +32,7 @@ pub(crate) fn write_first<L: Lane>(number: L, to: Destination, body: &Body<'_>, 
     let destination = Destination {
         emul: 8,
         count: L::count(),
-        ..to.keeping()
+        ..to.with_masked_off_unchanged()
     };
     write_group::<L, Same<L>>(&Same { number }, destination, &first, file);
 }

@@ -5,7 +5,7 @@ ghost use Rattle.rv_model.specs.elements.Elements.{some_active};
 ghost use Rattle.rv_model.specs.elements.FixedPoint.{has_unsigned_shift};
 ghost use Rattle.rv_model.specs.lending.GroupBounds.{IsInside, SourceIsInside};
 
-use crate::operands::{Rounded, SecondOperand, WithSources, second_in_place};
+use crate::operands::{SecondOperand, WithRounding, WithSources, second_in_place};
 use crate::two_widths::{Groups, TwoWidths};
 use lane_arith::{Body, Lane};
 use lane_fixed::{FixedPoint, write_saturating_results};
@@ -20,7 +20,7 @@ fn has_unsigned_shift(op: FixedPointOp) -> bool
     matches!(op, FixedPointOp::Vssrl | FixedPointOp::Vssra)
 }
 
-impl TwoWidths for WithSources<Rounded<FixedPointOp>> {
+impl TwoWidths for WithSources<WithRounding<FixedPointOp>> {
     ghost number = { λ o g other file x. fixed_point_result g o.op.mode o.op.op o.vs2 o.source file x };
 
     ghost saturates = { λ o g other file x body.

@@ -1,7 +1,7 @@
 //! Execution of one vector instruction of one user.
 //!
 //! Read `execution` first, then `arithmetic`, `operation` and `destination`, and `memory_instructions`. Each other
-//! module is a family of operations. `in_turn` is a faster path of `binary`, with the same results as its path with
+//! module is a family of operations. `in_place` is a faster path of `binary`, with the same results as its path with
 //! copies.
 #![tactic(auto)]
 
@@ -16,10 +16,9 @@ mod execution;
 mod extend;
 mod first_element;
 mod fixed_point;
-mod in_turn;
-mod irregular_operations;
+mod in_place;
 mod mask_operand;
-mod mask_wise;
+mod mask_operations;
 mod masks;
 mod memory_instructions;
 mod moves;
@@ -27,6 +26,7 @@ mod multiply_add;
 mod narrow_shift;
 mod operands;
 mod operation;
+mod other_operations;
 mod permute;
 mod reduce;
 mod scalar_moves;

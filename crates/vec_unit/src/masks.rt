@@ -9,7 +9,7 @@ ghost use Rattle.vec_unit.specs.Results.{with_elements};
 
 use crate::body::body_under;
 use crate::destination::{Destination, write_group};
-use crate::mask_wise::set_mask;
+use crate::mask_operations::set_mask;
 use crate::operation::Operation;
 use lane_arith::{Body, Lane, write_mask_results};
 use mask_unit::{Index, Iota, MaskLogic, MaskScan, count, counts_below, first};

@@ -46,7 +46,7 @@ fn direction_of(access: &AccessInstr) -> Direction
 #[inline(always)]
 fn access_end(access: &AccessInstr, end: MemEnd) -> VEnd
     ensures value { result ≡ access_end (direction_of access.now) end }
-    ensures carried_out { result ≢ VEnd.Illegal }
+    ensures executed { result ≢ VEnd.Illegal }
 {
     match end {
         MemEnd::Done => VEnd::Done,
@@ -73,7 +73,7 @@ fn perform_unfilled<M: UserBytes>(
         → Accesses (performed limit (Instr.Access access.now)) policy scalar.now
         state.old (M.memory memory.old) result state.new (M.memory memory.new) }
     ensures memory { memory.new ≡ M.with_memory memory.old (M.memory memory.new) }
-    ensures carried_out { result ≢ VEnd.Illegal }
+    ensures executed { result ≢ VEnd.Illegal }
 {
     let end = vector_memory::run(access, state, scalar, memory, limit, false);
     access_end(access, end)
@@ -144,7 +144,7 @@ fn filled_by(access: &AccessInstr, state: &VState, policy: Policy) -> Filled
 /// Whether an access fills no elements in any state. Accesses of whole registers and of masks never do; if
 /// `UNIT_STRIDE`, the function omits the test for these.
 #[inline(always)]
-fn fills_nothing<const UNIT_STRIDE: bool>(access: &AccessInstr, policy: Policy) -> bool
+fn fills_no_elements<const UNIT_STRIDE: bool>(access: &AccessInstr, policy: Policy) -> bool
     ensures { (state : VState) → result ≡ true → filled_by access.now policy state ≡ nothing }
 {
     if UNIT_STRIDE {
@@ -159,7 +159,7 @@ fn fills_nothing<const UNIT_STRIDE: bool>(access: &AccessInstr, policy: Policy) 
 }
 
 /// Fill the tails of these fields, from `length` on, which is vl before the access, if the access is complete.
-fn fill_when_done(tails: Option<Fields>, length: usize, end: MemEnd, file: &mut VFile)
+fn fill_tails_if_complete(tails: Option<Fields>, length: usize, end: MemEnd, file: &mut VFile)
     requires { IfSome tails (λ f. SegmentsInside (groups_of f) f.vd f.nf length) }
     ensures { file.new ≡ with_filled tails length end file.old }
 {
@@ -185,14 +185,14 @@ fn perform_access<M: UserBytes>(
     ensures model { Accesses (performed limit (Instr.Access access.now)) policy scalar.now
         state.old (M.memory memory.old) result state.new (M.memory memory.new) }
     ensures memory { memory.new ≡ M.with_memory memory.old (M.memory memory.new) }
-    ensures carried_out { result ≢ VEnd.Illegal }
+    ensures executed { result ≢ VEnd.Illegal }
 {
     // For the proof alone: the vector length is one that the vector type allows.
     state.conf.length_law();
     let length = usize::from(state.conf.vl());
     let filled = filled_by(access, state, policy);
     let end = vector_memory::run(access, state, scalar, memory, limit, filled.masked_off);
-    fill_when_done(filled.tails, length, end, &mut state.file);
+    fill_tails_if_complete(filled.tails, length, end, &mut state.file);
     access_end(access, end)
 }
 
@@ -223,7 +223,7 @@ pub fn exec_access<M: UserBytes, const UNIT_STRIDE: bool>(
     if !legal_access(access, &state.conf) {
         return VEnd::Illegal;
     }
-    if fills_nothing::<UNIT_STRIDE>(access, policy) {
+    if fills_no_elements::<UNIT_STRIDE>(access, policy) {
         return perform_unfilled(access, state, scalar, memory, limit);
     }
     // The other function gets a copy, so that the operands need no place in memory before.

@@ -7,7 +7,7 @@ ghost use Rattle.rv_model.specs.elements.Arithmetic.{second_element};
 ghost use Rattle.rv_model.specs.elements.Formulas.{immediate_value};
 ghost use Rattle.lane_arith.specs.SecondElements.{HasNumber, number_at};
 ghost use Rattle.std.specs.Int.{Width};
-ghost use Rattle.vec_unit.specs.InTurn.{second_number};
+ghost use Rattle.vec_unit.specs.InPlace.{second_number};
 ghost use mir.Val.{bits};
 
 use lane_arith::{Lane, SecondElements, fill};
@@ -39,7 +39,7 @@ pub(crate) fn on<O: Copy>(op: O, vs2: VReg, source: Source) -> WithSources<O>
 
 /// An operation and its rounding mode.
 #[derive(Clone, Copy)]
-pub(crate) struct Rounded<O> {
+pub(crate) struct WithRounding<O> {
     pub op: O,
     pub mode: RoundingMode,
 }

@@ -75,7 +75,7 @@ pub(crate) fn perform<O: Operation>(
 
 /// Execute an operation on groups of the vector type, without inlining. `UNMASKED` says whether it is unmasked.
 #[inline(never)]
-pub(crate) fn perform_apart<O: Operation, const UNMASKED: bool>(
+pub(crate) fn perform_out_of_line<O: Operation, const UNMASKED: bool>(
     operation: &O,
     vd: VReg,
     vtype: VType,

@@ -115,12 +115,12 @@ impl TwoWidths for WithSources<WideSourceOp> {
 
 /// An operation that adds products to the group at `vd`.
 #[derive(Clone, Copy)]
-pub(crate) struct Added {
+pub(crate) struct WidenAccumulate {
     pub op: WidenMultiplyAddOp,
     pub vd: VReg,
 }
 
-impl TwoWidths for WithSources<Added> {
+impl TwoWidths for WithSources<WidenAccumulate> {
     ghost number = { λ o wide narrow file x.
         widen_multiply_add_result narrow wide o.op.op o.op.vd o.vs2 o.source file x };
 

@@ -8,5 +8,5 @@ pub returns-clause-model : goal.returns-clause-model
 unfolding vector_executed performed
 returns-clause-model c = λ limit memory output.
     let allowed : is_legal (instr.Vector c.args.operation.now) c.args.state.now.conf.vtype c.args.state.now.vstart ≡ true =
-    sym c.legal_irregular.ensures ∙ c.if-not-legal_irregular.false in
-    rw allowed (c.perform_irregular.ensures.model memory output)
+    sym c.legal_other_operation.ensures ∙ c.if-not-legal_other_operation.false in
+    rw allowed (c.perform_other_operation.ensures.model memory output)

@@ -17,5 +17,5 @@ returns g c =
     let fill : Bool = to.fill_tail in
     let t : VType = record { sew = E8; lmul = M1; tail_agnostic = fill; mask_agnostic = false } in
     let is = some_tail fill _ c.requires.tail in
-    (rw (c.new-first.ensures, c.keeping.ensures, c.mask.ensures, c.from.ensures, c.start.ensures, c.end.ensures.value) at c.write_group.ensures)
+    (rw (c.new-first.ensures, c.with_masked_off_unchanged.ensures, c.mask.ensures, c.from.ensures, c.start.ensures, c.end.ensures.value) at c.write_group.ensures)
     ∙ (rw is at (first_result_is g.L.Lane.width to.vd Ones t c.args.body.now (g.L.Lane.value c.args.number) c.args.file.now))

@@ -1,6 +1,0 @@
-use Rattle.std.proofs.Common.{sym, arith}
-use Rattle.rv_decode.proofs.Groups.{no_irregular}
-use Rattle.rv_decode.proofs.decoder.decode_irregular.Goals as goal
-
-pub returns-in_default-clause-row : goal.returns-in_default-clause-row
-returns-in_default-clause-row c = sym (no_irregular c.args.word (omega arith, (omega arith, (omega arith, (omega arith, (omega arith, (omega arith, tt)))))))
