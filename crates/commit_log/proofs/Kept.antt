@@ -1,4 +1,4 @@
--- The line of one instruction, as `keep` records it.
+-- The line of one instruction, as `after_step` records it.
 use Rattle.std.proofs.Common.{◌≡◌, ◌∙◌, ◌++◌, ◌∷◌, [], ℕ, Bool, true, false, List, Option, None, Some, ap, refl, subst, sym, append-nil, append_assoc, if◌then◌else◌}
 use Rattle.std.proofs.lemmas.Bool.{and_parts, false≢true}
 use Rattle.std.specs.Option.{option_map_or}
@@ -13,7 +13,7 @@ use Rattle.rv_model.specs.instructions.Table.{scan, table}
 use Rattle.rv_model.specs.step.Hart.{HartState, Stepped, ends_after}
 use Rattle.rv_model.specs.step.Step.{executed, step}
 use Rattle.commit_log.specs.Finds.{Finds, Retires}
-use Rattle.commit_log.specs.declared.found.Found.{Found}
+use Rattle.commit_log.specs.declared.pre_state.PreState.{PreState}
 use Rattle.commit_log.specs.declared.log.Log.{Log}
 use Rattle.commit_log.specs.declared.log.Window.{Window}
 use Rattle.commit_log.specs.LineTexts.{line_text}
@@ -33,9 +33,9 @@ line_added Took sink after text mid new line room added =
     }
 
 -- the state saved for the word that the code reads is the state saved for the word of `s`
-pub noted_word : (s : HartState) (word : ℕ) (i : Option Instr) (x : Scalar) (v : VState) (f : Found) → i ≡ scan table word → word ≡ word_of s
+pub captured_word : (s : HartState) (word : ℕ) (i : Option Instr) (x : Scalar) (v : VState) (f : PreState) → i ≡ scan table word → word ≡ word_of s
     → Finds word i x v f → Finds (word_of s) (scan table (word_of s)) x v f
-noted_word s word i x v f instr_is word_is finds =
+captured_word s word i x v f instr_is word_is finds =
     subst (λ (w : ℕ). Finds w (scan table w) x v f) word_is (subst (λ (o : Option Instr). Finds word o x v f) instr_is finds)
 
 -- an instruction that completed has a word in the instruction table
@@ -54,10 +54,10 @@ both_of within true line = refl
 both_of true false line = refl
 both_of false false line = refl
 
-module _ {K : Type 0} (Took : K → List ℕ → K → Type 0) (before old : Log K) (s next : HartState) (end : StepEnd) (ticks : ℕ) (noted : IsNoted before s old)
+module _ {K : Type 0} (Took : K → List ℕ → K → Type 0) (before old : Log K) (s next : HartState) (end : StepEnd) (ticks : ℕ) (prepared : IsNoted before s old)
     (made : step 256 s ≡ ends_after ticks end next) where
   counts_are : (is_counted end && is_within old.window old.number) ≡ (is_counted (step 256 s).end && is_within before.window (one_more before.number))
-  counts_are = rw (noted.window_is, noted.number_is, made) refl
+  counts_are = rw (prepared.window_is, prepared.number_is, made) refl
 
   -- its line, if it has one
   line_where : (b : Bool) → (is_counted end && is_within old.window old.number) ≡ b → added before.window before.number s ≡ (if b then line_by s (step 256 s) else [])
@@ -71,10 +71,10 @@ module _ {K : Type 0} (Took : K → List ℕ → K → Type 0) (before old : Log
   unfolding logged_from number_after
   logged_by bytes new window number gathered is =
       record {
-        window_is = window ∙ noted.window_is;
-        number_is = number ∙ noted.number_is;
-        lines = subst (λ (sink : K). Gathered Took sink before.text (logged_from before.window before.number (s ∷ [])) new.sink new.text) noted.sink_is
-            (subst (λ (text : List ℕ). Gathered Took old.sink text (logged_from before.window before.number (s ∷ [])) new.sink new.text) noted.text_is
+        window_is = window ∙ prepared.window_is;
+        number_is = number ∙ prepared.number_is;
+        lines = subst (λ (sink : K). Gathered Took sink before.text (logged_from before.window before.number (s ∷ [])) new.sink new.text) prepared.sink_is
+            (subst (λ (text : List ℕ). Gathered Took old.sink text (logged_from before.window before.number (s ∷ [])) new.sink new.text) prepared.text_is
             (subst (λ (l : List ℕ). Gathered Took old.sink old.text l new.sink new.text) (sym is ∙ sym (append-nil (added before.window before.number s))) gathered));
       }
 
@@ -89,7 +89,7 @@ module _ {K : Type 0} (Took : K → List ℕ → K → Type 0) (before old : Log
       → IsLogged Took before (s ∷ []) new
   line_kept new holds window number gathered =
       let both = and_parts (is_counted end) (is_within old.window old.number) holds in
-      let finds = noted.finds both.1 (was_fetched s next ticks end made both.0) in
+      let finds = prepared.finds both.1 (was_fetched s next ticks end made both.0) in
       by (scan table (word_of s)) refl finds
     where
       by : (o : Option Instr) → scan table (word_of s) ≡ o → Finds (word_of s) o s.scalar s.vector old.found → IsLogged Took before (s ∷ []) new

@@ -1,12 +1,12 @@
-mod ControlsTold
+mod ControlsPrinted
 pub mod Destinations
 pub mod Digits
 mod FilledRegisters
 mod Kept
-mod LoadsTold
-mod MemoryTold
+mod LoadsPrinted
+mod MemoryPrinted
 mod Retired
-mod ScalarsTold
+mod ScalarsPrinted
 pub mod Steps
 mod VectorRegions
-mod VectorsTold
+mod VectorsPrinted

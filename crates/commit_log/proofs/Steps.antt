@@ -3,7 +3,7 @@ use Rattle.std.proofs.Common.{◌≡◌, sym, ap, ◌∙◌, ℕ, suc, ◌+◌, 
 use Rattle.std.specs.List.{range_with_len}
 use Rattle.rv_model.specs.vector.Groups.{register_of}
 use Rattle.commit_log.specs.LineTexts.{vector_text}
-use Rattle.commit_log.specs.Lines.{told_vectors}
+use Rattle.commit_log.specs.Lines.{printed_vectors}
 
 -- the first of a range of numbers, and the others
 range_more : (a i n : ℕ) → i < n → range_with_len (a + i) (n - i) ≡ (a + i) ∷ range_with_len (a + (i + 1)) (n - (i + 1))
@@ -13,12 +13,12 @@ range_more a i n h =
     ap (λ (k : ℕ). range_with_len (a + i) k) some ∙ ap (λ (b : ℕ). (a + i) ∷ range_with_len b (n - (i + 1))) next
 
 pub vectors_more : (file text new whole : List ℕ) (a i n : ℕ) → i < n → new ≡ text ++ vector_text (a + i, register_of file (a + i))
-    → text ++ flat_map vector_text (told_vectors file (range_with_len (a + i) (n - i))) ≡ whole
-    → new ++ flat_map vector_text (told_vectors file (range_with_len (a + (i + 1)) (n - (i + 1)))) ≡ whole
+    → text ++ flat_map vector_text (printed_vectors file (range_with_len (a + i) (n - i))) ≡ whole
+    → new ++ flat_map vector_text (printed_vectors file (range_with_len (a + (i + 1)) (n - (i + 1)))) ≡ whole
 vectors_more file text new whole a i n h put all =
     rw put
-    (append_assoc text (vector_text (a + i, register_of file (a + i))) (flat_map vector_text (told_vectors file (range_with_len (a + (i + 1)) (n - (i + 1)))))
-    ∙ sym (ap (λ (rs : List ℕ). text ++ flat_map vector_text (told_vectors file rs)) (range_more a i n h)) ∙ all)
+    (append_assoc text (vector_text (a + i, register_of file (a + i))) (flat_map vector_text (printed_vectors file (range_with_len (a + (i + 1)) (n - (i + 1)))))
+    ∙ sym (ap (λ (rs : List ℕ). text ++ flat_map vector_text (printed_vectors file rs)) (range_more a i n h)) ∙ all)
 
 -- ---- the whole line
 

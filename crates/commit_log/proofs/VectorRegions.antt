@@ -8,21 +8,21 @@ use Rattle.std.proofs.lemmas.List.{get_or_past}
 use Rattle.std.proofs.lemmas.Simd.{get_or-chunk, get_or-put_chunk_above, get_or-put_chunk_at, get_or-put_chunk_below, length-chunk, length-put_chunk}
 use Rattle.rv_model.specs.vector.Groups.{register_of, with_register_bytes}
 use Rattle.vector_memory.proofs.BlockMoves.{put_same}
-use Rattle.commit_log.specs.Lines.{told_vectors}
+use Rattle.commit_log.specs.Lines.{printed_vectors}
 use Rattle.commit_log.specs.Targets.{registers_from}
-use Rattle.commit_log.specs.Told.{with_vectors}
+use Rattle.commit_log.specs.Printed.{with_vectors}
 
 -- ---- registers written over another file
 
 -- registers written over the file that they come from
-pub same : (file rs : List ℕ) → with_vectors (told_vectors file rs) file ≡ file
+pub same : (file rs : List ℕ) → with_vectors (printed_vectors file rs) file ≡ file
 unfolding with_register_bytes register_of
 same file [] = refl
-same file (r ∷ rs) = ap (with_vectors (told_vectors file rs)) (put_same (32 * r) 32 file) ∙ same file rs
+same file (r ∷ rs) = ap (with_vectors (printed_vectors file rs)) (put_same (32 * r) 32 file) ∙ same file rs
 
 -- registers written over a file that is equal to the new one
-pub unchanged : (file new rs : List ℕ) → new ≡ file → with_vectors (told_vectors new rs) file ≡ new
-unchanged file new rs is = ap (λ (f : List ℕ). with_vectors (told_vectors f rs) file) is ∙ (same file rs ∙ sym is)
+pub unchanged : (file new rs : List ℕ) → new ≡ file → with_vectors (printed_vectors new rs) file ≡ new
+unchanged file new rs is = ap (λ (f : List ℕ). with_vectors (printed_vectors f rs) file) is ∙ (same file rs ∙ sym is)
 
 -- bytes that differ only from index `low` up to index `high`
 record Differs (low high : ℕ) (old new : List ℕ) : Type 0 where
@@ -30,9 +30,9 @@ record Differs (low high : ℕ) (old new : List ℕ) : Type 0 where
   others : (k : ℕ) → (k < low) ⊎ (high ≤ k) → get_or new k 0 ≡ get_or old k 0
 
 -- the first register has been written
-first_told : (r n : ℕ) (old new : List ℕ) → length new ≡ 1024 → r < 32 → Differs (32 * r) (32 * (r + suc n)) old new
+first_printed : (r n : ℕ) (old new : List ℕ) → length new ≡ 1024 → r < 32 → Differs (32 * r) (32 * (r + suc n)) old new
     → Differs (32 * (r + 1)) (32 * (r + 1 + n)) (put_chunk (32 * r) old (chunk (32 * r) 32 new)) new
-first_told r n old new long inside d =
+first_printed r n old new long inside d =
     let bytes : List ℕ = chunk (32 * r) 32 new in
     let size : length bytes ≡ 32 = length-chunk (32 * r) 32 new (omega (arith, long, inside)) in
     let old_long : length old ≡ 1024 = sym d.size ∙ long in
@@ -57,25 +57,25 @@ first_told r n old new long inside d =
       ];
     }
 
-told_over : (n r : ℕ) (old new : List ℕ) → length new ≡ 1024 → r + n ≤ max r 32 → Differs (32 * r) (32 * (r + n)) old new
-    → with_vectors (told_vectors new (range_with_len r n)) old ≡ new
+printed_over : (n r : ℕ) (old new : List ℕ) → length new ≡ 1024 → r + n ≤ max r 32 → Differs (32 * r) (32 * (r + n)) old new
+    → with_vectors (printed_vectors new (range_with_len r n)) old ≡ new
 unfolding with_register_bytes register_of
-told_over zero r old new long inside d =
+printed_over zero r old new long inside d =
     same_number_lists old new (sym d.size) (λ k h. elim (cases_lt k (32 * r)) [
       | inl below ↦ sym (d.others k (inl below))
       | inr from ↦ sym (d.others k (inr (omega (arith, from))))
     ])
-told_over (suc n) r old new long inside d =
-    told_over n (r + 1) (put_chunk (32 * r) old (chunk (32 * r) 32 new)) new long (omega (arith, inside))
-    (first_told r n old new long (omega (arith, inside)) d)
+printed_over (suc n) r old new long inside d =
+    printed_over n (r + 1) (put_chunk (32 * r) old (chunk (32 * r) 32 new)) new long (omega (arith, inside))
+    (first_printed r n old new long (omega (arith, inside)) d)
 
 -- bytes that differ only in `count` registers from `vd` on
-pub region_told : (file new : List ℕ) (vd count : ℕ) → length file ≡ 1024 → length new ≡ length file
+pub region_printed : (file new : List ℕ) (vd count : ℕ) → length file ≡ 1024 → length new ≡ length file
     → ((k : ℕ) → (k < 32 * vd) ⊎ (32 * (vd + count) ≤ k) → get_or new k 0 ≡ get_or file k 0)
-    → with_vectors (told_vectors new (registers_from vd count)) file ≡ new
-region_told file new vd count long size kept =
+    → with_vectors (printed_vectors new (registers_from vd count)) file ≡ new
+region_printed file new vd count long size kept =
     let n : ℕ = min count (32 - vd) in
-    told_over n vd file new (size ∙ long) (omega arith) (record {
+    printed_over n vd file new (size ∙ long) (omega arith) (record {
       size = size;
       others = λ k out. elim out [
         | inl below ↦ kept k (inl below)

@@ -5,4 +5,4 @@ pub mod LogLaws
 pub mod Logged
 pub mod MovedLaws
 pub mod Targets
-pub mod Told
+pub mod Printed

@@ -19,15 +19,15 @@ highest_first bytes = encode_lower (reverse bytes)
 
 -- a scalar register and its value
 abbrev pub scalar_text : ℕ × ℕ → List ℕ
-scalar_text told = codes " x" ++ two_places told.0 ++ codes " 0x" ++ hex16 told.1
+scalar_text printed = codes " x" ++ two_places printed.0 ++ codes " 0x" ++ hex16 printed.1
 
 -- the vector type and the vector length
 abbrev pub configuration_text : VType × ℕ → List ℕ
-configuration_text told = codes " " ++ sew_name told.0.sew ++ codes " " ++ lmul_name told.0.lmul ++ codes " l" ++ decimal told.1
+configuration_text printed = codes " " ++ sew_name printed.0.sew ++ codes " " ++ lmul_name printed.0.lmul ++ codes " l" ++ decimal printed.1
 
 -- a vector register and its bytes
 abbrev pub vector_text : ℕ × List ℕ → List ℕ
-vector_text told = codes " v" ++ two_places told.0 ++ codes " 0x" ++ highest_first told.1
+vector_text printed = codes " v" ++ two_places printed.0 ++ codes " 0x" ++ highest_first printed.1
 
 -- the number and the name of a control register, up to its value
 abbrev pub control_head : ControlRegister → List ℕ
@@ -41,7 +41,7 @@ control_head Vlenb = codes " c3106_vlenb 0x"
 
 -- a control register and its value
 abbrev pub control_text : ControlRegister × ℕ → List ℕ
-control_text told = control_head told.0 ++ hex16 told.1
+control_text printed = control_head printed.0 ++ hex16 printed.1
 
 -- the bytes that were stored, if there are any
 abbrev pub stored_text : Option (List ℕ) → List ℕ

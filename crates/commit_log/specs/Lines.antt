@@ -41,42 +41,42 @@ pub record Line : Type 0 where
 -- ---- registers
 
 -- a scalar register and its value, unless it is x0
-abbrev pub told_scalar : ℕ → Scalar → List (ℕ × ℕ)
-told_scalar register x = if register == 0 then [] else (register, read_register x register) ∷ []
+abbrev pub printed_scalar : ℕ → Scalar → List (ℕ × ℕ)
+printed_scalar register x = if register == 0 then [] else (register, read_register x register) ∷ []
 
 -- the vector type and the length, if there is a type
-abbrev pub told_configuration : Configuration → List (VType × ℕ)
-told_configuration c = option_map_or (λ t. (t, c.vl) ∷ []) c.vtype []
+abbrev pub printed_configuration : Configuration → List (VType × ℕ)
+printed_configuration c = option_map_or (λ t. (t, c.vl) ∷ []) c.vtype []
 
 -- each of these registers with its bytes
-abbrev pub told_vectors : List ℕ → List ℕ → List (ℕ × List ℕ)
-told_vectors file registers = map (λ r. (r, register_of file r)) registers
+abbrev pub printed_vectors : List ℕ → List ℕ → List (ℕ × List ℕ)
+printed_vectors file registers = map (λ r. (r, register_of file r)) registers
 
 -- the control registers that a line may name, in the order of their numbers; vcsr is omitted because it combines vxrm and vxsat
-abbrev pub told_registers : List ControlRegister
-told_registers = Vstart ∷ Vxsat ∷ Vxrm ∷ Vl ∷ Vtype ∷ []
+abbrev pub printed_registers : List ControlRegister
+printed_registers = Vstart ∷ Vxsat ∷ Vxrm ∷ Vl ∷ Vtype ∷ []
 
 -- a control register with its new value, if the value changed
-abbrev pub told_control : VState → VState → ControlRegister → List (ControlRegister × ℕ)
-told_control old new r = if control_value r old == control_value r new then [] else (r, control_value r new) ∷ []
+abbrev pub printed_control : VState → VState → ControlRegister → List (ControlRegister × ℕ)
+printed_control old new r = if control_value r old == control_value r new then [] else (r, control_value r new) ∷ []
 
 -- all control registers that changed, with their new values
-abbrev pub told_controls : VState → VState → List (ControlRegister × ℕ)
-told_controls old new = flat_map (told_control old new) told_registers
+abbrev pub printed_controls : VState → VState → List (ControlRegister × ℕ)
+printed_controls old new = flat_map (printed_control old new) printed_registers
 
 -- ---- memory
 
 -- the elements that an instruction moved, from the state before it and the vector length after it
-abbrev pub told_moved : Instr → HartState → ℕ → List MovedElement
-told_moved (instr.Scalar (Load op rd rs1 imm)) s vl =
+abbrev pub printed_moved : Instr → HartState → ℕ → List MovedElement
+printed_moved (instr.Scalar (Load op rd rs1 imm)) s vl =
     record { address = sum w64 (read_register s.scalar rs1) (i_immediate imm); stored = None } ∷ []
-told_moved (instr.Scalar (Store op rs1 rs2 imm)) s vl =
+printed_moved (instr.Scalar (Store op rs1 rs2 imm)) s vl =
     record {
       address = sum w64 (read_register s.scalar rs1) (s_immediate imm);
       stored = Some (to_le_bytes (store_width op) (read_register s.scalar rs2));
     } ∷ []
-told_moved (instr.Access i) s vl = option_map_or (moved_elements s.vector vl) (access_of i s.vector s.scalar) []
-told_moved _ s vl = []
+printed_moved (instr.Access i) s vl = option_map_or (moved_elements s.vector vl) (access_of i s.vector s.scalar) []
+printed_moved _ s vl = []
 
 -- ---- the whole line
 
@@ -86,9 +86,9 @@ instruction_line i word s x v =
     record {
       pc = s.scalar.pc;
       word = word;
-      scalars = told_scalar (scalar_target i) x;
-      configuration = if is_vector i then told_configuration v.conf else [];
-      vectors = told_vectors v.file (vector_targets i s.vector.conf.vtype);
-      controls = told_controls s.vector v;
-      moved = told_moved i s v.conf.vl;
+      scalars = printed_scalar (scalar_target i) x;
+      configuration = if is_vector i then printed_configuration v.conf else [];
+      vectors = printed_vectors v.file (vector_targets i s.vector.conf.vtype);
+      controls = printed_controls s.vector v;
+      moved = printed_moved i s v.conf.vl;
     }

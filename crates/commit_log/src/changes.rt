@@ -2,11 +2,11 @@
 ghost use Rattle.std.specs.Prelude.{◌≡◌, ◌==◌, ◌+◌, ◌≤◌, ◌++◌, [], ◌∷◌, ℕ, flat_map, length, if◌then◌else◌};
 ghost use Rattle.rv_model.specs.declared.vector.state.VState.{VState};
 ghost use Rattle.commit_log.specs.Finds.{KeepsControls};
-ghost use Rattle.commit_log.specs.Lines.{told_controls};
+ghost use Rattle.commit_log.specs.Lines.{printed_controls};
 ghost use Rattle.commit_log.specs.LineTexts.{control_head, control_text};
 
-use crate::found::Found;
 use crate::numbers::push_hex16;
+use crate::pre_state::PreState;
 use crate::text::{TEXT_SIZE, Text};
 use rv_model::{ControlRegister, VState};
 use vtype_rules::vtype_number;
@@ -44,10 +44,10 @@ fn push_control(text: &mut Text, register: ControlRegister, old: u64, new: u64)
 
 /// Append the control registers that an instruction changed, in the order of their numbers.
 #[inline(always)]
-pub(crate) fn push_changes(text: &mut Text, found: &Found, state: &VState)
+pub(crate) fn push_changes(text: &mut Text, found: &PreState, state: &VState)
     requires { length text.old + 155 ≤ TEXT_SIZE }
     ensures text { (old : VState) → KeepsControls old found.now
-        → text.new ≡ text.old ++ flat_map control_text (told_controls old state.now) }
+        → text.new ≡ text.old ++ flat_map control_text (printed_controls old state.now) }
     ensures bound { length text.new ≤ length text.old + 155 }
 {
     let (old, new) = (u64::from(found.vstart), u64::from(state.vstart));

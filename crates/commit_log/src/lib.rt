@@ -2,17 +2,17 @@
 #![tactic(auto)]
 
 mod changes;
-mod found;
 mod laws;
 mod lines;
 mod log;
 mod memory_words;
 mod moves;
 mod numbers;
+mod pre_state;
 mod targets;
 mod text;
 
-pub use found::Found;
 pub use laws::line_laws;
 pub use log::{Log, Window};
+pub use pre_state::PreState;
 pub use text::{LINE_SIZE, TEXT_SIZE, Text};

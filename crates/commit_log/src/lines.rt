@@ -4,16 +4,16 @@ ghost use Rattle.rv_model.specs.declared.instructions.instruction.Instr.{Instr};
 ghost use Rattle.rv_model.specs.step.Hart.{HartState};
 ghost use Rattle.rv_model.specs.step.Step.{is_vector};
 ghost use Rattle.commit_log.specs.Finds.{Finds, Retires};
-ghost use Rattle.commit_log.specs.Lines.{instruction_line, told_configuration, told_scalar, told_vectors};
+ghost use Rattle.commit_log.specs.Lines.{instruction_line, printed_configuration, printed_scalar, printed_vectors};
 ghost use Rattle.commit_log.specs.LineTexts.{configuration_text, line_text, place_text, scalar_text, vector_text};
 ghost use Rattle.commit_log.specs.Targets.{registers_from, vector_targets};
 ghost use Rattle.rv_model.specs.step.Targets.{scalar_target};
 ghost use Rattle.rv_model.specs.vector.Groups.{register_of};
 
 use crate::changes::push_changes;
-use crate::found::Found;
 use crate::memory_words::push_memory;
 use crate::numbers::{push_decimal, push_hex8, push_hex16, push_number, push_register};
+use crate::pre_state::PreState;
 use crate::targets::{Registers, scalar_target, vector_targets};
 use crate::text::{LINE_SIZE, TEXT_SIZE, Text};
 use rv_model::{Instr, Reg, Scalar, VECTOR_REGISTERS, VReg, VState};
@@ -23,7 +23,7 @@ use rv_model::{Instr, Reg, Scalar, VECTOR_REGISTERS, VReg, VState};
 fn push_scalar(text: &mut Text, number: u32, scalar: &Scalar)
     requires number { number < 32 }
     requires room { length text.old + 23 ≤ TEXT_SIZE }
-    ensures text { text.new ≡ text.old ++ flat_map scalar_text (told_scalar number scalar.now) }
+    ensures text { text.new ≡ text.old ++ flat_map scalar_text (printed_scalar number scalar.now) }
     ensures bound { length text.new ≤ length text.old + 23 }
 {
     if number != 0 {
@@ -38,7 +38,7 @@ fn push_scalar(text: &mut Text, number: u32, scalar: &Scalar)
 #[inline(always)]
 fn push_configuration(text: &mut Text, state: &VState)
     requires { length text.old + 30 ≤ TEXT_SIZE }
-    ensures text { text.new ≡ text.old ++ flat_map configuration_text (told_configuration state.now.conf) }
+    ensures text { text.new ≡ text.old ++ flat_map configuration_text (printed_configuration state.now.conf) }
     ensures bound { length text.new ≤ length text.old + 30 }
 {
     if let Some(vtype) = state.conf.vtype() {
@@ -56,7 +56,7 @@ fn push_configuration(text: &mut Text, state: &VState)
 fn push_type(text: &mut Text, instr: &Instr, state: &VState)
     requires { length text.old + 30 ≤ TEXT_SIZE }
     ensures text { text.new ≡ text.old
-        ++ flat_map configuration_text (if is_vector instr.now then told_configuration state.now.conf else []) }
+        ++ flat_map configuration_text (if is_vector instr.now then printed_configuration state.now.conf else []) }
     ensures bound { length text.new ≤ length text.old + 30 }
 {
     match instr {
@@ -85,7 +85,7 @@ fn push_vectors(text: &mut Text, registers: Registers, state: &VState)
     requires inside { registers.first < 32 }
     requires room { length text.old + 2272 ≤ TEXT_SIZE }
     ensures text { text.new ≡ text.old
-        ++ flat_map vector_text (told_vectors state.now.file (registers_from registers.first registers.count)) }
+        ++ flat_map vector_text (printed_vectors state.now.file (registers_from registers.first registers.count)) }
     ensures bound { length text.new ≤ length text.old + 2272 }
 {
     // A legal instruction writes no register past v31; the proof needs the bound.
@@ -111,11 +111,17 @@ fn push_place(text: &mut Text, pc: u64, word: u32)
 
 /// Append the registers that an instruction wrote: scalar registers, the vector type and length, and vector registers.
 #[inline(always)]
-fn push_registers(text: &mut Text, found: &Found, instr: &Instr, scalar: &Scalar, vector: &VState)
+fn push_registers(
+    text: &mut Text,
+    found: &PreState,
+    instr: &Instr,
+    scalar: &Scalar,
+    vector: &VState,
+)
     requires { length text.old + 2325 ≤ TEXT_SIZE }
-    ensures text { text.new ≡ text.old ++ flat_map scalar_text (told_scalar (scalar_target instr.now) scalar.now)
-        ++ flat_map configuration_text (if is_vector instr.now then told_configuration vector.now.conf else [])
-        ++ flat_map vector_text (told_vectors vector.now.file (vector_targets instr.now found.now.conf.vtype)) }
+    ensures text { text.new ≡ text.old ++ flat_map scalar_text (printed_scalar (scalar_target instr.now) scalar.now)
+        ++ flat_map configuration_text (if is_vector instr.now then printed_configuration vector.now.conf else [])
+        ++ flat_map vector_text (printed_vectors vector.now.file (vector_targets instr.now found.now.conf.vtype)) }
     ensures bound { length text.new ≤ length text.old + 2325 }
 {
     push_scalar(text, scalar_target(instr), scalar);
@@ -125,7 +131,13 @@ fn push_registers(text: &mut Text, found: &Found, instr: &Instr, scalar: &Scalar
 
 /// Append the line of an instruction that completed, from the state before it and the registers after it.
 #[inline(always)]
-fn push_instruction(text: &mut Text, found: &Found, instr: &Instr, scalar: &Scalar, vector: &VState)
+fn push_instruction(
+    text: &mut Text,
+    found: &PreState,
+    instr: &Instr,
+    scalar: &Scalar,
+    vector: &VState,
+)
     requires { length text.old + 90000 ≤ TEXT_SIZE }
     ensures text { (word : ℕ) (s : HartState) → Finds word (Some instr.now) s.scalar s.vector found.now
         → Retires instr.now s.vector vector.now.conf.vl → text.new ≡ text.old ++ line_text (instruction_line instr.now word s scalar.now vector.now) }
@@ -141,7 +153,7 @@ fn push_instruction(text: &mut Text, found: &Found, instr: &Instr, scalar: &Scal
 /// Append the line of an instruction that completed, from the state before it and the registers after it. Append nothing if the word isn't
 /// an instruction.
 #[inline(always)]
-pub(crate) fn push_line(text: &mut Text, found: &Found, scalar: &Scalar, vector: &VState)
+pub(crate) fn push_line(text: &mut Text, found: &PreState, scalar: &Scalar, vector: &VState)
     requires { length text.old + LINE_SIZE ≤ TEXT_SIZE }
     ensures text { (instr : Instr) (word : ℕ) (s : HartState) → Finds word (Some instr) s.scalar s.vector found.now
         → Retires instr s.vector vector.now.conf.vl → text.new ≡ text.old ++ line_text (instruction_line instr word s scalar.now vector.now) }

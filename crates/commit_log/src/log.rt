@@ -14,11 +14,11 @@ ghost use Rattle.commit_log.specs.Lines.{instruction_line};
 ghost use Rattle.commit_log.specs.Logged.{Gathered, IsLogged, IsNoted, is_within};
 ghost use Rattle.commit_log.specs.declared.log.Log.{Log};
 
-use crate::found::Found;
 use crate::lines::push_line;
+use crate::pre_state::PreState;
 use crate::text::{LINE_SIZE, TEXT_SIZE, Text};
 use devices::{Sink, write_all};
-use recording::{Alone, RecordFault, Recorder, is_counted, word_at};
+use recording::{RecordFault, Recorder, SingleUserMachine, is_counted, word_at};
 use rv_decode::decode;
 use rv_model::StepEnd;
 use std::alloc::{AllocError, Global};
@@ -49,7 +49,7 @@ pub struct Log<K> {
     pub window: Window,
     pub number: u64,
     pub text: Text,
-    found: Found,
+    found: PreState,
 }
 
 impl<K: Sink + Drop> Log<K> {
@@ -65,14 +65,14 @@ impl<K: Sink + Drop> Log<K> {
             window,
             number: 0,
             text: Text::new(alloc)?,
-            found: Found::new(),
+            found: PreState::new(),
         })
     }
 }
 
 /// Write the buffered lines, and empty the buffer. Return `Write` if the sink fails.
 fn write_gathered<K: Sink>(sink: &mut K, text: &mut Text) -> Result<(), RecordFault>
-    ensures told { OnOk result (K.took sink.old text.old sink.new) }
+    ensures printed { OnOk result (K.took sink.old text.old sink.new) }
     ensures none { OnOk result (text.new ≡ []) }
 {
     let Ok(()) = write_all(sink, text.as_slice()) else {
@@ -102,7 +102,7 @@ fn has_room(text: &Text) -> bool
 /// Write the buffered lines, unless the buffer has room for another line.
 #[inline(always)]
 fn make_room<K: Sink>(sink: &mut K, text: &mut Text) -> Result<(), RecordFault>
-    ensures told { OnOk result (Gathered K.took sink.old text.old [] sink.new text.new) }
+    ensures printed { OnOk result (Gathered K.took sink.old text.old [] sink.new text.new) }
     ensures room { OnOk result (length text.new + LINE_SIZE ≤ TEXT_SIZE) }
 {
     if has_room(text) {
@@ -117,45 +117,45 @@ fn make_room<K: Sink>(sink: &mut K, text: &mut Text) -> Result<(), RecordFault>
 fn add_line<M: UserBytes, K: Sink>(
     sink: &mut K,
     text: &mut Text,
-    found: &Found,
-    alone: &Alone<M>,
+    found: &PreState,
+    machine: &SingleUserMachine<M>,
 ) -> Result<(), RecordFault>
     ensures { OnOk result ((instr : Instr) (word : ℕ) (s : HartState)
         → Finds word (Some instr) s.scalar s.vector found.now
-        → Retires instr s.vector alone.now.vectors.seat.state.conf.vl → Gathered K.took sink.old text.old
-        (line_text (instruction_line instr word s alone.now.scalar alone.now.vectors.seat.state)) sink.new text.new) }
+        → Retires instr s.vector machine.now.vectors.seat.state.conf.vl → Gathered K.took sink.old text.old
+        (line_text (instruction_line instr word s machine.now.scalar machine.now.vectors.seat.state)) sink.new text.new) }
 {
     make_room(sink, text)?;
-    push_line(text, found, &alone.scalar, &alone.vectors.seat.state);
+    push_line(text, found, &machine.scalar, &machine.vectors.seat.state);
     Ok(())
 }
 
 /// Save the state before an instruction.
 #[inline(always)]
-fn note_found<M: UserBytes>(found: &mut Found, alone: &Alone<M>)
-    ensures { can_access Fetch (M.memory alone.now.memory) alone.now.scalar.pc 4 ≡ true
-        → Finds (word_of (state_of M.memory alone.now)) (scan table (word_of (state_of M.memory alone.now)))
-        alone.now.scalar alone.now.vectors.seat.state found.new }
+fn capture_pre_state<M: UserBytes>(found: &mut PreState, machine: &SingleUserMachine<M>)
+    ensures { can_access Fetch (M.memory machine.now.memory) machine.now.scalar.pc 4 ≡ true
+        → Finds (word_of (state_of M.memory machine.now)) (scan table (word_of (state_of M.memory machine.now)))
+        machine.now.scalar machine.now.vectors.seat.state found.new }
 {
-    let word = word_at(&alone.memory, alone.scalar.pc);
-    found.note(
+    let word = word_at(&machine.memory, machine.scalar.pc);
+    found.capture(
         word,
         &decode(word),
-        &alone.scalar,
-        &alone.vectors.seat.state,
+        &machine.scalar,
+        &machine.vectors.seat.state,
     );
 }
 
 /// Save the state before an instruction, if its number is in the window.
 #[inline(always)]
-fn note_instruction<M: UserBytes, K: Sink>(log: &mut Log<K>, alone: &Alone<M>)
-    ensures { IsNoted log.old (state_of M.memory alone.now) log.new }
+fn capture_instruction<M: UserBytes, K: Sink>(log: &mut Log<K>, machine: &SingleUserMachine<M>)
+    ensures { IsNoted log.old (state_of M.memory machine.now) log.new }
 {
     log.number = log.number.wrapping_add(1);
     if !log.window.contains(log.number) {
         return;
     }
-    note_found(&mut log.found, alone);
+    capture_pre_state(&mut log.found, machine);
 }
 
 /// Return whether an instruction with this end and number has a line: it completed, and is in the window.
@@ -168,19 +168,19 @@ fn has_line(end: StepEnd, window: Window, number: u64) -> bool
 
 /// Append the line of the instruction whose state was saved, if it completed and its number is in the window.
 #[inline(always)]
-fn keep_instruction<M: UserBytes, K: Sink>(
+fn log_instruction<M: UserBytes, K: Sink>(
     log: &mut Log<K>,
-    alone: &Alone<M>,
+    machine: &SingleUserMachine<M>,
     end: StepEnd,
 ) -> Result<(), RecordFault>
     ensures { OnOk result ((before : Log K) (found : HartState) (ticks : ℕ) → IsNoted before found log.old
-        → step 256 found ≡ ends_after ticks end (state_of M.memory alone.now)
+        → step 256 found ≡ ends_after ticks end (state_of M.memory machine.now)
         → IsLogged K.took before (found ∷ []) log.new) }
 {
     if !has_line(end, log.window, log.number) {
         return Ok(());
     }
-    add_line(&mut log.sink, &mut log.text, &log.found, alone)
+    add_line(&mut log.sink, &mut log.text, &log.found, machine)
 }
 
 impl<M: UserBytes, K: Sink> Recorder<M> for Log<K> {
@@ -189,17 +189,22 @@ impl<M: UserBytes, K: Sink> Recorder<M> for Log<K> {
 
     ghost recorded = { IsLogged K.took };
 
-    ghost noted = { IsNoted };
+    ghost prepared = { IsNoted };
 
     #[inline(always)]
-    fn note(&mut self, alone: &Alone<M>) -> Result<(), RecordFault> {
-        note_instruction(self, alone);
+    fn before_step(&mut self, machine: &SingleUserMachine<M>) -> Result<(), RecordFault> {
+        capture_instruction(self, machine);
         Ok(())
     }
 
     #[inline(always)]
-    fn keep(&mut self, alone: &Alone<M>, end: StepEnd, _ticks: usize) -> Result<(), RecordFault> {
-        keep_instruction(self, alone, end)
+    fn after_step(
+        &mut self,
+        machine: &SingleUserMachine<M>,
+        end: StepEnd,
+        _ticks: usize,
+    ) -> Result<(), RecordFault> {
+        log_instruction(self, machine, end)
     }
 
     ghost recorded_none = { none_logged K.took K.took_none };

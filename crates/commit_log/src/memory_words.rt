@@ -4,12 +4,12 @@ ghost use Rattle.std.specs.Int.{byte_len};
 ghost use Rattle.rv_model.specs.scalar.LoadsAndStores.{store_width};
 ghost use Rattle.rv_model.specs.step.Hart.{HartState};
 ghost use Rattle.commit_log.specs.Finds.{Finds, Retires};
-ghost use Rattle.commit_log.specs.Lines.{told_moved};
+ghost use Rattle.commit_log.specs.Lines.{printed_moved};
 ghost use Rattle.commit_log.specs.LineTexts.{moved_text};
 
-use crate::found::Found;
 use crate::moves::push_moves;
 use crate::numbers::{push_hex16, push_reversed};
+use crate::pre_state::PreState;
 use crate::text::{TEXT_SIZE, Text};
 use rv_model::instructions::operations::StoreOp;
 use rv_model::{Instr, ScalarInstr};
@@ -30,10 +30,10 @@ fn store_bytes(op: StoreOp) -> usize
 
 /// Append the elements that an instruction moved, from the state before it and the vector length after it.
 #[inline(always)]
-pub(crate) fn push_memory(text: &mut Text, found: &Found, instr: &Instr, vl: u16)
+pub(crate) fn push_memory(text: &mut Text, found: &PreState, instr: &Instr, vl: u16)
     requires room { length text.old + 86057 ≤ TEXT_SIZE }
     ensures text { (word : ℕ) (s : HartState) → Finds word (Some instr.now) s.scalar s.vector found.now
-        → Retires instr.now s.vector vl → text.new ≡ text.old ++ flat_map moved_text (told_moved instr.now s vl) }
+        → Retires instr.now s.vector vl → text.new ≡ text.old ++ flat_map moved_text (printed_moved instr.now s vl) }
     ensures bound { length text.new ≤ length text.old + 86057 }
 {
     match instr {

@@ -7,7 +7,7 @@ use Rattle.rv_model.specs.memory.Memory.{Memory}
 use Rattle.rv_model.specs.step.Hart.{hart_state}
 use Rattle.rv_model.specs.text.Lines.{pieces}
 use Rattle.rv_model.specs.vector.Groups.{Configuration}
-use Rattle.recording.specs.declared.alone.Alone.{Alone}
+use Rattle.recording.specs.declared.machine.SingleUserMachine.{SingleUserMachine}
 use Rattle.recording.specs.Machines.{state_of}
 use Rattle.first_state.specs.declared.fault.RegistersFault.{RegistersFault}
 use Rattle.first_state.specs.declared.fault.RegistersFault.TheVariants as fault
@@ -36,18 +36,18 @@ laid_all number lines s none = ap (λ (ls : List (List ℕ)). laid number ls s) 
 -- ---- all lines, and the vector length and type after them
 
 -- with the machine's own length and type, `state_with` is the state of the machine
-pub own_lengths : {M : Type 0} (memory : M → Memory) (alone : Alone M) (lengths : Lengths) → lengths.vl ≡ alone.vectors.seat.state.conf.vl
-    → lengths.vtype ≡ alone.vectors.seat.state.conf.vtype → state_of memory alone ≡ state_with memory alone lengths
-own_lengths memory alone lengths vl vtype =
-    sym (ap (λ (l : ℕ). state_with memory alone (record { vl = l; vtype = lengths.vtype })) vl
-    ∙ ap (λ (t : Option VType). state_with memory alone (record { vl = alone.vectors.seat.state.conf.vl; vtype = t })) vtype)
+pub own_lengths : {M : Type 0} (memory : M → Memory) (machine : SingleUserMachine M) (lengths : Lengths) → lengths.vl ≡ machine.vectors.seat.state.conf.vl
+    → lengths.vtype ≡ machine.vectors.seat.state.conf.vtype → state_of memory machine ≡ state_with memory machine lengths
+own_lengths memory machine lengths vl vtype =
+    sym (ap (λ (l : ℕ). state_with memory machine (record { vl = l; vtype = lengths.vtype })) vl
+    ∙ ap (λ (t : Option VType). state_with memory machine (record { vl = machine.vectors.seat.state.conf.vl; vtype = t })) vtype)
 
 -- `state_with` is the state of the machine with the configuration of these lengths
-pub lengths_laid : {M : Type 0} (memory : M → Memory) (alone : Alone M) (lengths : Lengths) (conf : Configuration)
+pub lengths_laid : {M : Type 0} (memory : M → Memory) (machine : SingleUserMachine M) (lengths : Lengths) (conf : Configuration)
     → conf ≡ record { vl = lengths.vl; vtype = lengths.vtype }
-    → state_with memory alone lengths ≡ hart_state alone.scalar (record alone.vectors.seat.state { conf = conf }) (memory alone.memory) alone.policy alone.output.items
-lengths_laid memory alone lengths conf is =
-    ap (λ (c : Configuration). hart_state alone.scalar (record alone.vectors.seat.state { conf = c }) (memory alone.memory) alone.policy alone.output.items) (sym is)
+    → state_with memory machine lengths ≡ hart_state machine.scalar (record machine.vectors.seat.state { conf = conf }) (memory machine.memory) machine.policy machine.output.items
+lengths_laid memory machine lengths conf is =
+    ap (λ (c : Configuration). hart_state machine.scalar (record machine.vectors.seat.state { conf = c }) (memory machine.memory) machine.policy machine.output.items) (sym is)
 
 -- a state, or a fault if its length isn't valid for its type
 abbrev the_choice : Bool → HartState → Result HartState RegistersFault

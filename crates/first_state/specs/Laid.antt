@@ -6,7 +6,7 @@ use Rattle.rv_model.specs.text.Lines.{pieces}
 use Rattle.rv_model.specs.vector.Groups.{Configuration, lmul_eighths, sew_bits, vlmax, with_register_bytes}
 use Rattle.rv_model.specs.declared.vector.types.VType.{VType}
 use Rattle.rv_model.specs.declared.vector.state.VState.{VState}
-use Rattle.recording.specs.declared.alone.Alone.{Alone}
+use Rattle.recording.specs.declared.machine.SingleUserMachine.{SingleUserMachine}
 use Rattle.rv_model.specs.memory.Memory.{Memory}
 use Rattle.first_state.specs.Lines.{Setting, line_setting}
 use Rattle.first_state.specs.declared.fault.RegistersFault.{RegistersFault}
@@ -60,6 +60,6 @@ with_registers text s = configured (laid 1 (pieces text) s)
 -- ---- states between lines
 
 -- the state of a machine, with this vector length and type in place of its own
-abbrev pub state_with : {M : Type 0} → (M → Memory) → Alone M → Lengths → HartState
-state_with memory alone lengths =
-    hart_state alone.scalar (record alone.vectors.seat.state { conf = record { vl = lengths.vl; vtype = lengths.vtype } }) (memory alone.memory) alone.policy alone.output.items
+abbrev pub state_with : {M : Type 0} → (M → Memory) → SingleUserMachine M → Lengths → HartState
+state_with memory machine lengths =
+    hart_state machine.scalar (record machine.vectors.seat.state { conf = record { vl = lengths.vl; vtype = lengths.vtype } }) (memory machine.memory) machine.policy machine.output.items

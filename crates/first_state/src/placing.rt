@@ -10,7 +10,7 @@ ghost use Rattle.first_state.specs.Placed.{in_memory, placed, with_byte, with_pa
 
 use crate::fault::PlaceFault;
 use crate::own_bytes::{OwnBytes, own_memory_law, own_user};
-use recording::Alone;
+use recording::SingleUserMachine;
 use rv_model::{ADDRESS_END, Access, PAGE_SIZE, Permissions};
 use std::alloc::Allocator;
 
@@ -77,20 +77,20 @@ fn place_byte<A: Allocator>(
 /// Return `Range` if a byte's address isn't below `ADDRESS_END`, and `Quota` if more than `PAGE_QUOTA` pages would be mapped, whichever
 /// occurs first. The bytes before that one are then already placed.
 pub fn place_bytes<A: Allocator>(
-    alone: &mut Alone<OwnBytes<A>>,
+    machine: &mut SingleUserMachine<OwnBytes<A>>,
     addr: u64,
     permissions: Permissions,
     bytes: &[u8],
 ) -> Result<(), PlaceFault>
     ensures placed { MatchResult result
-        (λ _. placed permissions addr bytes.now (own_memory alone.old.memory) ≡ Ok (own_memory alone.new.memory))
-        (λ fault. placed permissions addr bytes.now (own_memory alone.old.memory) ≡ Err fault) }
-    ensures others { state_of own_memory alone.new
-        ≡ in_memory (state_of own_memory alone.old) (own_memory alone.new.memory) }
+        (λ _. placed permissions addr bytes.now (own_memory machine.old.memory) ≡ Ok (own_memory machine.new.memory))
+        (λ fault. placed permissions addr bytes.now (own_memory machine.old.memory) ≡ Err fault) }
+    ensures others { state_of own_memory machine.new
+        ≡ in_memory (state_of own_memory machine.old) (own_memory machine.new.memory) }
 {
     let mut at = addr;
     for byte in bytes {
-        if let Err(fault) = place_byte(&mut alone.memory, at, permissions, *byte) {
+        if let Err(fault) = place_byte(&mut machine.memory, at, permissions, *byte) {
             return Err(fault);
         }
         at += 1;

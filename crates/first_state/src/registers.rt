@@ -10,7 +10,7 @@ ghost use Rattle.first_state.specs.Lines.{line_setting};
 use crate::fault::RegistersFault;
 use crate::laying::{Lengths, lay};
 use crate::lines::line_setting;
-use recording::Alone;
+use recording::SingleUserMachine;
 use rv_model::VConf;
 use vector_memory::UserBytes;
 
@@ -35,15 +35,19 @@ fn cut(text: &[u8]) -> (&[u8], Option<&[u8]>)
 }
 
 /// Set the register of a line. Return whether the line is valid; an invalid line changes nothing.
-fn lay_line<M: UserBytes>(alone: &mut Alone<M>, lengths: &mut Lengths, line: &[u8]) -> bool
+fn lay_line<M: UserBytes>(
+    machine: &mut SingleUserMachine<M>,
+    lengths: &mut Lengths,
+    line: &[u8],
+) -> bool
     ensures laid { (number : ℕ) (others : HartState → Result HartState ℕ)
-        → after_line number (line_setting line.now) (state_with M.memory alone.old lengths.old) others
-        ≡ if result then others (state_with M.memory alone.new lengths.new) else Err number }
-    ensures memory { alone.new.memory ≡ alone.old.memory }
+        → after_line number (line_setting line.now) (state_with M.memory machine.old lengths.old) others
+        ≡ if result then others (state_with M.memory machine.new lengths.new) else Err number }
+    ensures memory { machine.new.memory ≡ machine.old.memory }
 {
     match line_setting(line) {
         Some(Some(setting)) => {
-            lay(alone, lengths, &setting);
+            lay(machine, lengths, &setting);
             true
         }
         Some(None) => true,
@@ -54,20 +58,20 @@ fn lay_line<M: UserBytes>(alone: &mut Alone<M>, lengths: &mut Lengths, line: &[u
 /// Set the registers of the lines of a text, in order. Return the number, counted from 1, of the first line that doesn't set a register to
 /// a valid value.
 fn lay_lines<M: UserBytes>(
-    alone: &mut Alone<M>,
+    machine: &mut SingleUserMachine<M>,
     lengths: &mut Lengths,
     text: &[u8],
 ) -> Result<(), usize>
     ensures laid { MatchResult result
-        (λ _. laid 1 (pieces text.now) (state_with M.memory alone.old lengths.old) ≡ Ok (state_with M.memory alone.new lengths.new))
-        (λ number. laid 1 (pieces text.now) (state_with M.memory alone.old lengths.old) ≡ Err number) }
-    ensures memory { alone.new.memory ≡ alone.old.memory }
+        (λ _. laid 1 (pieces text.now) (state_with M.memory machine.old lengths.old) ≡ Ok (state_with M.memory machine.new lengths.new))
+        (λ number. laid 1 (pieces text.now) (state_with M.memory machine.old lengths.old) ≡ Err number) }
+    ensures memory { machine.new.memory ≡ machine.old.memory }
 {
     let mut rest = Some(text);
     let mut number = 1;
     while let Some(lines) = rest {
         let (line, others) = cut(lines);
-        if !lay_line(alone, lengths, line) {
+        if !lay_line(machine, lengths, line) {
             return Err(number);
         }
         number += 1;
@@ -107,23 +111,26 @@ fn configuration(lengths: Lengths) -> Option<VConf>
 /// Return `Line` with the number, counted from 1, of the first line of another form or with a value that the register can't hold. Otherwise
 /// return `Length` if no vset instruction can leave the final length with the final type. After an error, the registers that lines name
 /// have unspecified values.
-pub fn lay_registers<M: UserBytes>(alone: &mut Alone<M>, text: &[u8]) -> Result<(), RegistersFault>
+pub fn lay_registers<M: UserBytes>(
+    machine: &mut SingleUserMachine<M>,
+    text: &[u8],
+) -> Result<(), RegistersFault>
     ensures laid { MatchResult result
-        (λ _. with_registers text.now (state_of M.memory alone.old) ≡ Ok (state_of M.memory alone.new))
-        (λ fault. with_registers text.now (state_of M.memory alone.old) ≡ Err fault) }
-    ensures memory { alone.new.memory ≡ alone.old.memory }
+        (λ _. with_registers text.now (state_of M.memory machine.old) ≡ Ok (state_of M.memory machine.new))
+        (λ fault. with_registers text.now (state_of M.memory machine.old) ≡ Err fault) }
+    ensures memory { machine.new.memory ≡ machine.old.memory }
 {
-    let conf = alone.vectors.seat.state.conf;
+    let conf = machine.vectors.seat.state.conf;
     let mut lengths = Lengths {
         vl: conf.vl(),
         vtype: conf.vtype(),
     };
-    if let Err(number) = lay_lines(alone, &mut lengths, text) {
+    if let Err(number) = lay_lines(machine, &mut lengths, text) {
         return Err(RegistersFault::Line(number));
     }
     let Some(conf) = configuration(lengths) else {
         return Err(RegistersFault::Length);
     };
-    alone.vectors.seat.state.conf = conf;
+    machine.vectors.seat.state.conf = conf;
     Ok(())
 }

@@ -10,7 +10,7 @@ use crate::fault::LoadFault;
 use crate::own_bytes::{OwnBytes, own_memory_law, own_user};
 use arrayvec::ArrayVec;
 use elf_load::{check, place};
-use recording::{Alone, OneSeat};
+use recording::{SingleSlot, SingleUserMachine};
 use rv_model::{Policy, Reg, Scalar, Seat, VState};
 use std::alloc::Allocator;
 use user_mem::NoMemory;
@@ -22,10 +22,10 @@ const STACK_POINTER: u32 = 2;
 const STACK_TOP: u64 = 0x7fff_efc0;
 
 /// Return a vector state that hasn't been used.
-fn new_seat() -> OneSeat
+fn new_seat() -> SingleSlot
     ensures { result.seat.state ≡ initial_vector }
 {
-    OneSeat {
+    SingleSlot {
         seat: Seat {
             state: VState::new(),
             dirty: false,
@@ -34,11 +34,14 @@ fn new_seat() -> OneSeat
 }
 
 /// Create the machine of a user who has just entered: no memory, and all registers 0. Return `NoMemory` if the allocation fails.
-pub fn enter<A: Allocator>(alloc: A, policy: Policy) -> Result<Alone<OwnBytes<A>>, NoMemory>
-    ensures { IfOk result (λ alone. state_of own_memory alone ≡ entered policy) }
+pub fn enter<A: Allocator>(
+    alloc: A,
+    policy: Policy,
+) -> Result<SingleUserMachine<OwnBytes<A>>, NoMemory>
+    ensures { IfOk result (λ machine. state_of own_memory machine ≡ entered policy) }
 {
     let memory = OwnBytes::new(alloc)?;
-    Ok(Alone {
+    Ok(SingleUserMachine {
         scalar: Scalar::new(),
         memory,
         vectors: new_seat(),
@@ -61,23 +64,26 @@ fn first_registers(entry: u64) -> Scalar
 /// Restart the machine with the memory of an image, as the monitor's `load` does; the policy is unchanged. If the image is refused, nothing
 /// changes.
 #[tactic(auto, using(crate::specs::Replaced::own_memory_there))]
-pub fn load<A: Allocator>(alone: &mut Alone<OwnBytes<A>>, image: &[u8]) -> Result<(), LoadFault>
+pub fn load<A: Allocator>(
+    machine: &mut SingleUserMachine<OwnBytes<A>>,
+    image: &[u8],
+) -> Result<(), LoadFault>
     ensures accepted { IsOk result ↔ (load_fault image.now ≡ None) }
     ensures refused { IfErr result (λ fault. load_fault image.now ≡ Some fault) }
-    ensures ok { OnOk result (state_of own_memory alone.new ≡ loaded image.now alone.old.policy) }
-    ensures policy { alone.new.policy ≡ alone.old.policy }
-    ensures err { OnErr result (state_of own_memory alone.new ≡ state_of own_memory alone.old) }
+    ensures ok { OnOk result (state_of own_memory machine.new ≡ loaded image.now machine.old.policy) }
+    ensures policy { machine.new.policy ≡ machine.old.policy }
+    ensures err { OnErr result (state_of own_memory machine.new ≡ state_of own_memory machine.old) }
 {
-    own_memory_law(&alone.memory);
+    own_memory_law(&machine.memory);
     let plan = match check(image) {
         Ok(plan) => plan,
         Err(fault) => return Err(LoadFault::Elf(fault)),
     };
-    let Ok(entry) = place(&plan, own_user(), &mut alone.memory.pool) else {
+    let Ok(entry) = place(&plan, own_user(), &mut machine.memory.pool) else {
         return Err(LoadFault::Quota);
     };
-    alone.scalar = first_registers(entry);
-    alone.vectors = new_seat();
-    alone.output.clear();
+    machine.scalar = first_registers(entry);
+    machine.vectors = new_seat();
+    machine.output.clear();
     Ok(())
 }

@@ -1,4 +1,4 @@
--- The changes of one instruction, as `keep` records them.
+-- The changes of one instruction, as `after_step` records them.
 use Rattle.std.proofs.Common.{◌≡◌, ◌∙◌, ◌+◌, ◌%◌, ◌^◌, ◌∷◌, [], ℕ, List, ap, append-nil, flat_map, subst, sym}
 use Rattle.rv_model.specs.declared.step.step_end.StepEnd.{StepEnd}
 use Rattle.rv_model.specs.memory.Memory.{Memory}
@@ -13,20 +13,20 @@ pub kept : {K A : Type 0} (took : K → List ℕ → K → Type 0) (before old n
     → ((m : Memory) → old.before.items ≡ flat_map (held m) old.places.items → took old.sink (changes_at new.number new.ticks old.pc m next.memory old.places.items) new.sink)
     → IsRecorded took before (s ∷ []) new
 unfolding changes_from number_after ticks_after
-kept took before old new s next end ticks noted made places number spent lines =
+kept took before old new s next end ticks prepared made places number spent lines =
     let u : new.ticks ≡ ticks_more before.ticks s =
-    spent ∙ (ap (λ (t : ℕ). (t + ticks) % 2 ^ 64) noted.ticks ∙ ap (λ (o : Stepped). (before.ticks + o.ticks) % 2 ^ 64) (sym made)) in
-    let n : new.number ≡ one_more before.number = number ∙ ap one_more noted.number in
+    spent ∙ (ap (λ (t : ℕ). (t + ticks) % 2 ^ 64) prepared.ticks ∙ ap (λ (o : Stepped). (before.ticks + o.ticks) % 2 ^ 64) (sym made)) in
+    let n : new.number ≡ one_more before.number = number ∙ ap one_more prepared.number in
     let line : changes_at new.number new.ticks old.pc s.memory next.memory old.places.items ≡ changes_from before.places.items before.number before.ticks (s ∷ []) =
-    rw (n, u, noted.pc, noted.places)
+    rw (n, u, prepared.pc, prepared.places)
     (ap (λ (o : Stepped). changes_at (one_more before.number) (ticks_more before.ticks s) s.scalar.pc s.memory o.state.memory before.places.items) (sym made)
     ∙ sym (append-nil (changes_by before.places.items (one_more before.number) (ticks_more before.ticks s) s))) in
     record {
-      places = places ∙ noted.places;
+      places = places ∙ prepared.places;
       number = n;
       ticks = u;
       lines = subst (λ (l : List ℕ). took before.sink l new.sink) line
-          (subst (λ sink. took sink (changes_at new.number new.ticks old.pc s.memory next.memory old.places.items) new.sink) noted.sink (lines s.memory noted.bytes));
+          (subst (λ sink. took sink (changes_at new.number new.ticks old.pc s.memory next.memory old.places.items) new.sink) prepared.sink (lines s.memory prepared.bytes));
     }
 
 -- a property of two slices holds for the lists that they borrow from

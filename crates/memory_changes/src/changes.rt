@@ -5,7 +5,7 @@ use crate::lines::{Moment, write_changes};
 use crate::place::{MAX_LENGTH, Place};
 use crate::reading::read_places;
 use devices::Sink;
-use recording::{Alone, RecordFault, Recorder};
+use recording::{RecordFault, Recorder, SingleUserMachine};
 use rv_model::StepEnd;
 use std::alloc::{AllocError, Allocator, Global};
 use vector_memory::UserBytes;
@@ -48,17 +48,22 @@ impl<M: UserBytes, K: Sink, A: Allocator> Recorder<M> for Changes<K, A> {
 
     ghost recorded = { IsRecorded K.took };
 
-    ghost noted = { IsNoted };
+    ghost prepared = { IsNoted };
 
     #[inline(always)]
-    fn note(&mut self, alone: &Alone<M>) -> Result<(), RecordFault> {
-        self.pc = alone.scalar.pc;
+    fn before_step(&mut self, machine: &SingleUserMachine<M>) -> Result<(), RecordFault> {
+        self.pc = machine.scalar.pc;
         let places = self.places.as_slice();
-        read_places(&alone.memory, places, &mut self.before)
+        read_places(&machine.memory, places, &mut self.before)
     }
 
     #[inline(always)]
-    fn keep(&mut self, alone: &Alone<M>, _end: StepEnd, ticks: usize) -> Result<(), RecordFault> {
+    fn after_step(
+        &mut self,
+        machine: &SingleUserMachine<M>,
+        _end: StepEnd,
+        ticks: usize,
+    ) -> Result<(), RecordFault> {
         self.number = self.number.wrapping_add(1);
         self.ticks = self.ticks.wrapping_add(ticks as u64);
         let moment = Moment {
@@ -68,7 +73,7 @@ impl<M: UserBytes, K: Sink, A: Allocator> Recorder<M> for Changes<K, A> {
         };
         let places = self.places.as_slice();
         let before = self.before.as_slice();
-        write_changes(&mut self.sink, &alone.memory, &moment, places, before)
+        write_changes(&mut self.sink, &machine.memory, &moment, places, before)
     }
 
     ghost recorded_none = { none_changed K.took K.took_none };

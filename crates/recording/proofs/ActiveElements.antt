@@ -8,7 +8,7 @@ use Rattle.rv_model.specs.elements.Elements.{Body, in_range, is_active, mask_bit
 use Rattle.rv_model.specs.elements.Masks.{set_count}
 use Rattle.rv_model.proofs.element_lemmas.Ranges.{count_more}
 use Rattle.recording.specs.Classes.{active_count}
-use Rattle.recording.specs.Runs.{carried_out}
+use Rattle.recording.specs.Runs.{execution_counts}
 use Rattle.recording.specs.Sums.{Sums}
 
 -- ---- with a mask
@@ -51,7 +51,7 @@ all_are_active mask start end = below_active mask start end end (let here : end 
 -- ---- without elements
 
 pub no_elements : (mask : List ℕ) (start ticks : ℕ)
-    → carried_out ticks (record { unmasked = true; mask = mask; start = start; end = 0 }) 0 ≡ record { times = 1; ticks = ticks; active = 0; masked = 0; tail = 0 }
+    → execution_counts ticks (record { unmasked = true; mask = mask; start = start; end = 0 }) 0 ≡ record { times = 1; ticks = ticks; active = 0; masked = 0; tail = 0 }
 no_elements mask start ticks =
     let none : 0 - start - 0 ≡ 0 = omega arith in
     ap (λ (n : ℕ). let made : Sums = record { times = 1; ticks = ticks; active = 0; masked = n; tail = 0 } in made) none

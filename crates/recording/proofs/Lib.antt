@@ -1,5 +1,5 @@
 pub mod ActiveElements
-pub mod AsSteps
+pub mod RunsEqualSteps
 pub mod Bodies
 pub mod Counted
 pub mod Lengths

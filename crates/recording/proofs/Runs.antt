@@ -7,7 +7,7 @@ use Rattle.rv_model.specs.machine.UserMachine.{stop_of}
 use Rattle.rv_model.specs.step.Hart.{HartState, Stepped, ends_after}
 use Rattle.rv_model.specs.step.Step.{step}
 use Rattle.recording.specs.Machines.{Advances, taken}
-use Rattle.recording.specs.Runs.{Run, TakesFirst, begins, put_out, run, stays}
+use Rattle.recording.specs.Runs.{Run, TakesFirst, begins, output_of, run, stays}
 
 -- ---- no instruction is executed without fuel or ticks
 
@@ -90,29 +90,29 @@ module _ {R : Type 0} (Recorded : R → List HartState → R → Type 0) (all re
   pub all_recorded : Recorded old all.found new
   all_recorded = subst (λ (l : List HartState). Recorded old l new) all_seen so_far.recorded
 
-  pub all_put_out : flat_map put_out seen ≡ flat_map put_out all.found
-  all_put_out = ap (λ (l : List HartState). flat_map put_out l) all_seen
+  pub all_put_out : flat_map output_of seen ≡ flat_map output_of all.found
+  all_put_out = ap (λ (l : List HartState). flat_map output_of l) all_seen
 
 -- the output with one more instruction
-pub more_put_out : (seen : List HartState) (s : HartState) → flat_map put_out seen ++ put_out s ≡ flat_map put_out (seen ++ s ∷ [])
+pub more_put_out : (seen : List HartState) (s : HartState) → flat_map output_of seen ++ output_of s ≡ flat_map output_of (seen ++ s ∷ [])
 more_put_out seen s =
-    ap (λ (l : List ℕ). flat_map put_out seen ++ l) (sym (append-nil (put_out s))) ∙ sym (flat_map-append put_out seen (s ∷ []))
+    ap (λ (l : List ℕ). flat_map output_of seen ++ l) (sym (append-nil (output_of s))) ∙ sym (flat_map-append output_of seen (s ∷ []))
 
 -- a sink that took the output of the instructions so far and a first part of the next one's output took a first part of the run's
 -- output
 pub first_put_out : {D : Type 0} (Took : D → List ℕ → D → Type 0) → ((a b c : D) (xs ys : List ℕ) → Took a xs b → Took b ys c → Took a (xs ++ ys) c)
-    → (seen rest all : List HartState) (s : HartState) (a b c : D) → seen ++ s ∷ rest ≡ all → Took a (flat_map put_out seen) b → TakesFirst Took b (put_out s) c
-    → TakesFirst Took a (flat_map put_out all) c
+    → (seen rest all : List HartState) (s : HartState) (a b c : D) → seen ++ s ∷ rest ≡ all → Took a (flat_map output_of seen) b → TakesFirst Took b (output_of s) c
+    → TakesFirst Took a (flat_map output_of all) c
 first_put_out Took took_more seen rest all s a b c is before part =
-    let xs : List ℕ = flat_map put_out seen in
-    let zs : List ℕ = flat_map put_out rest in
+    let xs : List ℕ = flat_map output_of seen in
+    let zs : List ℕ = flat_map output_of rest in
     record {
       first = xs ++ part.first;
       rest = part.rest ++ zs;
       are_first = append_assoc xs part.first (part.rest ++ zs)
           ∙ ap (λ (l : List ℕ). xs ++ l) (sym (append_assoc part.first part.rest zs) ∙ ap (λ (l : List ℕ). l ++ zs) part.are_first)
-          ∙ sym (flat_map-append put_out seen (s ∷ rest))
-          ∙ ap (λ (l : List HartState). flat_map put_out l) is;
+          ∙ sym (flat_map-append output_of seen (s ∷ rest))
+          ∙ ap (λ (l : List HartState). flat_map output_of l) is;
       took = took_more a b c xs part.first before part.took;
     }
 

@@ -12,15 +12,15 @@ use Rattle.rv_model.specs.step.WriteCall.{output_size, write_size}
 use Rattle.rv_model.specs.vector.Groups.{register_of}
 use Rattle.recording.specs.Classes.{access_class, body, is_plain, operation_class}
 use Rattle.recording.specs.Machines.{taken}
-use Rattle.recording.specs.Runs.{put_out, ran}
+use Rattle.recording.specs.Runs.{output_of, ran}
 
 -- Without breakpoints, a run leaves the same state as the same number of steps of the monitor, with all its output in the buffer. The
 -- law assumes that the buffer has room for this output and one more write of the largest size.
 abbrev pub RunsAsSteps : Type 0
 RunsAsSteps = (ticks : ℕ) (skip_once : Bool) (p : Present) → p.breakpoints ≡ []
-    → length (p.hart.output ++ flat_map put_out (ran ticks (taken p.hart)).found) + write_size ≤ output_size
+    → length (p.hart.output ++ flat_map output_of (ran ticks (taken p.hart)).found) + write_size ≤ output_size
     → (steps (length (ran ticks (taken p.hart)).found) skip_once p).state.hart
-    ≡ record (ran ticks (taken p.hart)).state { output = p.hart.output ++ flat_map put_out (ran ticks (taken p.hart)).found }
+    ≡ record (ran ticks (taken p.hart)).state { output = p.hart.output ++ flat_map output_of (ran ticks (taken p.hart)).found }
 
 -- The counted body of a load or store is the body of its access, which defines the elements that it moves.
 abbrev pub AccessBody : Type 0

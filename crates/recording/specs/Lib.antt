@@ -1,6 +1,6 @@
 pub mod Classes
 pub mod CountLaws
-pub mod Found
+pub mod PreState
 pub mod Laws
 pub mod Machines
 pub mod Runs

@@ -48,8 +48,8 @@ abbrev pub ran : ℕ → HartState → Run
 ran ticks s = run ticks ticks s
 
 -- the output of the instruction executed from a state
-abbrev pub put_out : HartState → List ℕ
-put_out s = (step 256 s).state.output
+abbrev pub output_of : HartState → List ℕ
+output_of s = (step 256 s).state.output
 
 -- The sink took the first of these bytes, and no others.
 pub record TakesFirst {K : Type 0} (Took : K → List ℕ → K → Type 0) (old : K) (bytes : List ℕ) (new : K) : Type 0 where
@@ -61,8 +61,8 @@ pub record TakesFirst {K : Type 0} (Took : K → List ℕ → K → Type 0) (old
 -- ---- the counts of an instruction
 
 -- the counts of one execution: its ticks, the active elements of its body, the other elements of its body, and the elements of its tail
-abbrev pub carried_out : ℕ → Body → ℕ → Sums
-carried_out ticks b end =
+abbrev pub execution_counts : ℕ → Body → ℕ → Sums
+execution_counts ticks b end =
     record {
       times = 1;
       ticks = ticks;
@@ -104,7 +104,7 @@ share s =
     let one = step 256 s in
     let k = class_of (scan table (word_of s)) in
     let c = one.state.vector.conf in
-    counted one.end (Word s.scalar.pc (word_of s)) (carried_out one.ticks (body k (register_of s.vector.file 0) s.vector.vstart c) (tail_end k s.vector.vstart c))
+    counted one.end (Word s.scalar.pc (word_of s)) (execution_counts one.ticks (body k (register_of s.vector.file 0) s.vector.vstart c) (tail_end k s.vector.vstart c))
     (second_key k s.vector.conf s.scalar.pc one.state.scalar.pc)
 
 -- the sum of counts over the instructions executed from these states

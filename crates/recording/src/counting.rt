@@ -8,7 +8,7 @@ ghost use Rattle.recording.specs.Sums.{HasMore};
 
 use crate::class::Class;
 use crate::fault::TableFull;
-use crate::found::Found;
+use crate::pre_state::PreState;
 use crate::table::Table;
 use hart::fetch;
 use rv_model::StepEnd;
@@ -40,7 +40,7 @@ pub fn is_counted(end: StepEnd) -> bool
 pub(crate) fn count_second_key<A: Allocator>(
     table: &mut Table<A>,
     class: Class,
-    found: &Found,
+    found: &PreState,
     target: u64,
 ) -> Result<(), TableFull>
     ensures { OnOk result (HasMore (once_more (second_key class found.now.conf found.now.pc target))

@@ -1,11 +1,11 @@
 //! Counts of a run's instructions.
 ghost use Rattle.std.specs.Prelude.{◌≡◌, [], IfOk};
 
-use crate::alone::Alone;
 use crate::counting::{count_second_key, is_counted, word_at};
 use crate::elements::with_elements;
 use crate::fault::RecordFault;
-use crate::found::{Found, is_plain};
+use crate::machine::SingleUserMachine;
+use crate::pre_state::{PreState, is_plain};
 use crate::recorder::Recorder;
 use crate::sums::Sums;
 use crate::table::Table;
@@ -18,7 +18,7 @@ use vector_memory::UserBytes;
 pub struct Counts<A: Allocator = Global> {
     pub table: Table<A>,
     index: usize,
-    found: Found,
+    found: PreState,
 }
 
 impl<A: Allocator + Copy> Counts<A> {
@@ -29,35 +29,41 @@ impl<A: Allocator + Copy> Counts<A> {
         Ok(Counts {
             table: Table::new(alloc)?,
             index: 0,
-            found: Found::none(),
+            found: PreState::none(),
         })
     }
 }
 
 impl<M: UserBytes, A: Allocator> Recorder<M> for Counts<A> {
-    ghost use Rattle.recording.specs.Found.{IsRowFor};
+    ghost use Rattle.recording.specs.PreState.{IsRowFor};
     ghost use Rattle.recording.specs.Runs.{shares};
     ghost use Rattle.recording.specs.Sums.{HasMore, no_more};
     ghost use Rattle.recording.specs.CountLaws.{none_shared, more_shared};
 
     ghost recorded = { λ a states b. HasMore (shares states) a.table.rows.items b.table.rows.items };
 
-    ghost noted = { λ a state b. HasMore no_more a.table.rows.items b.table.rows.items
+    ghost prepared = { λ a state b. HasMore no_more a.table.rows.items b.table.rows.items
         × IsRowFor state b.index b.found b.table.rows.items };
 
     #[inline(always)]
-    fn note(&mut self, alone: &Alone<M>) -> Result<(), RecordFault> {
-        let pc = alone.scalar.pc;
-        let word = word_at(&alone.memory, pc);
+    fn before_step(&mut self, machine: &SingleUserMachine<M>) -> Result<(), RecordFault> {
+        let pc = machine.scalar.pc;
+        let word = word_at(&machine.memory, pc);
         let index = self.table.word_row(pc, word)?;
         let row = self.table.rows[index];
         self.index = index;
-        self.found.note(row.class, pc, &alone.vectors.seat.state);
+        self.found
+            .capture(row.class, pc, &machine.vectors.seat.state);
         Ok(())
     }
 
     #[inline(always)]
-    fn keep(&mut self, alone: &Alone<M>, end: StepEnd, ticks: usize) -> Result<(), RecordFault> {
+    fn after_step(
+        &mut self,
+        machine: &SingleUserMachine<M>,
+        end: StepEnd,
+        ticks: usize,
+    ) -> Result<(), RecordFault> {
         if !is_counted(end) {
             return Ok(());
         }
@@ -71,10 +77,10 @@ impl<M: UserBytes, A: Allocator> Recorder<M> for Counts<A> {
             return Ok(());
         }
         let found = &self.found;
-        let conf = alone.vectors.seat.state.conf;
+        let conf = machine.vectors.seat.state.conf;
         let sums = with_elements(row.class, found, conf, ticks);
         self.table.count_at(index, sums);
-        count_second_key(&mut self.table, row.class, found, alone.scalar.pc)?;
+        count_second_key(&mut self.table, row.class, found, machine.scalar.pc)?;
         Ok(())
     }
 

@@ -1,11 +1,11 @@
 //! Numbers of active, masked-off and tail elements of an instruction.
 ghost use Rattle.std.specs.Prelude.{◌≡◌, ◌≤◌, ◌-◌, ℕ, List, false, true};
 ghost use Rattle.recording.specs.Classes.{active_count, body, extent_end, extent_start, moved, most, tail_end};
-ghost use Rattle.recording.specs.Runs.{carried_out};
+ghost use Rattle.recording.specs.Runs.{execution_counts};
 ghost use Rattle.recording.specs.declared.class.Class.TheVariants.{Length, Other};
 
 use crate::class::{Class, Extent};
-use crate::found::Found;
+use crate::pre_state::PreState;
 use crate::sums::Sums;
 use lane_arith::Body;
 use mask_unit::count;
@@ -52,7 +52,7 @@ fn extent_bounds(extent: Extent, start: usize, conf: VConf) -> (usize, usize, us
 
 /// Return the number of active elements of a masked body.
 #[tactic(auto, using(crate::proofs::ActiveElements::set_are_active))]
-fn active_under(found: &Found, end: usize) -> usize
+fn active_under(found: &PreState, end: usize) -> usize
     requires { end ≤ GROUP_BYTES }
     ensures { result
         ≡ active_count (record { unmasked = false; mask = found.now.mask; start = found.now.start; end = end }) }
@@ -73,7 +73,7 @@ fn active_of_all(start: usize, end: usize) -> usize
 
 /// Return the number of active elements of a body from vstart on.
 #[inline(always)]
-fn active(unmasked: bool, found: &Found, end: usize) -> usize
+fn active(unmasked: bool, found: &PreState, end: usize) -> usize
     requires { end ≤ GROUP_BYTES }
     ensures { result
         ≡ active_count (record { unmasked = unmasked; mask = found.now.mask; start = found.now.start; end = end }) }
@@ -102,8 +102,8 @@ fn counted_once(ticks: usize, start: usize, end: usize, active: usize, tail_end:
 
 /// Return the counts of an instruction with a body from vstart to vl.
 #[inline(always)]
-fn with_length(unmasked: bool, found: &Found, conf: VConf, ticks: usize) -> Sums
-    ensures { result ≡ carried_out ticks (body (Length unmasked) found.now.mask found.now.start conf) (most conf) }
+fn with_length(unmasked: bool, found: &PreState, conf: VConf, ticks: usize) -> Sums
+    ensures { result ≡ execution_counts ticks (body (Length unmasked) found.now.mask found.now.start conf) (most conf) }
 {
     let end = usize::from(conf.vl());
     let active = active(unmasked, found, end);
@@ -112,8 +112,8 @@ fn with_length(unmasked: bool, found: &Found, conf: VConf, ticks: usize) -> Sums
 
 /// Return the counts of an instruction with another body.
 #[inline(always)]
-fn with_extent(extent: Extent, found: &Found, conf: VConf, ticks: usize) -> Sums
-    ensures { result ≡ carried_out ticks (body (Other extent) found.now.mask found.now.start conf)
+fn with_extent(extent: Extent, found: &PreState, conf: VConf, ticks: usize) -> Sums
+    ensures { result ≡ execution_counts ticks (body (Other extent) found.now.mask found.now.start conf)
         (tail_end (Other extent) found.now.start conf) }
 {
     let (start, end, tail_end) = extent_bounds(extent, found.start, conf);
@@ -124,8 +124,8 @@ fn with_extent(extent: Extent, found: &Found, conf: VConf, ticks: usize) -> Sums
 /// Return the counts of an instruction from its class, the state before it, the configuration after it, and its ticks.
 #[inline(always)]
 #[tactic(auto, using(crate::proofs::ActiveElements::no_elements))]
-pub(crate) fn with_elements(class: Class, found: &Found, conf: VConf, ticks: usize) -> Sums
-    ensures { result ≡ carried_out ticks (body class found.now.mask found.now.start conf)
+pub(crate) fn with_elements(class: Class, found: &PreState, conf: VConf, ticks: usize) -> Sums
+    ensures { result ≡ execution_counts ticks (body class found.now.mask found.now.start conf)
         (tail_end class found.now.start conf) }
 {
     match class {

@@ -1,18 +1,18 @@
 //! Runs of a machine of one user, recorded or not.
 #![tactic(auto)]
 
-mod alone;
-mod both;
-mod carried;
 mod class;
 mod counting;
 mod counts;
 mod elements;
 mod fault;
-mod found;
 mod key;
 mod laws;
+mod machine;
+mod pre_state;
 mod recorder;
+mod recorder_pair;
+mod retired;
 mod row;
 mod rows;
 mod running;
@@ -20,17 +20,17 @@ mod short_writes;
 mod sums;
 mod table;
 
-pub use alone::Alone;
-pub use both::Both;
-pub use carried::Carried;
 pub use class::{Class, Extent};
 pub use counting::{is_counted, word_at};
 pub use counts::Counts;
 pub use fault::RecordFault;
-pub use hart::OneSeat;
+pub use hart::SingleSlot;
 pub use key::Key;
 pub use laws::recording_laws;
+pub use machine::SingleUserMachine;
 pub use recorder::Recorder;
+pub use recorder_pair::RecorderPair;
+pub use retired::Retired;
 pub use row::Row;
 pub use rows::totals;
 pub use running::run;

@@ -4,8 +4,8 @@ ghost use Rattle.rv_model.specs.step.Hart.{HartState, ends_after};
 ghost use Rattle.rv_model.specs.step.Step.{step};
 ghost use Rattle.recording.specs.Machines.{state_of};
 
-use crate::alone::Alone;
 use crate::fault::RecordFault;
+use crate::machine::SingleUserMachine;
 use rv_model::StepEnd;
 use vector_memory::UserBytes;
 
@@ -15,17 +15,22 @@ pub trait Recorder<M: UserBytes> {
     ghost recorded: { Self → List HartState → Self → Type 0 };
 
     // The state before an instruction was saved between them.
-    ghost noted: { Self → HartState → Self → Type 0 };
+    ghost prepared: { Self → HartState → Self → Type 0 };
 
     /// Save the state before an instruction. Fails if the recorder can't record it.
-    fn note(&mut self, alone: &Alone<M>) -> Result<(), RecordFault>
-        ensures { OnOk result (noted self.old (state_of M.memory alone.now) self.new) };
+    fn before_step(&mut self, machine: &SingleUserMachine<M>) -> Result<(), RecordFault>
+        ensures { OnOk result (prepared self.old (state_of M.memory machine.now) self.new) };
 
     /// Record the instruction since the last saved state, from the state after it, its end and its ticks. Fails if the
     /// recorder can't record it.
-    fn keep(&mut self, alone: &Alone<M>, end: StepEnd, ticks: usize) -> Result<(), RecordFault>
-        ensures { OnOk result ((before : Self) (found : HartState) → noted before found self.old
-            → step 256 found ≡ ends_after ticks end (state_of M.memory alone.now)
+    fn after_step(
+        &mut self,
+        machine: &SingleUserMachine<M>,
+        end: StepEnd,
+        ticks: usize,
+    ) -> Result<(), RecordFault>
+        ensures { OnOk result ((before : Self) (found : HartState) → prepared before found self.old
+            → step 256 found ≡ ends_after ticks end (state_of M.memory machine.now)
             → recorded before (found ∷ []) self.new) };
 
     // A law: an unchanged recorder has recorded no instruction.

@@ -2,10 +2,10 @@
 ghost use Rattle.std.specs.Prelude.{◌≡◌, ◌∷◌, [], flat_map, is_none, IfOk, OnErr, OnOk};
 ghost use Rattle.rv_model.specs.machine.UserMachine.{stop_of};
 ghost use Rattle.recording.specs.Machines.{Advances, state_of, taken};
-ghost use Rattle.recording.specs.Runs.{TakesFirst, put_out, ran};
+ghost use Rattle.recording.specs.Runs.{TakesFirst, output_of, ran};
 
-use crate::alone::Alone;
 use crate::fault::RecordFault;
+use crate::machine::SingleUserMachine;
 use crate::recorder::Recorder;
 use devices::{Sink, write_all};
 use rv_model::StepEnd;
@@ -21,16 +21,19 @@ fn goes_on(end: StepEnd) -> bool
 
 /// Write the bytes of the output buffer to the sink, and empty the buffer.
 #[inline(always)]
-fn take_output<M: UserBytes, K: Sink>(alone: &mut Alone<M>, sink: &mut K) -> Result<(), RecordFault>
-    ensures output { OnOk result (K.took sink.old alone.old.output.items sink.new) }
-    ensures part { OnErr result (TakesFirst K.took sink.old alone.old.output.items sink.new) }
-    ensures state { OnOk result (state_of M.memory alone.new ≡ taken (state_of M.memory alone.old)) }
-    ensures memory { alone.new.memory ≡ alone.old.memory }
+fn take_output<M: UserBytes, K: Sink>(
+    machine: &mut SingleUserMachine<M>,
+    sink: &mut K,
+) -> Result<(), RecordFault>
+    ensures output { OnOk result (K.took sink.old machine.old.output.items sink.new) }
+    ensures part { OnErr result (TakesFirst K.took sink.old machine.old.output.items sink.new) }
+    ensures state { OnOk result (state_of M.memory machine.new ≡ taken (state_of M.memory machine.old)) }
+    ensures memory { machine.new.memory ≡ machine.old.memory }
 {
-    let Ok(()) = write_all(sink, alone.output.as_slice()) else {
+    let Ok(()) = write_all(sink, machine.output.as_slice()) else {
         return Err(RecordFault::Write("output"));
     };
-    alone.output.clear();
+    machine.output.clear();
     Ok(())
 }
 
@@ -38,20 +41,20 @@ fn take_output<M: UserBytes, K: Sink>(alone: &mut Alone<M>, sink: &mut K) -> Res
 #[inline(always)]
 fn advance<M: UserBytes, R: Recorder<M>, K: Sink>(
     recorder: &mut R,
-    alone: &mut Alone<M>,
+    machine: &mut SingleUserMachine<M>,
     sink: &mut K,
 ) -> Result<(StepEnd, usize), RecordFault>
     ensures machine { IfOk result
-        (λ end. Advances (state_of M.memory alone.old) (state_of M.memory alone.new) end.0 end.1) }
-    ensures recorded { OnOk result (R.recorded recorder.old (state_of M.memory alone.old ∷ []) recorder.new) }
-    ensures output { OnOk result (K.took sink.old (put_out (state_of M.memory alone.old)) sink.new) }
-    ensures part { OnErr result (TakesFirst K.took sink.old (put_out (state_of M.memory alone.old)) sink.new) }
-    ensures memory { alone.new.memory ≡ M.with_memory alone.old.memory (M.memory alone.new.memory) }
+        (λ end. Advances (state_of M.memory machine.old) (state_of M.memory machine.new) end.0 end.1) }
+    ensures recorded { OnOk result (R.recorded recorder.old (state_of M.memory machine.old ∷ []) recorder.new) }
+    ensures output { OnOk result (K.took sink.old (output_of (state_of M.memory machine.old)) sink.new) }
+    ensures part { OnErr result (TakesFirst K.took sink.old (output_of (state_of M.memory machine.old)) sink.new) }
+    ensures memory { machine.new.memory ≡ M.with_memory machine.old.memory (M.memory machine.new.memory) }
 {
-    recorder.note(alone)?;
-    let (end, ticks) = alone.step();
-    recorder.keep(alone, end, ticks)?;
-    take_output(alone, sink)?;
+    recorder.before_step(machine)?;
+    let (end, ticks) = machine.step();
+    recorder.after_step(machine, end, ticks)?;
+    take_output(machine, sink)?;
     Ok((end, ticks))
 }
 
@@ -61,30 +64,30 @@ fn advance<M: UserBytes, R: Recorder<M>, K: Sink>(
 #[inline(always)]
 pub fn run<M: UserBytes, R: Recorder<M>, K: Sink>(
     recorder: &mut R,
-    alone: &mut Alone<M>,
+    machine: &mut SingleUserMachine<M>,
     sink: &mut K,
     ticks: u64,
 ) -> Result<Option<StepEnd>, RecordFault>
     ensures recorded { OnOk result
-        (R.recorded recorder.old (ran ticks (state_of M.memory alone.old)).found recorder.new) }
-    ensures end { IfOk result (λ end. end ≡ (ran ticks (state_of M.memory alone.old)).end) }
-    ensures machine { OnOk result (state_of M.memory alone.new ≡ (ran ticks (state_of M.memory alone.old)).state) }
+        (R.recorded recorder.old (ran ticks (state_of M.memory machine.old)).found recorder.new) }
+    ensures end { IfOk result (λ end. end ≡ (ran ticks (state_of M.memory machine.old)).end) }
+    ensures machine { OnOk result (state_of M.memory machine.new ≡ (ran ticks (state_of M.memory machine.old)).state) }
     ensures output { OnOk result (K.took sink.old
-        (flat_map put_out (ran ticks (state_of M.memory alone.old)).found) sink.new) }
+        (flat_map output_of (ran ticks (state_of M.memory machine.old)).found) sink.new) }
 
     // After an error, the sink has the first bytes of the whole run's output.
     ensures part { OnErr result (TakesFirst K.took sink.old
-        (flat_map put_out (ran ticks (state_of M.memory alone.old)).found) sink.new) }
+        (flat_map output_of (ran ticks (state_of M.memory machine.old)).found) sink.new) }
 
     // All other contents of the user's bytes are unchanged.
-    ensures memory { alone.new.memory ≡ M.with_memory alone.old.memory (M.memory alone.new.memory) }
+    ensures memory { machine.new.memory ≡ M.with_memory machine.old.memory (M.memory machine.new.memory) }
 {
     let mut left = ticks;
     for _ in 0..ticks {
         if left == 0 {
             return Ok(None);
         }
-        let (end, spent) = advance(recorder, alone, sink)?;
+        let (end, spent) = advance(recorder, machine, sink)?;
         if !goes_on(end) {
             return Ok(Some(end));
         }

@@ -3,8 +3,8 @@ ghost use Rattle.std.specs.Prelude.{◌≡◌};
 ghost use Rattle.recording.specs.Machines.{state_of};
 ghost use Rattle.recording.specs.Totals.{has_written_less};
 
-use crate::alone::Alone;
 use crate::fault::RecordFault;
+use crate::machine::SingleUserMachine;
 use crate::recorder::Recorder;
 use rv_model::{Reg, StepEnd};
 use vector_memory::UserBytes;
@@ -14,11 +14,11 @@ const LENGTH_REGISTER: u32 = 12;
 
 /// Return whether a call just wrote some bytes, but fewer than requested.
 #[inline(always)]
-fn has_written_less<M: UserBytes>(alone: &Alone<M>) -> bool
-    ensures { result ≡ has_written_less (state_of M.memory alone.now) }
+fn has_written_less<M: UserBytes>(machine: &SingleUserMachine<M>) -> bool
+    ensures { result ≡ has_written_less (state_of M.memory machine.now) }
 {
-    !alone.output.is_empty()
-        && (alone.output.len() as u64) < alone.scalar.read(Reg::new(LENGTH_REGISTER))
+    !machine.output.is_empty()
+        && (machine.output.len() as u64) < machine.scalar.read(Reg::new(LENGTH_REGISTER))
 }
 
 /// Number of calls that wrote some bytes, but fewer than requested, modulo 2^64.
@@ -42,16 +42,21 @@ impl<M: UserBytes> Recorder<M> for ShortWrites {
 
     ghost recorded = { λ a states b. AddsUp short_of a.count states b.count };
 
-    ghost noted = { λ a _ b. b ≡ a };
+    ghost prepared = { λ a _ b. b ≡ a };
 
     #[inline(always)]
-    fn note(&mut self, _alone: &Alone<M>) -> Result<(), RecordFault> {
+    fn before_step(&mut self, _machine: &SingleUserMachine<M>) -> Result<(), RecordFault> {
         Ok(())
     }
 
     #[inline(always)]
-    fn keep(&mut self, alone: &Alone<M>, _end: StepEnd, _ticks: usize) -> Result<(), RecordFault> {
-        if has_written_less(alone) {
+    fn after_step(
+        &mut self,
+        machine: &SingleUserMachine<M>,
+        _end: StepEnd,
+        _ticks: usize,
+    ) -> Result<(), RecordFault> {
+        if has_written_less(machine) {
             self.count = self.count.wrapping_add(1);
         }
         Ok(())

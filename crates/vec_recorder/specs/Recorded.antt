@@ -6,7 +6,7 @@ use Rattle.commit_log.specs.Logged.{logged_from}
 use Rattle.commit_log.specs.declared.log.Window.{Window}
 use Rattle.memory_changes.specs.Changes.{changes_from}
 use Rattle.memory_changes.specs.declared.place.Place.{Place}
-use Rattle.recording.specs.Runs.{put_out, ran, shares}
+use Rattle.recording.specs.Runs.{output_of, ran, shares}
 use Rattle.recording.specs.Sums.{OfEach, is_word, total}
 use Rattle.recording.specs.declared.key.Key.{Key}
 use Rattle.recording.specs.declared.row.Row.{Row}
@@ -52,7 +52,7 @@ pub record RecordsRun {O K : Type 0} (records : O → List HartState → O → T
   pub recorded : records first (ran ticks s).found ended.1
   pub end : ended.0 ≡ (ran ticks s).end
   pub machine : left ≡ (ran ticks s).state
-  pub output : took before (flat_map put_out (ran ticks s).found) after
+  pub output : took before (flat_map output_of (ran ticks s).found) after
 
 -- A file was created at a path and accepted the text that `Says` describes.
 pub record IsWritten {F : Type 0} (is_made : Text → F → Type 0) (took : F → List ℕ → F → Type 0) (path : Text) (Says : (List ℕ → Type 0) → Type 0) : Type 0 where
@@ -72,7 +72,7 @@ pub record RunBy {F : Type 0} (file_bytes : Text → Option (List ℕ)) (is_made
     (policy : Policy) (ticks : ℕ) (memories : List MemoryPath) (places : List Place) (window : Window) : Type 0 where
   pub state : HartState
   pub begins : Begins file_bytes policy words.image memories words.registers state
-  pub output : put (flat_map put_out (ran ticks state).found)
+  pub output : put (flat_map output_of (ran ticks state).found)
   pub counted : AreKept is_made took words.counts (λ told. AreCounted told ticks state)
   pub changed : AreKept is_made took words.changes (λ told. AreChanged told places ticks state)
   pub logged : AreKept is_made took words.log (λ told. AreLogged told window ticks state)

@@ -11,7 +11,7 @@ use crate::memory_words::MemoryPath;
 use crate::program_fault::ProgramFault;
 use devices::{Inputs, ReadFault, read_file};
 use first_state::{OwnBytes, enter, lay_registers, load, place_bytes};
-use recording::Alone;
+use recording::SingleUserMachine;
 use rv_model::Policy;
 use std::alloc::Global;
 
@@ -53,20 +53,20 @@ fn loaded_machine<'a, I: Inputs>(
     alloc: Global,
     policy: Policy,
     image: Option<&'a str>,
-) -> Result<Alone<OwnBytes>, ProgramFault<'a>>
-    ensures state { IfOk result (λ alone. IsLoaded (I.file_bytes inputs.now) policy
-        (option_map (λ path. path.now) image.entry) (state_of own_memory alone)) }
+) -> Result<SingleUserMachine<OwnBytes>, ProgramFault<'a>>
+    ensures state { IfOk result (λ machine. IsLoaded (I.file_bytes inputs.now) policy
+        (option_map (λ path. path.now) image.entry) (state_of own_memory machine)) }
     ensures refused { IfErr result IsOfBeginning }
 {
-    let Ok(mut alone) = enter(alloc, policy) else {
+    let Ok(mut machine) = enter(alloc, policy) else {
         return Err(ProgramFault::NoMemory);
     };
     let Some(path) = image else {
-        return Ok(alone);
+        return Ok(machine);
     };
     let bytes = read_whole(inputs, alloc, path, MAX_IMAGE)?;
-    match load(&mut alone, bytes.as_slice()) {
-        Ok(()) => Ok(alone),
+    match load(&mut machine, bytes.as_slice()) {
+        Ok(()) => Ok(machine),
         Err(fault) => Err(ProgramFault::Image(path, fault)),
     }
 }
@@ -75,17 +75,17 @@ fn loaded_machine<'a, I: Inputs>(
 fn place_file<'a, I: Inputs>(
     inputs: &I,
     alloc: Global,
-    alone: &mut Alone<OwnBytes>,
+    machine: &mut SingleUserMachine<OwnBytes>,
     memory: MemoryPath<'a>,
 ) -> Result<(), ProgramFault<'a>>
     ensures placed { OnOk result (ArePlaced (I.file_bytes inputs.now) (memory.entry ∷ [])
-        (own_memory alone.old.memory) (own_memory alone.new.memory)) }
-    ensures others { state_of own_memory alone.new
-        ≡ in_memory (state_of own_memory alone.old) (own_memory alone.new.memory) }
+        (own_memory machine.old.memory) (own_memory machine.new.memory)) }
+    ensures others { state_of own_memory machine.new
+        ≡ in_memory (state_of own_memory machine.old) (own_memory machine.new.memory) }
     ensures refused { IfErr result IsOfBeginning }
 {
     let bytes = read_whole(inputs, alloc, memory.path, MAX_MEMORY)?;
-    match place_bytes(alone, memory.addr, memory.permissions, bytes.as_slice()) {
+    match place_bytes(machine, memory.addr, memory.permissions, bytes.as_slice()) {
         Ok(()) => Ok(()),
         Err(fault) => Err(ProgramFault::Memory(memory.path, fault)),
     }
@@ -95,17 +95,17 @@ fn place_file<'a, I: Inputs>(
 fn place_files<'a, I: Inputs>(
     inputs: &I,
     alloc: Global,
-    alone: &mut Alone<OwnBytes>,
+    machine: &mut SingleUserMachine<OwnBytes>,
     memories: &[MemoryPath<'a>],
 ) -> Result<(), ProgramFault<'a>>
     ensures placed { OnOk result (ArePlaced (I.file_bytes inputs.now) memories.now
-        (own_memory alone.old.memory) (own_memory alone.new.memory)) }
-    ensures others { state_of own_memory alone.new
-        ≡ in_memory (state_of own_memory alone.old) (own_memory alone.new.memory) }
+        (own_memory machine.old.memory) (own_memory machine.new.memory)) }
+    ensures others { state_of own_memory machine.new
+        ≡ in_memory (state_of own_memory machine.old) (own_memory machine.new.memory) }
     ensures refused { IfErr result IsOfBeginning }
 {
     for memory in memories {
-        place_file(inputs, alloc, alone, *memory)?;
+        place_file(inputs, alloc, machine, *memory)?;
     }
     Ok(())
 }
@@ -114,18 +114,18 @@ fn place_files<'a, I: Inputs>(
 fn lay_file<'a, I: Inputs>(
     inputs: &I,
     alloc: Global,
-    alone: &mut Alone<OwnBytes>,
+    machine: &mut SingleUserMachine<OwnBytes>,
     registers: Option<&'a str>,
 ) -> Result<(), ProgramFault<'a>>
     ensures laid { OnOk result (AreLaid (I.file_bytes inputs.now) (option_map (λ path. path.now) registers.entry)
-        (state_of own_memory alone.old) (state_of own_memory alone.new)) }
+        (state_of own_memory machine.old) (state_of own_memory machine.new)) }
     ensures refused { IfErr result IsOfBeginning }
 {
     let Some(path) = registers else {
         return Ok(());
     };
     let text = read_whole(inputs, alloc, path, MAX_REGISTERS)?;
-    match lay_registers(alone, text.as_slice()) {
+    match lay_registers(machine, text.as_slice()) {
         Ok(()) => Ok(()),
         Err(fault) => Err(ProgramFault::Registers(path, fault)),
     }
@@ -140,14 +140,14 @@ pub(crate) fn first_machine<'a, I: Inputs>(
     image: Option<&'a str>,
     memories: &[MemoryPath<'a>],
     registers: Option<&'a str>,
-) -> Result<Alone<OwnBytes>, ProgramFault<'a>>
-    ensures begins { IfOk result (λ alone. Begins (I.file_bytes inputs.now) policy
+) -> Result<SingleUserMachine<OwnBytes>, ProgramFault<'a>>
+    ensures begins { IfOk result (λ machine. Begins (I.file_bytes inputs.now) policy
         (option_map (λ path. path.now) image.entry) memories.now
-        (option_map (λ path. path.now) registers.entry) (state_of own_memory alone)) }
+        (option_map (λ path. path.now) registers.entry) (state_of own_memory machine)) }
     ensures refused { IfErr result IsOfBeginning }
 {
-    let mut alone = loaded_machine(inputs, alloc, policy, image)?;
-    place_files(inputs, alloc, &mut alone, memories)?;
-    lay_file(inputs, alloc, &mut alone, registers)?;
-    Ok(alone)
+    let mut machine = loaded_machine(inputs, alloc, policy, image)?;
+    place_files(inputs, alloc, &mut machine, memories)?;
+    lay_file(inputs, alloc, &mut machine, registers)?;
+    Ok(machine)
 }

@@ -53,7 +53,7 @@ pub(crate) fn length_number(word: &[u8]) -> Option<usize>
     }
 }
 
-/// Return the policy of `--policy`; the default is `keep`.
+/// Return the policy of `--policy`; the default is `after_step`.
 pub(crate) fn policy<'a>(word: Option<&str>) -> Result<Policy, ProgramFault<'a>>
     ensures { MatchResult result
         (λ policy. asked_policy (option_map (λ word. word.now) word.entry) ≡ Some policy)

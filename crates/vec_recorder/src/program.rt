@@ -22,15 +22,18 @@ use commit_log::Window;
 use devices::{Inputs, Sink, WriterSink};
 use first_state::OwnBytes;
 use memory_changes::{Place, has_memory};
-use recording::Alone;
+use recording::SingleUserMachine;
 use rv_model::Policy;
 use std::alloc::Global;
 use std::io;
 
 /// Check that each watched range is mapped. Return `NoPlace` otherwise.
-fn check_places<'a>(alone: &Alone<OwnBytes>, places: &[Place]) -> Result<(), ProgramFault<'a>> {
+fn check_places<'a>(
+    machine: &SingleUserMachine<OwnBytes>,
+    places: &[Place],
+) -> Result<(), ProgramFault<'a>> {
     for place in places {
-        if !has_memory(&alone.memory, place) {
+        if !has_memory(&machine.memory, place) {
             return Err(ProgramFault::NoPlace);
         }
     }
@@ -67,7 +70,7 @@ fn run_options<'a, R: Inputs + Outputs, K: Sink>(
         places,
         window,
     } = values;
-    let mut alone = first_machine(
+    let mut machine = first_machine(
         rt,
         alloc,
         policy,
@@ -75,7 +78,7 @@ fn run_options<'a, R: Inputs + Outputs, K: Sink>(
         memories.as_slice(),
         options.registers,
     )?;
-    check_places(&alone, places.as_slice())?;
+    check_places(&machine, places.as_slice())?;
     let asked = RecordedRun {
         logged: LoggedRun {
             ticks,
@@ -86,7 +89,7 @@ fn run_options<'a, R: Inputs + Outputs, K: Sink>(
         changes: options.changes,
         places,
     };
-    let short = run_machine(rt, alloc, &mut alone, output, asked)?;
+    let short = run_machine(rt, alloc, &mut machine, output, asked)?;
     Ok(short)
 }
 

@@ -1,7 +1,7 @@
 //! A run with its records: counts, changes, and a log, each of them optional.
 ghost use Rattle.std.specs.Prelude.{IsPermutation, ◌≡◌, ◌%◌, ◌^◌, ◌++◌, IfOk, OnOk, flat_map, option_map};
 ghost use Rattle.recording.specs.Machines.{state_of};
-ghost use Rattle.recording.specs.Runs.{put_out, ran};
+ghost use Rattle.recording.specs.Runs.{output_of, ran};
 ghost use Rattle.recording.specs.Sums.{is_word, total};
 ghost use Rattle.first_state.specs.OwnMemory.{own_memory};
 ghost use Rattle.vec_recorder.specs.RecordLines.{last_line, row_line};
@@ -15,7 +15,8 @@ use devices::{DeviceFault, Sink};
 use first_state::OwnBytes;
 use memory_changes::{Changes, Place};
 use recording::{
-    Alone, Both, Carried, Counts, RecordFault, Recorder, Row, ShortWrites, run, totals,
+    Counts, RecordFault, Recorder, RecorderPair, Retired, Row, ShortWrites, SingleUserMachine, run,
+    totals,
 };
 use rv_model::StepEnd;
 use std::alloc::Global;
@@ -70,16 +71,16 @@ pub(crate) struct RecordedRun<'a> {
 /// Run and record a program without a log. Return how it ended, and the record.
 #[inline(never)]
 fn run_unlogged<K: Sink, O: Recorder<OwnBytes> + Drop>(
-    alone: &mut Alone<OwnBytes>,
+    machine: &mut SingleUserMachine<OwnBytes>,
     output: &mut K,
     ticks: u64,
     recorder: O,
 ) -> Result<(Option<StepEnd>, O), RecordFault>
-    ensures run { IfOk result (RecordsRun O.recorded K.took ticks (state_of own_memory alone.old)
-        (state_of own_memory alone.new) output.old output.new recorder) }
+    ensures run { IfOk result (RecordsRun O.recorded K.took ticks (state_of own_memory machine.old)
+        (state_of own_memory machine.new) output.old output.new recorder) }
 {
     let mut only = recorder;
-    let end = run(&mut only, alone, output, ticks)?;
+    let end = run(&mut only, machine, output, ticks)?;
     Ok((end, only))
 }
 
@@ -89,36 +90,36 @@ fn run_unlogged<K: Sink, O: Recorder<OwnBytes> + Drop>(
 fn run_recorded<'a, R: Outputs, K: Sink, O: Recorder<OwnBytes> + Drop>(
     rt: &R,
     alloc: Global,
-    alone: &mut Alone<OwnBytes>,
+    machine: &mut SingleUserMachine<OwnBytes>,
     output: &mut K,
     asked: LoggedRun<'a>,
     recorder: O,
 ) -> Result<(Option<StepEnd>, O), ProgramFault<'a>>
-    ensures run { IfOk result (RecordsRun O.recorded K.took asked.entry.ticks (state_of own_memory alone.old)
-        (state_of own_memory alone.new) output.old output.new recorder) }
+    ensures run { IfOk result (RecordsRun O.recorded K.took asked.entry.ticks (state_of own_memory machine.old)
+        (state_of own_memory machine.new) output.old output.new recorder) }
     ensures log { OnOk result (AreKept (R.is_made rt.now) R.Made.took
         (option_map (λ path. path.now) asked.entry.log)
-        (λ told. AreLogged told asked.entry.window asked.entry.ticks (state_of own_memory alone.old))) }
+        (λ told. AreLogged told asked.entry.window asked.entry.ticks (state_of own_memory machine.old))) }
 {
     let LoggedRun { ticks, log, window } = asked;
     let Some(path) = log else {
-        return Ok(run_unlogged(alone, output, ticks, recorder)?);
+        return Ok(run_unlogged(machine, output, ticks, recorder)?);
     };
     let file = made_file(rt, path)?;
     let log = Log::new(alloc, file, window)?;
-    let mut both = Both {
+    let mut both = RecorderPair {
         first: recorder,
-        second: Both {
-            first: Carried::none(),
+        second: RecorderPair {
+            first: Retired::none(),
             second: log,
         },
     };
-    let end = run(&mut both, alone, output, ticks)?;
+    let end = run(&mut both, machine, output, ticks)?;
     let times = both.second.first.times;
     let spent = both.second.first.ticks;
     let log = &mut both.second.second;
     log.finish()?;
-    let Ok(()) = write_last(&mut log.sink, alone.scalar.pc, end, times, spent) else {
+    let Ok(()) = write_last(&mut log.sink, machine.scalar.pc, end, times, spent) else {
         return Err(ProgramFault::Write(path));
     };
     Ok((end, both.first))
@@ -128,19 +129,19 @@ fn run_recorded<'a, R: Outputs, K: Sink, O: Recorder<OwnBytes> + Drop>(
 fn run_watched<'a, R: Outputs, K: Sink, O: Recorder<OwnBytes> + Drop>(
     rt: &R,
     alloc: Global,
-    alone: &mut Alone<OwnBytes>,
+    machine: &mut SingleUserMachine<OwnBytes>,
     output: &mut K,
     asked: RecordedRun<'a>,
     recorder: O,
 ) -> Result<(Option<StepEnd>, O), ProgramFault<'a>>
-    ensures run { IfOk result (RecordsRun O.recorded K.took asked.entry.logged.ticks (state_of own_memory alone.old)
-        (state_of own_memory alone.new) output.old output.new recorder) }
+    ensures run { IfOk result (RecordsRun O.recorded K.took asked.entry.logged.ticks (state_of own_memory machine.old)
+        (state_of own_memory machine.new) output.old output.new recorder) }
     ensures changes { OnOk result (AreKept (R.is_made rt.now) R.Made.took
         (option_map (λ path. path.now) asked.entry.changes)
-        (λ told. AreChanged told asked.entry.places.items asked.entry.logged.ticks (state_of own_memory alone.old))) }
+        (λ told. AreChanged told asked.entry.places.items asked.entry.logged.ticks (state_of own_memory machine.old))) }
     ensures log { OnOk result (AreKept (R.is_made rt.now) R.Made.took
         (option_map (λ path. path.now) asked.entry.logged.log)
-        (λ told. AreLogged told asked.entry.logged.window asked.entry.logged.ticks (state_of own_memory alone.old))) }
+        (λ told. AreLogged told asked.entry.logged.window asked.entry.logged.ticks (state_of own_memory machine.old))) }
 {
     let RecordedRun {
         logged,
@@ -149,22 +150,22 @@ fn run_watched<'a, R: Outputs, K: Sink, O: Recorder<OwnBytes> + Drop>(
         places,
     } = asked;
     let Some(path) = changes else {
-        return run_recorded(rt, alloc, alone, output, logged, recorder);
+        return run_recorded(rt, alloc, machine, output, logged, recorder);
     };
     let file = made_file(rt, path)?;
     let changes = Changes::new(alloc, file, places)?;
-    let both = Both {
+    let both = RecorderPair {
         first: recorder,
-        second: Both {
-            first: Carried::none(),
+        second: RecorderPair {
+            first: Retired::none(),
             second: changes,
         },
     };
-    let (end, mut both) = run_recorded(rt, alloc, alone, output, logged, both)?;
+    let (end, mut both) = run_recorded(rt, alloc, machine, output, logged, both)?;
     let times = both.second.first.times;
     let spent = both.second.first.ticks;
     let lines = &mut both.second.second.sink;
-    let Ok(()) = write_last(lines, alone.scalar.pc, end, times, spent) else {
+    let Ok(()) = write_last(lines, machine.scalar.pc, end, times, spent) else {
         return Err(ProgramFault::Write(path));
     };
     Ok((end, both.first))
@@ -175,36 +176,36 @@ fn run_watched<'a, R: Outputs, K: Sink, O: Recorder<OwnBytes> + Drop>(
 pub(crate) fn run_machine<'a, R: Outputs, K: Sink>(
     rt: &R,
     alloc: Global,
-    alone: &mut Alone<OwnBytes>,
+    machine: &mut SingleUserMachine<OwnBytes>,
     output: &mut K,
     asked: RecordedRun<'a>,
 ) -> Result<u64, ProgramFault<'a>>
     ensures output { OnOk result (K.took output.old
-        (flat_map put_out (ran asked.entry.logged.ticks (state_of own_memory alone.old)).found) output.new) }
+        (flat_map output_of (ran asked.entry.logged.ticks (state_of own_memory machine.old)).found) output.new) }
     ensures counts { OnOk result (AreKept (R.is_made rt.now) R.Made.took
         (option_map (λ path. path.now) asked.entry.counts)
-        (λ told. AreCounted told asked.entry.logged.ticks (state_of own_memory alone.old))) }
+        (λ told. AreCounted told asked.entry.logged.ticks (state_of own_memory machine.old))) }
     ensures changes { OnOk result (AreKept (R.is_made rt.now) R.Made.took
         (option_map (λ path. path.now) asked.entry.changes)
-        (λ told. AreChanged told asked.entry.places.items asked.entry.logged.ticks (state_of own_memory alone.old))) }
+        (λ told. AreChanged told asked.entry.places.items asked.entry.logged.ticks (state_of own_memory machine.old))) }
     ensures log { OnOk result (AreKept (R.is_made rt.now) R.Made.took
         (option_map (λ path. path.now) asked.entry.logged.log)
-        (λ told. AreLogged told asked.entry.logged.window asked.entry.logged.ticks (state_of own_memory alone.old))) }
+        (λ told. AreLogged told asked.entry.logged.window asked.entry.logged.ticks (state_of own_memory machine.old))) }
 {
     let short = ShortWrites::none();
     let Some(path) = asked.counts else {
-        let (_, short) = run_watched(rt, alloc, alone, output, asked, short)?;
+        let (_, short) = run_watched(rt, alloc, machine, output, asked, short)?;
         return Ok(short.count);
     };
     let counts = Counts::new(alloc)?;
     let mut file = made_file(rt, path)?;
-    let both = Both {
+    let both = RecorderPair {
         first: short,
         second: counts,
     };
-    let (end, mut both) = run_watched(rt, alloc, alone, output, asked, both)?;
+    let (end, mut both) = run_watched(rt, alloc, machine, output, asked, both)?;
     let rows = both.second.table.rows.as_mut_slice();
-    let Ok(()) = write_counts(&mut file, rows, alone.scalar.pc, end) else {
+    let Ok(()) = write_counts(&mut file, rows, machine.scalar.pc, end) else {
         return Err(ProgramFault::Write(path));
     };
     Ok(both.first.count)

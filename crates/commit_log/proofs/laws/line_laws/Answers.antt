@@ -1,8 +1,8 @@
-use Rattle.commit_log.proofs.ControlsTold.{controls_are_told}
-use Rattle.commit_log.proofs.MemoryTold.{memory_is_told}
-use Rattle.commit_log.proofs.ScalarsTold.{scalars_are_told}
-use Rattle.commit_log.proofs.VectorsTold.{vectors_are_told}
+use Rattle.commit_log.proofs.ControlsPrinted.{controls_are_printed}
+use Rattle.commit_log.proofs.MemoryPrinted.{memory_is_printed}
+use Rattle.commit_log.proofs.ScalarsPrinted.{scalars_are_printed}
+use Rattle.commit_log.proofs.VectorsPrinted.{vectors_are_printed}
 use Rattle.commit_log.proofs.laws.line_laws.Goals as goal
 
 pub returns : goal.returns
-returns c = record { scalars = scalars_are_told; controls = controls_are_told; memory = memory_is_told; vectors = vectors_are_told }
+returns c = record { scalars = scalars_are_printed; controls = controls_are_printed; memory = memory_is_printed; vectors = vectors_are_printed }

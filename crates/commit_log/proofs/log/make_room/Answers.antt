@@ -1,15 +1,15 @@
 use Rattle.std.proofs.Common.{◌++◌, [], List, ℕ, ap, append-nil, arith, length, sym}
 use Rattle.commit_log.proofs.log.make_room.Goals as goal
 
-pub returns-then-has_room-clause-told : goal.returns-then-has_room-clause-told
-returns-then-has_room-clause-told g c =
+pub returns-then-has_room-clause-printed : goal.returns-then-has_room-clause-printed
+returns-then-has_room-clause-printed g c =
     record { written = []; took = g.met.K.Sink.took_none c.args.sink.now; all = sym (append-nil c.args.text.now) }
 
-pub returns-clause-told : goal.returns-clause-told
-returns-clause-told g c =
+pub returns-clause-printed : goal.returns-clause-printed
+returns-clause-printed g c =
     record {
       written = c.args.text.now;
-      took = c.in_ok-write_gathered.ensures.told;
+      took = c.in_ok-write_gathered.ensures.printed;
       all = ap (λ (l : List ℕ). c.args.text.now ++ l) c.in_ok-write_gathered.ensures.none;
     }
 

@@ -8,6 +8,6 @@ use Rattle.first_state.proofs.placing.place_bytes.Given as goal
 abbrev pub invariant-loop-byte : goal.invariant-loop-byte
 invariant-loop-byte g l = record {
   at : l.at ≡ l.addr + l.byte-index;
-  rest : placed l.permissions l.at (drop l.byte-index l.bytes) (own_memory l.alone.memory) ≡ placed l.permissions l.addr l.bytes (own_memory l.fn.alone.memory);
-  others : state_of own_memory l.alone ≡ in_memory (state_of own_memory l.fn.alone) (own_memory l.alone.memory);
+  rest : placed l.permissions l.at (drop l.byte-index l.bytes) (own_memory l.machine.memory) ≡ placed l.permissions l.addr l.bytes (own_memory l.fn.machine.memory);
+  others : state_of own_memory l.machine ≡ in_memory (state_of own_memory l.fn.machine) (own_memory l.machine.memory);
 }

@@ -1,4 +1,4 @@
-use Rattle.recording.proofs.AsSteps.{runs_as_steps}
+use Rattle.recording.proofs.RunsEqualSteps.{runs_as_steps}
 use Rattle.recording.proofs.Bodies.{access_body, operation_body}
 use Rattle.recording.proofs.laws.recording_laws.Goals as goal
 

@@ -10,17 +10,17 @@ returns-clause-machine g c = advanced _ _ _ _ _ c.step-end.ensures.model c.in_ok
 
 pub returns-clause-recorded : goal.returns-clause-recorded
 returns-clause-recorded g c =
-    c.in_ok-keep.ensures c.args.recorder.now (state_of g.M.UserBytes.memory c.args.alone.now) c.in_ok-note.ensures c.step-end.ensures.model
+    c.in_ok-after_step.ensures c.args.recorder.now (state_of g.M.UserBytes.memory c.args.machine.now) c.in_ok-before_step.ensures c.step-end.ensures.model
 
 pub returns-clause-output : goal.returns-clause-output
 returns-clause-output g c =
     moved g.K.Sink.took _ _ _ _ (ap (λ (o : Stepped). o.state.output) (sym c.step-end.ensures.model)) c.in_ok-take_output.ensures.output
 
-pub returns-in_err-note-clause-part : goal.returns-in_err-note-clause-part
-returns-in_err-note-clause-part g c = on_err c.from_residual.result (none_put_out g.K.Sink.took c.args.sink.now _ (g.met.K.Sink.took_none c.args.sink.now))
+pub returns-in_err-before_step-clause-part : goal.returns-in_err-before_step-clause-part
+returns-in_err-before_step-clause-part g c = on_err c.from_residual.result (none_put_out g.K.Sink.took c.args.sink.now _ (g.met.K.Sink.took_none c.args.sink.now))
 
-pub returns-in_err-keep-clause-part : goal.returns-in_err-keep-clause-part
-returns-in_err-keep-clause-part g c = on_err c.from_residual-in_err-keep.result (none_put_out g.K.Sink.took c.args.sink.now _ (g.met.K.Sink.took_none c.args.sink.now))
+pub returns-in_err-after_step-clause-part : goal.returns-in_err-after_step-clause-part
+returns-in_err-after_step-clause-part g c = on_err c.from_residual-in_err-after_step.result (none_put_out g.K.Sink.took c.args.sink.now _ (g.met.K.Sink.took_none c.args.sink.now))
 
 pub returns-in_err-take_output-clause-part : goal.returns-in_err-take_output-clause-part
 returns-in_err-take_output-clause-part g c =

@@ -10,20 +10,20 @@ pub loop-init : goal.loop-init
 loop-init g c = (
   [],
   record {
-    so_far = nothing_yet g.R.Recorder.recorded (c.args.ticks - 0) c.args.ticks (state_of g.M.UserBytes.memory c.args.alone.now) c.args.recorder.now (omega arith)
+    so_far = nothing_yet g.R.Recorder.recorded (c.args.ticks - 0) c.args.ticks (state_of g.M.UserBytes.memory c.args.machine.now) c.args.recorder.now (omega arith)
         (g.met.R.Recorder.recorded_none c.args.recorder.now);
     took = g.met.K.Sink.took_none c.args.sink.now;
-    memory = sym (g.met.M.UserBytes.with_memory_same c.args.alone.now.memory);
+    memory = sym (g.met.M.UserBytes.with_memory_same c.args.machine.now.memory);
   },
 )
 
 pub loop-preserved : goal.loop-preserved
 loop-preserved g c =
-    let s : HartState = state_of g.M.UserBytes.memory c.loop.alone in
+    let s : HartState = state_of g.M.UserBytes.memory c.loop.machine in
     let seen : List HartState = c.loop.invariant.0 in
     let before = c.loop.invariant.1 in
     let n : ℕ = c.args.ticks - (c.loop.counter + 1) in
-    let next : HartState = state_of g.M.UserBytes.memory c.advance.new.alone in
+    let next : HartState = state_of g.M.UserBytes.memory c.advance.new.machine in
     let is = run_is (c.args.ticks - c.loop.counter) n c.loop.left (c.loop.left - 1) _ s next _ true
     (omega arith) (omega arith) c.in_ok-end.ensures.machine (sym c.goes_on.ensures ∙ c.if-not-goes_on.false) in (
       seen ++ s ∷ [],
@@ -32,7 +32,7 @@ loop-preserved g c =
             (is ∙ ap (λ (l : ℕ). begins s true c.in_ok-end.end next (run n l next)) (sym c.saturating_sub-left.ensures)) c.in_ok-end.ensures.recorded before.so_far;
         took = moved g.K.Sink.took _ _ _ _ (more_put_out seen s) (g.met.K.Sink.took_more _ _ _ _ _ before.took c.in_ok-end.ensures.output);
         memory = c.advance.ensures.memory
-            ∙ ap (λ m. g.M.UserBytes.with_memory m (g.M.UserBytes.memory c.advance.new.alone.memory)) before.memory
+            ∙ ap (λ m. g.M.UserBytes.with_memory m (g.M.UserBytes.memory c.advance.new.machine.memory)) before.memory
             ∙ g.met.M.UserBytes.with_memory_twice _ _ _;
       },
     )
@@ -40,11 +40,11 @@ loop-preserved g c =
 -- return at an instruction that stops the program
 pub returns-then-not-goes_on : goal.returns-then-not-goes_on
 returns-then-not-goes_on g c =
-    let s : HartState = state_of g.M.UserBytes.memory c.loop.alone in
+    let s : HartState = state_of g.M.UserBytes.memory c.loop.machine in
     let seen : List HartState = c.loop.invariant.0 in
     let before = c.loop.invariant.1 in
     let n : ℕ = c.args.ticks - (c.loop.counter + 1) in
-    let next : HartState = state_of g.M.UserBytes.memory c.advance.new.alone in
+    let next : HartState = state_of g.M.UserBytes.memory c.advance.new.machine in
     let stops : Run = record { found = []; state = next; end = Some c.in_ok-end.end } in
     let is = run_is (c.args.ticks - c.loop.counter) n c.loop.left (c.loop.left - 1) _ s next _ false
     (omega arith) (omega arith) c.in_ok-end.ensures.machine (sym c.goes_on.ensures ∙ c.if-not-goes_on.true) in
@@ -57,14 +57,14 @@ returns-then-not-goes_on g c =
           (g.met.K.Sink.took_more _ _ _ _ _ before.took c.in_ok-end.ensures.output);
       part = tt;
       memory = c.advance.ensures.memory
-          ∙ ap (λ m. g.M.UserBytes.with_memory m (g.M.UserBytes.memory c.advance.new.alone.memory)) before.memory
+          ∙ ap (λ m. g.M.UserBytes.with_memory m (g.M.UserBytes.memory c.advance.new.machine.memory)) before.memory
           ∙ g.met.M.UserBytes.with_memory_twice _ _ _;
     }
 
 -- return with an error
 pub returns-in_err-end-clause-part : goal.returns-in_err-end-clause-part
 returns-in_err-end-clause-part g c =
-    let s : HartState = state_of g.M.UserBytes.memory c.loop.alone in
+    let s : HartState = state_of g.M.UserBytes.memory c.loop.machine in
     let seen : List HartState = c.loop.invariant.0 in
     let before = c.loop.invariant.1 in
     let begun = run_begins (c.args.ticks - c.loop.counter) c.loop.left (c.args.ticks - (c.loop.counter + 1)) (c.loop.left - 1) s (omega arith) (omega arith) in
@@ -75,10 +75,10 @@ returns-in_err-end-clause-part g c =
 -- return when no ticks are left
 pub returns-then-left-eq0 : goal.returns-then-left-eq0
 returns-then-left-eq0 g c =
-    let s : HartState = state_of g.M.UserBytes.memory c.loop.alone in
+    let s : HartState = state_of g.M.UserBytes.memory c.loop.machine in
     let before = c.loop.invariant.1 in
     let is = without_ticks (c.args.ticks - c.loop.counter) c.loop.left s c.if-left-eq0.true in
-    let so_far = subst (λ (r : Run). SoFar g.R.Recorder.recorded (ran c.args.ticks (state_of g.M.UserBytes.memory c.args.alone.now)) r c.loop.invariant.0 c.args.recorder.now c.loop.recorder) is before.so_far in
+    let so_far = subst (λ (r : Run). SoFar g.R.Recorder.recorded (ran c.args.ticks (state_of g.M.UserBytes.memory c.args.machine.now)) r c.loop.invariant.0 c.args.recorder.now c.loop.recorder) is before.so_far in
     record {
       recorded = all_recorded g.R.Recorder.recorded _ _ _ _ _ so_far refl;
       end = so_far.end;
@@ -90,10 +90,10 @@ returns-then-left-eq0 g c =
 
 pub returns : goal.returns
 returns g c =
-    let s : HartState = state_of g.M.UserBytes.memory c.loop.alone in
+    let s : HartState = state_of g.M.UserBytes.memory c.loop.machine in
     let before = c.loop.invariant.1 in
     let is = without_fuel (c.args.ticks - c.loop.counter) c.loop.left s (omega arith) in
-    let so_far = subst (λ (r : Run). SoFar g.R.Recorder.recorded (ran c.args.ticks (state_of g.M.UserBytes.memory c.args.alone.now)) r c.loop.invariant.0 c.args.recorder.now c.loop.recorder) is before.so_far in
+    let so_far = subst (λ (r : Run). SoFar g.R.Recorder.recorded (ran c.args.ticks (state_of g.M.UserBytes.memory c.args.machine.now)) r c.loop.invariant.0 c.args.recorder.now c.loop.recorder) is before.so_far in
     record {
       recorded = all_recorded g.R.Recorder.recorded _ _ _ _ _ so_far refl;
       end = so_far.end;

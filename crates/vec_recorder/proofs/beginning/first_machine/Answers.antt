@@ -7,9 +7,9 @@ use Rattle.vec_recorder.proofs.beginning.first_machine.Goals as goal
 
 pub returns-clause-begins : goal.returns-clause-begins
 returns-clause-begins g c = record {
-  first = state_of own_memory c.in_ok-alone.alone;
-  loaded_is = c.in_ok-alone.ensures.state;
-  memory = own_memory c.place_files.new.alone.memory;
+  first = state_of own_memory c.in_ok-machine.machine;
+  loaded_is = c.in_ok-machine.ensures.state;
+  memory = own_memory c.place_files.new.machine.memory;
   placed_are = c.in_ok-place_files.ensures.placed;
-  laid_are = subst (λ s. AreLaid (g.I.Inputs.file_bytes c.args.inputs.now) (option_map (λ path. path.now) c.args.registers) s (state_of own_memory c.lay_file.new.alone)) c.place_files.ensures.others c.in_ok-lay_file.ensures.laid;
+  laid_are = subst (λ s. AreLaid (g.I.Inputs.file_bytes c.args.inputs.now) (option_map (λ path. path.now) c.args.registers) s (state_of own_memory c.lay_file.new.machine)) c.place_files.ensures.others c.in_ok-lay_file.ensures.laid;
 }

@@ -9,5 +9,5 @@ unfolding ArePlaced
 returns-in-Ok-clause-placed g c = (
   c.as_slice.result.now,
   subst (AreKnownAs (g.I.Inputs.file_bytes c.args.inputs.now c.args.memory.path.now)) (sym c.as_slice.ensures.value) c.in_ok-bytes.ensures.bytes,
-  (own_memory c.place_bytes.new.alone.memory, c.in-Ok.ensures.placed, refl),
+  (own_memory c.place_bytes.new.machine.memory, c.in-Ok.ensures.placed, refl),
 )

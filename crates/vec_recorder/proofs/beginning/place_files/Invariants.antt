@@ -9,7 +9,7 @@ use Rattle.vec_recorder.proofs.beginning.place_files.Given as goal
 -- writing the remaining files completes the memory; everything but memory is unchanged
 abbrev pub invariant-loop-memory : goal.invariant-loop-memory
 invariant-loop-memory g l = record {
-  others : (after : Memory) → ArePlaced (g.I.Inputs.file_bytes l.fn.inputs) (drop l.memory-index l.memories) (own_memory l.alone.memory) after
-      → ArePlaced (g.I.Inputs.file_bytes l.fn.inputs) l.memories (own_memory l.fn.alone.memory) after;
-  state : state_of own_memory l.alone ≡ in_memory (state_of own_memory l.fn.alone) (own_memory l.alone.memory);
+  others : (after : Memory) → ArePlaced (g.I.Inputs.file_bytes l.fn.inputs) (drop l.memory-index l.memories) (own_memory l.machine.memory) after
+      → ArePlaced (g.I.Inputs.file_bytes l.fn.inputs) l.memories (own_memory l.fn.machine.memory) after;
+  state : state_of own_memory l.machine ≡ in_memory (state_of own_memory l.fn.machine) (own_memory l.machine.memory);
 }

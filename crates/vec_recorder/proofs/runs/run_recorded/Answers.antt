@@ -14,7 +14,7 @@ returns-clause-run g c = record {
 
 pub returns-clause-log : goal.returns-clause-log
 returns-clause-log g c =
-    let s = state_of own_memory c.args.alone.now in
+    let s = state_of own_memory c.args.machine.now in
     let told = c.in_ok-end.ensures.recorded.1 in
     let made = c.in_ok-log.ensures in
     rw c.in-Some.is (record {
@@ -23,7 +23,7 @@ returns-clause-log g c =
       made = c.in_ok-file.ensures;
       says = log_told g.R.Made.Sink.took g.met.R.Made.Sink.took_more c.in_ok-log.log c.run.new.recorder.second.second _ _ _ c.args.asked.window (ran c.args.asked.ticks s).found _ _
           made.sink made.window made.number made.text told.1 c.in_ok-finish.ensures
-          (end_by_totals c.args.asked.ticks _ _ _ _ s (state_of own_memory c.run.new.alone) c.in_ok-end.end c.write_last.ensures.times c.write_last.ensures.ticks c.none.ensures.times c.none.ensures.ticks
+          (end_by_totals c.args.asked.ticks _ _ _ _ s (state_of own_memory c.run.new.machine) c.in_ok-end.end c.write_last.ensures.times c.write_last.ensures.ticks c.none.ensures.times c.none.ensures.ticks
           told.0.0 told.0.1 c.in_ok-end.ensures.machine c.in_ok-end.ensures.end)
           c.in-Ok.ensures.text;
     })

@@ -22,12 +22,12 @@ use Rattle.commit_log.specs.Lines.{Line, instruction_line}
 -- the scalar registers after these values are written
 abbrev pub with_scalars : List (ℕ × ℕ) → Scalar → Scalar
 with_scalars [] x = x
-with_scalars (told ∷ rest) x = with_scalars rest (with_register told.0 told.1 x)
+with_scalars (printed ∷ rest) x = with_scalars rest (with_register printed.0 printed.1 x)
 
 -- the bytes of the vector registers after these registers are written
 abbrev pub with_vectors : List (ℕ × List ℕ) → List ℕ → List ℕ
 with_vectors [] file = file
-with_vectors (told ∷ rest) file = with_vectors rest (with_register_bytes told.0 told.1 file)
+with_vectors (printed ∷ rest) file = with_vectors rest (with_register_bytes printed.0 printed.1 file)
 
 -- the vector state in which a control register reads `n`
 abbrev pub with_read_control : ControlRegister → ℕ → VState → VState
@@ -41,7 +41,7 @@ with_read_control _ n v = v
 -- the vector state in which control registers read these values
 abbrev pub with_controls : List (ControlRegister × ℕ) → VState → VState
 with_controls [] v = v
-with_controls (told ∷ rest) v = with_controls rest (with_read_control told.0 told.1 v)
+with_controls (printed ∷ rest) v = with_controls rest (with_read_control printed.0 printed.1 v)
 
 -- the memory after the bytes of each element are stored, in order
 abbrev pub with_stored : List MovedElement → Memory → Memory
@@ -53,21 +53,21 @@ abbrev pub line_of : Instr → HartState → Line
 line_of i s = instruction_line i (word_of s) s (step 256 s).state.scalar (step 256 s).state.vector
 
 -- The line of an instruction that retires or exits gives the scalar registers after it, except for the program counter.
-abbrev pub ScalarsAreTold : Type 0
-ScalarsAreTold = (s : HartState) (i : Instr) → scan table (word_of s) ≡ Some i → is_counted (step 256 s).end ≡ true
+abbrev pub ScalarsArePrinted : Type 0
+ScalarsArePrinted = (s : HartState) (i : Instr) → scan table (word_of s) ≡ Some i → is_counted (step 256 s).end ≡ true
     → with_scalars (line_of i s).scalars s.scalar ≡ record (step 256 s).state.scalar { pc = s.scalar.pc }
 
 -- The line of an instruction gives the control registers after it, if the vector length before it is valid for the vector type.
-abbrev pub ControlsAreTold : Type 0
-ControlsAreTold = (s : HartState) (i : Instr) → IsConfiguration s.vector.conf
+abbrev pub ControlsArePrinted : Type 0
+ControlsArePrinted = (s : HartState) (i : Instr) → IsConfiguration s.vector.conf
     → with_controls (line_of i s).controls s.vector ≡ record (step 256 s).state.vector { file = s.vector.file }
 
 -- The line of an instruction that retires or exits gives the memory after it.
-abbrev pub MemoryIsTold : Type 0
-MemoryIsTold = (s : HartState) (i : Instr) → scan table (word_of s) ≡ Some i → is_counted (step 256 s).end ≡ true
+abbrev pub MemoryIsPrinted : Type 0
+MemoryIsPrinted = (s : HartState) (i : Instr) → scan table (word_of s) ≡ Some i → is_counted (step 256 s).end ≡ true
     → with_stored (line_of i s).moved s.memory ≡ (step 256 s).state.memory
 
 -- The line of an instruction gives the vector registers after it, if the vector length before it is valid for the vector type.
-abbrev pub VectorsAreTold : Type 0
-VectorsAreTold = (s : HartState) (i : Instr) → scan table (word_of s) ≡ Some i → IsConfiguration s.vector.conf → length s.vector.file ≡ FILE_BYTES
+abbrev pub VectorsArePrinted : Type 0
+VectorsArePrinted = (s : HartState) (i : Instr) → scan table (word_of s) ≡ Some i → IsConfiguration s.vector.conf → length s.vector.file ≡ FILE_BYTES
     → with_vectors (line_of i s).vectors s.vector.file ≡ (step 256 s).state.vector.file

@@ -53,9 +53,9 @@ use Rattle.rv_model.proofs.access_lemmas.Runs.{run_facts}
 use Rattle.rv_model.proofs.step_lemmas.StepCases.{operation_is}
 use Rattle.recording.specs.Runs.{is_counted, word_of}
 use Rattle.vector_memory.specs.MovedElements.{MovedElement, element_of, moved_elements, moved_end}
-use Rattle.commit_log.specs.Lines.{told_moved}
-use Rattle.commit_log.specs.Told.{MemoryIsTold, with_stored}
-use Rattle.commit_log.proofs.LoadsTold.{typed_fits}
+use Rattle.commit_log.specs.Lines.{printed_moved}
+use Rattle.commit_log.specs.Printed.{MemoryIsPrinted, with_stored}
+use Rattle.commit_log.proofs.LoadsPrinted.{typed_fits}
 use Rattle.commit_log.proofs.Retired.{of_counted, of_done}
 
 -- ---- sequences of elements
@@ -95,12 +95,12 @@ transfers_stored : (a : VectorAccess) (place : Transfer → ℕ) (file : List �
 unfolding transfers memory_stored
 transfers_stored a place file i zero m = refl
 transfers_stored a place file i (suc n) m =
-    let told : Transfer → MovedElement = element_of direction.Store place file in
+    let printed : Transfer → MovedElement = element_of direction.Store place file in
     let here : List Transfer = plan a false i in
     let rest : List Transfer = transfers (plan a false) (i + 1) n in
-    ap (λ (es : List MovedElement). with_stored es m) (map-append told here rest)
-    ∙ stored_then (map told here) (map told rest) m
-    ∙ ap (with_stored (map told rest)) (plan_stored a place file i m)
+    ap (λ (es : List MovedElement). with_stored es m) (map-append printed here rest)
+    ∙ stored_then (map printed here) (map printed rest) m
+    ∙ ap (with_stored (map printed rest)) (plan_stored a place file i m)
     ∙ transfers_stored a place file (i + 1) n (memory_stored m place file here)
     ∙ sym (stored-append m place file here rest)
 
@@ -159,8 +159,8 @@ done_is d _ h = absurd (cc)
 
 -- ---- each instruction
 
-abbrev Tells : Instr → HartState → Stepped → Type 0
-Tells i s r = is_counted r.end ≡ true → with_stored (told_moved i s r.state.vector.conf.vl) s.memory ≡ r.state.memory
+abbrev Prints : Instr → HartState → Stepped → Type 0
+Prints i s r = is_counted r.end ≡ true → with_stored (printed_moved i s r.state.vector.conf.vl) s.memory ≡ r.state.memory
 
 -- the memory is unchanged
 abbrev Stays : HartState → Stepped → Type 0
@@ -183,65 +183,65 @@ module _ (s : HartState) where
       (either (output_room s.output == 0) _ _ (λ h. refl)
       (either (can_access access.Load s.memory (read_register s.scalar 11) (write_count (read_register s.scalar 12) s.output)) _ _ (λ h. refl) (λ h. refl))))
 
-  scalar_tells : (i : ScalarInstr) → Tells (instr.Scalar i) s (scalar_step i s)
+  scalar_prints : (i : ScalarInstr) → Prints (instr.Scalar i) s (scalar_step i s)
   unfolding environment_call
-  scalar_tells (Jump rd imm) = either _ _ _ (λ h. refl) (λ h. refl)
-  scalar_tells (JumpRegister rd rs1 imm) = either _ _ _ (λ h. refl) (λ h. refl)
-  scalar_tells (Branch op rs1 rs2 imm) = either (is_taken op (read_register s.scalar rs1) (read_register s.scalar rs2)) _ _ (either _ _ _ (λ h. refl) (λ h. refl)) (λ h. refl)
-  scalar_tells (Load op rd rs1 imm) = either _ _ _ (λ h. refl) (λ h. refl)
-  scalar_tells (Store op rs1 rs2 imm) =
-      of_either (Tells (instr.Scalar (Store op rs1 rs2 imm)) s)
+  scalar_prints (Jump rd imm) = either _ _ _ (λ h. refl) (λ h. refl)
+  scalar_prints (JumpRegister rd rs1 imm) = either _ _ _ (λ h. refl) (λ h. refl)
+  scalar_prints (Branch op rs1 rs2 imm) = either (is_taken op (read_register s.scalar rs1) (read_register s.scalar rs2)) _ _ (either _ _ _ (λ h. refl) (λ h. refl)) (λ h. refl)
+  scalar_prints (Load op rd rs1 imm) = either _ _ _ (λ h. refl) (λ h. refl)
+  scalar_prints (Store op rs1 rs2 imm) =
+      of_either (Prints (instr.Scalar (Store op rs1 rs2 imm)) s)
       (can_access access.Store s.memory (sum w64 (read_register s.scalar rs1) (s_immediate imm)) (byte_len (store_width op))) _ _
       (λ h. refl) (λ (h : false ≡ true). absurd (cc))
-  scalar_tells (System system.Ecall) =
+  scalar_prints (System system.Ecall) =
       either (read_register s.scalar 17 == 93 || read_register s.scalar 17 == 94) _ _ (λ h. refl)
       (either (read_register s.scalar 17 == 64) _ _ write_stays (λ h. refl))
-  scalar_tells _ = λ h. refl
+  scalar_prints _ = λ h. refl
 
-  controls_tell : (i : CsrInstr) (word : ℕ) → Tells (instr.Csr i) s (csr_executed i word s)
-  controls_tell (Register op rd rs1 csr) word = csr_stays (control_register csr) op rd rs1 (read_register s.scalar rs1) word
-  controls_tell (Immediate op rd imm csr) word = csr_stays (control_register csr) (csr_form op) rd imm imm word
+  controls_print : (i : CsrInstr) (word : ℕ) → Prints (instr.Csr i) s (csr_executed i word s)
+  controls_print (Register op rd rs1 csr) word = csr_stays (control_register csr) op rd rs1 (read_register s.scalar rs1) word
+  controls_print (Immediate op rd imm csr) word = csr_stays (control_register csr) (csr_form op) rd imm imm word
 
   operation_stays : (i : VectorInstr) → s.memory ≡ (operation_step i s).state.memory
   operation_stays i =
       operation_is s (λ d. s.memory ≡ d.state.memory) i (record { sets = λ vtype length. refl; leaves = λ scalar w file saturated. refl; illegal = refl })
 
-  loaded_tells : (limit : ℕ) (i : AccessInstr) (a : VectorAccess) → access_of i s.vector s.scalar ≡ Some a → a.direction ≡ direction.Load
+  loaded_prints : (limit : ℕ) (i : AccessInstr) (a : VectorAccess) → access_of i s.vector s.scalar ≡ Some a → a.direction ≡ direction.Load
       → (vl : ℕ) → with_stored (moved_elements s.vector vl a) s.memory ≡ (access_step limit i (Some a) s).state.memory
-  loaded_tells limit i a e is vl =
+  loaded_prints limit i a e is vl =
       loads_nothing a.direction (element_start a) s.vector.file (transfers (plan a false) a.body.start (moved_end a vl - a.body.start)) s.memory is
       ∙ sym ((run_facts limit (load_fills_masked_off a s) i s.vector s.scalar s.memory a e).memory is)
 
-  stored_tells : (limit : ℕ) (i : AccessInstr) (a : VectorAccess) → access_of i s.vector s.scalar ≡ Some a → a.direction ≡ direction.Store
+  stored_prints : (limit : ℕ) (i : AccessInstr) (a : VectorAccess) → access_of i s.vector s.scalar ≡ Some a → a.direction ≡ direction.Store
       → (access_step limit i (Some a) s).end ≡ vector_end.Done → (vl : ℕ) → with_stored (moved_elements s.vector vl a) s.memory ≡ (access_step limit i (Some a) s).state.memory
-  stored_tells limit i a e is h vl =
+  stored_prints limit i a e is h vl =
       ap (λ (b : Bool). with_stored (map (element_of a.direction (element_start a) s.vector.file) (transfers (plan a false) a.body.start (cond b vl a.body.end - a.body.start))) s.memory)
       (whole_of i s.vector s.scalar a e is)
       ∙ stores_all a.direction a (element_start a) s.vector.file a.body.start (a.body.end - a.body.start) s.memory is
       ∙ sym (directed_stored a.direction limit (load_fills_masked_off a s) a s.vector s.memory is (done_is a.direction _ h))
 
-  moved_tells : (limit : ℕ) (i : AccessInstr) (a : VectorAccess) → access_of i s.vector s.scalar ≡ Some a → (d : Direction) → a.direction ≡ d
+  moved_prints : (limit : ℕ) (i : AccessInstr) (a : VectorAccess) → access_of i s.vector s.scalar ≡ Some a → (d : Direction) → a.direction ≡ d
       → (access_step limit i (Some a) s).end ≡ vector_end.Done
       → with_stored (moved_elements s.vector (access_step limit i (Some a) s).state.vector.conf.vl a) s.memory ≡ (access_step limit i (Some a) s).state.memory
-  moved_tells limit i a e direction.Load is h = loaded_tells limit i a e is _
-  moved_tells limit i a e direction.Store is h = stored_tells limit i a e is h _
+  moved_prints limit i a e direction.Load is h = loaded_prints limit i a e is _
+  moved_prints limit i a e direction.Store is h = stored_prints limit i a e is h _
 
-  access_tells : (limit : ℕ) (i : AccessInstr) → (access_step limit i (access_of i s.vector s.scalar) s).end ≡ vector_end.Done
-      → with_stored (told_moved (instr.Access i) s (access_step limit i (access_of i s.vector s.scalar) s).state.vector.conf.vl) s.memory
+  access_prints : (limit : ℕ) (i : AccessInstr) → (access_step limit i (access_of i s.vector s.scalar) s).end ≡ vector_end.Done
+      → with_stored (printed_moved (instr.Access i) s (access_step limit i (access_of i s.vector s.scalar) s).state.vector.conf.vl) s.memory
       ≡ (access_step limit i (access_of i s.vector s.scalar) s).state.memory
-  access_tells limit i =
+  access_prints limit i =
       of_option (access_of i s.vector s.scalar) (λ o. (access_step limit i o s).end ≡ vector_end.Done
       → with_stored (option_map_or (moved_elements s.vector (access_step limit i o s).state.vector.conf.vl) o []) s.memory ≡ (access_step limit i o s).state.memory)
-      (λ e. λ h. refl) (λ a e. moved_tells limit i a e a.direction refl)
+      (λ e. λ h. refl) (λ a e. moved_prints limit i a e a.direction refl)
 
-  executed_tells : (i : Instr) (word : ℕ) → Tells i s (executed 256 (Some i) word s)
+  executed_prints : (i : Instr) (word : ℕ) → Prints i s (executed 256 (Some i) word s)
   unfolding executed performed
-  executed_tells (instr.Scalar i) word = scalar_tells i
-  executed_tells (instr.Csr i) word = controls_tell i word
-  executed_tells (instr.Vector i) word = of_done s (λ v m. s.memory ≡ m) (instr.Vector i) word (λ e h. operation_stays i)
-  executed_tells (instr.Access i) word =
-      of_done s (λ v m. with_stored (told_moved (instr.Access i) s v.conf.vl) s.memory ≡ m) (instr.Access i) word (λ e. access_tells 256 i)
+  executed_prints (instr.Scalar i) word = scalar_prints i
+  executed_prints (instr.Csr i) word = controls_print i word
+  executed_prints (instr.Vector i) word = of_done s (λ v m. s.memory ≡ m) (instr.Vector i) word (λ e h. operation_stays i)
+  executed_prints (instr.Access i) word =
+      of_done s (λ v m. with_stored (printed_moved (instr.Access i) s v.conf.vl) s.memory ≡ m) (instr.Access i) word (λ e. access_prints 256 i)
 
-pub memory_is_told : MemoryIsTold
-memory_is_told s i is =
-    of_counted s (λ (r : Stepped). with_stored (told_moved i s r.state.vector.conf.vl) s.memory ≡ r.state.memory) (Some i) is (executed_tells s i (word_of s))
+pub memory_is_printed : MemoryIsPrinted
+memory_is_printed s i is =
+    of_counted s (λ (r : Stepped). with_stored (printed_moved i s r.state.vector.conf.vl) s.memory ≡ r.state.memory) (Some i) is (executed_prints s i (word_of s))

@@ -1,6 +1,6 @@
 //! State before an instruction.
 ghost use Rattle.std.specs.Prelude.{◌≡◌, ℕ};
-ghost use Rattle.commit_log.specs.Finds.{Finds, Moves, Notes, SameOtherwise};
+ghost use Rattle.commit_log.specs.Finds.{Finds, Moves, Captures, SameOtherwise};
 
 use rv_model::{Instr, RoundingMode, Scalar, ScalarInstr, VConf, VState};
 use scalar_core::{i_immediate, s_immediate};
@@ -9,7 +9,7 @@ use scalar_core::{i_immediate, s_immediate};
 /// control registers. For a scalar load or store, it includes the address and the value that a store writes. For a vector load or store, it
 /// includes all registers.
 #[derive(Drop)]
-pub struct Found {
+pub struct PreState {
     pub(crate) pc: u64,
     pub(crate) word: u32,
     pub(crate) instr: Option<Instr>,
@@ -23,10 +23,10 @@ pub struct Found {
     pub(crate) vector: VState,
 }
 
-impl Found {
+impl PreState {
     /// Create an empty state.
-    pub fn new() -> Found {
-        Found {
+    pub fn new() -> PreState {
+        PreState {
             pc: 0,
             word: 0,
             instr: None,
@@ -43,7 +43,7 @@ impl Found {
 
     /// Save the registers of a vector load or store.
     #[inline(never)]
-    fn note_access(&mut self, scalar: &Scalar, vector: &VState)
+    fn capture_access(&mut self, scalar: &Scalar, vector: &VState)
         ensures { self.new ≡ record self.old { scalar = scalar.now; vector = vector.now } }
     {
         self.scalar = *scalar;
@@ -52,7 +52,7 @@ impl Found {
 
     /// Save the address of a scalar load or store, and the value that a store writes.
     #[inline(always)]
-    fn note_scalar(&mut self, instr: &ScalarInstr, scalar: &Scalar)
+    fn capture_scalar(&mut self, instr: &ScalarInstr, scalar: &Scalar)
         ensures address { Moves instr.now scalar.now self.new }
         ensures others { self.new ≡ record self.old { address = self.new.address; value = self.new.value } }
     {
@@ -70,20 +70,20 @@ impl Found {
 
     /// Save the operands of a load or store.
     #[inline(always)]
-    fn note_operands(&mut self, instr: &Option<Instr>, scalar: &Scalar, vector: &VState)
-        ensures notes { Notes instr.now scalar.now vector.now self.new }
+    fn capture_operands(&mut self, instr: &Option<Instr>, scalar: &Scalar, vector: &VState)
+        ensures notes { Captures instr.now scalar.now vector.now self.new }
         ensures others { SameOtherwise self.old self.new }
     {
         match instr {
-            Some(Instr::Scalar(instr)) => self.note_scalar(instr, scalar),
-            Some(Instr::Access(_)) => self.note_access(scalar, vector),
+            Some(Instr::Scalar(instr)) => self.capture_scalar(instr, scalar),
+            Some(Instr::Access(_)) => self.capture_access(scalar, vector),
             Some(Instr::Csr(_)) | Some(Instr::Vector(_)) | None => {}
         }
     }
 
     /// Save the state before an instruction; `instr` is the instruction of `word`.
     #[inline(always)]
-    pub fn note(&mut self, word: u32, instr: &Option<Instr>, scalar: &Scalar, vector: &VState)
+    pub fn capture(&mut self, word: u32, instr: &Option<Instr>, scalar: &Scalar, vector: &VState)
         ensures { Finds word instr.now scalar.now vector.now self.new }
     {
         self.pc = scalar.pc;
@@ -93,6 +93,6 @@ impl Found {
         self.vstart = vector.vstart;
         self.vxrm = vector.vxrm;
         self.vxsat = vector.vxsat;
-        self.note_operands(instr, scalar, vector);
+        self.capture_operands(instr, scalar, vector);
     }
 }

@@ -10,7 +10,7 @@ use Rattle.rv_model.specs.step.Hart.{HartState, Stepped}
 use Rattle.rv_model.specs.step.Step.{step}
 use Rattle.recording.specs.Laws.{RunsAsSteps}
 use Rattle.recording.specs.Machines.{taken}
-use Rattle.recording.specs.Runs.{Run, begins, put_out, run}
+use Rattle.recording.specs.Runs.{Run, begins, output_of, run}
 use Rattle.recording.proofs.Outputs.{joined, step_joins, with_output}
 
 after_hart : (end : StepEnd) (h : HartState) (p : Present) → (after end h p).hart ≡ h
@@ -66,36 +66,36 @@ module _ (x : HartState) (o : List ℕ) (skip_once : Bool) (p : Present) (rest :
       ∙ ap (λ (h : HartState). if goes then (steps m false next).state.hart else h) (after_hart one.end (joined o one).state p)
 
   begun : (goes : Bool) → is_none (stop_of (step 256 (taken x)).end) ≡ goes
-      → length (o ++ flat_map put_out (begins (taken x) goes (step 256 (taken x)).end (taken (step 256 (taken x)).state) rest).found) ≤ 768
-      → ((next : Present) → next.breakpoints ≡ [] → next.hart ≡ with_output (o ++ put_out (taken x)) (step 256 (taken x)).state
-      → length ((o ++ put_out (taken x)) ++ flat_map put_out rest.found) ≤ 768
-      → (steps (length rest.found) false next).state.hart ≡ with_output ((o ++ put_out (taken x)) ++ flat_map put_out rest.found) rest.state)
+      → length (o ++ flat_map output_of (begins (taken x) goes (step 256 (taken x)).end (taken (step 256 (taken x)).state) rest).found) ≤ 768
+      → ((next : Present) → next.breakpoints ≡ [] → next.hart ≡ with_output (o ++ output_of (taken x)) (step 256 (taken x)).state
+      → length ((o ++ output_of (taken x)) ++ flat_map output_of rest.found) ≤ 768
+      → (steps (length rest.found) false next).state.hart ≡ with_output ((o ++ output_of (taken x)) ++ flat_map output_of rest.found) rest.state)
       → (steps (length (begins (taken x) goes (step 256 (taken x)).end (taken (step 256 (taken x)).state) rest).found) skip_once p).state.hart
-      ≡ with_output (o ++ flat_map put_out (begins (taken x) goes (step 256 (taken x)).end (taken (step 256 (taken x)).state) rest).found) (begins (taken x) goes (step 256 (taken x)).end (taken (step 256 (taken x)).state) rest).state
+      ≡ with_output (o ++ flat_map output_of (begins (taken x) goes (step 256 (taken x)).end (taken (step 256 (taken x)).state) rest).found) (begins (taken x) goes (step 256 (taken x)).end (taken (step 256 (taken x)).state) rest).state
   begun true whether fits others =
       let one : Stepped = step 256 (taken x) in
-      let more : List ℕ = flat_map put_out rest.found in
+      let more : List ℕ = flat_map output_of rest.found in
       let next : Present = after one.end (joined o one).state p in
-      let same : length ((o ++ put_out (taken x)) ++ more) ≡ length (o ++ (put_out (taken x) ++ more)) = ap length (append_assoc o (put_out (taken x)) more) in
-      let few : length o ≤ 768 = omega (arith, fits, length-append o (put_out (taken x) ++ more)) in
+      let same : length ((o ++ output_of (taken x)) ++ more) ≡ length (o ++ (output_of (taken x) ++ more)) = ap length (append_assoc o (output_of (taken x)) more) in
+      let few : length o ≤ 768 = omega (arith, fits, length-append o (output_of (taken x) ++ more)) in
       first_is (length rest.found) true few whether
       ∙ others next (after_breaks one.end (joined o one).state p ∙ none) (after_hart one.end (joined o one).state p) (omega (arith, fits, same))
-      ∙ ap (λ (l : List ℕ). with_output l rest.state) (append_assoc o (put_out (taken x)) more)
+      ∙ ap (λ (l : List ℕ). with_output l rest.state) (append_assoc o (output_of (taken x)) more)
   begun false whether fits others =
-      let few : length o ≤ 768 = omega (arith, fits, length-append o (put_out (taken x) ++ [])) in
+      let few : length o ≤ 768 = omega (arith, fits, length-append o (output_of (taken x) ++ [])) in
       first_is 0 false few whether
-      ∙ ap (λ (l : List ℕ). with_output (o ++ l) (step 256 (taken x)).state) (sym (append-nil (put_out (taken x))))
+      ∙ ap (λ (l : List ℕ). with_output (o ++ l) (step 256 (taken x)).state) (sym (append-nil (output_of (taken x))))
 
 steps_from : (n left : ℕ) (x : HartState) (o : List ℕ) (skip_once : Bool) (p : Present) → p.breakpoints ≡ [] → p.hart ≡ with_output o x
-    → length (o ++ flat_map put_out (run n left (taken x)).found) ≤ 768
-    → (steps (length (run n left (taken x)).found) skip_once p).state.hart ≡ with_output (o ++ flat_map put_out (run n left (taken x)).found) (run n left (taken x)).state
+    → length (o ++ flat_map output_of (run n left (taken x)).found) ≤ 768
+    → (steps (length (run n left (taken x)).found) skip_once p).state.hart ≡ with_output (o ++ flat_map output_of (run n left (taken x)).found) (run n left (taken x)).state
 unfolding run
 steps_from zero left x o skip_once p none at fits = at ∙ ap (λ (l : List ℕ). with_output l x) (sym (append-nil o))
 steps_from (suc n) zero x o skip_once p none at fits = at ∙ ap (λ (l : List ℕ). with_output l x) (sym (append-nil o))
 steps_from (suc n) (suc left) x o skip_once p none at fits =
     let one : Stepped = step 256 (taken x) in
     begun x o skip_once p (run n (suc left - one.ticks) (taken one.state)) none at (is_none (stop_of one.end)) refl fits
-    (λ next breaks here few. steps_from n (suc left - one.ticks) one.state (o ++ put_out (taken x)) false next breaks here few)
+    (λ next breaks here few. steps_from n (suc left - one.ticks) one.state (o ++ output_of (taken x)) false next breaks here few)
 
 pub runs_as_steps : RunsAsSteps
 runs_as_steps ticks skip_once p none fits = steps_from ticks ticks p.hart p.hart.output skip_once p none refl (omega (arith, fits))

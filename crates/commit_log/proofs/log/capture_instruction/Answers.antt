@@ -1,6 +1,6 @@
 use Rattle.std.proofs.Common.{◌∙◌, refl, sym}
 use Rattle.std.proofs.lemmas.Bool.{false≢true}
-use Rattle.commit_log.proofs.log.note_instruction.Goals as goal
+use Rattle.commit_log.proofs.log.capture_instruction.Goals as goal
 
 pub returns-then-not-contains : goal.returns-then-not-contains
 returns-then-not-contains g c =
@@ -19,5 +19,5 @@ returns g c =
       text_is = refl;
       window_is = refl;
       number_is = refl;
-      finds = λ within fetches. c.note_found.ensures fetches;
+      finds = λ within fetches. c.capture_pre_state.ensures fetches;
     }

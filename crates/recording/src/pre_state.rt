@@ -2,7 +2,7 @@
 ghost use Rattle.std.specs.Prelude.{◌≡◌, false, true};
 ghost use Rattle.rv_model.specs.vector.Groups.{register_of};
 ghost use Rattle.recording.specs.Classes.{is_plain, is_unmasked};
-ghost use Rattle.recording.specs.Found.{Finds};
+ghost use Rattle.recording.specs.PreState.{Finds};
 
 use crate::class::Class;
 use reg_groups::mask_register;
@@ -11,7 +11,7 @@ use rv_model::{VConf, VLENB, VState};
 /// The state before an instruction that isn't plain: its address, vl and the vector type, vstart, and v0 if it is
 /// masked.
 #[derive(Clone, Copy)]
-pub(crate) struct Found {
+pub(crate) struct PreState {
     pub pc: u64,
     pub conf: VConf,
     pub start: usize,
@@ -42,11 +42,11 @@ fn copy_mask(mask: &mut [u8; VLENB], state: &VState)
     *mask = mask_register(&state.file);
 }
 
-impl Found {
+impl PreState {
     /// Return a placeholder for the time before the first instruction.
     #[inline(always)]
-    pub(crate) fn none() -> Found {
-        Found {
+    pub(crate) fn none() -> PreState {
+        PreState {
             pc: 0,
             conf: VConf::vill(),
             start: 0,
@@ -56,7 +56,7 @@ impl Found {
 
     /// Save the state before an instruction, unless its class is plain.
     #[inline(always)]
-    pub(crate) fn note(&mut self, class: Class, pc: u64, state: &VState)
+    pub(crate) fn capture(&mut self, class: Class, pc: u64, state: &VState)
         ensures { is_plain class ≡ false → Finds class pc state.now self.new }
     {
         if is_plain(class) {

@@ -1,6 +1,6 @@
 //! Two records of one run.
-use crate::alone::Alone;
 use crate::fault::RecordFault;
+use crate::machine::SingleUserMachine;
 use crate::recorder::Recorder;
 use rv_model::StepEnd;
 use vector_memory::UserBytes;
@@ -8,26 +8,31 @@ use vector_memory::UserBytes;
 /// A pair of recorders for one run. At each instruction the first records before the second; an error of the first
 /// skips the second.
 #[derive(Drop)]
-pub struct Both<A, B> {
+pub struct RecorderPair<A, B> {
     pub first: A,
     pub second: B,
 }
 
-impl<M: UserBytes, A: Recorder<M>, B: Recorder<M>> Recorder<M> for Both<A, B> {
+impl<M: UserBytes, A: Recorder<M>, B: Recorder<M>> Recorder<M> for RecorderPair<A, B> {
     ghost recorded = { λ a states b. A.recorded a.first states b.first × B.recorded a.second states b.second };
 
-    ghost noted = { λ a state b. A.noted a.first state b.first × B.noted a.second state b.second };
+    ghost prepared = { λ a state b. A.prepared a.first state b.first × B.prepared a.second state b.second };
 
     #[inline(always)]
-    fn note(&mut self, alone: &Alone<M>) -> Result<(), RecordFault> {
-        self.first.note(alone)?;
-        self.second.note(alone)
+    fn before_step(&mut self, machine: &SingleUserMachine<M>) -> Result<(), RecordFault> {
+        self.first.before_step(machine)?;
+        self.second.before_step(machine)
     }
 
     #[inline(always)]
-    fn keep(&mut self, alone: &Alone<M>, end: StepEnd, ticks: usize) -> Result<(), RecordFault> {
-        self.first.keep(alone, end, ticks)?;
-        self.second.keep(alone, end, ticks)
+    fn after_step(
+        &mut self,
+        machine: &SingleUserMachine<M>,
+        end: StepEnd,
+        ticks: usize,
+    ) -> Result<(), RecordFault> {
+        self.first.after_step(machine, end, ticks)?;
+        self.second.after_step(machine, end, ticks)
     }
 
     ghost recorded_none = { λ r. (A.recorded_none r.first, B.recorded_none r.second) };

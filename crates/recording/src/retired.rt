@@ -1,45 +1,50 @@
 //! Numbers of the counted instructions of a run and of their ticks.
 ghost use Rattle.std.specs.Prelude.{◌≡◌};
 
-use crate::alone::Alone;
 use crate::counting::is_counted;
 use crate::fault::RecordFault;
+use crate::machine::SingleUserMachine;
 use crate::recorder::Recorder;
 use rv_model::StepEnd;
 use vector_memory::UserBytes;
 
 /// Numbers of counted instructions and of their ticks, modulo 2^64.
 #[derive(Drop)]
-pub struct Carried {
+pub struct Retired {
     pub times: u64,
     pub ticks: u64,
 }
 
-impl Carried {
+impl Retired {
     /// Return zero counts.
-    pub fn none() -> Carried
+    pub fn none() -> Retired
         ensures times { result.times ≡ 0 }
         ensures ticks { result.ticks ≡ 0 }
     {
-        Carried { times: 0, ticks: 0 }
+        Retired { times: 0, ticks: 0 }
     }
 }
 
-impl<M: UserBytes> Recorder<M> for Carried {
+impl<M: UserBytes> Recorder<M> for Retired {
     ghost use Rattle.recording.specs.Totals.{AddsUp, times_of, counted_ticks};
     ghost use Rattle.recording.specs.TotalLaws.{none_added, more_added};
 
     ghost recorded = { λ a states b. AddsUp times_of a.times states b.times × AddsUp counted_ticks a.ticks states b.ticks };
 
-    ghost noted = { λ a _ b. b ≡ a };
+    ghost prepared = { λ a _ b. b ≡ a };
 
     #[inline(always)]
-    fn note(&mut self, _alone: &Alone<M>) -> Result<(), RecordFault> {
+    fn before_step(&mut self, _machine: &SingleUserMachine<M>) -> Result<(), RecordFault> {
         Ok(())
     }
 
     #[inline(always)]
-    fn keep(&mut self, _alone: &Alone<M>, end: StepEnd, ticks: usize) -> Result<(), RecordFault> {
+    fn after_step(
+        &mut self,
+        _machine: &SingleUserMachine<M>,
+        end: StepEnd,
+        ticks: usize,
+    ) -> Result<(), RecordFault> {
         if is_counted(end) {
             self.times = self.times.wrapping_add(1);
             self.ticks = self.ticks.wrapping_add(ticks as u64);

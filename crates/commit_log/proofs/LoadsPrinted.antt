@@ -30,11 +30,11 @@ use Rattle.rv_model.proofs.legality_lemmas.Accesses.{indexed_inside, strided_ins
 use Rattle.rv_model.proofs.legality_lemmas.Bounds.{length_below}
 use Rattle.rv_model.proofs.memory_lemmas.Memory.{is_within_false}
 use Rattle.rv_model.proofs.step_lemmas.KeptAccesses.{access_keeps}
-use Rattle.commit_log.specs.Lines.{told_vectors}
+use Rattle.commit_log.specs.Lines.{printed_vectors}
 use Rattle.commit_log.specs.Targets.{registers_from, vector_targets}
-use Rattle.commit_log.specs.Told.{with_vectors}
+use Rattle.commit_log.specs.Printed.{with_vectors}
 use Rattle.commit_log.proofs.FilledRegisters.{filled, filled_are}
-use Rattle.commit_log.proofs.VectorRegions.{region_told, unchanged}
+use Rattle.commit_log.proofs.VectorRegions.{region_printed, unchanged}
 
 -- ---- bytes that a load doesn't change
 
@@ -139,28 +139,28 @@ module _ (s : HartState) (is : IsConfiguration s.vector.conf) where
   fits_of : (i : AccessInstr) (a : VectorAccess) → is_legal (instr.Access i) s.vector.conf.vtype s.vector.vstart ≡ true → access_of i s.vector s.scalar ≡ Some a → Fits i s a
   fits_of i a legal e = subst (λ (o : Option VectorAccess). IfSome o (Fits i s)) e (each_fits i legal)
 
-  abbrev Told : AccessInstr → List ℕ → Type 0
-  Told i file = with_vectors (told_vectors file (vector_targets (instr.Access i) s.vector.conf.vtype)) s.vector.file ≡ file
+  abbrev Printed : AccessInstr → List ℕ → Type 0
+  Printed i file = with_vectors (printed_vectors file (vector_targets (instr.Access i) s.vector.conf.vtype)) s.vector.file ≡ file
 
-  direction_told : (i : AccessInstr) (a : VectorAccess) → length s.vector.file ≡ 1024 → access_of i s.vector s.scalar ≡ Some a → Fits i s a
-      → (d : Direction) → a.direction ≡ d → (file : List ℕ) (m : Memory) → DirectionKeeps d i a s file m → Told i file
-  direction_told i a long e fits direction.Load load file m keeps =
+  direction_printed : (i : AccessInstr) (a : VectorAccess) → length s.vector.file ≡ 1024 → access_of i s.vector s.scalar ≡ Some a → Fits i s a
+      → (d : Direction) → a.direction ≡ d → (file : List ℕ) (m : Memory) → DirectionKeeps d i a s file m → Printed i file
+  direction_printed i a long e fits direction.Load load file m keeps =
       let count : ℕ = a.fields * a.field_registers in
       let targets : vector_targets (instr.Access i) s.vector.conf.vtype ≡ registers_from a.register count =
       filled_are s.vector s.scalar i ∙ ap (λ (o : Option VectorAccess). option_map_or filled o []) e
       ∙ ap (λ (d : Direction). cond (reads_memory d) (registers_from a.register count) []) load in
-      ap (λ (rs : List ℕ). with_vectors (told_vectors file rs) s.vector.file) targets
-      ∙ region_told s.vector.file file a.register count long keeps.size
+      ap (λ (rs : List ℕ). with_vectors (printed_vectors file rs) s.vector.file) targets
+      ∙ region_printed s.vector.file file a.register count long keeps.size
       (λ k out.
       let beside : Outside a.register count k = elim out [ inl early ↦ inl early | inr late ↦ inr (omega (arith, late)) ] in
       keeps.registers k (uncovered a k beside s (fits.inside load)) (no_tail a k beside (filled_type i a s) fits.tails))
-  direction_told i a long e fits direction.Store store file m keeps = unchanged s.vector.file file (vector_targets (instr.Access i) s.vector.conf.vtype) keeps.registers
+  direction_printed i a long e fits direction.Store store file m keeps = unchanged s.vector.file file (vector_targets (instr.Access i) s.vector.conf.vtype) keeps.registers
 
-  keeps_told : (i : AccessInstr) → length s.vector.file ≡ 1024 → is_legal (instr.Access i) s.vector.conf.vtype s.vector.vstart ≡ true
-      → (o : Option VectorAccess) → access_of i s.vector s.scalar ≡ o → (file : List ℕ) (m : Memory) → AccessKeeps i o s file m → Told i file
-  keeps_told i long legal None e file m keeps = unchanged s.vector.file file (vector_targets (instr.Access i) s.vector.conf.vtype) keeps.registers
-  keeps_told i long legal (Some a) e file m keeps = direction_told i a long e (fits_of i a legal e) a.direction refl file m keeps
+  keeps_printed : (i : AccessInstr) → length s.vector.file ≡ 1024 → is_legal (instr.Access i) s.vector.conf.vtype s.vector.vstart ≡ true
+      → (o : Option VectorAccess) → access_of i s.vector s.scalar ≡ o → (file : List ℕ) (m : Memory) → AccessKeeps i o s file m → Printed i file
+  keeps_printed i long legal None e file m keeps = unchanged s.vector.file file (vector_targets (instr.Access i) s.vector.conf.vtype) keeps.registers
+  keeps_printed i long legal (Some a) e file m keeps = direction_printed i a long e (fits_of i a legal e) a.direction refl file m keeps
 
-  pub access_told : (limit : ℕ) (i : AccessInstr) → length s.vector.file ≡ 1024 → is_legal (instr.Access i) s.vector.conf.vtype s.vector.vstart ≡ true
-      → Told i (access_step limit i (access_of i s.vector s.scalar) s).state.vector.file
-  access_told limit i long legal = keeps_told i long legal _ refl _ _ (access_keeps limit i (access_of i s.vector s.scalar) s long)
+  pub access_printed : (limit : ℕ) (i : AccessInstr) → length s.vector.file ≡ 1024 → is_legal (instr.Access i) s.vector.conf.vtype s.vector.vstart ≡ true
+      → Printed i (access_step limit i (access_of i s.vector s.scalar) s).state.vector.file
+  access_printed limit i long legal = keeps_printed i long legal _ refl _ _ (access_keeps limit i (access_of i s.vector s.scalar) s long)

@@ -2,21 +2,21 @@
 ghost use Rattle.std.specs.Prelude.{◌≡◌};
 
 use arrayvec::ArrayVec;
-use hart::{MAX_TICKS, OneSeat, View, step};
+use hart::{MAX_TICKS, SingleSlot, View, step};
 use rv_model::{OUTPUT_SIZE, Policy, Scalar, StepEnd};
 use vector_memory::UserBytes;
 
 /// The registers, memory, vector state and output buffer of a single user, and the policy for agnostic elements.
 #[derive(Drop)]
-pub struct Alone<M> {
+pub struct SingleUserMachine<M> {
     pub scalar: Scalar,
     pub memory: M,
-    pub vectors: OneSeat,
+    pub vectors: SingleSlot,
     pub output: ArrayVec<u8, OUTPUT_SIZE>,
     pub policy: Policy,
 }
 
-impl<M: UserBytes> Alone<M> {
+impl<M: UserBytes> SingleUserMachine<M> {
     ghost use Rattle.recording.specs.Machines.{LeadsTo};
 
     /// Execute one instruction. Return its end and its ticks, 1 to 256.
