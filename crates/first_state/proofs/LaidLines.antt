@@ -12,7 +12,7 @@ use Rattle.recording.specs.Machines.{state_of}
 use Rattle.first_state.specs.declared.fault.RegistersFault.{RegistersFault}
 use Rattle.first_state.specs.declared.fault.RegistersFault.TheVariants as fault
 use Rattle.first_state.specs.declared.laying.Lengths.{Lengths}
-use Rattle.first_state.specs.Laid.{after_line, configured, is_configuration, laid, state_with, with_registers}
+use Rattle.first_state.specs.RegisterFile.{after_line, configured, is_configuration, laid, state_with, with_registers}
 use Rattle.first_state.specs.Lines.{line_setting}
 
 -- A valid line changes the state s to t; an invalid line is refused with its number.

@@ -1,4 +1,4 @@
-pub mod Laid
+pub mod RegisterFile
 pub mod Lines
 pub mod Loaded
 pub mod OwnMemory

@@ -1,6 +1,6 @@
 //! Sets a register of a machine.
 ghost use Rattle.std.specs.Prelude.{◌≡◌};
-ghost use Rattle.first_state.specs.Laid.{state_with, with_setting};
+ghost use Rattle.first_state.specs.RegisterFile.{state_with, with_setting};
 
 use crate::setting::Setting;
 use recording::SingleUserMachine;

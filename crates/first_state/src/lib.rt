@@ -13,5 +13,5 @@ mod start;
 pub use fault::{LoadFault, PlaceFault, RegistersFault};
 pub use own_bytes::OwnBytes;
 pub use placing::place_bytes;
-pub use registers::lay_registers;
+pub use registers::set_registers;
 pub use start::{enter, load};

@@ -15,7 +15,7 @@ ghost use Rattle.first_state.specs.Lines.{
 };
 
 use crate::setting::Setting;
-use line_text::{Words, address, instruction_address, scalar_register, vector_register};
+use line_text::{Arguments, address, instruction_address, scalar_register, vector_register};
 use rv_model::{Reg, RegisterBytes, RoundingMode, VReg};
 use vtype_rules::{vector_type, vtype_number};
 
@@ -146,12 +146,12 @@ fn setting_of(name: &[u8], value: &[u8]) -> Option<Setting>
 pub(crate) fn line_setting(line: &[u8]) -> Option<Option<Setting>>
     ensures { result ≡ line_setting line.now }
 {
-    let mut words = Words::new(line);
-    let Some(name) = words.next_word() else {
+    let mut words = Arguments::new(line);
+    let Some(name) = words.next_argument() else {
         return Some(None);
     };
-    let value = words.next_word()?;
-    if words.next_word().is_some() {
+    let value = words.next_argument()?;
+    if words.next_argument().is_some() {
         return None;
     }
     let setting = setting_of(name, value)?;

@@ -4,7 +4,7 @@ ghost use Rattle.std.specs.Option.{option_map_or};
 ghost use Rattle.rv_model.specs.text.Lines.{is_newline, pieces};
 ghost use Rattle.rv_model.specs.step.Hart.{HartState};
 ghost use Rattle.recording.specs.Machines.{state_of};
-ghost use Rattle.first_state.specs.Laid.{after_line, is_configuration, laid, state_with, with_registers};
+ghost use Rattle.first_state.specs.RegisterFile.{after_line, is_configuration, laid, state_with, with_registers};
 ghost use Rattle.first_state.specs.Lines.{line_setting};
 
 use crate::fault::RegistersFault;
@@ -111,7 +111,7 @@ fn configuration(lengths: Lengths) -> Option<VConf>
 /// Return `Line` with the number, counted from 1, of the first line of another form or with a value that the register can't hold. Otherwise
 /// return `Length` if no vset instruction can leave the final length with the final type. After an error, the registers that lines name
 /// have unspecified values.
-pub fn lay_registers<M: UserBytes>(
+pub fn set_registers<M: UserBytes>(
     machine: &mut SingleUserMachine<M>,
     text: &[u8],
 ) -> Result<(), RegistersFault>

@@ -1,3 +1,3 @@
 pub mod DisassemblyLaws
-pub mod PieceLaws
+pub mod PrintingLaws
 pub mod RegisterLines

@@ -16,7 +16,7 @@ ghost use Rattle.rv_model.specs.machine.Setup.{user_count, users};
 ghost use Rattle.rv_model.specs.text.Lines.{text};
 ghost use Rattle.rv_model.specs.text.Words.{words};
 
-use line_text::{Reply, Words, count, done, push_decimal, user};
+use line_text::{Arguments, Reply, count, done, push_decimal, user};
 use rv_model::{OperatorCommand, Refusal, RunState, Stats, USER_COUNT, User};
 
 /// Return the command with a name and its arguments: `None` if the name is unknown, and `Some(None)` if the arguments
@@ -31,10 +31,10 @@ fn operator_named(name: &[u8], args: &[u8]) -> Option<Option<OperatorCommand>>
         return Some(run_args(args));
     }
     if name == b"list".as_slice() {
-        return Some(done(Words::new(args), OperatorCommand::List));
+        return Some(done(Arguments::new(args), OperatorCommand::List));
     }
     if name == b"stats".as_slice() {
-        return Some(done(Words::new(args), OperatorCommand::Stats));
+        return Some(done(Arguments::new(args), OperatorCommand::Stats));
     }
     None
 }
@@ -44,8 +44,8 @@ fn operator_named(name: &[u8], args: &[u8]) -> Option<Option<OperatorCommand>>
 fn slices_args(args: &[u8]) -> Option<OperatorCommand>
     ensures { result ≡ one_argument Slices (number_between 1 1000) (words args.now) }
 {
-    let mut words = Words::new(args);
-    let count = count(words.next_word()?)?;
+    let mut words = Arguments::new(args);
+    let count = count(words.next_argument()?)?;
     done(words, OperatorCommand::Slices(count))
 }
 
@@ -54,8 +54,8 @@ fn slices_args(args: &[u8]) -> Option<OperatorCommand>
 fn run_args(args: &[u8]) -> Option<OperatorCommand>
     ensures { result ≡ one_argument Run (number_between 1 user_count) (words args.now) }
 {
-    let mut words = Words::new(args);
-    let user = user(words.next_word()?)?;
+    let mut words = Arguments::new(args);
+    let user = user(words.next_argument()?)?;
     done(words, OperatorCommand::Run(user))
 }
 
@@ -68,8 +68,8 @@ fn run_args(args: &[u8]) -> Option<OperatorCommand>
 pub fn parse_operator(line: &[u8]) -> Result<OperatorCommand, Refusal>
     ensures { result ≡ operator_parse line.now }
 {
-    let mut words = Words::new(line);
-    let Some(name) = words.next_word() else {
+    let mut words = Arguments::new(line);
+    let Some(name) = words.next_argument() else {
         return Err(Refusal::UnknownCommand);
     };
     match operator_named(name, words.rest()) {

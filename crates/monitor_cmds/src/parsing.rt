@@ -10,7 +10,7 @@ use crate::commands::programs::programs_named;
 use crate::commands::registers::registers_named;
 use crate::commands::running::running_named;
 use crate::trimming::after_two_words;
-use line_text::Words;
+use line_text::Arguments;
 use rv_model::{Cmd, Refusal};
 
 /// Return the command with a name, its arguments, and the text after the first argument. Fail as [`parse`] does.
@@ -48,8 +48,8 @@ fn named<'a>(name: &[u8], args: &'a [u8], text: &'a [u8]) -> Result<Cmd<'a>, Ref
 pub fn parse(line: &[u8]) -> Result<Cmd<'_>, Refusal>
     ensures { result ≡ parse line.now }
 {
-    let mut words = Words::new(line);
-    match words.next_word() {
+    let mut words = Arguments::new(line);
+    match words.next_argument() {
         Some(name) => named(name, words.rest(), after_two_words(line)),
         None => Err(Refusal::UnknownCommand),
     }

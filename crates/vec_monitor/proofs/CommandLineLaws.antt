@@ -29,7 +29,7 @@ use Rattle.clap.specs.declared.builder.value_parser.ValueParser.{ValueParser}
 use Rattle.clap.specs.declared.builder.value_parser.ValueParser.TheVariants.{Signed}
 use Rattle.clap.specs.declared.parser.matches.ArgMatches.{ArgMatches}
 use Rattle.clap.specs.declared.parser.matches.MatchedArg.{MatchedArg}
-use Rattle.vec_monitor.specs.CommandLine.{command_line, image_rule, quantum_rule, script_rule, quantum_word, script_word, words_fault, IsQuantum}
+use Rattle.vec_monitor.specs.CommandLine.{command_line, image_rule, quantum_rule, script_rule, quantum_word, script_word, arguments_fault, IsQuantum}
 
 -- ---- the command after building it
 
@@ -172,22 +172,22 @@ given_quantum c m is p t given = go (matched_of (found_of m) (codes "quantum")) 
         at_entry x got.0 got.1 ((bytes_eq-Decides _ _).0 got.2) got.3 (rw e at given)
 
 -- the number parsed for `--quantum`, or 100 without a text
-pub quantum_read : (E : Type 0) (G : Text → Result ℕ E → Type 0) (c : Command) (m : ArgMatches) (words : List Text) → app_of c ≡ command_line → IsParsedFrom c m
-    → rows_of (found_of m) ≡ matches_of command_line words
+pub quantum_read : (E : Type 0) (G : Text → Result ℕ E → Type 0) (c : Command) (m : ArgMatches) (arguments : List Text) → app_of c ≡ command_line → IsParsedFrom c m
+    → rows_of (found_of m) ≡ matches_of command_line arguments
     → ((t : Text) (x : Result ℕ E) → G t x → ParsesUnsigned 16 10 t x)
     → (r : Option ℕ) (n : ℕ) → (one_text (found_of m) (codes "quantum") ≡ None → r ≡ None)
     → ((t : Text) → one_text (found_of m) (codes "quantum") ≡ Some t → ReadsOne G t r)
     → n ≡ unwrap_or r 100
-    → IsQuantum (quantum_word words) n × (1 ≤ n) × (n ≤ 1000)
-quantum_read E G c m words is p rows only r n none value read = go (one_text (found_of m) (codes "quantum")) refl
+    → IsQuantum (quantum_word arguments) n × (1 ≤ n) × (n ≤ 1000)
+quantum_read E G c m arguments is p rows only r n none value read = go (one_text (found_of m) (codes "quantum")) refl
   where
-    word_is : one_text (found_of m) (codes "quantum") ≡ quantum_word words
+    word_is : one_text (found_of m) (codes "quantum") ≡ quantum_word arguments
     word_is = one_text-rows (found_of m) (codes "quantum") ∙ ap (one_of (codes "quantum")) rows
 
     spelled : (t : Text) (k : ℕ) → ReadsOne G t (Some k) → k ≡ digits_value 10 (without_leading_plus t)
     spelled t k g = (only t (Ok k) g).1
 
-    go : (o : Option Text) → one_text (found_of m) (codes "quantum") ≡ o → IsQuantum (quantum_word words) n × (1 ≤ n) × (n ≤ 1000)
+    go : (o : Option Text) → one_text (found_of m) (codes "quantum") ≡ o → IsQuantum (quantum_word arguments) n × (1 ≤ n) × (n ≤ 1000)
     go None e =
         let hundred : n ≡ 100 = read ∙ ap (λ o. unwrap_or o 100) (none e) in
         (subst (λ o. IsQuantum o n) (sym e ∙ word_is) hundred, omega arith, omega arith)
@@ -201,24 +201,24 @@ quantum_read E G c m words is p rows only r n none value read = go (one_text (fo
 
 -- ---- the arguments for the script and the images
 
-pub rows_by : (c : Command) (m : ArgMatches) (words : List Text) → app_of c ≡ command_line → HasMatchesOf (app_of c) words m
-    → rows_of (found_of m) ≡ matches_of command_line words
-rows_by c m words is matched = (matched (ap is_simple is)).0 ∙ ap (λ a. matches_of a words) is
+pub rows_by : (c : Command) (m : ArgMatches) (arguments : List Text) → app_of c ≡ command_line → HasMatchesOf (app_of c) arguments m
+    → rows_of (found_of m) ≡ matches_of command_line arguments
+rows_by c m arguments is matched = (matched (ap is_simple is)).0 ∙ ap (λ a. matches_of a arguments) is
 
-pub script_read : (m : ArgMatches) (words : List Text) → rows_of (found_of m) ≡ matches_of command_line words
-    → first_value (found_of m) (codes "script") ≡ script_word words
-script_read m words rows = first_value-rows (found_of m) (codes "script") ∙ ap (first_of (codes "script")) rows
+pub script_read : (m : ArgMatches) (arguments : List Text) → rows_of (found_of m) ≡ matches_of command_line arguments
+    → first_value (found_of m) (codes "script") ≡ script_word arguments
+script_read m arguments rows = first_value-rows (found_of m) (codes "script") ∙ ap (first_of (codes "script")) rows
 
-pub images_read : (m : ArgMatches) (words : List Text) → rows_of (found_of m) ≡ matches_of command_line words
-    → option_map raw_values (matched_of (found_of m) (codes "image")) ≡ all_of (codes "image") (matches_of command_line words)
-images_read m words rows = raw_values-rows (found_of m) (codes "image") ∙ ap (all_of (codes "image")) rows
+pub images_read : (m : ArgMatches) (arguments : List Text) → rows_of (found_of m) ≡ matches_of command_line arguments
+    → option_map raw_values (matched_of (found_of m) (codes "image")) ≡ all_of (codes "image") (matches_of command_line arguments)
+images_read m arguments rows = raw_values-rows (found_of m) (codes "image") ∙ ap (all_of (codes "image")) rows
 
 -- the arguments found, or none
-pub images_in : (P : Bor (List (Bor Text)) → Type 0) (o : Option (Bor (List (Bor Text)))) (d : Bor (List (Bor Text))) (words : Option (List Text))
-    → option_map (λ s. texts s.now) o ≡ words → UnwrapsOrElse o P d → ((b : Bor (List (Bor Text))) → P b → b.now ≡ []) → texts d.now ≡ unwrap_or words []
-images_in P None d words e h empty = ap texts (empty d h) ∙ ap (λ ws. unwrap_or ws []) e
-images_in P (Some s) d words e h empty = ap (λ (b : Bor (List (Bor Text))). texts b.now) h ∙ ap (λ ws. unwrap_or ws []) e
+pub images_in : (P : Bor (List (Bor Text)) → Type 0) (o : Option (Bor (List (Bor Text)))) (d : Bor (List (Bor Text))) (arguments : Option (List Text))
+    → option_map (λ s. texts s.now) o ≡ arguments → UnwrapsOrElse o P d → ((b : Bor (List (Bor Text))) → P b → b.now ≡ []) → texts d.now ≡ unwrap_or arguments []
+images_in P None d arguments e h empty = ap texts (empty d h) ∙ ap (λ ws. unwrap_or ws []) e
+images_in P (Some s) d arguments e h empty = ap (λ (b : Bor (List (Bor Text))). texts b.now) h ∙ ap (λ ws. unwrap_or ws []) e
 
 -- clap accepts the arguments
-pub taken_by : (c : Command) (words : List Text) → app_of c ≡ command_line → (is_simple_and_free (app_of c) ≡ true → fault_of (app_of c) words ≡ []) → words_fault words ≡ []
-taken_by c words is free = sym (ap (λ a. fault_of a words) is) ∙ free (ap is_simple_and_free is)
+pub taken_by : (c : Command) (arguments : List Text) → app_of c ≡ command_line → (is_simple_and_free (app_of c) ≡ true → fault_of (app_of c) arguments ≡ []) → arguments_fault arguments ≡ []
+taken_by c arguments is free = sym (ap (λ a. fault_of a arguments) is) ∙ free (ap is_simple_and_free is)

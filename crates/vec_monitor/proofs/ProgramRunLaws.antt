@@ -18,14 +18,14 @@ use Rattle.monitor_script.specs.declared.script.RunFault.{RunFault}
 use Rattle.monitor_script.specs.declared.script.RunFault.TheVariants.{Read, TooLong, Write}
 use Rattle.rv_model.specs.machine.Script.{World, new_world, whole, whole_from}
 use Rattle.rv_model.specs.machine.Setup.{Image as NamedImage, Setup}
-use Rattle.vec_monitor.specs.CommandLine.{image_words, quantum_word, script_word, words_fault, IsQuantum}
+use Rattle.vec_monitor.specs.CommandLine.{image_arguments, quantum_word, script_word, arguments_fault, IsQuantum}
 use Rattle.vec_monitor.specs.ImageFiles.{named_file, IsFileOf}
-use Rattle.vec_monitor.specs.ImageWords.{IsNameAndPath, IsPathOf}
+use Rattle.vec_monitor.specs.ImageArguments.{IsNameAndPath, IsPathOf}
 use Rattle.devices.specs.KnownBytes.{AreKnownAs}
-use Rattle.vec_monitor.specs.ProgramRuns.{IsImageOf, PutOutPrefix, RanOptions, RanScript, RanWords}
+use Rattle.vec_monitor.specs.ProgramRuns.{IsImageOf, OutputPrefix, RanOptions, RanScript, RanArguments}
 use Rattle.vec_monitor.specs.Statuses.{program_status}
 use Rattle.vec_monitor.specs.declared.image_files.ImageFile.{ImageFile}
-use Rattle.vec_monitor.specs.declared.image_words.ImagePath.{ImagePath}
+use Rattle.vec_monitor.specs.declared.image_arguments.ImagePath.{ImagePath}
 use Rattle.vec_monitor.specs.declared.program_fault.ProgramFault.{ProgramFault}
 use Rattle.vec_monitor.specs.declared.program_fault.ProgramFault.TheVariants.{Run}
 use Rattle.monitor_script.proofs.Prefixes.{begins}
@@ -47,18 +47,18 @@ rest_of (Some xs) (Some rest) text given = (rest, sym given, λ end. end)
 
 -- the output of a run that has read some text
 pub put_out : (m : MachineState) (known after : Option (List ℕ)) (text output : List ℕ) (took : List ℕ → Type 0) → m.world ≡ new_world → Consumes known after text → took output
-    → ((rest : List ℕ) → (IsAtEnd after → rest ≡ []) → StartsWith (whole_from m.setup m.world (text ++ rest)) output) → PutOutPrefix took m.setup known
+    → ((rest : List ℕ) → (IsAtEnd after → rest ≡ []) → StartsWith (whole_from m.setup m.world (text ++ rest)) output) → OutputPrefix took m.setup known
 put_out m known after text output took new given taken prefix =
     let rest = rest_of known after text given in
     (text ++ rest.0, rest.1, (output, taken, subst (λ (w : World). StartsWith (whole_from m.setup w (text ++ rest.0)) output) new (prefix rest.0 rest.2)))
 
 -- the output of a whole script
-pub put_out_all : (took : List ℕ → Type 0) (setup : Setup) (known : Option (List ℕ)) → RanScript took setup known → PutOutPrefix took setup known
+pub put_out_all : (took : List ℕ → Type 0) (setup : Setup) (known : Option (List ℕ)) → RanScript took setup known → OutputPrefix took setup known
 put_out_all took setup known ran =
     (ran.script, ran.read, (ran.output, ran.taken, begins (whole setup ran.script) ran.output [] (sym (append-nil ran.output ∙ ran.all))))
 
 -- no output
-pub put_out_none : (took : List ℕ → Type 0) (setup : Setup) (known : Option (List ℕ)) → took [] → PutOutPrefix took setup known
+pub put_out_none : (took : List ℕ → Type 0) (setup : Setup) (known : Option (List ℕ)) → took [] → OutputPrefix took setup known
 put_out_none took setup None none = ([], tt, ([], none, refl))
 put_out_none took setup (Some xs) none = (xs, refl, ([], none, refl))
 
@@ -95,48 +95,48 @@ images_are_small setup faultless =
     new_faults.Quantum new_faults.ImageCount new_faults.ImageName new_faults.ImageSize faultless
 
 -- the images of small files, for each argument
-pub images_of_words : {A : Type 0} (file_bytes : Text → Option (List ℕ)) (words : List (Bor Text)) (paths : List ImagePath) (files : List (ImageFile A))
-    → AllZip IsPathOf words paths → AllZip (IsFileOf file_bytes) paths files → list_all is_small (map named_file files) ≡ true
-    → AllZip (IsImageOf file_bytes) (texts words) (map named_file files)
-images_of_words file_bytes [] [] [] split read small = tt
-images_of_words file_bytes [] [] (f ∷ fs) split read small = absurd read
-images_of_words file_bytes [] (p ∷ ps) files split read small = absurd split
-images_of_words file_bytes (w ∷ ws) [] files split read small = absurd split
-images_of_words file_bytes (w ∷ ws) (p ∷ ps) [] split read small = absurd read
-images_of_words file_bytes (w ∷ ws) (p ∷ ps) (f ∷ fs) split read small =
+pub images_of_arguments : {A : Type 0} (file_bytes : Text → Option (List ℕ)) (arguments : List (Bor Text)) (paths : List ImagePath) (files : List (ImageFile A))
+    → AllZip IsPathOf arguments paths → AllZip (IsFileOf file_bytes) paths files → list_all is_small (map named_file files) ≡ true
+    → AllZip (IsImageOf file_bytes) (texts arguments) (map named_file files)
+images_of_arguments file_bytes [] [] [] split read small = tt
+images_of_arguments file_bytes [] [] (f ∷ fs) split read small = absurd read
+images_of_arguments file_bytes [] (p ∷ ps) files split read small = absurd split
+images_of_arguments file_bytes (w ∷ ws) [] files split read small = absurd split
+images_of_arguments file_bytes (w ∷ ws) (p ∷ ps) [] split read small = absurd read
+images_of_arguments file_bytes (w ∷ ws) (p ∷ ps) (f ∷ fs) split read small =
     let parts = and_parts _ _ small in
     let named : IsNameAndPath w.now f.name.now p.path.now = subst (λ name. IsNameAndPath w.now name p.path.now) (sym read.0.0) split.0 in
-    ((p.path.now, named, read.0.1 (leb-true _ _ parts.0)), images_of_words file_bytes ws ps fs split.1 read.1 parts.1)
+    ((p.path.now, named, read.0.1 (leb-true _ _ parts.0)), images_of_arguments file_bytes ws ps fs split.1 read.1 parts.1)
 
 -- ---- from the options and the arguments
 
 -- the arguments, paths, files and images, each passed from one function to the next
-pub ran_options : {A : Type 0} (file_bytes : Text → Option (List ℕ)) (input_bytes : Option (List ℕ)) (quantum : ℕ) (script : Option Text) (words words' : List (Bor Text)) (paths paths' : List ImagePath) (files files' : List (ImageFile A)) (images images' : List Image)
-    (machine : MachineState) (Ran : Setup → Option (List ℕ) → Type 0) → words' ≡ words → AllZip IsPathOf words' paths → paths' ≡ paths → AllZip (IsFileOf file_bytes) paths' files → files' ≡ files → named_images images ≡ map named_file files' → images' ≡ images
+pub ran_options : {A : Type 0} (file_bytes : Text → Option (List ℕ)) (input_bytes : Option (List ℕ)) (quantum : ℕ) (script : Option Text) (arguments arguments' : List (Bor Text)) (paths paths' : List ImagePath) (files files' : List (ImageFile A)) (images images' : List Image)
+    (machine : MachineState) (Ran : Setup → Option (List ℕ) → Type 0) → arguments' ≡ arguments → AllZip IsPathOf arguments' paths → paths' ≡ paths → AllZip (IsFileOf file_bytes) paths' files → files' ≡ files → named_images images ≡ map named_file files' → images' ≡ images
     → new_fault (setup_of quantum images') ≡ None → machine ≡ record { setup = setup_of quantum images'; world = new_world } → (machine.world ≡ new_world → Ran machine.setup (option_map_or file_bytes script input_bytes))
-    → RanOptions file_bytes input_bytes quantum script (texts words) Ran
-ran_options file_bytes input_bytes quantum script words words' paths paths' files files' images images' machine Ran words_are split paths_are read files_are borrowed images_are faultless made ran =
+    → RanOptions file_bytes input_bytes quantum script (texts arguments) Ran
+ran_options file_bytes input_bytes quantum script arguments arguments' paths paths' files files' images images' machine Ran arguments_are split paths_are read files_are borrowed images_are faultless made ran =
     let setup : Setup = setup_of quantum images' in
     let named : named_images images' ≡ map named_file files = ap named_images images_are ∙ (borrowed ∙ ap (map named_file) files_are) in
     let small : list_all is_small (map named_file files) ≡ true = subst (λ them. list_all is_small them ≡ true) named (images_are_small setup faultless) in
     record {
       setup = setup;
       ticks = refl;
-      files = subst (AllZip (IsImageOf file_bytes) (texts words)) (sym named)
-          (images_of_words file_bytes words paths files (subst (λ them. AllZip IsPathOf them paths) words_are split)
+      files = subst (AllZip (IsImageOf file_bytes) (texts arguments)) (sym named)
+          (images_of_arguments file_bytes arguments paths files (subst (λ them. AllZip IsPathOf them paths) arguments_are split)
           (subst (λ them. AllZip (IsFileOf file_bytes) them files) paths_are read) small);
       faultless = faultless;
       run = subst (λ (m : MachineState). Ran m.setup (option_map_or file_bytes script input_bytes)) made (ran (ap (λ (m : MachineState). m.world) made));
     }
 
-pub ran_words : (file_bytes : Text → Option (List ℕ)) (input_bytes : Option (List ℕ)) (words : List Text) (quantum : ℕ) (script : Option Text) (images : List Text) (Ran : Setup → Option (List ℕ) → Type 0)
-    → words_fault words ≡ [] → IsQuantum (quantum_word words) quantum → script ≡ script_word words → images ≡ image_words words → RanOptions file_bytes input_bytes quantum script images Ran
-    → RanWords file_bytes input_bytes words Ran
-ran_words file_bytes input_bytes words quantum script images Ran accepted ticks script_is images_are ran =
+pub ran_arguments : (file_bytes : Text → Option (List ℕ)) (input_bytes : Option (List ℕ)) (arguments : List Text) (quantum : ℕ) (script : Option Text) (images : List Text) (Ran : Setup → Option (List ℕ) → Type 0)
+    → arguments_fault arguments ≡ [] → IsQuantum (quantum_word arguments) quantum → script ≡ script_word arguments → images ≡ image_arguments arguments → RanOptions file_bytes input_bytes quantum script images Ran
+    → RanArguments file_bytes input_bytes arguments Ran
+ran_arguments file_bytes input_bytes arguments quantum script images Ran accepted ticks script_is images_are ran =
     let by_script = subst (λ it. RanOptions file_bytes input_bytes quantum it images Ran) script_is ran in
     record {
       accepted = accepted;
       quantum = quantum;
       ticks = ticks;
-      run = subst (λ them. RanOptions file_bytes input_bytes quantum (script_word words) them Ran) images_are by_script;
+      run = subst (λ them. RanOptions file_bytes input_bytes quantum (script_word arguments) them Ran) images_are by_script;
     }

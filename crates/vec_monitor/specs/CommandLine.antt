@@ -27,16 +27,16 @@ image_rule = record (new_rule (codes "image")) { value_names = 1; action = Some 
 abbrev pub command_line : App
 command_line = with_rule (with_rule (with_rule (new_app (codes "vecmon")) quantum_rule) script_rule) image_rule
 
--- the arguments that clap assigns to `--quantum`, to SCRIPT and to NAME=PATH; the first of `words` is the program's
+-- the arguments that clap assigns to `--quantum`, to SCRIPT and to NAME=PATH; the first of `arguments` is the program's
 -- name
 abbrev pub quantum_word : List Text → Option Text
-quantum_word words = one_of (codes "quantum") (matches_of command_line words)
+quantum_word arguments = one_of (codes "quantum") (matches_of command_line arguments)
 
 abbrev pub script_word : List Text → Option Text
-script_word words = first_of (codes "script") (matches_of command_line words)
+script_word arguments = first_of (codes "script") (matches_of command_line arguments)
 
-abbrev pub image_words : List Text → List Text
-image_words words = unwrap_or (all_of (codes "image") (matches_of command_line words)) []
+abbrev pub image_arguments : List Text → List Text
+image_arguments arguments = unwrap_or (all_of (codes "image") (matches_of command_line arguments)) []
 
 -- the number in the argument of `--quantum`, or 100 without this option
 abbrev pub IsQuantum : Option Text → ℕ → Type 0
@@ -44,8 +44,8 @@ IsQuantum None n = n ≡ 100
 IsQuantum (Some word) n = n ≡ digits_value 10 (without_leading_plus word)
 
 -- the kinds of error that clap may return for the arguments; empty if clap accepts them
-abbrev pub words_fault : List Text → Kinds
-words_fault words = fault_of command_line words
+abbrev pub arguments_fault : List Text → Kinds
+arguments_fault arguments = fault_of command_line arguments
 
 -- the usage fault for a kind of clap's errors
 abbrev pub IsFaultOf : ErrorKind → UsageFault → Type 0

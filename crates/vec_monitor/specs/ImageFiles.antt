@@ -3,7 +3,7 @@ use Rattle.std.specs.Prelude.{◌≡◌, ◌≤◌, ℕ, List, Option, length}
 use Rattle.rv_model.specs.machine.Setup.{Image as NamedImage}
 use Rattle.devices.specs.KnownBytes.{AreKnownAs}
 use Rattle.vec_monitor.specs.declared.image_files.ImageFile.{ImageFile}
-use Rattle.vec_monitor.specs.declared.image_words.ImagePath.{ImagePath}
+use Rattle.vec_monitor.specs.declared.image_arguments.ImagePath.{ImagePath}
 
 module _ {A : Type 0} where
   -- the image in a file

@@ -1,6 +1,6 @@
 pub mod CommandLine
 pub mod ImageFiles
-pub mod ImageWords
+pub mod ImageArguments
 pub mod ProgramRuns
 pub mod Statuses
 pub use Rattle.monitor_machine.specs.Images

@@ -9,8 +9,8 @@ use Rattle.monitor_machine.specs.NewFaults.{new_fault}
 use Rattle.rv_model.specs.machine.World.{solo}
 use Rattle.rv_model.specs.machine.Script.{lines, own, whole}
 use Rattle.rv_model.specs.machine.Setup.{Image, Setup, user_count}
-use Rattle.vec_monitor.specs.CommandLine.{image_words, quantum_word, script_word, words_fault, IsQuantum}
-use Rattle.vec_monitor.specs.ImageWords.{IsNameAndPath}
+use Rattle.vec_monitor.specs.CommandLine.{image_arguments, quantum_word, script_word, arguments_fault, IsQuantum}
+use Rattle.vec_monitor.specs.ImageArguments.{IsNameAndPath}
 use Rattle.devices.specs.KnownBytes.{AreKnownAs}
 
 -- A new machine with this setup read a script to its end and output the script's replies. Each user's lines are the
@@ -25,8 +25,8 @@ pub record RanScript (took : List ℕ → Type 0) (setup : Setup) (known : Optio
   pub each_user : (u : ℕ) → 1 ≤ u → u ≤ user_count → lines u output ≡ solo setup (own setup u script)
 
 -- However the run of a script ended, a new machine with this setup has output a prefix of the script's output.
-abbrev pub PutOutPrefix : (List ℕ → Type 0) → Setup → Option (List ℕ) → Type 0
-PutOutPrefix took setup known =
+abbrev pub OutputPrefix : (List ℕ → Type 0) → Setup → Option (List ℕ) → Type 0
+OutputPrefix took setup known =
     (script : List ℕ) × AreKnownAs known script × ((output : List ℕ) × took output × StartsWith (whole setup script) output)
 
 -- the image that an argument names: its name, and the bytes of the file at its path
@@ -45,8 +45,8 @@ pub record RanOptions (file_bytes : Text → Option (List ℕ)) (input_bytes : O
   pub run : Ran setup (option_map_or file_bytes script input_bytes)
 
 -- clap accepted the arguments, and `Ran` describes the run of the script that they name
-pub record RanWords (file_bytes : Text → Option (List ℕ)) (input_bytes : Option (List ℕ)) (words : List Text) (Ran : Setup → Option (List ℕ) → Type 0) : Type 0 where
-  pub accepted : words_fault words ≡ []
+pub record RanArguments (file_bytes : Text → Option (List ℕ)) (input_bytes : Option (List ℕ)) (arguments : List Text) (Ran : Setup → Option (List ℕ) → Type 0) : Type 0 where
+  pub accepted : arguments_fault arguments ≡ []
   pub quantum : ℕ
-  pub ticks : IsQuantum (quantum_word words) quantum
-  pub run : RanOptions file_bytes input_bytes quantum (script_word words) (image_words words) Ran
+  pub ticks : IsQuantum (quantum_word arguments) quantum
+  pub run : RanOptions file_bytes input_bytes quantum (script_word arguments) (image_arguments arguments) Ran

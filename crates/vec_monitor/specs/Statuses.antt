@@ -8,8 +8,8 @@ use Rattle.monitor_machine.specs.declared.new_fault.NewFault.{NewFault}
 use Rattle.monitor_machine.specs.declared.new_fault.NewFault.TheVariants as new_fault
 use Rattle.monitor_script.specs.declared.script.RunFault.{RunFault}
 use Rattle.monitor_script.specs.declared.script.RunFault.TheVariants.{Read, TooLong, Write}
-use Rattle.vec_monitor.specs.CommandLine.{image_words, words_fault}
-use Rattle.vec_monitor.specs.ImageWords.{LacksEqualsSign}
+use Rattle.vec_monitor.specs.CommandLine.{image_arguments, arguments_fault}
+use Rattle.vec_monitor.specs.ImageArguments.{LacksEqualsSign}
 use Rattle.vec_monitor.specs.declared.program_fault.ProgramFault.{ProgramFault}
 use Rattle.vec_monitor.specs.declared.program_fault.ProgramFault.TheVariants.{ImageRead, ImageList, Run, NoMemory}
 
@@ -35,11 +35,11 @@ machine_fault _ = ImageList
 -- clap may return an error other than help for the arguments, or clap accepts them and an image argument has no equals
 -- sign
 abbrev pub MayBeRefused : List Text → Type 0
-MayBeRefused words = ((kind : ErrorKind) × IsAmong kind (words_fault words) × (kind ≢ DisplayHelp))
-    ⊎ ((words_fault words ≡ []) × Any LacksEqualsSign (image_words words))
+MayBeRefused arguments = ((kind : ErrorKind) × IsAmong kind (arguments_fault arguments) × (kind ≢ DisplayHelp))
+    ⊎ ((arguments_fault arguments ≡ []) × Any LacksEqualsSign (image_arguments arguments))
 
 -- clap rejects the arguments and help is none of the possible errors, or clap accepts them and an image argument has no
 -- equals sign
 abbrev pub AreRefused : List Text → Type 0
-AreRefused words = ((words_fault words ≢ []) × (IsAmong DisplayHelp (words_fault words) → ⊥))
-    ⊎ ((words_fault words ≡ []) × Any LacksEqualsSign (image_words words))
+AreRefused arguments = ((arguments_fault arguments ≢ []) × (IsAmong DisplayHelp (arguments_fault arguments) → ⊥))
+    ⊎ ((arguments_fault arguments ≡ []) × Any LacksEqualsSign (image_arguments arguments))

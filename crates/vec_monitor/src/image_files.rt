@@ -5,7 +5,7 @@ ghost use Rattle.monitor_machine.specs.Images.{named_images};
 ghost use Rattle.vec_monitor.specs.ImageFiles.{named_file, IsFileOf};
 ghost use Rattle.vec_monitor.specs.declared.program_fault.ProgramFault.TheVariants.{ImageRead, NoMemory};
 
-use crate::image_words::ImagePath;
+use crate::image_arguments::ImagePath;
 use crate::program_fault::ProgramFault;
 use devices::{Inputs, ReadFault, read_file};
 use monitor_machine::{Image, MAX_IMAGE};

@@ -1,13 +1,14 @@
 //! The monitor: the program with its command line, a machine for eight users, and the scripts that it executes.
 #![tactic(auto)]
 
+mod arguments;
 mod command_line;
+mod image_arguments;
 mod image_files;
-mod image_words;
 mod program;
 mod program_fault;
-mod words;
 
+pub use arguments::options;
 pub use command_line::{Options, UsageFault};
 pub use devices::Inputs;
 pub use monitor_machine::{Image, Machine, NewFault};
@@ -21,4 +22,3 @@ pub use rv_model::{
     absent_users_have_nothing, each_user_alone, preserved_configurations, refusals_change_nothing,
     slices_add_up, steps_take_ticks, turns_are_fair,
 };
-pub use words::options;

@@ -6,17 +6,17 @@ ghost use Rattle.clap.specs.Walk.{texts};
 ghost use Rattle.clap.specs.Words.{IsAmong};
 ghost use Rattle.clap.specs.declared.error.kind.ErrorKind.TheVariants.{DisplayHelp};
 ghost use Rattle.rv_model.specs.machine.Script.{new_world};
-ghost use Rattle.vec_monitor.specs.CommandLine.{image_words, words_fault};
-ghost use Rattle.vec_monitor.specs.ImageWords.{LacksEqualsSign};
-ghost use Rattle.vec_monitor.specs.ProgramRuns.{PutOutPrefix, RanOptions, RanScript, RanWords};
+ghost use Rattle.vec_monitor.specs.CommandLine.{image_arguments, arguments_fault};
+ghost use Rattle.vec_monitor.specs.ImageArguments.{LacksEqualsSign};
+ghost use Rattle.vec_monitor.specs.ProgramRuns.{OutputPrefix, RanOptions, RanScript, RanArguments};
 ghost use Rattle.vec_monitor.specs.Statuses.{program_status, AreRefused, MayBeRefused};
-ghost use Rattle.vec_monitor.specs.declared.program_fault.ProgramFault.TheVariants.{ImageWord, NoMemory};
+ghost use Rattle.vec_monitor.specs.declared.program_fault.ProgramFault.TheVariants.{ImageArgument, NoMemory};
 
+use crate::arguments::options;
 use crate::command_line::{Options, UsageFault};
+use crate::image_arguments::image_paths;
 use crate::image_files::{borrowed_images, read_images};
-use crate::image_words::image_paths;
 use crate::program_fault::{ProgramFault, STATUS_DONE};
-use crate::words::options;
 use devices::Inputs;
 use monitor_machine::Machine;
 use monitor_script::{ReaderSource, RunFault, Sink, WriterSink, run};
@@ -33,7 +33,7 @@ fn run_reader<F: Read + Drop, K: Sink, A: Allocator>(
     ensures ran { machine.old.world ≡ new_world → OnOk result (
         RanScript (λ told. K.took output.old told output.new) machine.old.setup (F.remaining reader)) }
     ensures told { machine.old.world ≡ new_world →
-        PutOutPrefix (λ told. K.took output.old told output.new) machine.old.setup (F.remaining reader) }
+        OutputPrefix (λ told. K.took output.old told output.new) machine.old.setup (F.remaining reader) }
 {
     run(machine, &mut ReaderSource::new(reader), output)
 }
@@ -50,7 +50,7 @@ fn run_script<I: Inputs, K: Sink, A: Allocator>(
         (option_map_or (I.file_bytes inputs.now) (option_map (λ path. path.now) script.entry)
         (I.input_bytes inputs.now))) }
     ensures told { machine.old.world ≡ new_world →
-        PutOutPrefix (λ told. K.took output.old told output.new) machine.old.setup
+        OutputPrefix (λ told. K.took output.old told output.new) machine.old.setup
         (option_map_or (I.file_bytes inputs.now) (option_map (λ path. path.now) script.entry)
         (I.input_bytes inputs.now)) }
 {
@@ -78,13 +78,13 @@ fn run_options<'a, I: Inputs, K: Sink, A: Allocator + Clone>(
     ensures told { K.took output.old [] output.new
         ⊎ RanOptions (I.file_bytes inputs.now) (I.input_bytes inputs.now)
         options.now.quantum (option_map (λ path. path.now) options.now.script)
-        (texts options.now.images.items) (PutOutPrefix (λ told. K.took output.old told output.new)) }
+        (texts options.now.images.items) (OutputPrefix (λ told. K.took output.old told output.new)) }
     ensures nothing { IfErr result (λ fault. (program_status fault ≡ 2)
         ⊎ ((program_status fault ≡ 4) ⊎ (program_status fault ≡ 6)) → K.took output.old [] output.new) }
     ensures usage { IfErr result (λ fault.
         program_status fault ≡ 2 → Any LacksEqualsSign (texts options.now.images.items)) }
     ensures refused { Any LacksEqualsSign (texts options.now.images.items) →
-        IsErrAnd result (λ fault. (fault ≡ NoMemory) ⊎ (fault ≡ ImageWord)) }
+        IsErrAnd result (λ fault. (fault ≡ NoMemory) ⊎ (fault ≡ ImageArgument)) }
     ensures images { 1 ≤ options.now.quantum → options.now.quantum ≤ 1000 →
         options.now.images.items ≡ [] → IfErr result (λ fault. program_status fault ≢ 4) }
 {
@@ -97,28 +97,28 @@ fn run_options<'a, I: Inputs, K: Sink, A: Allocator + Clone>(
 }
 
 /// Run the program with its arguments: print help, or execute a script.
-fn run_words<'a, R: Inputs + Print, K: Sink>(
+fn run_arguments<'a, R: Inputs + Print, K: Sink>(
     rt: &R,
     alloc: Global,
-    words: &'a [&'a str],
+    arguments: &'a [&'a str],
     output: &mut K,
 ) -> Result<(), ProgramFault<'a>>
-    ensures ran { OnOk result (IsAmong DisplayHelp (words_fault (texts words.now))
-        ⊎ RanWords (R.file_bytes rt.now) (R.input_bytes rt.now) (texts words.now)
+    ensures ran { OnOk result (IsAmong DisplayHelp (arguments_fault (texts arguments.now))
+        ⊎ RanArguments (R.file_bytes rt.now) (R.input_bytes rt.now) (texts arguments.now)
         (RanScript (λ told. K.took output.old told output.new))) }
     ensures told { K.took output.old [] output.new
-        ⊎ RanWords (R.file_bytes rt.now) (R.input_bytes rt.now) (texts words.now)
-        (PutOutPrefix (λ told. K.took output.old told output.new)) }
+        ⊎ RanArguments (R.file_bytes rt.now) (R.input_bytes rt.now) (texts arguments.now)
+        (OutputPrefix (λ told. K.took output.old told output.new)) }
     ensures nothing { IfErr result (λ fault. (program_status fault ≡ 2)
         ⊎ ((program_status fault ≡ 4) ⊎ (program_status fault ≡ 6)) → K.took output.old [] output.new) }
     ensures usage { IfErr result (λ fault.
-        program_status fault ≡ 2 → MayBeRefused (texts words.now)) }
-    ensures refused { AreRefused (texts words.now) →
+        program_status fault ≡ 2 → MayBeRefused (texts arguments.now)) }
+    ensures refused { AreRefused (texts arguments.now) →
         IsErrAnd result (λ fault. (program_status fault ≡ 2) ⊎ (fault ≡ NoMemory)) }
-    ensures images { image_words (texts words.now) ≡ [] →
+    ensures images { image_arguments (texts arguments.now) ≡ [] →
         IfErr result (λ fault. program_status fault ≢ 4) }
 {
-    match options(alloc, words) {
+    match options(alloc, arguments) {
         Ok(options) => run_options(rt, alloc, &options, output),
         Err(UsageFault::Help(text)) => match print!(rt; "{text}") {
             Ok(()) => Ok(()),
@@ -137,33 +137,33 @@ pub fn report<R: Eprint>(rt: &R, fault: &ProgramFault<'_>) -> u8
     fault.status()
 }
 
-/// Run the program. `words` are the command-line arguments; the first is the program's name. The replies to the
+/// Run the program. `arguments` are the command-line arguments; the first is the program's name. The replies to the
 /// script's lines are written to `output`; help is printed to standard output, and error messages to standard error.
 /// Return the exit status.
 pub fn vecmon_into<R: Inputs + Print + Eprint, K: Sink>(
     rt: &R,
     alloc: Global,
-    words: &[&str],
+    arguments: &[&str],
     output: &mut K,
 ) -> u8
     ensures statuses { (result ≡ 0) ⊎ ((result ≡ 2) ⊎ ((result ≡ 3) ⊎ ((result ≡ 4)
         ⊎ ((result ≡ 5) ⊎ (result ≡ 6))))) }
     // The exit status is 0 if the arguments ask for help, or if the machine that they describe executed the script that
     // they name.
-    ensures ran { result ≡ 0 → IsAmong DisplayHelp (words_fault (texts words.now))
-        ⊎ RanWords (R.file_bytes rt.now) (R.input_bytes rt.now) (texts words.now)
+    ensures ran { result ≡ 0 → IsAmong DisplayHelp (arguments_fault (texts arguments.now))
+        ⊎ RanArguments (R.file_bytes rt.now) (R.input_bytes rt.now) (texts arguments.now)
         (RanScript (λ told. K.took output.old told output.new)) }
     // For every exit status, the output is empty or a prefix of the output of this machine for this script. It is empty
     // for the exit statuses 2, 4 and 6.
     ensures told { K.took output.old [] output.new
-        ⊎ RanWords (R.file_bytes rt.now) (R.input_bytes rt.now) (texts words.now)
-        (PutOutPrefix (λ told. K.took output.old told output.new)) }
+        ⊎ RanArguments (R.file_bytes rt.now) (R.input_bytes rt.now) (texts arguments.now)
+        (OutputPrefix (λ told. K.took output.old told output.new)) }
     ensures nothing { (result ≡ 2) ⊎ ((result ≡ 4) ⊎ (result ≡ 6)) → K.took output.old [] output.new }
-    ensures usage { result ≡ 2 → MayBeRefused (texts words.now) }
-    ensures refused { AreRefused (texts words.now) → (result ≡ 2) ⊎ (result ≡ 6) }
-    ensures images { image_words (texts words.now) ≡ [] → result ≢ 4 }
+    ensures usage { result ≡ 2 → MayBeRefused (texts arguments.now) }
+    ensures refused { AreRefused (texts arguments.now) → (result ≡ 2) ⊎ (result ≡ 6) }
+    ensures images { image_arguments (texts arguments.now) ≡ [] → result ≢ 4 }
 {
-    match run_words(rt, alloc, words, output) {
+    match run_arguments(rt, alloc, arguments, output) {
         Ok(()) => STATUS_DONE,
         Err(fault) => report(rt, &fault),
     }
@@ -171,14 +171,14 @@ pub fn vecmon_into<R: Inputs + Print + Eprint, K: Sink>(
 
 /// Run the program as `vecmon_into` does, with standard output as the output. The bytes of standard output are
 /// unspecified.
-pub fn vecmon<R: Inputs + Print + Eprint>(rt: &R, alloc: Global, words: &[&str]) -> u8
+pub fn vecmon<R: Inputs + Print + Eprint>(rt: &R, alloc: Global, arguments: &[&str]) -> u8
     ensures statuses { (result ≡ 0) ⊎ ((result ≡ 2) ⊎ ((result ≡ 3) ⊎ ((result ≡ 4)
         ⊎ ((result ≡ 5) ⊎ (result ≡ 6))))) }
-    ensures ran { result ≡ 0 → IsAmong DisplayHelp (words_fault (texts words.now))
-        ⊎ RanWords (R.file_bytes rt.now) (R.input_bytes rt.now) (texts words.now) (RanScript (λ _. ⊤)) }
-    ensures usage { result ≡ 2 → MayBeRefused (texts words.now) }
-    ensures refused { AreRefused (texts words.now) → (result ≡ 2) ⊎ (result ≡ 6) }
-    ensures images { image_words (texts words.now) ≡ [] → result ≢ 4 }
+    ensures ran { result ≡ 0 → IsAmong DisplayHelp (arguments_fault (texts arguments.now))
+        ⊎ RanArguments (R.file_bytes rt.now) (R.input_bytes rt.now) (texts arguments.now) (RanScript (λ _. ⊤)) }
+    ensures usage { result ≡ 2 → MayBeRefused (texts arguments.now) }
+    ensures refused { AreRefused (texts arguments.now) → (result ≡ 2) ⊎ (result ≡ 6) }
+    ensures images { image_arguments (texts arguments.now) ≡ [] → result ≢ 4 }
 {
-    vecmon_into(rt, alloc, words, &mut WriterSink::new(io::writer(rt)))
+    vecmon_into(rt, alloc, arguments, &mut WriterSink::new(io::writer(rt)))
 }

@@ -37,7 +37,7 @@ pub enum ProgramFault<'a> {
     Usage(clap::Error),
     /// An image argument without `=`.
     #[error("vecmon: image argument needs NAME=PATH\n")]
-    ImageWord,
+    ImageArgument,
     /// The file of the image with this name can't be read.
     #[error("vecmon: cannot read image {0}\n")]
     ImageRead(&'a str),
@@ -57,7 +57,8 @@ impl ProgramFault<'_> {
         ensures { result ≡ program_status self.now }
     {
         match self {
-            ProgramFault::NoText | ProgramFault::Usage(_) | ProgramFault::ImageWord => STATUS_USAGE,
+            ProgramFault::NoText | ProgramFault::Usage(_) | ProgramFault::ImageArgument =>
+                STATUS_USAGE,
             ProgramFault::ImageRead(_) | ProgramFault::ImageList => STATUS_IMAGE,
             ProgramFault::Run(RunFault::Read | RunFault::TooLong) => STATUS_SCRIPT,
             ProgramFault::Run(RunFault::Write) => STATUS_OUTPUT,

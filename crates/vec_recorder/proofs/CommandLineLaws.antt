@@ -10,31 +10,31 @@ use Rattle.clap.proofs.WalkLemmas.{first_value-rows, raw_values-rows}
 use Rattle.clap.specs.declared.builder.command.Command.{Command}
 use Rattle.clap.specs.declared.error.Error.{Error}
 use Rattle.clap.specs.declared.parser.matches.ArgMatches.{ArgMatches}
-use Rattle.vec_recorder.specs.CommandLine.{RunWords, command_line, word_of, words_fault, IsFaultOf, IsRefusedFor}
+use Rattle.vec_recorder.specs.CommandLine.{RunArguments, command_line, word_of, arguments_fault, IsFaultOf, IsRefusedFor}
 use Rattle.vec_recorder.specs.declared.command_line.UsageFault.{UsageFault}
 use Rattle.vec_recorder.specs.declared.command_line.UsageFault.TheVariants.{Help, Usage, NoMemory}
 
-pub rows_by : (c : Command) (m : ArgMatches) (words : List Text) → app_of c ≡ command_line → HasMatchesOf (app_of c) words m
-    → rows_of (found_of m) ≡ matches_of command_line words
-rows_by c m words is matched = (matched (ap is_simple is)).0 ∙ ap (λ a. matches_of a words) is
+pub rows_by : (c : Command) (m : ArgMatches) (arguments : List Text) → app_of c ≡ command_line → HasMatchesOf (app_of c) arguments m
+    → rows_of (found_of m) ≡ matches_of command_line arguments
+rows_by c m arguments is matched = (matched (ap is_simple is)).0 ∙ ap (λ a. matches_of a arguments) is
 
-pub word_read : (m : ArgMatches) (words : List Text) (name : Text) → rows_of (found_of m) ≡ matches_of command_line words
-    → first_value (found_of m) name ≡ word_of name words
-word_read m words name rows = first_value-rows (found_of m) name ∙ ap (first_of name) rows
+pub word_read : (m : ArgMatches) (arguments : List Text) (name : Text) → rows_of (found_of m) ≡ matches_of command_line arguments
+    → first_value (found_of m) name ≡ word_of name arguments
+word_read m arguments name rows = first_value-rows (found_of m) name ∙ ap (first_of name) rows
 
-pub words_read : (m : ArgMatches) (words : List Text) (name : Text) → rows_of (found_of m) ≡ matches_of command_line words
-    → option_map raw_values (matched_of (found_of m) name) ≡ all_of name (matches_of command_line words)
-words_read m words name rows = raw_values-rows (found_of m) name ∙ ap (all_of name) rows
+pub arguments_read : (m : ArgMatches) (arguments : List Text) (name : Text) → rows_of (found_of m) ≡ matches_of command_line arguments
+    → option_map raw_values (matched_of (found_of m) name) ≡ all_of name (matches_of command_line arguments)
+arguments_read m arguments name rows = raw_values-rows (found_of m) name ∙ ap (all_of name) rows
 
 -- the arguments found, or none
-pub texts_in : (P : Bor (List (Bor Text)) → Type 0) (o : Option (Bor (List (Bor Text)))) (d : Bor (List (Bor Text))) (words : Option (List Text))
-    → option_map (λ s. texts s.now) o ≡ words → UnwrapsOrElse o P d → ((b : Bor (List (Bor Text))) → P b → b.now ≡ []) → texts d.now ≡ unwrap_or words []
-texts_in P None d words e h empty = ap texts (empty d h) ∙ ap (λ ws. unwrap_or ws []) e
-texts_in P (Some s) d words e h empty = ap (λ (b : Bor (List (Bor Text))). texts b.now) h ∙ ap (λ ws. unwrap_or ws []) e
+pub texts_in : (P : Bor (List (Bor Text)) → Type 0) (o : Option (Bor (List (Bor Text)))) (d : Bor (List (Bor Text))) (arguments : Option (List Text))
+    → option_map (λ s. texts s.now) o ≡ arguments → UnwrapsOrElse o P d → ((b : Bor (List (Bor Text))) → P b → b.now ≡ []) → texts d.now ≡ unwrap_or arguments []
+texts_in P None d arguments e h empty = ap texts (empty d h) ∙ ap (λ ws. unwrap_or ws []) e
+texts_in P (Some s) d arguments e h empty = ap (λ (b : Bor (List (Bor Text))). texts b.now) h ∙ ap (λ ws. unwrap_or ws []) e
 
 -- clap accepts the arguments
-pub taken_by : (c : Command) (words : List Text) → app_of c ≡ command_line → (is_simple_and_free (app_of c) ≡ true → fault_of (app_of c) words ≡ []) → words_fault words ≡ []
-taken_by c words is free = sym (ap (λ a. fault_of a words) is) ∙ free (ap is_simple_and_free is)
+pub taken_by : (c : Command) (arguments : List Text) → app_of c ≡ command_line → (is_simple_and_free (app_of c) ≡ true → fault_of (app_of c) arguments ≡ []) → arguments_fault arguments ≡ []
+taken_by c arguments is free = sym (ap (λ a. fault_of a arguments) is) ∙ free (ap is_simple_and_free is)
 
 -- a usage fault from one of clap's errors, if this has one of these kinds
 fault_among : (kinds : Kinds) (e : Error) (fault : UsageFault) → IsFaultOf (kind_of e) fault → HasKind kinds e → IsRefusedFor kinds fault
@@ -45,16 +45,16 @@ fault_among kinds e (Usage told) is (inl none) = absurd (is.1 none)
 fault_among kinds e (Usage told) is (inr among) = (λ help. is.0 (sym is.2 ∙ help), subst (λ k. IsAmong k kinds) (sym is.2) among)
 
 -- clap rejects the arguments
-pub refused_by : {T : Type 0} (c : Command) (words : List Text) (e : Error) (r : Result T UsageFault) → app_of c ≡ command_line
-    → (is_simple_and_free (app_of c) ≡ true → HasKind (fault_of (app_of c) words) e) → IsErrAnd r (IsFaultOf (kind_of e)) → IfErr r (IsRefusedFor (words_fault words))
-refused_by c words e (Ok _) is fails given = tt
-refused_by c words e (Err fault) is fails given =
-    fault_among (words_fault words) e fault given (subst (λ a. HasKind (fault_of a words) e) is (fails (ap is_simple_and_free is)))
+pub refused_by : {T : Type 0} (c : Command) (arguments : List Text) (e : Error) (r : Result T UsageFault) → app_of c ≡ command_line
+    → (is_simple_and_free (app_of c) ≡ true → HasKind (fault_of (app_of c) arguments) e) → IsErrAnd r (IsFaultOf (kind_of e)) → IfErr r (IsRefusedFor (arguments_fault arguments))
+refused_by c arguments e (Ok _) is fails given = tt
+refused_by c arguments e (Err fault) is fails given =
+    fault_among (arguments_fault arguments) e fault given (subst (λ a. HasKind (fault_of a arguments) e) is (fails (ap is_simple_and_free is)))
 
 -- values that are equal field by field
-pub words_alike : (w : RunWords) (policy ticks : Option Text) (memory : List Text) (registers counts : Option Text) (watch : List Text) (changes log from to image : Option Text)
+pub arguments_alike : (w : RunArguments) (policy ticks : Option Text) (memory : List Text) (registers counts : Option Text) (watch : List Text) (changes log from to image : Option Text)
     → policy ≡ w.policy → ticks ≡ w.ticks → memory ≡ w.memory → registers ≡ w.registers → counts ≡ w.counts → watch ≡ w.watch → changes ≡ w.changes
     → log ≡ w.log → from ≡ w.from → to ≡ w.to → image ≡ w.image
     → record { policy = policy; ticks = ticks; memory = memory; registers = registers; counts = counts; watch = watch; changes = changes; log = log; from = from; to = to; image = image } ≡ w
-words_alike w policy ticks memory registers counts watch changes log from to image p t m r n v c l f u i =
+arguments_alike w policy ticks memory registers counts watch changes log from to image p t m r n v c l f u i =
     rw p (rw t (rw m (rw r (rw n (rw v (rw c (rw l (rw f (rw u (rw i refl))))))))))

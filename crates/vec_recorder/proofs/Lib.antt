@@ -1,4 +1,4 @@
 mod CommandLineLaws
-mod MemoryWordLaws
+mod MemoryArgumentLaws
 mod RunLaws
-mod WatchWordLaws
+mod WatchArgumentLaws

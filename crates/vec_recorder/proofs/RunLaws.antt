@@ -29,10 +29,10 @@ use Rattle.rv_model.specs.memory.Memory.{Memory}
 use Rattle.rv_model.specs.step.Hart.{HartState}
 use Rattle.rv_model.specs.step.Step.{step}
 use Rattle.rv_model.specs.vector.Groups.{Configuration}
-use Rattle.vec_recorder.specs.Beginning.{ArePlaced}
+use Rattle.vec_recorder.specs.InitialMachine.{ArePlaced}
 use Rattle.vec_recorder.specs.RecordLines.{last_line, row_line}
 use Rattle.vec_recorder.specs.Recorded.{AreCountsOf, end_of}
-use Rattle.vec_recorder.specs.declared.memory_words.MemoryPath.{MemoryPath}
+use Rattle.vec_recorder.specs.declared.memory_arguments.MemoryPath.{MemoryPath}
 
 -- ---- lines
 
@@ -85,15 +85,15 @@ none_beside number class.Plain c pc target = refl
 none_beside number class.Link c pc target = refl
 none_beside number _ c pc target = refl
 
-of_words : (counts : Bool) (n beside : ℕ) → beside ≡ 0 → (if counts then n + beside else 0) ≡ (if counts then n else 0)
-of_words true n beside none = omega (arith, none)
-of_words false n beside none = refl
+of_arguments : (counts : Bool) (n beside : ℕ) → beside ≡ 0 → (if counts then n + beside else 0) ≡ (if counts then n else 0)
+of_arguments true n beside none = omega (arith, none)
+of_arguments false n beside none = refl
 
 word_times : (s : HartState) → times_of s ≡ share s (λ sums. sums.times) is_word
-word_times s = sym (of_words (is_counted (step 256 s).end) _ _ (none_beside (λ sums. sums.times) (class_of (scan table (found_word s))) s.vector.conf s.scalar.pc (step 256 s).state.scalar.pc))
+word_times s = sym (of_arguments (is_counted (step 256 s).end) _ _ (none_beside (λ sums. sums.times) (class_of (scan table (found_word s))) s.vector.conf s.scalar.pc (step 256 s).state.scalar.pc))
 
 word_ticks : (s : HartState) → counted_ticks s ≡ share s (λ sums. sums.ticks) is_word
-word_ticks s = sym (of_words (is_counted (step 256 s).end) _ _ (none_beside (λ sums. sums.ticks) (class_of (scan table (found_word s))) s.vector.conf s.scalar.pc (step 256 s).state.scalar.pc))
+word_ticks s = sym (of_arguments (is_counted (step 256 s).end) _ _ (none_beside (λ sums. sums.ticks) (class_of (scan table (found_word s))) s.vector.conf s.scalar.pc (step 256 s).state.scalar.pc))
 
 same_sum : (f g : HartState → ℕ) → ((s : HartState) → f s ≡ g s) → (states : List HartState) → sum_by f states ≡ sum_by g states
 same_sum f g same [] = refl

@@ -30,21 +30,21 @@ image_rule = record (new_rule (codes "image")) { value_names = 1 }
 abbrev pub command_line : App
 command_line =
     let app = new_app (codes "vecmon-record") in
-    let beginning = with_rule (with_rule (with_rule (with_rule app (option_rule (codes "policy"))) (option_rule (codes "ticks"))) (repeated_rule (codes "memory"))) (option_rule (codes "registers")) in
-    let records = with_rule (with_rule (with_rule beginning (option_rule (codes "counts"))) (repeated_rule (codes "watch"))) (option_rule (codes "changes")) in
+    let initial_machine = with_rule (with_rule (with_rule (with_rule app (option_rule (codes "policy"))) (option_rule (codes "ticks"))) (repeated_rule (codes "memory"))) (option_rule (codes "registers")) in
+    let records = with_rule (with_rule (with_rule initial_machine (option_rule (codes "counts"))) (repeated_rule (codes "watch"))) (option_rule (codes "changes")) in
     let log = with_rule (with_rule (with_rule records (option_rule (codes "log"))) (option_rule (codes "from"))) (option_rule (codes "to")) in
     with_rule log image_rule
 
--- the value that clap assigns to the option with a name, or to IMAGE; the first of `words` is the program's name
+-- the value that clap assigns to the option with a name, or to IMAGE; the first of `arguments` is the program's name
 abbrev pub word_of : Text → List Text → Option Text
-word_of name words = first_of name (matches_of command_line words)
+word_of name arguments = first_of name (matches_of command_line arguments)
 
 -- all values that clap assigns to an option that may be repeated
-abbrev pub words_of : Text → List Text → List Text
-words_of name words = unwrap_or (all_of name (matches_of command_line words)) []
+abbrev pub arguments_of : Text → List Text → List Text
+arguments_of name arguments = unwrap_or (all_of name (matches_of command_line arguments)) []
 
 -- The values of a command line that describe a run.
-pub record RunWords : Type 0 where
+pub record RunArguments : Type 0 where
   pub policy : Option Text
   pub ticks : Option Text
   pub memory : List Text
@@ -57,32 +57,32 @@ pub record RunWords : Type 0 where
   pub to : Option Text
   pub image : Option Text
 
--- the values that clap parses; the first of `words` is the program's name
-abbrev pub run_words : List Text → RunWords
-run_words words =
-    let one : Text → Option Text = λ name. word_of name words in
-    record { policy = one (codes "policy"); ticks = one (codes "ticks"); memory = words_of (codes "memory") words; registers = one (codes "registers"); counts = one (codes "counts"); watch = words_of (codes "watch") words; changes = one (codes "changes"); log = one (codes "log"); from = one (codes "from"); to = one (codes "to"); image = one (codes "image") }
+-- the values that clap parses; the first of `arguments` is the program's name
+abbrev pub run_arguments : List Text → RunArguments
+run_arguments arguments =
+    let one : Text → Option Text = λ name. word_of name arguments in
+    record { policy = one (codes "policy"); ticks = one (codes "ticks"); memory = arguments_of (codes "memory") arguments; registers = one (codes "registers"); counts = one (codes "counts"); watch = arguments_of (codes "watch") arguments; changes = one (codes "changes"); log = one (codes "log"); from = one (codes "from"); to = one (codes "to"); image = one (codes "image") }
 
 -- the values of parsed options
-abbrev pub option_words : Options → RunWords
-option_words options =
+abbrev pub option_arguments : Options → RunArguments
+option_arguments options =
     let text : Bor Text → Text = λ word. word.now in
     record { policy = option_map text options.policy; ticks = option_map text options.ticks; memory = texts options.memory.items; registers = option_map text options.registers; counts = option_map text options.counts; watch = texts options.watch.items; changes = option_map text options.changes; log = option_map text options.log; from = option_map text options.from; to = option_map text options.to; image = option_map text options.image }
 
 -- the policy of an option's value, if it is valid; without a value, agnostic elements are preserved
-abbrev pub asked_policy : Option Text → Option Policy
-asked_policy None = Some Keep
-asked_policy (Some word) = policy_of word
+abbrev pub policy_or_default : Option Text → Option Policy
+policy_or_default None = Some Keep
+policy_or_default (Some word) = policy_of word
 
 -- the number of ticks or of an instruction in an option's value, if it is from 1 to 2^63; without a value, the number
 -- `other`
-abbrev pub asked_number : ℕ → Option Text → Option ℕ
-asked_number other None = Some other
-asked_number other (Some word) = number_between 1 (2 ^ 63) word
+abbrev pub number_or_default : ℕ → Option Text → Option ℕ
+number_or_default other None = Some other
+number_or_default other (Some word) = number_between 1 (2 ^ 63) word
 
 -- the kinds of error that clap may return for the arguments; empty if clap accepts them
-abbrev pub words_fault : List Text → Kinds
-words_fault words = fault_of command_line words
+abbrev pub arguments_fault : List Text → Kinds
+arguments_fault arguments = fault_of command_line arguments
 
 -- the usage fault for a kind of clap's errors
 abbrev pub IsFaultOf : ErrorKind → UsageFault → Type 0

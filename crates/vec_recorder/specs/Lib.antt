@@ -1,8 +1,8 @@
-pub mod Beginning
+pub mod InitialMachine
 pub mod CommandLine
-pub mod MemoryWords
+pub mod MemoryArguments
 pub mod Paths
 pub mod RecordLines
 pub mod Recorded
 pub mod Statuses
-pub mod WatchWords
+pub mod WatchArguments

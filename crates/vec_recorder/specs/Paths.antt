@@ -2,8 +2,8 @@
 use Rattle.std.specs.Prelude.{◌≢◌, ⊤, List, Option, None, Some}
 use Rattle.std.specs.List.{All}
 use Rattle.clap.specs.Walk.{Text}
-use Rattle.vec_recorder.specs.CommandLine.{RunWords}
-use Rattle.vec_recorder.specs.declared.memory_words.MemoryPath.{MemoryPath}
+use Rattle.vec_recorder.specs.CommandLine.{RunArguments}
+use Rattle.vec_recorder.specs.declared.memory_arguments.MemoryPath.{MemoryPath}
 
 -- two paths differ, if both are given
 abbrev pub Differ : Option Text → Option Text → Type 0
@@ -16,16 +16,16 @@ abbrev pub DiffersFrom : Option Text → MemoryPath → Type 0
 DiffersFrom output memory = Differ output (Some memory.path.now)
 
 -- an output path, if it is given, isn't an input: neither the image nor a register or memory file
-pub record IsNoInput (words : RunWords) (memories : List MemoryPath) (output : Option Text) : Type 0 where
-  pub image : Differ output words.image
-  pub registers : Differ output words.registers
+pub record IsNoInput (arguments : RunArguments) (memories : List MemoryPath) (output : Option Text) : Type 0 where
+  pub image : Differ output arguments.image
+  pub registers : Differ output arguments.registers
   pub memory : All (DiffersFrom output) memories
 
 -- All output paths differ, and none is an input.
-pub record ArePathsApart (words : RunWords) (memories : List MemoryPath) : Type 0 where
-  pub counts_and_changes : Differ words.counts words.changes
-  pub counts_and_log : Differ words.counts words.log
-  pub changes_and_log : Differ words.changes words.log
-  pub counts : IsNoInput words memories words.counts
-  pub changes : IsNoInput words memories words.changes
-  pub log : IsNoInput words memories words.log
+pub record ArePathsApart (arguments : RunArguments) (memories : List MemoryPath) : Type 0 where
+  pub counts_and_changes : Differ arguments.counts arguments.changes
+  pub counts_and_log : Differ arguments.counts arguments.log
+  pub changes_and_log : Differ arguments.changes arguments.log
+  pub counts : IsNoInput arguments memories arguments.counts
+  pub changes : IsNoInput arguments memories arguments.changes
+  pub log : IsNoInput arguments memories arguments.log

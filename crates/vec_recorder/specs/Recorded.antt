@@ -13,13 +13,13 @@ use Rattle.recording.specs.declared.row.Row.{Row}
 use Rattle.rv_model.specs.declared.step.step_end.StepEnd.{StepEnd}
 use Rattle.rv_model.specs.declared.vector.policy.Policy.{Policy}
 use Rattle.rv_model.specs.step.Hart.{HartState}
-use Rattle.vec_recorder.specs.Beginning.{Begins}
-use Rattle.vec_recorder.specs.CommandLine.{RunWords, asked_number, asked_policy, run_words, words_fault}
-use Rattle.vec_recorder.specs.MemoryWords.{IsMemoryOf}
+use Rattle.vec_recorder.specs.InitialMachine.{StartsFrom}
+use Rattle.vec_recorder.specs.CommandLine.{RunArguments, number_or_default, policy_or_default, run_arguments, arguments_fault}
+use Rattle.vec_recorder.specs.MemoryArguments.{IsMemoryOf}
 use Rattle.vec_recorder.specs.Paths.{ArePathsApart}
 use Rattle.vec_recorder.specs.RecordLines.{last_line, row_line}
-use Rattle.vec_recorder.specs.WatchWords.{IsPlaceOf}
-use Rattle.vec_recorder.specs.declared.memory_words.MemoryPath.{MemoryPath}
+use Rattle.vec_recorder.specs.WatchArguments.{IsPlaceOf}
+use Rattle.vec_recorder.specs.declared.memory_arguments.MemoryPath.{MemoryPath}
 
 -- These rows contain the counts of all instructions of a run, modulo 2^64, for each set of keys.
 abbrev pub AreCountsOf : List HartState → List Row → Type 0
@@ -55,46 +55,46 @@ pub record RecordsRun {O K : Type 0} (records : O → List HartState → O → T
   pub output : took before (flat_map output_of (ran ticks s).found) after
 
 -- A file was created at a path and accepted the text that `Says` describes.
-pub record IsWritten {F : Type 0} (is_made : Text → F → Type 0) (took : F → List ℕ → F → Type 0) (path : Text) (Says : (List ℕ → Type 0) → Type 0) : Type 0 where
+pub record IsWritten {F : Type 0} (is_created : Text → F → Type 0) (took : F → List ℕ → F → Type 0) (path : Text) (Says : (List ℕ → Type 0) → Type 0) : Type 0 where
   pub before : F
   pub after : F
-  pub made : is_made path before
+  pub made : is_created path before
   pub says : Says (λ told. took before told after)
 
 -- the record is in the file at a path, if a path is given
 abbrev pub AreKept : {F : Type 0} → (Text → F → Type 0) → (F → List ℕ → F → Type 0) → Option Text → ((List ℕ → Type 0) → Type 0) → Type 0
-AreKept is_made took None Says = ⊤
-AreKept is_made took (Some path) Says = IsWritten is_made took path Says
+AreKept is_created took None Says = ⊤
+AreKept is_created took (Some path) Says = IsWritten is_created took path Says
 
 -- A run with this policy, this maximum number of ticks and this memory had the specified output, and its records were
 -- written.
-pub record RunBy {F : Type 0} (file_bytes : Text → Option (List ℕ)) (is_made : Text → F → Type 0) (took : F → List ℕ → F → Type 0) (put : List ℕ → Type 0) (words : RunWords)
+pub record RunBy {F : Type 0} (file_bytes : Text → Option (List ℕ)) (is_created : Text → F → Type 0) (took : F → List ℕ → F → Type 0) (put : List ℕ → Type 0) (arguments : RunArguments)
     (policy : Policy) (ticks : ℕ) (memories : List MemoryPath) (places : List Place) (window : Window) : Type 0 where
   pub state : HartState
-  pub begins : Begins file_bytes policy words.image memories words.registers state
+  pub begins : StartsFrom file_bytes policy arguments.image memories arguments.registers state
   pub output : put (flat_map output_of (ran ticks state).found)
-  pub counted : AreKept is_made took words.counts (λ told. AreCounted told ticks state)
-  pub changed : AreKept is_made took words.changes (λ told. AreChanged told places ticks state)
-  pub logged : AreKept is_made took words.log (λ told. AreLogged told window ticks state)
+  pub counted : AreKept is_created took arguments.counts (λ told. AreCounted told ticks state)
+  pub changed : AreKept is_created took arguments.changes (λ told. AreChanged told places ticks state)
+  pub logged : AreKept is_created took arguments.log (λ told. AreLogged told window ticks state)
 
 -- The run that these values describe was executed with this output, and its records were written.
-pub record RecordedBy {F : Type 0} (file_bytes : Text → Option (List ℕ)) (is_made : Text → F → Type 0) (took : F → List ℕ → F → Type 0) (put : List ℕ → Type 0) (words : RunWords) : Type 0 where
+pub record RecordedBy {F : Type 0} (file_bytes : Text → Option (List ℕ)) (is_created : Text → F → Type 0) (took : F → List ℕ → F → Type 0) (put : List ℕ → Type 0) (arguments : RunArguments) : Type 0 where
   pub policy : Policy
-  pub policy_is : asked_policy words.policy ≡ Some policy
+  pub policy_is : policy_or_default arguments.policy ≡ Some policy
   pub ticks : ℕ
-  pub ticks_are : asked_number (2 ^ 63) words.ticks ≡ Some ticks
+  pub ticks_are : number_or_default (2 ^ 63) arguments.ticks ≡ Some ticks
   pub memories : List MemoryPath
-  pub memories_are : AllZip IsMemoryOf words.memory memories
+  pub memories_are : AllZip IsMemoryOf arguments.memory memories
   pub places : List Place
-  pub places_are : AllZip IsPlaceOf words.watch places
+  pub places_are : AllZip IsPlaceOf arguments.watch places
   pub window : Window
-  pub first_is : asked_number 1 words.from ≡ Some window.from
-  pub last_is : asked_number (2 ^ 63) words.to ≡ Some window.to
+  pub first_is : number_or_default 1 arguments.from ≡ Some window.from
+  pub last_is : number_or_default (2 ^ 63) arguments.to ≡ Some window.to
   pub in_order : window.from ≤ window.to
-  pub apart : ArePathsApart words memories
-  pub run : RunBy file_bytes is_made took put words policy ticks memories places window
+  pub apart : ArePathsApart arguments memories
+  pub run : RunBy file_bytes is_created took put arguments policy ticks memories places window
 
 -- clap accepted the arguments, and the run that they describe was executed
-pub record Recorded {F : Type 0} (file_bytes : Text → Option (List ℕ)) (is_made : Text → F → Type 0) (took : F → List ℕ → F → Type 0) (words : List Text) (put : List ℕ → Type 0) : Type 0 where
-  pub accepted : words_fault words ≡ []
-  pub run : RecordedBy file_bytes is_made took put (run_words words)
+pub record Recorded {F : Type 0} (file_bytes : Text → Option (List ℕ)) (is_created : Text → F → Type 0) (took : F → List ℕ → F → Type 0) (arguments : List Text) (put : List ℕ → Type 0) : Type 0 where
+  pub accepted : arguments_fault arguments ≡ []
+  pub run : RecordedBy file_bytes is_created took put (run_arguments arguments)

@@ -3,7 +3,7 @@ use Rattle.std.specs.Prelude.{◌≡◌, ◌⊎◌, ℕ}
 use Rattle.recording.specs.declared.fault.RecordFault.{RecordFault}
 use Rattle.recording.specs.declared.fault.RecordFault.TheVariants as stopped
 use Rattle.vec_recorder.specs.declared.program_fault.ProgramFault.{ProgramFault}
-use Rattle.vec_recorder.specs.declared.program_fault.ProgramFault.TheVariants.{NoText, Usage, Policy, Ticks, MemoryWord, WatchWord, WatchAlone, From, To, FromAboveTo, LogAlone, LogEnd, SameOutput, OutputIsInput, NoPlace, Write, TableFull, NoMemory}
+use Rattle.vec_recorder.specs.declared.program_fault.ProgramFault.TheVariants.{NoText, Usage, Policy, Ticks, MemoryArgument, WatchArgument, WatchAlone, From, To, FromAboveTo, LogAlone, LogEnd, SameOutput, OutputIsInput, NoPlace, Write, TableFull, NoMemory}
 
 -- invalid arguments have exit status 2, faults of the initial machine 4, faults of records and output 5, and lack of memory 6
 abbrev pub program_status : ProgramFault → ℕ
@@ -11,8 +11,8 @@ program_status NoText = 2
 program_status (Usage e) = 2
 program_status Policy = 2
 program_status Ticks = 2
-program_status (MemoryWord word) = 2
-program_status (WatchWord word) = 2
+program_status (MemoryArgument word) = 2
+program_status (WatchArgument word) = 2
 program_status WatchAlone = 2
 program_status From = 2
 program_status To = 2
@@ -33,5 +33,5 @@ record_fault stopped.Unmapped = NoPlace
 record_fault (stopped.Write name) = Write name
 
 -- a fault of the initial machine, or lack of memory
-abbrev pub IsOfBeginning : ProgramFault → Type 0
-IsOfBeginning fault = (program_status fault ≡ 4) ⊎ (program_status fault ≡ 6)
+abbrev pub IsInitialFault : ProgramFault → Type 0
+IsInitialFault fault = (program_status fault ≡ 4) ⊎ (program_status fault ≡ 6)

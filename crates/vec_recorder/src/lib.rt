@@ -1,10 +1,11 @@
 //! The recorder: the program with its command line, and a machine that runs one user's program and records it.
 #![tactic(auto)]
 
-mod beginning;
+mod arguments;
 mod command_line;
-mod log_words;
-mod memory_words;
+mod initial_machine;
+mod log_arguments;
+mod memory_arguments;
 mod numbers;
 mod outputs;
 mod paths;
@@ -12,13 +13,12 @@ mod program;
 mod program_fault;
 mod record_lines;
 mod runs;
-mod watch_words;
-mod words;
+mod watch_arguments;
 
+pub use arguments::options;
 pub use command_line::{Options, UsageFault};
 pub use outputs::Outputs;
 pub use program::{record, record_into, report};
 pub use program_fault::{
-    ProgramFault, STATUS_BEGINNING, STATUS_DONE, STATUS_NO_MEMORY, STATUS_USAGE, STATUS_WRITE,
+    ProgramFault, STATUS_DONE, STATUS_INITIAL_STATE, STATUS_NO_MEMORY, STATUS_USAGE, STATUS_WRITE,
 };
-pub use words::options;

@@ -2,7 +2,7 @@
 ghost use Rattle.std.specs.Prelude.{◌≡◌, ◌<◌, ◌≤◌, ◌^◌, IfErr, IfOk, IfSome, MatchResult, None, Some, option_map};
 ghost use Rattle.rv_model.specs.commands.Arguments.{decimal_number, number_between};
 ghost use Rattle.rv_model.specs.lending.Text.{capped};
-ghost use Rattle.vec_recorder.specs.CommandLine.{asked_number, asked_policy};
+ghost use Rattle.vec_recorder.specs.CommandLine.{number_or_default, policy_or_default};
 ghost use Rattle.vec_recorder.specs.Statuses.{program_status};
 ghost use Rattle.vec_recorder.specs.declared.program_fault.ProgramFault.TheVariants as program_fault;
 
@@ -56,9 +56,9 @@ pub(crate) fn length_number(word: &[u8]) -> Option<usize>
 /// Return the policy of `--policy`; the default is `after_step`.
 pub(crate) fn policy<'a>(word: Option<&str>) -> Result<Policy, ProgramFault<'a>>
     ensures { MatchResult result
-        (λ policy. asked_policy (option_map (λ word. word.now) word.entry) ≡ Some policy)
+        (λ policy. policy_or_default (option_map (λ word. word.now) word.entry) ≡ Some policy)
         (λ fault. (fault ≡ program_fault.Policy)
-        × (asked_policy (option_map (λ word. word.now) word.entry) ≡ None)) }
+        × (policy_or_default (option_map (λ word. word.now) word.entry) ≡ None)) }
 {
     let Some(word) = word else {
         return Ok(Policy::Keep);
@@ -70,8 +70,8 @@ pub(crate) fn policy<'a>(word: Option<&str>) -> Result<Policy, ProgramFault<'a>>
 }
 
 /// Return the number in an option's value, or `other` without the option.
-fn asked_number(word: Option<&str>, other: u64) -> Option<u64>
-    ensures { result ≡ asked_number other (option_map (λ word. word.now) word.entry) }
+fn number_or_default(word: Option<&str>, other: u64) -> Option<u64>
+    ensures { result ≡ number_or_default other (option_map (λ word. word.now) word.entry) }
 {
     let Some(word) = word else {
         return Some(other);
@@ -83,16 +83,16 @@ fn asked_number(word: Option<&str>, other: u64) -> Option<u64>
 /// fails if a value isn't a number from 1 to [`MOST_TICKS`], or if the first number is above the last.
 pub(crate) fn window<'a>(from: Option<&str>, to: Option<&str>) -> Result<Window, ProgramFault<'a>>
     ensures from { IfOk result (λ window.
-        asked_number 1 (option_map (λ word. word.now) from.entry) ≡ Some window.from) }
+        number_or_default 1 (option_map (λ word. word.now) from.entry) ≡ Some window.from) }
     ensures to { IfOk result (λ window.
-        asked_number (2 ^ 63) (option_map (λ word. word.now) to.entry) ≡ Some window.to) }
+        number_or_default (2 ^ 63) (option_map (λ word. word.now) to.entry) ≡ Some window.to) }
     ensures order { IfOk result (λ window. window.from ≤ window.to) }
     ensures refused { IfErr result (λ fault. program_status fault ≡ 2) }
 {
-    let Some(first) = asked_number(from, 1) else {
+    let Some(first) = number_or_default(from, 1) else {
         return Err(ProgramFault::From);
     };
-    let Some(last) = asked_number(to, MOST_TICKS) else {
+    let Some(last) = number_or_default(to, MOST_TICKS) else {
         return Err(ProgramFault::To);
     };
     if last < first {
@@ -107,11 +107,11 @@ pub(crate) fn window<'a>(from: Option<&str>, to: Option<&str>) -> Result<Window,
 /// Return the number of `--ticks`; the default is [`MOST_TICKS`].
 pub(crate) fn ticks<'a>(word: Option<&str>) -> Result<u64, ProgramFault<'a>>
     ensures { MatchResult result
-        (λ ticks. asked_number (2 ^ 63) (option_map (λ word. word.now) word.entry) ≡ Some ticks)
+        (λ ticks. number_or_default (2 ^ 63) (option_map (λ word. word.now) word.entry) ≡ Some ticks)
         (λ fault. (fault ≡ program_fault.Ticks)
-        × (asked_number (2 ^ 63) (option_map (λ word. word.now) word.entry) ≡ None)) }
+        × (number_or_default (2 ^ 63) (option_map (λ word. word.now) word.entry) ≡ None)) }
 {
-    match asked_number(word, MOST_TICKS) {
+    match number_or_default(word, MOST_TICKS) {
         Some(ticks) => Ok(ticks),
         None => Err(ProgramFault::Ticks),
     }

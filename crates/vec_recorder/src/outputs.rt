@@ -9,14 +9,14 @@ use std::rt::Files;
 /// Files that are created by path. An implementation specifies their bytes, or leaves them unspecified.
 pub trait Outputs {
     /// A created file.
-    type Made: Sink + Drop;
+    type Created: Sink + Drop;
 
     /// Whether this is the file created at a path, before anything is written to it.
-    ghost is_made: { Self → List ℕ → Self.Made → Type 0 };
+    ghost is_created: { Self → List ℕ → Self.Created → Type 0 };
 
     /// Create the file at a path, or truncate an existing file.
-    fn create(&self, path: &str) -> Result<Self::Made, DeviceFault>
-        ensures { IfOk result (is_made self.now path.now) };
+    fn create(&self, path: &str) -> Result<Self::Created, DeviceFault>
+        ensures { IfOk result (is_created self.now path.now) };
 
     /// Return whether files exist at both paths and are the same file.
     fn is_same_file(&self, first: &str, second: &str) -> bool;
@@ -24,9 +24,9 @@ pub trait Outputs {
 
 /// The files of a process. Their bytes are unspecified.
 impl<R: Files> Outputs for R {
-    type Made = WriterSink<R::File>;
+    type Created = WriterSink<R::File>;
 
-    ghost is_made = { λ _ _ _. ⊤ };
+    ghost is_created = { λ _ _ _. ⊤ };
 
     fn create(&self, path: &str) -> Result<WriterSink<R::File>, DeviceFault> {
         let Ok(file) = fs::File::create(self, path) else {

@@ -1,11 +1,11 @@
 //! The paths of a run: all output files differ, and no output file is an input.
 ghost use Rattle.std.specs.Prelude.{◌≡◌, IfErr, IsFalse, IsOk, option_map};
-ghost use Rattle.vec_recorder.specs.CommandLine.{option_words};
+ghost use Rattle.vec_recorder.specs.CommandLine.{option_arguments};
 ghost use Rattle.vec_recorder.specs.Paths.{ArePathsApart, Differ, IsNoInput};
 ghost use Rattle.vec_recorder.specs.Statuses.{program_status};
 
 use crate::command_line::Options;
-use crate::memory_words::MemoryPath;
+use crate::memory_arguments::MemoryPath;
 use crate::outputs::Outputs;
 use crate::program_fault::ProgramFault;
 
@@ -25,9 +25,9 @@ fn are_same<R: Outputs>(rt: &R, first: Option<&str>, second: Option<&str>) -> bo
 
 /// Check that all output files differ. Return `SameOutput` otherwise.
 fn check_outputs<'a, R: Outputs>(rt: &R, options: &Options<'a>) -> Result<(), ProgramFault<'a>>
-    ensures changes { IsOk result → Differ (option_words options.now).counts (option_words options.now).changes }
-    ensures log { IsOk result → Differ (option_words options.now).counts (option_words options.now).log }
-    ensures both { IsOk result → Differ (option_words options.now).changes (option_words options.now).log }
+    ensures changes { IsOk result → Differ (option_arguments options.now).counts (option_arguments options.now).changes }
+    ensures log { IsOk result → Differ (option_arguments options.now).counts (option_arguments options.now).log }
+    ensures both { IsOk result → Differ (option_arguments options.now).changes (option_arguments options.now).log }
     ensures refused { IfErr result (λ fault. program_status fault ≡ 2) }
 {
     if are_same(rt, options.counts, options.changes) {
@@ -71,7 +71,7 @@ fn check_inputs<'a, R: Outputs>(
     options: &Options<'a>,
     memories: &[MemoryPath<'a>],
 ) -> Result<(), ProgramFault<'a>>
-    ensures apart { IsOk result → IsNoInput (option_words options.now) memories.now
+    ensures apart { IsOk result → IsNoInput (option_arguments options.now) memories.now
         (option_map (λ path. path.now) output.entry) }
     ensures refused { IfErr result (λ fault. program_status fault ≡ 2) }
 {
@@ -89,7 +89,7 @@ pub(crate) fn check_paths<'a, R: Outputs>(
     options: &Options<'a>,
     memories: &[MemoryPath<'a>],
 ) -> Result<(), ProgramFault<'a>>
-    ensures apart { IsOk result → ArePathsApart (option_words options.now) memories.now }
+    ensures apart { IsOk result → ArePathsApart (option_arguments options.now) memories.now }
     ensures refused { IfErr result (λ fault. program_status fault ≡ 2) }
 {
     check_outputs(rt, options)?;

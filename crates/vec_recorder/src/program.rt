@@ -3,21 +3,21 @@ ghost use Rattle.std.specs.Prelude.{◌≡◌, ◌⊎◌, OnOk, ⊤};
 ghost use Rattle.clap.specs.Walk.{texts};
 ghost use Rattle.clap.specs.Words.{IsAmong};
 ghost use Rattle.clap.specs.declared.error.kind.ErrorKind.TheVariants.{DisplayHelp};
-ghost use Rattle.vec_recorder.specs.CommandLine.{option_words, words_fault};
+ghost use Rattle.vec_recorder.specs.CommandLine.{option_arguments, arguments_fault};
 ghost use Rattle.vec_recorder.specs.Recorded.{Recorded, RecordedBy, RunBy};
 ghost use Rattle.vec_recorder.specs.Statuses.{program_status};
 
-use crate::beginning::first_machine;
+use crate::arguments::options;
 use crate::command_line::{Options, UsageFault};
-use crate::log_words::check_log;
-use crate::memory_words::{MemoryPath, memory_paths};
+use crate::initial_machine::first_machine;
+use crate::log_arguments::check_log;
+use crate::memory_arguments::{MemoryPath, memory_paths};
 use crate::numbers::{policy, ticks, window};
 use crate::outputs::Outputs;
 use crate::paths::check_paths;
 use crate::program_fault::{ProgramFault, STATUS_DONE};
 use crate::runs::{LoggedRun, RecordedRun, run_machine};
-use crate::watch_words::watched_places;
-use crate::words::options;
+use crate::watch_arguments::watched_places;
 use commit_log::Window;
 use devices::{Inputs, Sink, WriterSink};
 use first_state::OwnBytes;
@@ -42,7 +42,7 @@ fn check_places<'a>(
 
 /// The parsed and checked values of the options.
 #[derive(Drop)]
-struct Values<'a> {
+struct CheckedOptions<'a> {
     policy: Policy,
     ticks: u64,
     memories: Vec<MemoryPath<'a>>,
@@ -56,14 +56,14 @@ fn run_options<'a, R: Inputs + Outputs, K: Sink>(
     rt: &R,
     alloc: Global,
     options: &Options<'a>,
-    values: Values<'a>,
+    values: CheckedOptions<'a>,
     output: &mut K,
 ) -> Result<u64, ProgramFault<'a>>
-    ensures { OnOk result (RunBy (R.file_bytes rt.now) (R.is_made rt.now) R.Made.took
-        (λ told. K.took output.old told output.new) (option_words options.now) values.entry.policy
+    ensures { OnOk result (RunBy (R.file_bytes rt.now) (R.is_created rt.now) R.Created.took
+        (λ told. K.took output.old told output.new) (option_arguments options.now) values.entry.policy
         values.entry.ticks values.entry.memories.items values.entry.places.items values.entry.window) }
 {
-    let Values {
+    let CheckedOptions {
         policy,
         ticks,
         memories,
@@ -101,8 +101,8 @@ fn record_options<'a, R: Inputs + Outputs, K: Sink>(
     options: &Options<'a>,
     output: &mut K,
 ) -> Result<u64, ProgramFault<'a>>
-    ensures { OnOk result (RecordedBy (R.file_bytes rt.now) (R.is_made rt.now) R.Made.took
-        (λ told. K.took output.old told output.new) (option_words options.now)) }
+    ensures { OnOk result (RecordedBy (R.file_bytes rt.now) (R.is_created rt.now) R.Created.took
+        (λ told. K.took output.old told output.new) (option_arguments options.now)) }
 {
     let policy = policy(options.policy)?;
     let ticks = ticks(options.ticks)?;
@@ -114,7 +114,7 @@ fn record_options<'a, R: Inputs + Outputs, K: Sink>(
         return Err(ProgramFault::WatchAlone);
     }
     check_paths(rt, options, memories.as_slice())?;
-    let values = Values {
+    let values = CheckedOptions {
         policy,
         ticks,
         memories,
@@ -126,17 +126,17 @@ fn record_options<'a, R: Inputs + Outputs, K: Sink>(
 
 /// Run the recorder with its arguments: print help, or record a run. Return the number of the program's write calls
 /// that wrote fewer bytes than requested.
-fn record_words<'a, R: Inputs + Outputs + Print, K: Sink>(
+fn record_arguments<'a, R: Inputs + Outputs + Print, K: Sink>(
     rt: &R,
     alloc: Global,
-    words: &'a [&'a str],
+    arguments: &'a [&'a str],
     output: &mut K,
 ) -> Result<u64, ProgramFault<'a>>
-    ensures { OnOk result (IsAmong DisplayHelp (words_fault (texts words.now))
-        ⊎ Recorded (R.file_bytes rt.now) (R.is_made rt.now) R.Made.took (texts words.now)
+    ensures { OnOk result (IsAmong DisplayHelp (arguments_fault (texts arguments.now))
+        ⊎ Recorded (R.file_bytes rt.now) (R.is_created rt.now) R.Created.took (texts arguments.now)
         (λ told. K.took output.old told output.new)) }
 {
-    match options(alloc, words) {
+    match options(alloc, arguments) {
         Ok(options) => record_options(rt, alloc, &options, output),
         Err(UsageFault::Help(text)) => match print!(rt; "{text}") {
             Ok(()) => Ok(0),
@@ -164,23 +164,23 @@ fn report_short<R: Eprint>(rt: &R, short: u64) {
     }
 }
 
-/// Run the recorder. `words` are the command-line arguments; the first is the program's name. The output of the
+/// Run the recorder. `arguments` are the command-line arguments; the first is the program's name. The output of the
 /// recorded program is written to `output`, and help is printed to standard output. Error messages, and the number of
 /// write calls that wrote fewer bytes than requested, are printed to standard error. Return the exit status.
 pub fn record_into<R: Inputs + Outputs + Print + Eprint, K: Sink>(
     rt: &R,
     alloc: Global,
-    words: &[&str],
+    arguments: &[&str],
     output: &mut K,
 ) -> u8
     ensures statuses { (result ≡ 0) ⊎ ((result ≡ 2) ⊎ ((result ≡ 4) ⊎ ((result ≡ 5) ⊎ (result ≡ 6)))) }
     // The exit status is 0 if the arguments ask for help. It is also 0 if the run that they describe was executed with
     // the specified output, and its counts, changes and log are in the files that they name.
-    ensures recorded { result ≡ 0 → IsAmong DisplayHelp (words_fault (texts words.now))
-        ⊎ Recorded (R.file_bytes rt.now) (R.is_made rt.now) R.Made.took (texts words.now)
+    ensures recorded { result ≡ 0 → IsAmong DisplayHelp (arguments_fault (texts arguments.now))
+        ⊎ Recorded (R.file_bytes rt.now) (R.is_created rt.now) R.Created.took (texts arguments.now)
         (λ told. K.took output.old told output.new) }
 {
-    match record_words(rt, alloc, words, output) {
+    match record_arguments(rt, alloc, arguments, output) {
         Ok(short) => {
             report_short(rt, short);
             STATUS_DONE
@@ -191,10 +191,10 @@ pub fn record_into<R: Inputs + Outputs + Print + Eprint, K: Sink>(
 
 /// Run the recorder as `record_into` does, with standard output as the output. The bytes of standard output are
 /// unspecified.
-pub fn record<R: Inputs + Outputs + Print + Eprint>(rt: &R, alloc: Global, words: &[&str]) -> u8
+pub fn record<R: Inputs + Outputs + Print + Eprint>(rt: &R, alloc: Global, arguments: &[&str]) -> u8
     ensures statuses { (result ≡ 0) ⊎ ((result ≡ 2) ⊎ ((result ≡ 4) ⊎ ((result ≡ 5) ⊎ (result ≡ 6)))) }
-    ensures recorded { result ≡ 0 → IsAmong DisplayHelp (words_fault (texts words.now))
-        ⊎ Recorded (R.file_bytes rt.now) (R.is_made rt.now) R.Made.took (texts words.now) (λ _. ⊤) }
+    ensures recorded { result ≡ 0 → IsAmong DisplayHelp (arguments_fault (texts arguments.now))
+        ⊎ Recorded (R.file_bytes rt.now) (R.is_created rt.now) R.Created.took (texts arguments.now) (λ _. ⊤) }
 {
-    record_into(rt, alloc, words, &mut WriterSink::new(io::writer(rt)))
+    record_into(rt, alloc, arguments, &mut WriterSink::new(io::writer(rt)))
 }

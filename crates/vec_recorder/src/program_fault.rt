@@ -15,7 +15,7 @@ pub const STATUS_DONE: u8 = 0;
 pub const STATUS_USAGE: u8 = 2;
 
 /// Exit status if the image, a memory file or the register file is unreadable or invalid, or a watched range isn't mapped.
-pub const STATUS_BEGINNING: u8 = 4;
+pub const STATUS_INITIAL_STATE: u8 = 4;
 
 /// Exit status if a record or the output can't be written, or the counts need more rows than the table has.
 pub const STATUS_WRITE: u8 = 5;
@@ -40,10 +40,10 @@ pub enum ProgramFault<'a> {
     Ticks,
     /// A value of `--memory` isn't an address, permissions and a path.
     #[error("vecmon-record: --memory needs ADDR:PERMS:FILE, not {0}\n")]
-    MemoryWord(&'a str),
+    MemoryArgument(&'a str),
     /// A value of `--watch` isn't an address and a length.
     #[error("vecmon-record: --watch needs ADDR:LEN, with LEN from 1 to 256, not {0}\n")]
-    WatchWord(&'a str),
+    WatchArgument(&'a str),
     /// One of `--watch` and `--changes` is given without the other.
     #[error("vecmon-record: --watch and --changes need each other\n")]
     WatchAlone,
@@ -106,8 +106,8 @@ impl ProgramFault<'_> {
             | ProgramFault::Usage(_)
             | ProgramFault::Policy
             | ProgramFault::Ticks
-            | ProgramFault::MemoryWord(_)
-            | ProgramFault::WatchWord(_)
+            | ProgramFault::MemoryArgument(_)
+            | ProgramFault::WatchArgument(_)
             | ProgramFault::WatchAlone
             | ProgramFault::From
             | ProgramFault::To
@@ -121,7 +121,7 @@ impl ProgramFault<'_> {
             | ProgramFault::Image(_, _)
             | ProgramFault::Memory(_, _)
             | ProgramFault::Registers(_, _)
-            | ProgramFault::NoPlace => STATUS_BEGINNING,
+            | ProgramFault::NoPlace => STATUS_INITIAL_STATE,
             ProgramFault::Write(_) | ProgramFault::TableFull => STATUS_WRITE,
             ProgramFault::NoMemory => STATUS_NO_MEMORY,
         }

@@ -22,8 +22,8 @@ use rv_model::StepEnd;
 use std::alloc::Global;
 
 /// Create the file at a path.
-fn made_file<'a, R: Outputs>(rt: &R, path: &'a str) -> Result<R::Made, ProgramFault<'a>>
-    ensures { IfOk result (R.is_made rt.now path.entry.now) }
+fn created_file<'a, R: Outputs>(rt: &R, path: &'a str) -> Result<R::Created, ProgramFault<'a>>
+    ensures { IfOk result (R.is_created rt.now path.entry.now) }
 {
     match rt.create(path) {
         Ok(file) => Ok(file),
@@ -97,7 +97,7 @@ fn run_recorded<'a, R: Outputs, K: Sink, O: Recorder<OwnBytes> + Drop>(
 ) -> Result<(Option<StepEnd>, O), ProgramFault<'a>>
     ensures run { IfOk result (RecordsRun O.recorded K.took asked.entry.ticks (state_of own_memory machine.old)
         (state_of own_memory machine.new) output.old output.new recorder) }
-    ensures log { OnOk result (AreKept (R.is_made rt.now) R.Made.took
+    ensures log { OnOk result (AreKept (R.is_created rt.now) R.Created.took
         (option_map (λ path. path.now) asked.entry.log)
         (λ told. AreLogged told asked.entry.window asked.entry.ticks (state_of own_memory machine.old))) }
 {
@@ -105,7 +105,7 @@ fn run_recorded<'a, R: Outputs, K: Sink, O: Recorder<OwnBytes> + Drop>(
     let Some(path) = log else {
         return Ok(run_unlogged(machine, output, ticks, recorder)?);
     };
-    let file = made_file(rt, path)?;
+    let file = created_file(rt, path)?;
     let log = Log::new(alloc, file, window)?;
     let mut both = RecorderPair {
         first: recorder,
@@ -136,10 +136,10 @@ fn run_watched<'a, R: Outputs, K: Sink, O: Recorder<OwnBytes> + Drop>(
 ) -> Result<(Option<StepEnd>, O), ProgramFault<'a>>
     ensures run { IfOk result (RecordsRun O.recorded K.took asked.entry.logged.ticks (state_of own_memory machine.old)
         (state_of own_memory machine.new) output.old output.new recorder) }
-    ensures changes { OnOk result (AreKept (R.is_made rt.now) R.Made.took
+    ensures changes { OnOk result (AreKept (R.is_created rt.now) R.Created.took
         (option_map (λ path. path.now) asked.entry.changes)
         (λ told. AreChanged told asked.entry.places.items asked.entry.logged.ticks (state_of own_memory machine.old))) }
-    ensures log { OnOk result (AreKept (R.is_made rt.now) R.Made.took
+    ensures log { OnOk result (AreKept (R.is_created rt.now) R.Created.took
         (option_map (λ path. path.now) asked.entry.logged.log)
         (λ told. AreLogged told asked.entry.logged.window asked.entry.logged.ticks (state_of own_memory machine.old))) }
 {
@@ -152,7 +152,7 @@ fn run_watched<'a, R: Outputs, K: Sink, O: Recorder<OwnBytes> + Drop>(
     let Some(path) = changes else {
         return run_recorded(rt, alloc, machine, output, logged, recorder);
     };
-    let file = made_file(rt, path)?;
+    let file = created_file(rt, path)?;
     let changes = Changes::new(alloc, file, places)?;
     let both = RecorderPair {
         first: recorder,
@@ -182,13 +182,13 @@ pub(crate) fn run_machine<'a, R: Outputs, K: Sink>(
 ) -> Result<u64, ProgramFault<'a>>
     ensures output { OnOk result (K.took output.old
         (flat_map output_of (ran asked.entry.logged.ticks (state_of own_memory machine.old)).found) output.new) }
-    ensures counts { OnOk result (AreKept (R.is_made rt.now) R.Made.took
+    ensures counts { OnOk result (AreKept (R.is_created rt.now) R.Created.took
         (option_map (λ path. path.now) asked.entry.counts)
         (λ told. AreCounted told asked.entry.logged.ticks (state_of own_memory machine.old))) }
-    ensures changes { OnOk result (AreKept (R.is_made rt.now) R.Made.took
+    ensures changes { OnOk result (AreKept (R.is_created rt.now) R.Created.took
         (option_map (λ path. path.now) asked.entry.changes)
         (λ told. AreChanged told asked.entry.places.items asked.entry.logged.ticks (state_of own_memory machine.old))) }
-    ensures log { OnOk result (AreKept (R.is_made rt.now) R.Made.took
+    ensures log { OnOk result (AreKept (R.is_created rt.now) R.Created.took
         (option_map (λ path. path.now) asked.entry.logged.log)
         (λ told. AreLogged told asked.entry.logged.window asked.entry.logged.ticks (state_of own_memory machine.old))) }
 {
@@ -198,7 +198,7 @@ pub(crate) fn run_machine<'a, R: Outputs, K: Sink>(
         return Ok(short.count);
     };
     let counts = Counts::new(alloc)?;
-    let mut file = made_file(rt, path)?;
+    let mut file = created_file(rt, path)?;
     let both = RecorderPair {
         first: short,
         second: counts,

@@ -9,7 +9,7 @@ ghost use Rattle.rv_model.specs.text.Words.{words};
 ghost use Rattle.monitor_cmds.specs.Tag.{tag_byte};
 
 use crate::tag::Tag;
-use line_text::{Reply, Words, done, instruction_address, push_addresses};
+use line_text::{Arguments, Reply, done, instruction_address, push_addresses};
 use rv_model::BreakpointCommand;
 
 /// Return the group's command with a name and its arguments: `None` if the group has no command of this name, and
@@ -24,7 +24,7 @@ pub(crate) fn breakpoints_named(name: &[u8], args: &[u8]) -> Option<Option<Break
         return Some(unbreak_args(args));
     }
     if name == b"breaks".as_slice() {
-        return Some(done(Words::new(args), BreakpointCommand::Breaks));
+        return Some(done(Arguments::new(args), BreakpointCommand::Breaks));
     }
     None
 }
@@ -34,8 +34,8 @@ pub(crate) fn breakpoints_named(name: &[u8], args: &[u8]) -> Option<Option<Break
 fn break_args(args: &[u8]) -> Option<BreakpointCommand>
     ensures { result ≡ one_argument Break instruction_address (words args.now) }
 {
-    let mut words = Words::new(args);
-    let addr = instruction_address(words.next_word()?)?;
+    let mut words = Arguments::new(args);
+    let addr = instruction_address(words.next_argument()?)?;
     done(words, BreakpointCommand::Break(addr))
 }
 
@@ -44,8 +44,8 @@ fn break_args(args: &[u8]) -> Option<BreakpointCommand>
 fn unbreak_args(args: &[u8]) -> Option<BreakpointCommand>
     ensures { result ≡ one_argument Unbreak instruction_address (words args.now) }
 {
-    let mut words = Words::new(args);
-    let addr = instruction_address(words.next_word()?)?;
+    let mut words = Arguments::new(args);
+    let addr = instruction_address(words.next_argument()?)?;
     done(words, BreakpointCommand::Unbreak(addr))
 }
 

@@ -7,7 +7,7 @@ ghost use Rattle.monitor_cmds.specs.Tag.{tag_byte};
 
 use crate::lines::push_line;
 use crate::tag::Tag;
-use line_text::{Reply, Words, done};
+use line_text::{Arguments, Reply, done};
 use rv_model::EnteringCommand;
 
 /// Return the group's command with a name and its arguments: `None` if the group has no command of this name, and
@@ -16,10 +16,10 @@ pub(crate) fn entering_named(name: &[u8], args: &[u8]) -> Option<Option<Entering
     ensures { result ≡ entering_named name.now (words args.now) }
 {
     if name == b"enter".as_slice() {
-        return Some(done(Words::new(args), EnteringCommand::Enter));
+        return Some(done(Arguments::new(args), EnteringCommand::Enter));
     }
     if name == b"leave".as_slice() {
-        return Some(done(Words::new(args), EnteringCommand::Leave));
+        return Some(done(Arguments::new(args), EnteringCommand::Leave));
     }
     None
 }

@@ -9,7 +9,7 @@ ghost use Rattle.rv_model.specs.text.Words.{words};
 ghost use Rattle.monitor_cmds.specs.Tag.{tag_byte};
 
 use crate::tag::Tag;
-use line_text::{Reply, Words, address, count, done, permissions, push_bytes, push_hex16};
+use line_text::{Arguments, Reply, address, count, done, permissions, push_bytes, push_hex16};
 use rv_model::{ByteString, Count, MemoryCommand, PAGE_QUOTA, PageRange};
 
 /// Return the group's command with a name and its arguments: `None` if the group has no command of this name, and
@@ -34,10 +34,10 @@ pub(crate) fn memory_named(name: &[u8], args: &[u8]) -> Option<Option<MemoryComm
 fn map_args(args: &[u8]) -> Option<MemoryCommand>
     ensures { result ≡ map_args (words args.now) }
 {
-    let mut words = Words::new(args);
-    let addr = address(words.next_word()?)?;
-    let count: Count<PAGE_QUOTA> = count(words.next_word()?)?;
-    let permissions = permissions(words.next_word()?)?;
+    let mut words = Arguments::new(args);
+    let addr = address(words.next_argument()?)?;
+    let count: Count<PAGE_QUOTA> = count(words.next_argument()?)?;
+    let permissions = permissions(words.next_argument()?)?;
     let pages = PageRange::new(addr, count.get())?;
     done(words, MemoryCommand::Map { pages, permissions })
 }
@@ -47,9 +47,9 @@ fn map_args(args: &[u8]) -> Option<MemoryCommand>
 fn poke_args(args: &[u8]) -> Option<MemoryCommand>
     ensures { result ≡ two_arguments Poke address byte_string (words args.now) }
 {
-    let mut words = Words::new(args);
-    let addr = address(words.next_word()?)?;
-    let bytes = ByteString::from_hex(words.next_word()?)?;
+    let mut words = Arguments::new(args);
+    let addr = address(words.next_argument()?)?;
+    let bytes = ByteString::from_hex(words.next_argument()?)?;
     done(words, MemoryCommand::Poke { addr, bytes })
 }
 
@@ -58,9 +58,9 @@ fn poke_args(args: &[u8]) -> Option<MemoryCommand>
 fn peek_args(args: &[u8]) -> Option<MemoryCommand>
     ensures { result ≡ two_arguments Peek address (number_between 1 256) (words args.now) }
 {
-    let mut words = Words::new(args);
-    let addr = address(words.next_word()?)?;
-    let count = count(words.next_word()?)?;
+    let mut words = Arguments::new(args);
+    let addr = address(words.next_argument()?)?;
+    let count = count(words.next_argument()?)?;
     done(words, MemoryCommand::Peek { addr, count })
 }
 

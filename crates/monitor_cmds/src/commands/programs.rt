@@ -19,7 +19,7 @@ ghost use Rattle.monitor_cmds.specs.Tag.{tag_byte};
 
 use crate::tag::Tag;
 use line_text::{
-    Reply, Words, count, done, instruction_address, push_decimal, push_hex8, push_hex16,
+    Arguments, Reply, count, done, instruction_address, push_decimal, push_hex8, push_hex16,
 };
 use rv_asm::{Text, text_of};
 use rv_model::{LinePart, ProgramCommand};
@@ -50,8 +50,8 @@ pub(crate) fn programs_named<'a>(
 fn load_args<'a>(args: &'a [u8]) -> Option<ProgramCommand<'a>>
     ensures { result ≡ one_argument Load Some (words args.now) }
 {
-    let mut words = Words::new(args);
-    let name = LinePart::new(words.next_word()?);
+    let mut words = Arguments::new(args);
+    let name = LinePart::new(words.next_argument()?);
     done(words, ProgramCommand::Load(name))
 }
 
@@ -60,8 +60,8 @@ fn load_args<'a>(args: &'a [u8]) -> Option<ProgramCommand<'a>>
 fn asm_args<'a>(args: &'a [u8], text: &'a [u8]) -> Option<ProgramCommand<'a>>
     ensures { result ≡ asm_args (words args.now) text.now }
 {
-    let mut words = Words::new(args);
-    let addr = instruction_address(words.next_word()?)?;
+    let mut words = Arguments::new(args);
+    let addr = instruction_address(words.next_argument()?)?;
     if text.is_empty() {
         return None;
     }
@@ -74,9 +74,9 @@ fn asm_args<'a>(args: &'a [u8], text: &'a [u8]) -> Option<ProgramCommand<'a>>
 fn dis_args<'a>(args: &'a [u8]) -> Option<ProgramCommand<'a>>
     ensures { result ≡ two_arguments Dis instruction_address (number_between 1 16) (words args.now) }
 {
-    let mut words = Words::new(args);
-    let addr = instruction_address(words.next_word()?)?;
-    let count = count(words.next_word()?)?;
+    let mut words = Arguments::new(args);
+    let addr = instruction_address(words.next_argument()?)?;
+    let count = count(words.next_argument()?)?;
     done(words, ProgramCommand::Dis { addr, count })
 }
 

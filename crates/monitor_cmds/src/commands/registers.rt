@@ -39,7 +39,7 @@ ghost use Rattle.monitor_cmds.specs.Tag.{tag_byte};
 
 use crate::tag::Tag;
 use line_text::{
-    Reply, Words, address, done, element_width, instruction_address, policy, push_bytes,
+    Arguments, Reply, address, done, element_width, instruction_address, policy, push_bytes,
     push_decimal, push_hex16, scalar_register, vector_register,
 };
 use rv_model::{
@@ -56,7 +56,7 @@ pub(crate) fn registers_named(name: &[u8], args: &[u8]) -> Option<Option<Registe
         return Some(set_args(args));
     }
     if name == b"regs".as_slice() {
-        return Some(done(Words::new(args), RegisterCommand::Regs));
+        return Some(done(Arguments::new(args), RegisterCommand::Regs));
     }
     if name == b"setpc".as_slice() {
         return Some(setpc_args(args));
@@ -68,7 +68,7 @@ pub(crate) fn registers_named(name: &[u8], args: &[u8]) -> Option<Option<Registe
         return Some(vset_args(args));
     }
     if name == b"vcsr".as_slice() {
-        return Some(done(Words::new(args), RegisterCommand::Vcsr));
+        return Some(done(Arguments::new(args), RegisterCommand::Vcsr));
     }
     if name == b"policy".as_slice() {
         return Some(policy_args(args));
@@ -81,9 +81,9 @@ pub(crate) fn registers_named(name: &[u8], args: &[u8]) -> Option<Option<Registe
 fn set_args(args: &[u8]) -> Option<RegisterCommand>
     ensures { result ≡ two_arguments Set scalar_register address (words args.now) }
 {
-    let mut words = Words::new(args);
-    let register = scalar_register(words.next_word()?)?;
-    let value = address(words.next_word()?)?;
+    let mut words = Arguments::new(args);
+    let register = scalar_register(words.next_argument()?)?;
+    let value = address(words.next_argument()?)?;
     done(words, RegisterCommand::Set { register, value })
 }
 
@@ -92,8 +92,8 @@ fn set_args(args: &[u8]) -> Option<RegisterCommand>
 fn setpc_args(args: &[u8]) -> Option<RegisterCommand>
     ensures { result ≡ one_argument SetPc instruction_address (words args.now) }
 {
-    let mut words = Words::new(args);
-    let addr = instruction_address(words.next_word()?)?;
+    let mut words = Arguments::new(args);
+    let addr = instruction_address(words.next_argument()?)?;
     done(words, RegisterCommand::SetPc(addr))
 }
 
@@ -102,9 +102,9 @@ fn setpc_args(args: &[u8]) -> Option<RegisterCommand>
 fn vreg_args(args: &[u8]) -> Option<RegisterCommand>
     ensures { result ≡ two_arguments Vreg vector_register sew_argument (words args.now) }
 {
-    let mut words = Words::new(args);
-    let register = vector_register(words.next_word()?)?;
-    let width = element_width(words.next_word()?)?;
+    let mut words = Arguments::new(args);
+    let register = vector_register(words.next_argument()?)?;
+    let width = element_width(words.next_argument()?)?;
     done(words, RegisterCommand::Vreg { register, width })
 }
 
@@ -113,9 +113,9 @@ fn vreg_args(args: &[u8]) -> Option<RegisterCommand>
 fn vset_args(args: &[u8]) -> Option<RegisterCommand>
     ensures { result ≡ two_arguments Vset vector_register register_bytes (words args.now) }
 {
-    let mut words = Words::new(args);
-    let register = vector_register(words.next_word()?)?;
-    let bytes = RegisterBytes::from_hex(words.next_word()?)?;
+    let mut words = Arguments::new(args);
+    let register = vector_register(words.next_argument()?)?;
+    let bytes = RegisterBytes::from_hex(words.next_argument()?)?;
     done(words, RegisterCommand::Vset { register, bytes })
 }
 
@@ -124,8 +124,8 @@ fn vset_args(args: &[u8]) -> Option<RegisterCommand>
 fn policy_args(args: &[u8]) -> Option<RegisterCommand>
     ensures { result ≡ one_argument SetPolicy policy_word (words args.now) }
 {
-    let mut words = Words::new(args);
-    let policy = policy(words.next_word()?)?;
+    let mut words = Arguments::new(args);
+    let policy = policy(words.next_argument()?)?;
     done(words, RegisterCommand::SetPolicy(policy))
 }
 

@@ -22,7 +22,7 @@ ghost use Rattle.monitor_cmds.specs.Tag.{tag_byte};
 use crate::stops::stop_line;
 use crate::tag::Tag;
 use line_text::{
-    Reply, Words, count, done, push_addresses, push_bytes, push_decimal, push_hex16, push_pc,
+    Arguments, Reply, count, done, push_addresses, push_bytes, push_decimal, push_hex16, push_pc,
 };
 use rv_model::{RunningCommand, Stop};
 
@@ -35,19 +35,19 @@ pub(crate) fn running_named(name: &[u8], args: &[u8]) -> Option<Option<RunningCo
         return Some(step_args(args));
     }
     if name == b"go".as_slice() {
-        return Some(done(Words::new(args), RunningCommand::Go));
+        return Some(done(Arguments::new(args), RunningCommand::Go));
     }
     if name == b"stop".as_slice() {
-        return Some(done(Words::new(args), RunningCommand::Stop));
+        return Some(done(Arguments::new(args), RunningCommand::Stop));
     }
     if name == b"state".as_slice() {
-        return Some(done(Words::new(args), RunningCommand::State));
+        return Some(done(Arguments::new(args), RunningCommand::State));
     }
     if name == b"trace".as_slice() {
-        return Some(done(Words::new(args), RunningCommand::Trace));
+        return Some(done(Arguments::new(args), RunningCommand::Trace));
     }
     if name == b"out".as_slice() {
-        return Some(done(Words::new(args), RunningCommand::Out));
+        return Some(done(Arguments::new(args), RunningCommand::Out));
     }
     None
 }
@@ -57,8 +57,8 @@ pub(crate) fn running_named(name: &[u8], args: &[u8]) -> Option<Option<RunningCo
 fn step_args(args: &[u8]) -> Option<RunningCommand>
     ensures { result ≡ one_argument Step (number_between 1 256) (words args.now) }
 {
-    let mut words = Words::new(args);
-    let count = count(words.next_word()?)?;
+    let mut words = Arguments::new(args);
+    let count = count(words.next_argument()?)?;
     done(words, RunningCommand::Step(count))
 }
 
@@ -91,7 +91,7 @@ pub fn step_line(reply: &mut Reply, tag: Tag, count: usize, pc: u64, stop: Optio
 }
 
 /// Append a line with a text and the program counter.
-fn place_line(reply: &mut Reply, tag: Tag, word: &[u8], pc: u64)
+fn pc_line(reply: &mut Reply, tag: Tag, word: &[u8], pc: u64)
     requires { length reply.old + (length word.now + 23) ≤ 4096 }
     ensures text { reply.new ≡ reply.old
         ++ tagged (tag_byte tag) (word.now ++ codes " pc=" ++ hex16 pc) }
@@ -110,7 +110,7 @@ pub fn running_line(reply: &mut Reply, tag: Tag, pc: u64)
     ensures text { reply.new ≡ reply.old ++ text (tag_byte tag) (running_line pc ∷ []) }
     ensures bound { length reply.new ≡ length reply.old + 30 }
 {
-    place_line(reply, tag, b"running", pc);
+    pc_line(reply, tag, b"running", pc);
 }
 
 /// Append the reply to `stop`, for example `stopped pc=0000000000010000`.
@@ -120,11 +120,11 @@ pub fn stopped_line(reply: &mut Reply, tag: Tag, pc: u64)
     ensures text { reply.new ≡ reply.old ++ text (tag_byte tag) (stopped_line pc ∷ []) }
     ensures bound { length reply.new ≡ length reply.old + 30 }
 {
-    place_line(reply, tag, b"stopped", pc);
+    pc_line(reply, tag, b"stopped", pc);
 }
 
 /// Return the start of the reply to `state`.
-fn state_words(running: bool) -> &'static [u8]
+fn state_prefix(running: bool) -> &'static [u8]
     ensures value { result.now ≡ (if running then codes "state running pc=" else codes "state stopped pc=") }
     ensures len { length result.now ≡ 17 }
 {
@@ -143,7 +143,7 @@ pub fn state_line(reply: &mut Reply, tag: Tag, running: bool, pc: u64)
     ensures bound { length reply.new ≡ length reply.old + 36 }
 {
     reply.push(&[tag.byte(), b' ']);
-    reply.push(state_words(running));
+    reply.push(state_prefix(running));
     push_hex16(reply, pc);
     reply.push(b"\n");
 }
@@ -151,7 +151,7 @@ pub fn state_line(reply: &mut Reply, tag: Tag, running: bool, pc: u64)
 /// Append the reply to `trace`: the addresses of at most 16 instructions, oldest first, given in two slices, for
 /// example
 /// `trace 0000000000010000 0000000000010004`.
-#[tactic(auto, unfolding(rv_model::specs::commands::Running::trace_line), using(crate::proofs::PieceLaws::joined))]
+#[tactic(auto, unfolding(rv_model::specs::commands::Running::trace_line), using(crate::proofs::PrintingLaws::joined))]
 pub fn trace_line(reply: &mut Reply, tag: Tag, older: &[u64], newer: &[u64])
     requires few { length older.now + length newer.now ≤ 16 }
     requires room { length reply.old + 280 ≤ 4096 }

@@ -1,7 +1,7 @@
 use Rattle.std.proofs.Common.{◌≡◌, ◌+◌, ◌≤◌, [], suc, length}
 use Rattle.std.specs.Option.{option_map_or}
 use Rattle.rv_model.specs.text.Lines.{pieces}
-use Rattle.first_state.specs.Laid.{laid, state_with}
+use Rattle.first_state.specs.RegisterFile.{laid, state_with}
 use Rattle.first_state.proofs.registers.lay_lines.Given as goal
 
 -- applying the remaining lines to the current state has the result of applying all lines

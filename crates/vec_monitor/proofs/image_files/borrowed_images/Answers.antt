@@ -1,6 +1,6 @@
 use Rattle.std.proofs.Common.{rules, ap, ◌∙◌, ◌<◌, length}
 use Rattle.vec_monitor.specs.declared.image_files.ImageFile.{ImageFile}
-use Rattle.vec_monitor.proofs.ImageWordLaws.{named_next}
+use Rattle.vec_monitor.proofs.ImageArgumentLaws.{named_next}
 use Rattle.vec_monitor.proofs.image_files.borrowed_images.Goals as goal
 
 pub loop-file-preserved : goal.loop-file-preserved

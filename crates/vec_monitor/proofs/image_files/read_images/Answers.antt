@@ -1,7 +1,7 @@
 use Rattle.std.proofs.Common.{rules, subst, sym, ◌<◌, length}
 use Rattle.std.specs.List.{AllZip}
 use Rattle.vec_monitor.specs.ImageFiles.{IsFileOf}
-use Rattle.vec_monitor.proofs.ImageWordLaws.{zip_next}
+use Rattle.vec_monitor.proofs.ImageArgumentLaws.{zip_next}
 use Rattle.vec_monitor.proofs.image_files.read_images.Goals as goal
 
 pub loop-image-preserved : goal.loop-image-preserved

@@ -1,8 +1,8 @@
 use Rattle.std.proofs.Common.{rules, ap, inl, inr, refl, map, arith, ◌≡◌, ◌⊎◌, ◌∙◌, []}
 use Rattle.std.specs.Prelude.{option_map}
 use Rattle.monitor_machine.specs.Images.{named_images}
-use Rattle.vec_monitor.proofs.ImageWordLaws.{no_machine_fault, none_lacks, nothing_named, zip_nothing}
-use Rattle.vec_monitor.specs.ProgramRuns.{PutOutPrefix, RanScript}
+use Rattle.vec_monitor.proofs.ImageArgumentLaws.{no_machine_fault, none_lacks, nothing_named, zip_nothing}
+use Rattle.vec_monitor.specs.ProgramRuns.{OutputPrefix, RanScript}
 use Rattle.vec_monitor.proofs.ProgramRunLaws.{other_status, ran_options}
 use Rattle.vec_monitor.proofs.program.run_options.Goals as goal
 
@@ -16,14 +16,14 @@ returns-clause-ran g c =
 pub returns-clause-told : goal.returns-clause-told
 returns-clause-told g c =
     inr (ran_options (g.I.Inputs.file_bytes c.args.inputs.now) (g.I.Inputs.input_bytes c.args.inputs.now) c.args.options.now.quantum
-    (option_map (λ path. path.now) c.args.options.now.script) _ _ _ _ _ _ _ _ _ (PutOutPrefix (λ told. g.K.Sink.took c.args.output.now told c.run_script.new.output))
+    (option_map (λ path. path.now) c.args.options.now.script) _ _ _ _ _ _ _ _ _ (OutputPrefix (λ told. g.K.Sink.took c.args.output.now told c.run_script.new.output))
     c.as_slice.ensures.value c.in_ok-paths.ensures.images c.as_slice-2.ensures.value c.in_ok-files.ensures.files c.as_slice-3.ensures.value c.in_ok-images.ensures
     c.as_slice-4.ensures.value (c.in_ok-machine.ensures.faultless refl) c.in_ok-machine.ensures.new c.run_script.ensures.told)
 
 pub returns-in_err-run_script-clause-told : goal.returns-in_err-run_script-clause-told
 returns-in_err-run_script-clause-told g c =
     inr (ran_options (g.I.Inputs.file_bytes c.args.inputs.now) (g.I.Inputs.input_bytes c.args.inputs.now) c.args.options.now.quantum
-    (option_map (λ path. path.now) c.args.options.now.script) _ _ _ _ _ _ _ _ _ (PutOutPrefix (λ told. g.K.Sink.took c.args.output.now told c.run_script.new.output))
+    (option_map (λ path. path.now) c.args.options.now.script) _ _ _ _ _ _ _ _ _ (OutputPrefix (λ told. g.K.Sink.took c.args.output.now told c.run_script.new.output))
     c.as_slice.ensures.value c.in_ok-paths.ensures.images c.as_slice-2.ensures.value c.in_ok-files.ensures.files c.as_slice-3.ensures.value c.in_ok-images.ensures
     c.as_slice-4.ensures.value (c.in_ok-machine.ensures.faultless refl) c.in_ok-machine.ensures.new c.run_script.ensures.told)
 

@@ -1,18 +1,18 @@
 use Rattle.std.proofs.Common.{refl, subst}
 use Rattle.std.specs.List.{AllZip}
 use Rattle.std.proofs.lemmas.Result.{on_ok_weaker}
-use Rattle.vec_recorder.specs.CommandLine.{option_words}
-use Rattle.vec_recorder.specs.MemoryWords.{IsMemoryAt, IsMemoryOf}
+use Rattle.vec_recorder.specs.CommandLine.{option_arguments}
+use Rattle.vec_recorder.specs.MemoryArguments.{IsMemoryAt, IsMemoryOf}
 use Rattle.vec_recorder.specs.Paths.{ArePathsApart}
-use Rattle.vec_recorder.specs.WatchWords.{IsPlaceAt, IsPlaceOf}
-use Rattle.vec_recorder.proofs.MemoryWordLaws.{zip_texts}
+use Rattle.vec_recorder.specs.WatchArguments.{IsPlaceAt, IsPlaceOf}
+use Rattle.vec_recorder.proofs.MemoryArgumentLaws.{zip_texts}
 use Rattle.vec_recorder.proofs.program.record_options.Goals as goal
 
 pub returns : goal.returns
 returns g c =
-    let words = subst (λ them. AllZip IsMemoryAt them c.in_ok-memories.memories.items) c.as_slice.ensures.value c.in_ok-memories.ensures.paths in
+    let arguments = subst (λ them. AllZip IsMemoryAt them c.in_ok-memories.memories.items) c.as_slice.ensures.value c.in_ok-memories.ensures.paths in
     let places = subst (λ them. AllZip IsPlaceAt them c.in_ok-places.places.items) c.as_slice-2.ensures.value c.in_ok-places.ensures.places in
-    let apart = subst (ArePathsApart (option_words c.args.options.now)) c.as_slice-3.ensures.value (c.in_ok-check_paths.ensures.apart refl) in
+    let apart = subst (ArePathsApart (option_arguments c.args.options.now)) c.as_slice-3.ensures.value (c.in_ok-check_paths.ensures.apart refl) in
     on_ok_weaker c.run_options.result
     (λ run. record {
       policy = c.in_ok-policy.policy;
@@ -20,7 +20,7 @@ returns g c =
       ticks = c.in_ok-ticks.ticks;
       ticks_are = c.in_ok-ticks.ensures;
       memories = c.in_ok-memories.memories.items;
-      memories_are = zip_texts IsMemoryOf _ _ words;
+      memories_are = zip_texts IsMemoryOf _ _ arguments;
       places = c.in_ok-places.places.items;
       places_are = zip_texts IsPlaceOf _ _ places;
       window = c.in_ok-window.window;

@@ -21,7 +21,7 @@ returns-clause-counts g c =
       says = record {
         rows = c.write_counts.new.rows;
         counts = counts;
-        taken = moved g.R.Made.Sink.took _ _ _ _
+        taken = moved g.R.Created.Sink.took _ _ _ _
             (ap (λ (l : List ℕ). flat_map row_line c.write_counts.new.rows ++ l)
             (end_is c.args.asked.logged.ticks s (state_of own_memory c.run_watched-2.new.machine) c.write_counts.new.rows c.in_ok-end.end counts c.in_ok-end.ensures.run.machine c.in_ok-end.ensures.run.end))
             c.in-Ok.ensures.text;

@@ -21,7 +21,7 @@ returns-clause-log g c =
       before = c.in_ok-file.file;
       after = c.write_last.new.sink;
       made = c.in_ok-file.ensures;
-      says = log_told g.R.Made.Sink.took g.met.R.Made.Sink.took_more c.in_ok-log.log c.run.new.recorder.second.second _ _ _ c.args.asked.window (ran c.args.asked.ticks s).found _ _
+      says = log_told g.R.Created.Sink.took g.met.R.Created.Sink.took_more c.in_ok-log.log c.run.new.recorder.second.second _ _ _ c.args.asked.window (ran c.args.asked.ticks s).found _ _
           made.sink made.window made.number made.text told.1 c.in_ok-finish.ensures
           (end_by_totals c.args.asked.ticks _ _ _ _ s (state_of own_memory c.run.new.machine) c.in_ok-end.end c.write_last.ensures.times c.write_last.ensures.ticks c.none.ensures.times c.none.ensures.ticks
           told.0.0 told.0.1 c.in_ok-end.ensures.machine c.in_ok-end.ensures.end)

@@ -14,7 +14,7 @@ returns-clause-changes g c =
       before = c.in_ok-file.file;
       after = c.write_last.new.sink;
       made = c.in_ok-file.ensures;
-      says = changes_told g.R.Made.Sink.took g.met.R.Made.Sink.took_more c.in_ok-changes.changes c.in_ok-end.both.second.second _ _ _ (ran c.args.asked.logged.ticks s).found _ _
+      says = changes_told g.R.Created.Sink.took g.met.R.Created.Sink.took_more c.in_ok-changes.changes c.in_ok-end.both.second.second _ _ _ (ran c.args.asked.logged.ticks s).found _ _
           made.sink (ap (λ them. them.items) made.places) made.number made.ticks told.1
           (end_by_totals c.args.asked.logged.ticks _ _ _ _ s (state_of own_memory c.run_recorded-2.new.machine) c.in_ok-end.end c.write_last.ensures.times c.write_last.ensures.ticks c.none.ensures.times c.none.ensures.ticks
           told.0.0 told.0.1 c.in_ok-end.ensures.run.machine c.in_ok-end.ensures.run.end)

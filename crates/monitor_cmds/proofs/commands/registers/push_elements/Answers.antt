@@ -1,7 +1,7 @@
 use Rattle.std.proofs.Common.{◌≡◌, ℕ, ◌++◌, ◌/◌, ◌<◌, ap, ◌∙◌, subst, arith}
 use Rattle.rv_model.specs.commands.Registers.{element_text}
 use Rattle.rv_model.specs.vector.Groups.{sew_bits}
-use Rattle.monitor_cmds.proofs.PieceLaws.{whole_stays_after_a_number, bytes_and_bits_count_the_same_elements}
+use Rattle.monitor_cmds.proofs.PrintingLaws.{whole_stays_after_a_number, bytes_and_bits_count_the_same_elements}
 use Rattle.monitor_cmds.proofs.commands.registers.push_elements.Goals as goal
 
 pub loop-index-preserved : goal.loop-index-preserved

@@ -1,0 +1,15 @@
+use Rattle.std.proofs.Common.{rules, subst, sym, refl, inr, ◌<◌, length}
+use Rattle.std.specs.List.{AllZip}
+use Rattle.vec_monitor.specs.ImageArguments.{IsPathOf}
+use Rattle.vec_monitor.proofs.ImageArgumentLaws.{some_lacks, zip_next}
+use Rattle.vec_monitor.proofs.image_arguments.image_paths.Goals as goal
+
+pub returns-in_default-clause-refused : goal.returns-in_default-clause-refused
+returns-in_default-clause-refused g c =
+    let below : c.loop-word.word-index < length c.args.arguments.now = search rules in
+    inr (refl, some_lacks c.args.arguments.now c.loop-word.word-index _ below c.in_default.ensures)
+
+pub loop-word-preserved : goal.loop-word-preserved
+loop-word-preserved g c =
+    let below : c.loop-word.word-index < length c.args.arguments.now = search rules in
+    subst (AllZip IsPathOf _) (sym c.in_ok-push.ensures.items) (zip_next IsPathOf c.args.arguments.now c.loop-word.paths.items c.loop-word.word-index _ _ below c.loop-word.invariant c.in-Some.ensures)

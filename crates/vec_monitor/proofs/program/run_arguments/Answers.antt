@@ -1,0 +1,38 @@
+use Rattle.std.proofs.Common.{inl, inr, refl, subst}
+use Rattle.std.proofs.lemmas.Result.{on_ok_weaker}
+use Rattle.clap.specs.Walk.{texts}
+use Rattle.clap.specs.Words.{kind_of, IsAmong}
+use Rattle.vec_monitor.specs.CommandLine.{arguments_fault, IsRefusedFor}
+use Rattle.vec_monitor.proofs.ProgramRunLaws.{ran_arguments}
+use Rattle.vec_monitor.proofs.program.run_arguments.Goals as goal
+
+pub returns-in-Ok-clause-ran : goal.returns-in-Ok-clause-ran
+returns-in-Ok-clause-ran g c =
+    let arguments = texts c.args.arguments.now in
+    let asked = c.in-Ok.ensures in
+    on_ok_weaker c.run_options.result
+    (λ ran. inr (ran_arguments (g.R.Inputs.file_bytes c.args.rt.now) (g.R.Inputs.input_bytes c.args.rt.now) arguments _ _ _ _
+    (asked.taken refl) asked.quantum asked.script asked.images ran))
+    c.run_options.ensures.ran
+
+pub returns-in-Ok-clause-told : goal.returns-in-Ok-clause-told
+returns-in-Ok-clause-told g c =
+    let arguments = texts c.args.arguments.now in
+    let asked = c.in-Ok.ensures in
+    elim c.run_options.ensures.told [
+      | inl none ↦ inl none
+      | inr ran ↦
+          inr (ran_arguments (g.R.Inputs.file_bytes c.args.rt.now) (g.R.Inputs.input_bytes c.args.rt.now) arguments _ _ _ _
+          (asked.taken refl) asked.quantum asked.script asked.images ran)
+    ]
+
+pub returns-in-Ok-print-clause-ran : goal.returns-in-Ok-print-clause-ran
+returns-in-Ok-print-clause-ran g c =
+    let kinds = arguments_fault (texts c.args.arguments.now) in
+    let refused = subst (IsRefusedFor kinds) c.in-Err-Help.field-0-is c.in-Err-Help.ensures.refused in
+    inl (subst (λ kind. IsAmong kind kinds) refused.0 refused.1)
+
+pub returns-in-Err-Usage-clause-usage : goal.returns-in-Err-Usage-clause-usage
+returns-in-Err-Usage-clause-usage g c = λ two.
+    let refused = subst (IsRefusedFor (arguments_fault (texts c.args.arguments.now))) c.in-Err-Usage.field-0-is c.in-Err-Usage.ensures.refused in
+    inl (kind_of c.in-Err-Usage.text, refused.1, refused.0)

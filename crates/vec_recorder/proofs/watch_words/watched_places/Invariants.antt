@@ -1,8 +1,0 @@
-use Rattle.std.proofs.Common.{take}
-use Rattle.std.specs.List.{AllZip}
-use Rattle.vec_recorder.specs.WatchWords.{IsPlaceAt}
-use Rattle.vec_recorder.proofs.watch_words.watched_places.Given as goal
-
--- the values before the current index have been split
-abbrev pub invariant-loop-word : goal.invariant-loop-word
-invariant-loop-word g l = AllZip IsPlaceAt (take l.word-index l.words) l.places.items
