@@ -111,50 +111,50 @@ memory_after_other image number other =
     (λ x. sym (byte_outside image number x (covers_other x (program_header image number) other)))
 
 -- the bytes after writing the segment's bytes from the file, before its zeros
-halfway : List ℕ → ℕ → ℕ → ℕ
-halfway image number x =
+after_file_bytes : List ℕ → ℕ → ℕ → ℕ
+after_file_bytes image number x =
     cond (nat_lt x ((program_header image number).address + (program_header image number).file_size))
     (image_byte image (first_placed image (number + 1)) x) (image_byte image (first_placed image number) x)
 
-halfway_low : (image : List ℕ) (number x : ℕ) → x < (program_header image number).address + (program_header image number).file_size → halfway image number x ≡ image_byte image (first_placed image (number + 1)) x
-unfolding halfway
-halfway_low image number x l = grind (arith, l)
+after_file_bytes_low : (image : List ℕ) (number x : ℕ) → x < (program_header image number).address + (program_header image number).file_size → after_file_bytes image number x ≡ image_byte image (first_placed image (number + 1)) x
+unfolding after_file_bytes
+after_file_bytes_low image number x l = grind (arith, l)
 
-halfway_high : (image : List ℕ) (number x : ℕ) → (program_header image number).address + (program_header image number).file_size ≤ x → halfway image number x ≡ image_byte image (first_placed image number) x
-unfolding halfway
-halfway_high image number x l = grind (arith, l)
+after_file_bytes_high : (image : List ℕ) (number x : ℕ) → (program_header image number).address + (program_header image number).file_size ≤ x → after_file_bytes image number x ≡ image_byte image (first_placed image number) x
+unfolding after_file_bytes
+after_file_bytes_high image number x l = grind (arith, l)
 
 get_or-part : (xs : List ℕ) (offset size k : ℕ) → k < size → get_or (take size (drop offset xs)) k 0 ≡ get_or xs (offset + k) 0
 get_or-part xs offset size k l = get_or-take size (drop offset xs) k 0 l ∙ get_or-drop offset xs k 0
 
 file_part_written : (image : List ℕ) (number : ℕ) (bs : List ℕ) → (program_header image number).kind ≡ 1 → (program_header image number).file_size ≤ (program_header image number).memory_size
     → bs ≡ take (program_header image number).file_size (drop (program_header image number).offset image) → length bs ≡ (program_header image number).file_size
-    → put_bytes (memory_after image number) (program_header image number).address bs ≡ memory_with image (halfway image number) all_pages
+    → put_bytes (memory_after image number) (program_header image number).address bs ≡ memory_with image (after_file_bytes image number) all_pages
 unfolding memory_after
 file_part_written image number bs kind fits e size =
-    put_with image (image_byte image (first_placed image number)) (halfway image number) (program_header image number).address bs
-    (λ k l. halfway_low image number ((program_header image number).address + k) (omega arith)
+    put_with image (image_byte image (first_placed image number)) (after_file_bytes image number) (program_header image number).address bs
+    (λ k l. after_file_bytes_low image number ((program_header image number).address + k) (omega arith)
     ∙ byte_within image number ((program_header image number).address + k) kind (omega arith) (omega arith)
     ∙ byte_in_file image ((program_header image number).address + k) (program_header image number) (omega arith)
     ∙ ap (λ (j : ℕ). get_or image j 0) (let place : (program_header image number).offset + (((program_header image number).address + k) - (program_header image number).address) ≡ (program_header image number).offset + k = omega arith in place)
     ∙ sym (ap (λ (xs : List ℕ). get_or xs k 0) e ∙ get_or-part image (program_header image number).offset (program_header image number).file_size k (omega arith)))
     (λ x h. elim h [
-      | inl low ↦ halfway_low image number x (omega arith) ∙ byte_outside image number x (covers_outside x (program_header image number) (inl low))
-      | inr high ↦ halfway_high image number x (omega arith)
+      | inl low ↦ after_file_bytes_low image number x (omega arith) ∙ byte_outside image number x (covers_outside x (program_header image number) (inl low))
+      | inr high ↦ after_file_bytes_high image number x (omega arith)
     ])
 
 rest_cleared : (image : List ℕ) (number a n : ℕ) → (program_header image number).kind ≡ 1 → a ≡ (program_header image number).address + (program_header image number).file_size
     → a + n ≡ (program_header image number).address + (program_header image number).memory_size
-    → put_bytes (memory_with image (halfway image number) all_pages) a (replicate n 0) ≡ memory_after image (number + 1)
+    → put_bytes (memory_with image (after_file_bytes image number) all_pages) a (replicate n 0) ≡ memory_after image (number + 1)
 unfolding memory_after
 rest_cleared image number a n kind from end =
-    put_with image (halfway image number) (image_byte image (first_placed image (number + 1))) a (replicate n 0)
+    put_with image (after_file_bytes image number) (image_byte image (first_placed image (number + 1))) a (replicate n 0)
     (λ k l. let small : k < n = omega (arith, length-replicate {A = ℕ} n 0) in
     byte_within image number (a + k) kind (omega arith) (omega arith) ∙ byte_past_file image (a + k) (program_header image number) (omega arith)
     ∙ sym (get_or-replicate n k 0 0 small))
     (λ x h. let size = length-replicate {A = ℕ} n 0 in elim h [
-      | inl low ↦ sym (halfway_low image number x (omega arith))
-      | inr high ↦ byte_outside image number x (covers_outside x (program_header image number) (inr (omega arith))) ∙ sym (halfway_high image number x (omega arith))
+      | inl low ↦ sym (after_file_bytes_low image number x (omega arith))
+      | inr high ↦ byte_outside image number x (covers_outside x (program_header image number) (inr (omega arith))) ∙ sym (after_file_bytes_high image number x (omega arith))
     ])
 
 -- writing the bytes from the file and then the zeros

@@ -90,29 +90,29 @@ pub all_in_range : (start end first count i : ℕ) → i < count → (nat_le sta
 all_in_range start end first count i h whole = grind (arith, nat_tests)
 
 -- the condition that a set bit represents
-pub told_set : (word i : ℕ) (b : Bool) → eqb (word / 2 ^ i % 2) 0 ≡ not b → not (eqb (word / 2 ^ i % 2) 0) ≡ b
-told_set word i true e = rw e refl
-told_set word i false e = rw e refl
+pub known_set : (word i : ℕ) (b : Bool) → eqb (word / 2 ^ i % 2) 0 ≡ not b → not (eqb (word / 2 ^ i % 2) 0) ≡ b
+known_set word i true e = rw e refl
+known_set word i false e = rw e refl
 
 -- the low n bits of a word represent the conditions `bit`, and all other bits are 0
-pub record TellsTo (n word : ℕ) (bit : ℕ → Bool) : Type 0 where
+pub record ShowsTo (n word : ℕ) (bit : ℕ → Bool) : Type 0 where
   pub below : word < 2 ^ n
-  pub tells : (i : ℕ) → i < n → eqb (word / 2 ^ i % 2) 0 ≡ not (bit i)
+  pub shows : (i : ℕ) → i < n → eqb (word / 2 ^ i % 2) 0 ≡ not (bit i)
 
 -- n more bits above the low s bits
-pub tells_more : (s n word more : ℕ) (bit : ℕ → Bool) → TellsTo s word bit → more < 2 ^ n → ((i : ℕ) → i < n → eqb (more / 2 ^ i % 2) 0 ≡ not (bit (s + i)))
-    → TellsTo (s + n) (word + more * 2 ^ s) bit
-tells_more s n word more bit was few told =
+pub shows_more : (s n word more : ℕ) (bit : ℕ → Bool) → ShowsTo s word bit → more < 2 ^ n → ((i : ℕ) → i < n → eqb (more / 2 ^ i % 2) 0 ≡ not (bit (s + i)))
+    → ShowsTo (s + n) (word + more * 2 ^ s) bit
+shows_more s n word more bit was few known =
     let turn : word + more * 2 ^ s ≡ more * 2 ^ s + word = omega arith in
     let up : suc more * 2 ^ s ≤ 2 ^ n * 2 ^ s = mul-le-mul_right (2 ^ s) few in
     let whole : 2 ^ n * 2 ^ s ≡ 2 ^ (s + n) = mul_comm (2 ^ n) (2 ^ s) ∙ sym (pow-add 2 s n) in
     record {
       below = omega (arith, up, whole, suc-mul more (2 ^ s), was.below);
-      tells = λ i h. elim (cases_lt i s) [
-        | inl low ↦ rw (turn, bit_at_cat_low more s word i low) (was.tells i low)
+      shows = λ i h. elim (cases_lt i s) [
+        | inl low ↦ rw (turn, bit_at_cat_low more s word i low) (was.shows i low)
         | inr high ↦
             let back : s + (i - s) ≡ i = omega (arith, high) in
-            rw (turn, bit_at_cat_high more s word i was.below high) (told (i - s) (omega (arith, h, high)) ∙ ap (λ x. not (bit x)) back)
+            rw (turn, bit_at_cat_high more s word i was.below high) (known (i - s) (omega (arith, h, high)) ∙ ap (λ x. not (bit x)) back)
       ];
     }
 

@@ -105,8 +105,8 @@ mask_replaced {o} {r} {a} x y z =
 abbrev low_byte : ℕ → ℕ → ℕ
 low_byte end k = cond (ltb k (end / 8)) 255 (cond (eqb k (end / 8)) (1 * 2 ^ (end % 8) % 256 - 1) 0)
 
-low_bit_told : (end k j : ℕ) → j < 8 → (low_byte end k / 2 ^ j % 2 == 1) ≡ ltb (8 * k + j) end
-low_bit_told end k j h =
+low_bit_known : (end k j : ℕ) → j < 8 → (low_byte end k / 2 ^ j % 2 == 1) ≡ ltb (8 * k + j) end
+low_bit_known end k j h =
     let r : ℕ = end % 8 in
     elim (cases_order k (end / 8)) [
       | inl is ↦
@@ -153,7 +153,7 @@ low_mask places long known end i h =
     ∙ ap (λ x. cond (ltb k q) x (get_or rest k 0)) (get_or-replicate 32 k all 0 few)
     ∙ ap (cond (ltb k q) 255) inner in
     let whole : 8 * k + i % 8 ≡ i = omega arith in
-    ap (λ x. x / 2 ^ (i % 8) % 2 == 1) outer ∙ low_bit_told end k (i % 8) (omega arith) ∙ ap (λ x. ltb x end) whole
+    ap (λ x. x / 2 ^ (i % 8) % 2 == 1) outer ∙ low_bit_known end k (i % 8) (omega arith) ∙ ap (λ x. ltb x end) whole
 
 -- the bits below `end` without those below `start` are the range
 pub below_but_before : (start end i : ℕ) → (ltb i end && not (ltb i (min start end))) ≡ in_range start end i
@@ -169,11 +169,11 @@ in_byte bytes q j h =
 
 pub register_written : (changed bit : ℕ → Bool) (old new : List ℕ) → length old ≡ 32 → length new ≡ 32 → ((q : ℕ) → q < 32 → get_or new q 0 < 256)
     → ((i : ℕ) → i < 256 → mask_bit new i ≡ cond (changed i) (bit i) (mask_bit old i)) → WritesBits changed bit old new
-register_written changed bit old new lo ln small told = record {
+register_written changed bit old new lo ln small known = record {
   same_length = ln ∙ sym lo;
   bytes = λ q h.
       let few : q < 32 = omega (arith, h, lo) in
       byte_of_own (get_or new q 0) (small q few)
       ∙ same_byte (λ j. get_or new q 0 / 2 ^ j % 2 == 1) (λ j. old_or_new changed bit old (8 * q + j))
-      (λ j l. sym (in_byte new q j l) ∙ told (8 * q + j) (omega (arith, few, l)));
+      (λ j l. sym (in_byte new q j l) ∙ known (8 * q + j) (omega (arith, few, l)));
 }

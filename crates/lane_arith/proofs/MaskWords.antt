@@ -29,19 +29,19 @@ module _ (changed bit : ℕ → Bool) (w word : ℕ) (old mid : List ℕ) (room 
   -- byte m of the word is the byte with its active bits replaced
   wanted : (m : ℕ) → m < 4 → ((i : ℕ) → i < 32 → (word / 2 ^ i % 2 == 1) ≡ bit_or changed bit old (32 * w + i))
       → byte_at m word ≡ byte_with_bits changed bit old (4 * w + m)
-  wanted m h told =
+  wanted m h known =
       let y : ℕ = byte_at m word in
       let small : y < 256 = rw (byte_at-is m word) (mod-lt (word / 256 ^ m) (lit< tt)) in
       byte_of_own y small
       ∙ same_byte (λ j. y / 2 ^ j % 2 == 1) (λ j. bit_or changed bit old (8 * (4 * w + m) + j))
       (λ j l.
       let at : 32 * w + (8 * m + j) ≡ 8 * (4 * w + m) + j = omega arith in
-      ap (λ x. x == 1) (bit_of_byte word m j l) ∙ told (8 * m + j) (omega (arith, h, l)) ∙ ap (bit_or changed bit old) at)
+      ap (λ x. x == 1) (bit_of_byte word m j l) ∙ known (8 * m + j) (omega (arith, h, l)) ∙ ap (bit_or changed bit old) at)
 
   -- one more word of four bytes
   pub rebuild_word : (new : List ℕ) → new ≡ put_chunk (4 * w) mid (bytes_low_first 0 4 word)
       → ((i : ℕ) → i < 32 → (word / 2 ^ i % 2 == 1) ≡ bit_or changed bit old (32 * w + i)) → RebuiltTo changed bit (4 * (w + 1)) old new
-  rebuild_word new is told =
+  rebuild_word new is known =
       let ys : List ℕ = bytes_low_first 0 4 word in
       let long : length ys ≡ 4 = length-bytes 0 4 word in
       let same : length mid ≡ length old = was.same_length in
@@ -57,7 +57,7 @@ module _ (changed bit : ℕ → Bool) (w word : ℕ) (old mid : List ℕ) (room 
                 let at : x ≡ 4 * w + m = omega (arith, high) in
                 let few : m < 4 = omega (arith, high, within) in
                 rw (is, lt-ltb x (4 * (w + 1)) (omega (arith, within)), at, get_or-put_chunk_at (4 * w) mid ys m 0 (omega (arith, few, long)) (omega (arith, room, same, long)))
-                (get_or-bytes 0 4 word m few ∙ ap (λ n. byte_at n word) (zero-add m) ∙ wanted m few told)
+                (get_or-bytes 0 4 word m few ∙ ap (λ n. byte_at n word) (zero-add m) ∙ wanted m few known)
             | inr past ↦
                 rw (is, get_or-put_chunk_above (4 * w) mid ys x 0 (omega (arith, past, long)), le-ltb x (4 * (w + 1)) (omega (arith, past)))
                 (was.bytes x l ∙ ap (λ t. cond t (byte_with_bits changed bit old x) (get_or old x 0)) (le-ltb x (4 * w) high))
@@ -81,8 +81,8 @@ pub bit_of_word : (mask : List ℕ) (w i : ℕ) → 4 * w + 4 ≤ length mask �
 bit_of_word mask w i room fits h =
     let q : 32 * w / 32 ≡ w = omega arith in
     let r : 32 * w % 32 ≡ 0 = omega arith in
-    let told = word_bit mask (32 * w) 32 i (rw q room) fits (omega (arith, r)) h in
-    let plain = rw (q, r) at told in
+    let known = word_bit mask (32 * w) 32 i (rw q room) fits (omega (arith, r)) h in
+    let plain = rw (q, r) at known in
     flip (element 4 mask w / 2 ^ i) (mask_bit mask (32 * w + i)) (ap (λ x. x / 2 ^ i % 2 == 0) (sym (div-one (element 4 mask w))) ∙ plain)
   where
     flip : (x : ℕ) (b : Bool) → (x % 2 == 0) ≡ not b → (x % 2 == 1) ≡ b

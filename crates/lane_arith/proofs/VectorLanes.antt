@@ -56,36 +56,36 @@ compared w t xs ys n lx ly i h =
     let all : ℕ = 2 ^ bits w - 1 in
     let none : ℕ = 0 in
     rw (chosen_by w t xs ys (replicate n all) (replicate n none) n i lx ly (length-replicate n all) (length-replicate n none) h, get_or-replicate n i all 0 h, get_or-replicate n i none 0 h)
-    (tell (t (get_or xs i 0) (get_or ys i 0)))
+    (show (t (get_or xs i 0) (get_or ys i 0)))
   where
-    tell : (r : Bool) → eqb (cond r (2 ^ bits w - 1) 0) 0 ≡ not r
-    tell true = let more : 1 < 2 ^ bits w = above_one w in let some : 0 < 2 ^ bits w - 1 = omega arith in grind (arith, nat_tests)
-    tell false = refl
+    show : (r : Bool) → eqb (cond r (2 ^ bits w - 1) 0) 0 ≡ not r
+    show true = let more : 1 < 2 ^ bits w = above_one w in let some : 0 < 2 ^ bits w - 1 = omega arith in grind (arith, nat_tests)
+    show false = refl
 
 -- a bit mask of the elements of a mask that are not 0
 abbrev differs : ℕ → ℕ → Bool
 differs a b = not (eqb a b)
 
-abbrev told : Width → List ℕ → ℕ → ℕ
-told w xs n = mask_l (map (top (hbits w)) (zip2 (λ a b. cond (differs a b) (2 ^ bits w - 1) 0) xs (replicate n 0))) % 2 ^ 64
+abbrev known : Width → List ℕ → ℕ → ℕ
+known w xs n = mask_l (map (top (hbits w)) (zip2 (λ a b. cond (differs a b) (2 ^ bits w - 1) 0) xs (replicate n 0))) % 2 ^ 64
 
-told_is : (w : Width) (xs : List ℕ) (n : ℕ) → length xs ≡ n → n ≤ 64 → told w xs n ≡ mask_l (map (λ x. differs x 0) xs)
-told_is w xs n lx few = bitmask_splat w differs xs n 0 lx few
+known_is : (w : Width) (xs : List ℕ) (n : ℕ) → length xs ≡ n → n ≤ 64 → known w xs n ≡ mask_l (map (λ x. differs x 0) xs)
+known_is w xs n lx few = bitmask_splat w differs xs n 0 lx few
 
-pub told_bit : (w : Width) (xs : List ℕ) (n : ℕ) → length xs ≡ n → n ≤ 64 → (i : ℕ) → i < n → eqb (told w xs n / 2 ^ i % 2) 0 ≡ eqb (get_or xs i 0) 0
-told_bit w xs n lx few i h =
+pub known_bit : (w : Width) (xs : List ℕ) (n : ℕ) → length xs ≡ n → n ≤ 64 → (i : ℕ) → i < n → eqb (known w xs n / 2 ^ i % 2) 0 ≡ eqb (get_or xs i 0) 0
+known_bit w xs n lx few i h =
     let at : get_or (map (λ x. differs x 0) xs) i false ≡ differs (get_or xs i 0) 0 = get_or-map (λ x. differs x 0) xs i 0 false (omega arith) in
-    rw (told_is w xs n lx few, bit_mask_l (map (λ x. differs x 0) xs) i, at) (tell (eqb (get_or xs i 0) 0))
+    rw (known_is w xs n lx few, bit_mask_l (map (λ x. differs x 0) xs) i, at) (show (eqb (get_or xs i 0) 0))
   where
-    tell : (r : Bool) → eqb (cond (not r) 1 0) 0 ≡ r
-    tell true = refl
-    tell false = refl
+    show : (r : Bool) → eqb (cond (not r) 1 0) 0 ≡ r
+    show true = refl
+    show false = refl
 
-pub told_below : (w : Width) (xs : List ℕ) (n : ℕ) → length xs ≡ n → n ≤ 64 → told w xs n < 2 ^ n
-told_below w xs n lx few =
+pub known_below : (w : Width) (xs : List ℕ) (n : ℕ) → length xs ≡ n → n ≤ 64 → known w xs n < 2 ^ n
+known_below w xs n lx few =
     let long : length (map (λ x. differs x 0) xs) ≡ n = length-map xs (λ x. differs x 0) ∙ lx in
     let below : mask_l (map (λ x. differs x 0) xs) < 2 ^ length (map (λ x. differs x 0) xs) = mask_l-lt (map (λ x. differs x 0) xs) in
-    rw (told_is w xs n lx few) (rw long at below)
+    rw (known_is w xs n lx few) (rw long at below)
 
 flag : (x p : ℕ) → 0 < p → eqb (x * p) 0 ≡ eqb x 0
 flag zero p h = ap (λ y. eqb y 0) (zero-mul p)

@@ -68,14 +68,14 @@ any_bit test (suc n) a x small bits =
 -- ---- active elements
 
 -- one more chunk of n elements: bit masks say for which elements the condition holds, and which are active
-pub chunk_tells : (body : Body) (test : ℕ → Bool) (n c : ℕ) (was : Bool) (holds active : ℕ) → was ≡ some_before body test (n * c) → holds < 2 ^ n
+pub chunk_shows : (body : Body) (test : ℕ → Bool) (n c : ℕ) (was : Bool) (holds active : ℕ) → was ≡ some_before body test (n * c) → holds < 2 ^ n
     → ((i : ℕ) → i < n → eqb (holds / 2 ^ i % 2) 0 ≡ not (test (n * c + i)))
     → ((i : ℕ) → i < n → eqb (active / 2 ^ i % 2) 0 ≡ not (is_active body (n * c + i)))
     → (was || not (eqb (bit_and holds active) 0)) ≡ some_before body test (n * (c + 1))
-chunk_tells body test n c was holds active told small held actives =
+chunk_shows body test n c was holds active known small held actives =
     let both : ℕ → Bool = λ e. is_active body e && test e in
     let more : n * c + n ≡ n * (c + 1) = omega (arith, mul-add n c 1, mul-one n) in
-    ap (λ t. t || not (eqb (bit_and holds active) 0)) told
+    ap (λ t. t || not (eqb (bit_and holds active) 0)) known
     ∙ ap (λ t. some_before body test (n * c) || t)
     (any_bit both n (n * c) (bit_and holds active) (omega (arith, and_le_l holds active, small))
     (λ i h. both_bits holds active i (test (n * c + i)) (is_active body (n * c + i)) (held i h) (actives i h)
@@ -83,10 +83,10 @@ chunk_tells body test n c was holds active told small held actives =
     ∙ sym (first_and_next both (n * c) n) ∙ ap (some_before body test) more
 
 -- the condition holds for an active element if and only if it holds for one before the cut or for one from the cut on
-pub rest_tells : (body rest : Body) (test : ℕ → Bool) (cut : ℕ)
+pub rest_shows : (body rest : Body) (test : ℕ → Bool) (cut : ℕ)
     → rest ≡ record { unmasked = body.unmasked; mask = body.mask; start = max body.start cut; end = body.end }
     → (some_before body test cut || some_active rest test) ≡ some_active body test
-rest_tells body rest test cut is =
+rest_shows body rest test cut is =
     let from : Body = record { unmasked = body.unmasked; mask = body.mask; start = max body.start cut; end = body.end } in
     let mine : ℕ → Bool = λ e. is_active body e && test e in
     let theirs : ℕ → Bool = λ e. is_active from e && test e in
@@ -106,4 +106,4 @@ pub none_left : (body : Body) (test : ℕ → Bool) (cut : ℕ) → body.end ≤
 none_left body test cut h =
     let rest : Body = record { unmasked = body.unmasked; mask = body.mask; start = max body.start cut; end = body.end } in
     let none : some_active rest test ≡ false = sym (some_ends rest test rest.start h) ∙ some_begins rest test rest.start (omega arith) in
-    sym (or-false (some_before body test cut)) ∙ ap (λ b. some_before body test cut || b) (sym none) ∙ rest_tells body rest test cut refl
+    sym (or-false (some_before body test cut)) ∙ ap (λ b. some_before body test cut || b) (sym none) ∙ rest_shows body rest test cut refl

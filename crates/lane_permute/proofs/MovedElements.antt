@@ -78,12 +78,12 @@ in_chunk k n i m fills h l =
 pub element_around : (k n from i : ℕ) (bytes xs : List ℕ) → k * n ≡ 32 → i < n → n ≤ from + i
     → ((j : ℕ) → j < 32 → 32 ≤ k * from + j → get_or bytes j 0 ≡ get_or xs (k * from + j - 32) 0)
     → element k bytes i ≡ element k xs (from + i - n)
-element_around k n from i bytes xs fills h past told =
+element_around k n from i bytes xs fills h past known =
     let e : from + i ≡ n + (from + i - n) = omega (arith, past) in
     let split : k * from + k * i ≡ 32 + k * (from + i - n) = sym (mul-add k from i) ∙ ap (λ x. k * x) e ∙ mul-add k n (from + i - n) ∙ ap (λ x. x + k * (from + i - n)) fills in
     same_element k i (from + i - n) bytes xs (λ m l.
     let place : k * from + (k * i + m) - 32 ≡ k * (from + i - n) + m = omega (arith, split) in
-    told (k * i + m) (in_chunk k n i m fills h l) (omega (arith, split)) ∙ ap (λ x. get_or xs x 0) place)
+    known (k * i + m) (in_chunk k n i m fills h l) (omega (arith, split)) ∙ ap (λ x. get_or xs x 0) place)
 
 -- the first elements of a list, followed by zeros
 limited : (k limit x y : ℕ) (xs : List ℕ) → k * limit ≤ length xs → (x < limit → y ≡ x) → (limit ≤ x → limit ≤ y)
@@ -108,9 +108,9 @@ moved_down_lane k limit offset first n i place from top xs room few is least =
 
 -- a mask of the low `count` bits selects the elements below `count`
 pub picked : (count i lane x y : ℕ) → (lane == 0) ≡ ((2 ^ count - 1) / 2 ^ i % 2 == 0) → cond (lane == 0) y x ≡ cond (nat_lt i count) x y
-picked count i lane x y told = elim (cases_lt i count) [
-  | inl low ↦ (let one : (2 ^ count - 1) / 2 ^ i % 2 ≡ 1 = bit_at_ones count i low in rw (told, one, lt-ltb i count low) refl)
-  | inr high ↦ (let none : (2 ^ count - 1) / 2 ^ i % 2 ≡ 0 = bit_at_ones_above count i high in rw (told, none, le-ltb i count high) refl)
+picked count i lane x y known = elim (cases_lt i count) [
+  | inl low ↦ (let one : (2 ^ count - 1) / 2 ^ i % 2 ≡ 1 = bit_at_ones count i low in rw (known, one, lt-ltb i count low) refl)
+  | inr high ↦ (let none : (2 ^ count - 1) / 2 ^ i % 2 ≡ 0 = bit_at_ones_above count i high in rw (known, none, le-ltb i count high) refl)
 ]
 
 -- a number before the elements that are moved up

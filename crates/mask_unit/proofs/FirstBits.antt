@@ -37,24 +37,24 @@ pub none_found : (p : ℕ → Bool) (n : ℕ) → ((i : ℕ) → i < n → p i �
 none_found p n fails = none_from p 0 n (λ i l. let at : 0 + i ≡ i = omega arith in ap p at ∙ fails i l)
 
 -- the meaning of a set bit
-told_true : (x : ℕ) (b : Bool) → x ≡ 1 → (x == 0) ≡ not b → b ≡ true
-told_true x true one told = refl
-told_true x false one told = let not_none = rw one at told in absurd (cc)
+known_true : (x : ℕ) (b : Bool) → x ≡ 1 → (x == 0) ≡ not b → b ≡ true
+known_true x true one known = refl
+known_true x false one known = let not_none = rw one at known in absurd (cc)
 
-told_false : (x : ℕ) (b : Bool) → x ≡ 0 → (x == 0) ≡ not b → b ≡ false
-told_false x false none told = refl
-told_false x true none told = let some = rw none at told in absurd (cc)
+known_false : (x : ℕ) (b : Bool) → x ≡ 0 → (x == 0) ≡ not b → b ≡ false
+known_false x false none known = refl
+known_false x true none known = let some = rw none at known in absurd (cc)
 
 -- bit i of a word says whether the condition holds for index 32 * w + i
-module _ (p : ℕ → Bool) (w set : ℕ) (told : (i : ℕ) → i < 32 → (set / 2 ^ i % 2 == 0) ≡ not (p (32 * w + i))) where
+module _ (p : ℕ → Bool) (w set : ℕ) (known : (i : ℕ) → i < 32 → (set / 2 ^ i % 2 == 0) ≡ not (p (32 * w + i))) where
   -- if the word is 0, no index of the word satisfies the condition
   pub none_in_word : set ≡ 0 → ((i : ℕ) → i < 32 * w → p i ≡ false) → (i : ℕ) → i < 32 * (w + 1) → p i ≡ false
   none_in_word empty before i h = elim (cases_lt i (32 * w)) [
     | inl low ↦ before i low
     | inr high ↦
         let at : 32 * w + (i - 32 * w) ≡ i = omega (arith, high) in
-        ap p (sym at) ∙ told_false (set / 2 ^ (i - 32 * w) % 2) (p (32 * w + (i - 32 * w)))
-        (rw empty (bit_at-zero (i - 32 * w))) (told (i - 32 * w) (omega (arith, h, high)))
+        ap p (sym at) ∙ known_false (set / 2 ^ (i - 32 * w) % 2) (p (32 * w + (i - 32 * w)))
+        (rw empty (bit_at-zero (i - 32 * w))) (known (i - 32 * w) (omega (arith, h, high)))
   ]
 
   -- the lowest set bit is the first index that satisfies the condition
@@ -64,13 +64,13 @@ module _ (p : ℕ → Bool) (w set : ℕ) (told : (i : ℕ) → i < 32 → (set 
       let lowest = bit_at-trailing_zeros w64 set some (omega (arith, few)) in
       let t : ℕ = trailing_zeros w64 set in
       let inside : t < 32 = below_top t lowest.1 in (
-        told_true (set / 2 ^ t % 2) (p (32 * w + t)) lowest.1 (told t inside),
+        known_true (set / 2 ^ t % 2) (p (32 * w + t)) lowest.1 (known t inside),
         λ i h. elim (cases_lt i (32 * w)) [
           | inl low ↦ before i low
           | inr high ↦
               let at : 32 * w + (i - 32 * w) ≡ i = omega (arith, high) in
-              ap p (sym at) ∙ told_false (set / 2 ^ (i - 32 * w) % 2) (p (32 * w + (i - 32 * w)))
-              (lowest.2 (i - 32 * w) (omega (arith, h, high))) (told (i - 32 * w) (omega (arith, h, high, inside)))
+              ap p (sym at) ∙ known_false (set / 2 ^ (i - 32 * w) % 2) (p (32 * w + (i - 32 * w)))
+              (lowest.2 (i - 32 * w) (omega (arith, h, high))) (known (i - 32 * w) (omega (arith, h, high, inside)))
         ],
       )
     where

@@ -36,24 +36,24 @@ passing test n = length (filter test (range_with_len 0 n))
 pub ones_counted : (test : ℕ → Bool) (x from n m : ℕ) → m ≤ n → ((i : ℕ) → i < n → (x / 2 ^ i % 2 == 1) ≡ test (from + i))
     → passing test from + count_ones (x % 2 ^ m) ≡ passing test (from + m)
 unfolding count_ones
-ones_counted test x from n zero h told =
+ones_counted test x from n zero h known =
     let none : x % 2 ^ 0 ≡ 0 = omega arith in
     let here : from + 0 ≡ from = omega arith in
     rw (none, here) (omega arith)
-ones_counted test x from n (suc m) h told =
+ones_counted test x from n (suc m) h known =
     let less : m < n = omega (arith, h) in
-    let was = ones_counted test x from n m (omega (arith, h)) told in
+    let was = ones_counted test x from n m (omega (arith, h)) known in
     let next : suc m ≡ m + 1 = omega arith in
     let place : from + (m + 1) ≡ from + m + 1 = omega arith in
-    let bit : count_ones (x / 2 ^ m % 2) ≡ from_bool (test (from + m)) = one_bit (x / 2 ^ m % 2) (test (from + m)) (bit_at-lt x m) (told m less) in
+    let bit : count_ones (x / 2 ^ m % 2) ≡ from_bool (test (from + m)) = one_bit (x / 2 ^ m % 2) (test (from + m)) (bit_at-lt x m) (known m less) in
     let more : passing test (from + m + 1) ≡ passing test (from + m) + from_bool (test (from + m)) = count_more test (from + m) in
     rw (next, place) (omega (arith, ones_more x m, was, bit, more))
 
 -- bytes whose bit i says whether the condition holds for index from + i
 pub bytes_counted : (test : ℕ → Bool) (xs : List ℕ) (from : ℕ) → Each1 (Fits w8) xs → ((i : ℕ) → i < 8 * length xs → mask_bit xs i ≡ test (from + i))
     → passing test from + sum_l (map count_ones xs) ≡ passing test (from + 8 * length xs)
-bytes_counted test [] from f told = let here : from + 8 * 0 ≡ from = omega arith in rw here (omega arith)
-bytes_counted test (x ∷ xs) from f told =
+bytes_counted test [] from f known = let here : from + 8 * 0 ≡ from = omega arith in rw here (omega arith)
+bytes_counted test (x ∷ xs) from f known =
     let low : x % 2 ^ 8 ≡ x = mod-eq_of_lt f.0.fits in
     let all : 8 ≤ 8 = omega arith in
     let first : passing test from + count_ones x ≡ passing test (from + 8) =
@@ -62,7 +62,7 @@ bytes_counted test (x ∷ xs) from f told =
     let byte : i / 8 ≡ 0 = omega (arith, h) in
     let bit : i % 8 ≡ i = omega (arith, h) in
     let inside : i < 8 * length (x ∷ xs) = omega (arith, h) in
-    let one = told i inside in
+    let one = known i inside in
     rw (byte, bit) at one) in
     let rest : passing test (from + 8) + sum_l (map count_ones xs) ≡ passing test (from + 8 + 8 * length xs) =
     bytes_counted test xs (from + 8) f.1 (λ i h.
@@ -70,7 +70,7 @@ bytes_counted test (x ∷ xs) from f told =
     let bit : (8 + i) % 8 ≡ i % 8 = omega arith in
     let place : from + (8 + i) ≡ from + 8 + i = omega arith in
     let inside : 8 + i < 8 * length (x ∷ xs) = omega (arith, h) in
-    let one = told (8 + i) inside in
+    let one = known (8 + i) inside in
     rw (byte, bit, place) at one) in
     let end : from + 8 + 8 * length xs ≡ from + 8 * suc (length xs) = omega arith in
     omega (arith, first, rest, ap (passing test) end)
@@ -108,12 +108,12 @@ sum_in_16 (x ∷ xs) a h =
 -- the sum is the number of indices that satisfy the condition
 pub all_counted : (test : ℕ → Bool) (xs : List ℕ) (n : ℕ) → n ≡ 8 * length xs → n < 2 ^ 16 → Each1 (Fits w8) xs → ((i : ℕ) → i < n → mask_bit xs i ≡ test i)
     → fold_l (λ s x. (s + x) % 2 ^ 16) 0 (map (λ x. x) (map (λ x. x) (map count_ones xs))) ≡ passing test n
-all_counted test xs n is few f told =
-    let told_on : passing test 0 + sum_l (map count_ones xs) ≡ passing test (0 + 8 * length xs) =
-    bytes_counted test xs 0 f (λ i h. told i (omega (arith, h, is)) ∙ ap test (sym (zero-add i))) in
+all_counted test xs n is few f known =
+    let known_on : passing test 0 + sum_l (map count_ones xs) ≡ passing test (0 + 8 * length xs) =
+    bytes_counted test xs 0 f (λ i h. known i (omega (arith, h, is)) ∙ ap test (sym (zero-add i))) in
     let end : 0 + 8 * length xs ≡ n = omega (arith, is) in
     let none : passing test 0 ≡ 0 = refl in
-    let sum : sum_l (map count_ones xs) ≡ passing test n = omega (arith, told_on, none, ap (passing test) end) in
+    let sum : sum_l (map count_ones xs) ≡ passing test n = omega (arith, known_on, none, ap (passing test) end) in
     let most : passing test n ≤ n = count_most test n in
     sum_in_16 xs 0 (omega (arith, sum, most, few)) ∙ zero-add (sum_l (map count_ones xs)) ∙ sum
 
@@ -150,12 +150,12 @@ module _ (set : List ℕ) (q : ℕ) where
   pub byte_counted : (below : ℕ) (old made new : List ℕ) → new ≡ put_chunk (8 * q) old made → length made ≡ 8 → 8 * q + 8 ≤ length old
       → ((i : ℕ) → i < 8 → get_or made i 0 ≡ below + count_ones (get_or set q 0 % 2 ^ i)) → below ≡ passing (mask_bit set) (8 * q)
       → ((k : ℕ) → k < 8 * q → get_or old k 0 ≡ passing (mask_bit set) k) → (k : ℕ) → k < 8 * (q + 1) → get_or new k 0 ≡ passing (mask_bit set) k
-  byte_counted below old made new e long room told is was k h = elim (cases_lt k (8 * q)) [
+  byte_counted below old made new e long room known is was k h = elim (cases_lt k (8 * q)) [
     | inl low ↦ ap (λ xs. get_or xs k 0) e ∙ get_or-put_chunk_below (8 * q) old made k 0 low ∙ was k low
     | inr high ↦
         let at : 8 * q + (k - 8 * q) ≡ k = omega (arith, high) in
         let inside : k - 8 * q < 8 = omega (arith, h, high) in
         ap (λ xs. get_or xs k 0) e ∙ ap (λ x. get_or (put_chunk (8 * q) old made) x 0) (sym at)
         ∙ get_or-put_chunk_at (8 * q) old made (k - 8 * q) 0 (omega (arith, inside, long)) (omega (arith, room, long))
-        ∙ told (k - 8 * q) inside ∙ count_in_byte below (k - 8 * q) (omega (arith, inside)) is ∙ ap (passing (mask_bit set)) at
+        ∙ known (k - 8 * q) inside ∙ count_in_byte below (k - 8 * q) (omega (arith, inside)) is ∙ ap (passing (mask_bit set)) at
   ]

@@ -33,5 +33,5 @@ kept took before old new s next end ticks prepared made places number spent line
 pub of_slices : {K : Type 0} (took : K → List ℕ → K → Type 0) (sink new : K) (lines : Memory → List Place → List ℕ) (bytes items : List ℕ) (them places : List Place) → bytes ≡ items
     → them ≡ places → ((m : Memory) → bytes ≡ flat_map (held m) them → took sink (lines m them) new) → (m : Memory) → items ≡ flat_map (held m) places
     → took sink (lines m places) new
-of_slices took sink new lines bytes items them places bytes_are are told m is =
-    subst (λ (ps : List Place). took sink (lines m ps) new) are (told m (bytes_are ∙ (is ∙ ap (λ (ps : List Place). flat_map (held m) ps) (sym are))))
+of_slices took sink new lines bytes items them places bytes_are are printed m is =
+    subst (λ (ps : List Place). took sink (lines m ps) new) are (printed m (bytes_are ∙ (is ∙ ap (λ (ps : List Place). flat_map (held m) ps) (sym are))))

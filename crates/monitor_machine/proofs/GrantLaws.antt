@@ -128,10 +128,10 @@ unfolding event
 after_one_grant s u w turned next turn moved = sym (moved ∙ ap (λ (v : World). after_slice s.quantum u v) turn)
 
 -- the output of one slice in turn, and then of the others
-pub told_by_grant : (s : Setup) (u : ℕ) (w turned next : World) (hs : List UserEvent) → turned ≡ record w { cursor = u } → next ≡ after_slice s.quantum u turned
+pub printed_by_grant : (s : Setup) (u : ℕ) (w turned next : World) (hs : List UserEvent) → turned ≡ record w { cursor = u } → next ≡ after_slice s.quantum u turned
     → printed_by_events s w (slice_of u true ∷ hs) ≡ text (48 + u) (sliced s.quantum (user_machine u turned)).lines ++ printed_by_events s next hs
 unfolding event
-told_by_grant s u w turned next hs turn moved =
+printed_by_grant s u w turned next hs turn moved =
     ap (λ (v : World). text (48 + u) (sliced s.quantum (user_machine u w)).lines ++ printed_by_events s v hs) (after_one_grant s u w turned next turn moved)
     ∙ ap (λ (v : World). text (48 + u) (sliced s.quantum (user_machine u v)).lines ++ printed_by_events s next hs) (sym turn)
 
@@ -142,14 +142,14 @@ world_granted_on s n u w turned next turns turn moved =
     ap (after_events s w) (granted_on s n u w turns)
     ∙ ap (λ (v : World). after_events s v (granted s n v)) (after_one_grant s u w turned next turn moved)
 
-pub told_granted_on : (s : Setup) (n u : ℕ) (w turned next : World) (before after : List ℕ) → next_running w ≡ Some u → turned ≡ record w { cursor = u } → next ≡ after_slice s.quantum u turned
+pub printed_granted_on : (s : Setup) (n u : ℕ) (w turned next : World) (before after : List ℕ) → next_running w ≡ Some u → turned ≡ record w { cursor = u } → next ≡ after_slice s.quantum u turned
     → after ≡ before ++ text (48 + u) (sliced s.quantum (user_machine u turned)).lines
     → before ++ printed_by_events s w (granted s (suc n) w) ≡ after ++ printed_by_events s next (granted s n next)
-told_granted_on s n u w turned next before after turns turn moved more =
+printed_granted_on s n u w turned next before after turns turn moved more =
     let lines = text (48 + u) (sliced s.quantum (user_machine u turned)).lines in
     ap (λ (hs : List UserEvent). before ++ printed_by_events s w hs) (granted_on s n u w turns)
     ∙ ap (λ (v : World). before ++ printed_by_events s w (slice_of u true ∷ granted s n v)) (after_one_grant s u w turned next turn moved)
-    ∙ ap (λ (bytes : List ℕ). before ++ bytes) (told_by_grant s u w turned next (granted s n next) turn moved)
+    ∙ ap (λ (bytes : List ℕ). before ++ bytes) (printed_by_grant s u w turned next (granted s n next) turn moved)
     ∙ sym (append_assoc before lines (printed_by_events s next (granted s n next)))
     ∙ ap (λ (bytes : List ℕ). bytes ++ printed_by_events s next (granted s n next)) (sym more)
 
@@ -178,9 +178,9 @@ one_run_world s u w next moved = by_case (runs (user_machine u w)) refl
     by_case true ran = sym moved
     by_case false ran = sym (moved ∙ nothing_sliced s.quantum u w ran)
 
-pub one_run_told : (s : Setup) (u : ℕ) (w : World) → printed_by_events s w (if runs (user_machine u w) then slice_of u false ∷ [] else []) ≡ text (48 + u) (sliced s.quantum (user_machine u w)).lines
+pub one_run_printed : (s : Setup) (u : ℕ) (w : World) → printed_by_events s w (if runs (user_machine u w) then slice_of u false ∷ [] else []) ≡ text (48 + u) (sliced s.quantum (user_machine u w)).lines
 unfolding event
-one_run_told s u w = by_case (runs (user_machine u w)) refl
+one_run_printed s u w = by_case (runs (user_machine u w)) refl
   where
     by_case : (b : Bool) → runs (user_machine u w) ≡ b → printed_by_events s w (ran_lines b u) ≡ text (48 + u) (sliced s.quantum (user_machine u w)).lines
     by_case true ran = append-nil (text (48 + u) (sliced s.quantum (user_machine u w)).lines)

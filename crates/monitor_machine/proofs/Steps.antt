@@ -1,7 +1,7 @@
 -- Rule sets with which the tactics determine a user's machine and the output after commands and slices.
 use Rattle.monitor_machine.specs.UserAdapters.{memory_there, same_memory}
 use Rattle.monitor_machine.proofs.CutLaws.{configured_as}
-use Rattle.monitor_machine.proofs.GrantLaws.{one_run_count, one_run_told, one_run_world, stops_room_is_small}
+use Rattle.monitor_machine.proofs.GrantLaws.{one_run_count, one_run_printed, one_run_world, stops_room_is_small}
 use Rattle.monitor_machine.proofs.MemoryOutcomes.{maps_accepted, maps_refused, pokes_accepted, pokes_refused}
 use Rattle.monitor_machine.proofs.PartLaws.{absent_as, entered_as, unit_stays}
 use Rattle.monitor_machine.proofs.ProgramOutcomes.{assembles_mapped, assembles_unmapped, loads_named, loads_unknown}
@@ -40,4 +40,4 @@ pub ruleset loading = (entered_as, unit_stays, same_memory, loads_unknown, loads
 -- a slice that is granted, and one that the operator requests
 pub ruleset granting = (same_memory, unit_stays, configured_as)
 
-pub ruleset running = (stops_room_is_small, one_run_world, one_run_told, one_run_count)
+pub ruleset running = (stops_room_is_small, one_run_world, one_run_printed, one_run_count)

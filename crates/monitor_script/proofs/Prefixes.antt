@@ -83,17 +83,17 @@ cut_short_begins m text rest Ended now Took cut none =
     let answer : List ℕ = printed_by_line m.setup w cut.line in
     let lines : (more : List (List ℕ)) → cut.more ≡ more → pieces (take 16777216 text) ≡ cut.before ++ cut.line ∷ more =
     λ more e. cut.lines ∙ ap (λ (ls : List (List ℕ)). cut.before ++ cut.line ∷ ls) e in
-    let told_so : (more : List (List ℕ)) → printed_by_lines m.setup m.world (cut.before ++ cut.line ∷ more) ≡ before ++ (answer ++ printed_by_lines m.setup (world_after m.setup w cut.line) more) =
+    let printed_so : (more : List (List ℕ)) → printed_by_lines m.setup m.world (cut.before ++ cut.line ∷ more) ≡ before ++ (answer ++ printed_by_lines m.setup (world_after m.setup w cut.line) more) =
     λ more. printed_by_lines-append m.setup m.world cut.before (cut.line ∷ more) in
     of_list cut.more (StartsWith whole (before ++ take cut.count answer))
     (λ e.
     let end = cut.last e in
     let all : text ++ rest ≡ take 16777216 text = ap (λ (t : List ℕ). text ++ t) (none end.0) ∙ append-nil text ∙ sym (take_all 16777216 text end.1) in
     part_begins whole before answer [] [] cut.count
-    (ap (λ (t : List ℕ). printed_by_lines m.setup m.world (pieces t)) all ∙ ap (printed_by_lines m.setup m.world) (lines [] e) ∙ told_so [] ∙ sym (append-nil (before ++ (answer ++ [])))))
+    (ap (λ (t : List ℕ). printed_by_lines m.setup m.world (pieces t)) all ∙ ap (printed_by_lines m.setup m.world) (lines [] e) ∙ printed_so [] ∙ sym (append-nil (before ++ (answer ++ [])))))
     (λ next more e.
     let others : List (List ℕ) = take (length more) (next ∷ more) in
     let after = after_ended m (take 16777216 text) (drop 16777216 text ++ rest) in
     let ended = ended_with (take 16777216 text) cut.line next cut.before more (lines (next ∷ more) e) in
     part_begins whole before answer (printed_by_lines m.setup (world_after m.setup w cut.line) others) after.0 cut.count
-    (ap (whole_from m.setup m.world) (first_bytes 16777216 text rest) ∙ after.1 ∙ ap (λ (t : List ℕ). t ++ after.0) (ap (printed_by_lines m.setup m.world) ended ∙ told_so others)))
+    (ap (whole_from m.setup m.world) (first_bytes 16777216 text rest) ∙ after.1 ∙ ap (λ (t : List ℕ). t ++ after.0) (ap (printed_by_lines m.setup m.world) ended ∙ printed_so others)))

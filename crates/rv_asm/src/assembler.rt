@@ -20,7 +20,7 @@ pub fn assemble(text: &[u8]) -> Result<u32, AsmFault>
 {
     let (name, after) = take(text, 0)?;
     let Some(row) = row_named(name.text) else {
-        return Err(name.misfit());
+        return Err(name.fault());
     };
     let Mnemonic(_, form, bits) = row_at(row);
     read_operands(bits, slots_of(form), text, after)

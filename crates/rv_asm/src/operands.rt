@@ -32,7 +32,7 @@ pub(crate) fn read_operands(
         at = after;
     }
     match next_token(text, at) {
-        Some((token, _)) => Err(token.misfit()),
+        Some((token, _)) => Err(token.fault()),
         None => Ok(word),
     }
 }

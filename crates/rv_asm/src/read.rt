@@ -22,7 +22,7 @@ pub(crate) fn literal(word: &[u8], text: &[u8], at: usize) -> Result<(u32, usize
     if token.text == word {
         Ok((0, after))
     } else {
-        Err(token.misfit())
+        Err(token.fault())
     }
 }
 
@@ -35,7 +35,7 @@ fn register_at(letter: u8, text: &[u8], at: usize) -> Result<(u32, usize), AsmFa
     let (token, after) = take(text, at)?;
     match register(letter, token.text) {
         Some(value) => Ok((value, after)),
-        None => Err(token.misfit()),
+        None => Err(token.fault()),
     }
 }
 
@@ -47,7 +47,7 @@ fn csr_at(text: &[u8], at: usize) -> Result<(u32, usize), AsmFault>
     let (token, after) = take(text, at)?;
     match csr(token.text) {
         Some(value) => Ok((value, after)),
-        None => Err(token.misfit()),
+        None => Err(token.fault()),
     }
 }
 
@@ -60,7 +60,7 @@ fn unsigned_at(limit: u32, text: &[u8], at: usize) -> Result<(u32, usize), AsmFa
     let (token, after) = take(text, at)?;
     match number_up_to(limit, token.text) {
         Some(value) => Ok((value, after)),
-        None => Err(token.misfit()),
+        None => Err(token.fault()),
     }
 }
 
@@ -105,12 +105,12 @@ fn signed_at(step: u32, half: u32, text: &[u8], at: usize) -> Result<(u32, usize
         let (digits, after) = take(text, after)?;
         return match negative(step, half, digits.text) {
             Some(value) => Ok((value, after)),
-            None => Err(digits.misfit()),
+            None => Err(digits.fault()),
         };
     }
     match in_steps(step, step * half - 1, token.text) {
         Some(value) => Ok((value, after)),
-        None => Err(token.misfit()),
+        None => Err(token.fault()),
     }
 }
 
@@ -124,7 +124,7 @@ fn mask_at(text: &[u8], at: usize) -> Result<(u32, usize), AsmFault>
         return Ok((1, text.len()));
     };
     if token.text != b",".as_slice() {
-        return Err(token.misfit());
+        return Err(token.fault());
     }
     literal(b"v0.t", text, after)
 }

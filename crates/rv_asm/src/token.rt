@@ -15,7 +15,7 @@ pub struct Token<'a> {
 
 impl Token<'_> {
     /// The fault of a token that doesn't fit its slot or has none.
-    pub(crate) fn misfit(&self) -> AsmFault
+    pub(crate) fn fault(&self) -> AsmFault
         ensures { result.column ≡ self.now.column }
     {
         AsmFault {

@@ -20,7 +20,7 @@ fn vlmul_at(text: &[u8], at: usize) -> Result<(u32, usize), AsmFault>
     let (token, after) = take(text, at)?;
     match vlmul(token.text) {
         Some(value) => Ok((value, after)),
-        None => Err(token.misfit()),
+        None => Err(token.fault()),
     }
 }
 
@@ -33,7 +33,7 @@ fn vta_at(text: &[u8], at: usize) -> Result<(u32, usize), AsmFault>
     let (token, after) = take(text, at)?;
     match vta(token.text) {
         Some(value) => Ok((value, after)),
-        None => Err(token.misfit()),
+        None => Err(token.fault()),
     }
 }
 
@@ -46,7 +46,7 @@ fn vma_at(text: &[u8], at: usize) -> Result<(u32, usize), AsmFault>
     let (token, after) = take(text, at)?;
     match vma(token.text) {
         Some(value) => Ok((value, after)),
-        None => Err(token.misfit()),
+        None => Err(token.fault()),
     }
 }
 
@@ -79,6 +79,6 @@ pub(crate) fn vtype_at(count: u32, text: &[u8], at: usize) -> Result<(u32, usize
     }
     match number_up_to(count - 1, token.text) {
         Some(value) => Ok((value, after)),
-        None => Err(token.misfit()),
+        None => Err(token.fault()),
     }
 }

@@ -24,7 +24,7 @@ pub(crate) fn spells(text: &Text, word: u32) -> bool {
 
 /// Whether the text of a word names an instruction if and only if the decoder accepts the word. Fences are skipped,
 /// since all except one have no name.
-pub(crate) fn is_told(word: u32, text: &Text) -> bool {
+pub(crate) fn is_reassembled(word: u32, text: &Text) -> bool {
     let directive = text.as_str().starts_with(".word ");
     match decode(word) {
         Some(Instr::Scalar(ScalarInstr::Fence { .. })) => true,
@@ -38,16 +38,16 @@ pub(crate) fn is_told(word: u32, text: &Text) -> bool {
 fn print_generated(rt: &impl Print, text: &mut Text) -> io::Result<()> {
     let mut generated = 0;
     let mut found = 0u32;
-    let mut mistold = 0u32;
+    let mut misprinted = 0u32;
     for number in 0..GENERATED {
         generated = next_word(generated);
         let word = generated & !0x7f | OPCODES[number as usize % OPCODES.len()];
         text_of(word, text);
         found = found.wrapping_add(u32::from(!spells(text, word)));
-        mistold = mistold.wrapping_add(u32::from(!is_told(word, text)));
+        misprinted = misprinted.wrapping_add(u32::from(!is_reassembled(word, text)));
     }
     println!(rt;
-        "{GENERATED} generated words, {found} mismatches, {mistold} that the decoder tells otherwise"
+        "{GENERATED} generated words, {found} mismatches, {misprinted} that the decoder tells otherwise"
     )
 }
 

@@ -122,13 +122,13 @@ impl Bench {
                 }
             }
         }
-        let told = plan.pages();
+        let planned = plan.pages();
         if count > PAGE_QUOTA as u64 {
             let kept = self.pool.pages(user) == before;
-            self.count(OVER_QUOTA, told.is_none() && placed.is_err() && kept);
+            self.count(OVER_QUOTA, planned.is_none() && placed.is_err() && kept);
         } else {
             let pages = self.pool.pages(user) as u64;
-            let same = same && told == Some(count as usize) && pages == count;
+            let same = same && planned == Some(count as usize) && pages == count;
             self.count(PLACED, same && placed == Ok(entry(image)));
         }
     }
@@ -139,15 +139,15 @@ impl Bench {
         match check(image) {
             Ok(plan) if fault.is_none() => self.compare_plan(image, &plan),
             Ok(_) => self.count(ENDS, false),
-            Err(told) => {
-                let told = told.name();
+            Err(planned) => {
+                let planned = planned.name();
                 let mut end = ENDS;
                 for number in 0..ENDS {
-                    if NAMES[number] == told {
+                    if NAMES[number] == planned {
                         end = number;
                     }
                 }
-                self.count(end, fault == Some(told));
+                self.count(end, fault == Some(planned));
             }
         }
     }

@@ -11,40 +11,40 @@ use crate::variants::{Variant, Variants};
 use lane_arith::{Body, Lane};
 
 /// The active elements of a body: all, or those that a mask enables; and whether inactive elements are filled with ones.
-struct Way {
+struct Masking {
     unmasked: bool,
     mask: [u8; 32],
     fill: bool,
 }
 
 /// No mask; masks with all bits set, none and some; and the last two again, with inactive elements filled.
-const WAYS: [Way; 6] = [
-    Way {
+const MASKINGS: [Masking; 6] = [
+    Masking {
         unmasked: true,
         mask: NO_MASK,
         fill: false,
     },
-    Way {
+    Masking {
         unmasked: false,
         mask: ALL,
         fill: false,
     },
-    Way {
+    Masking {
         unmasked: false,
         mask: NO_MASK,
         fill: false,
     },
-    Way {
+    Masking {
         unmasked: false,
         mask: MIXED,
         fill: false,
     },
-    Way {
+    Masking {
         unmasked: false,
         mask: NO_MASK,
         fill: true,
     },
-    Way {
+    Masking {
         unmasked: false,
         mask: MIXED,
         fill: true,
@@ -79,14 +79,14 @@ pub(crate) enum Limits {
 const WIDTHS: [u32; 5] = [1, 8, 16, 32, 64];
 
 /// Cases of a family of kernels. An element has from `least` to `greatest` bits, and a result `times` the width of an
-/// element. `ways` is the number of `WAYS` used, and `starts` the number of starts used of 0, 1, 7, 33 and the end.
+/// element. `maskings` is the number of `MASKINGS` used, and `starts` the number of starts used of 0, 1, 7, 33 and the end.
 #[derive(Clone, Copy)]
 pub(crate) struct Sweep {
     pub(crate) inputs: Inputs,
     pub(crate) least: u32,
     pub(crate) greatest: u32,
     pub(crate) times: u32,
-    pub(crate) ways: usize,
+    pub(crate) maskings: usize,
     pub(crate) variants: Variants,
     pub(crate) starts: usize,
     pub(crate) written: Written,
@@ -99,7 +99,7 @@ pub(crate) const MASKED: Sweep = Sweep {
     least: 8,
     greatest: 64,
     times: 1,
-    ways: 6,
+    maskings: 6,
     variants: Variants::Plain,
     starts: 5,
     written: Written::Elements,
@@ -234,7 +234,7 @@ fn count_bodies<K: Kernel>(
     operands: &Operands,
     sweep: &Sweep,
     (bits, variant): (u32, &Variant),
-    way: &Way,
+    way: &Masking,
     line: &mut Line,
 ) {
     for number in 0..330 {
@@ -256,13 +256,13 @@ fn count_bodies<K: Kernel>(
     }
 }
 
-/// Compares a kernel's variants at a width, in one of `WAYS`.
+/// Compares a kernel's variants at a width, in one of `MASKINGS`.
 fn count_variants<K: Kernel>(
     kernel: &K,
     operands: &Operands,
     sweep: &Sweep,
     bits: u32,
-    way: &Way,
+    way: &Masking,
     line: &mut Line,
 ) {
     for number in 0..sweep.variants.count() {
@@ -271,7 +271,7 @@ fn count_variants<K: Kernel>(
     }
 }
 
-/// Compares a kernel at a width, in each of its `WAYS`.
+/// Compares a kernel at a width, in each of its `MASKINGS`.
 fn count_ways<K: Kernel>(
     kernel: &K,
     operands: &Operands,
@@ -279,7 +279,7 @@ fn count_ways<K: Kernel>(
     bits: u32,
     line: &mut Line,
 ) {
-    for way in WAYS.iter().take(sweep.ways) {
+    for way in MASKINGS.iter().take(sweep.maskings) {
         count_variants(kernel, operands, sweep, bits, way, line);
     }
 }

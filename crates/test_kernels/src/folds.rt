@@ -40,7 +40,7 @@ const COUNTS: [(SetBits, &str); 2] = [(SetBits::Count, "vcpop"), (SetBits::First
 
 /// Reductions at each width.
 const REDUCED: Sweep = Sweep {
-    ways: 4,
+    maskings: 4,
     written: Written::First,
     ..MASKED
 };

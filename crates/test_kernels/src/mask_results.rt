@@ -47,14 +47,14 @@ const SCANS: [(MaskScanOp, &str); 3] = [
 /// Comparisons, by the width of their operands.
 const COMPARED: Sweep = Sweep {
     inputs: Inputs::Near,
-    ways: 4,
+    maskings: 4,
     written: Written::Bits,
     ..MASKED
 };
 
 /// Carries and borrows, with each mask operand and without one.
 const CARRIED: Sweep = Sweep {
-    ways: 1,
+    maskings: 1,
     variants: Variants::Carries,
     ..COMPARED
 };
@@ -69,7 +69,7 @@ const SCANS_OF_BITS: Sweep = Sweep {
 
 /// Mask logic, which is always unmasked.
 const UNMASKED: Sweep = Sweep {
-    ways: 1,
+    maskings: 1,
     ..SCANS_OF_BITS
 };
 

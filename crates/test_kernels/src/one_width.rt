@@ -180,14 +180,14 @@ impl Kernel for Copied {
 
 /// Carries, borrows and merges, with each mask operand.
 const CARRIED: Sweep = Sweep {
-    ways: 1,
+    maskings: 1,
     variants: Variants::Operands,
     ..MASKED
 };
 
 /// Copies, without a mask, with a scalar.
 const COPIED: Sweep = Sweep {
-    ways: 1,
+    maskings: 1,
     variants: Variants::Scalar,
     ..MASKED
 };

@@ -109,7 +109,7 @@ const BY_SHORT_INDICES: Sweep = Sweep {
 
 /// Compressions with three masks of selected elements, without another mask, from element 0 on.
 const PACKED: Sweep = Sweep {
-    ways: 1,
+    maskings: 1,
     variants: Variants::Operands,
     starts: 1,
     ..MASKED

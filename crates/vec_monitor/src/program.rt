@@ -31,9 +31,9 @@ fn run_reader<F: Read + Drop, K: Sink, A: Allocator>(
     output: &mut K,
 ) -> Result<(), RunFault>
     ensures ran { machine.old.world ≡ new_world → OnOk result (
-        RanScript (λ told. K.took output.old told output.new) machine.old.setup (F.remaining reader)) }
-    ensures told { machine.old.world ≡ new_world →
-        OutputPrefix (λ told. K.took output.old told output.new) machine.old.setup (F.remaining reader) }
+        RanScript (λ printed. K.took output.old printed output.new) machine.old.setup (F.remaining reader)) }
+    ensures printed { machine.old.world ≡ new_world →
+        OutputPrefix (λ printed. K.took output.old printed output.new) machine.old.setup (F.remaining reader) }
 {
     run(machine, &mut ReaderSource::new(reader), output)
 }
@@ -46,11 +46,11 @@ fn run_script<I: Inputs, K: Sink, A: Allocator>(
     output: &mut K,
 ) -> Result<(), RunFault>
     ensures ran { machine.old.world ≡ new_world → OnOk result (
-        RanScript (λ told. K.took output.old told output.new) machine.old.setup
+        RanScript (λ printed. K.took output.old printed output.new) machine.old.setup
         (option_map_or (I.file_bytes inputs.now) (option_map (λ path. path.now) script.entry)
         (I.input_bytes inputs.now))) }
-    ensures told { machine.old.world ≡ new_world →
-        OutputPrefix (λ told. K.took output.old told output.new) machine.old.setup
+    ensures printed { machine.old.world ≡ new_world →
+        OutputPrefix (λ printed. K.took output.old printed output.new) machine.old.setup
         (option_map_or (I.file_bytes inputs.now) (option_map (λ path. path.now) script.entry)
         (I.input_bytes inputs.now)) }
 {
@@ -74,11 +74,11 @@ fn run_options<'a, I: Inputs, K: Sink, A: Allocator + Clone>(
 ) -> Result<(), ProgramFault<'a>>
     ensures ran { OnOk result (RanOptions (I.file_bytes inputs.now) (I.input_bytes inputs.now)
         options.now.quantum (option_map (λ path. path.now) options.now.script)
-        (texts options.now.images.items) (RanScript (λ told. K.took output.old told output.new))) }
-    ensures told { K.took output.old [] output.new
+        (texts options.now.images.items) (RanScript (λ printed. K.took output.old printed output.new))) }
+    ensures printed { K.took output.old [] output.new
         ⊎ RanOptions (I.file_bytes inputs.now) (I.input_bytes inputs.now)
         options.now.quantum (option_map (λ path. path.now) options.now.script)
-        (texts options.now.images.items) (OutputPrefix (λ told. K.took output.old told output.new)) }
+        (texts options.now.images.items) (OutputPrefix (λ printed. K.took output.old printed output.new)) }
     ensures nothing { IfErr result (λ fault. (program_status fault ≡ 2)
         ⊎ ((program_status fault ≡ 4) ⊎ (program_status fault ≡ 6)) → K.took output.old [] output.new) }
     ensures usage { IfErr result (λ fault.
@@ -105,10 +105,10 @@ fn run_arguments<'a, R: Inputs + Print, K: Sink>(
 ) -> Result<(), ProgramFault<'a>>
     ensures ran { OnOk result (IsAmong DisplayHelp (arguments_fault (texts arguments.now))
         ⊎ RanArguments (R.file_bytes rt.now) (R.input_bytes rt.now) (texts arguments.now)
-        (RanScript (λ told. K.took output.old told output.new))) }
-    ensures told { K.took output.old [] output.new
+        (RanScript (λ printed. K.took output.old printed output.new))) }
+    ensures printed { K.took output.old [] output.new
         ⊎ RanArguments (R.file_bytes rt.now) (R.input_bytes rt.now) (texts arguments.now)
-        (OutputPrefix (λ told. K.took output.old told output.new)) }
+        (OutputPrefix (λ printed. K.took output.old printed output.new)) }
     ensures nothing { IfErr result (λ fault. (program_status fault ≡ 2)
         ⊎ ((program_status fault ≡ 4) ⊎ (program_status fault ≡ 6)) → K.took output.old [] output.new) }
     ensures usage { IfErr result (λ fault.
@@ -152,12 +152,12 @@ pub fn vecmon_into<R: Inputs + Print + Eprint, K: Sink>(
     // they name.
     ensures ran { result ≡ 0 → IsAmong DisplayHelp (arguments_fault (texts arguments.now))
         ⊎ RanArguments (R.file_bytes rt.now) (R.input_bytes rt.now) (texts arguments.now)
-        (RanScript (λ told. K.took output.old told output.new)) }
+        (RanScript (λ printed. K.took output.old printed output.new)) }
     // For every exit status, the output is empty or a prefix of the output of this machine for this script. It is empty
     // for the exit statuses 2, 4 and 6.
-    ensures told { K.took output.old [] output.new
+    ensures printed { K.took output.old [] output.new
         ⊎ RanArguments (R.file_bytes rt.now) (R.input_bytes rt.now) (texts arguments.now)
-        (OutputPrefix (λ told. K.took output.old told output.new)) }
+        (OutputPrefix (λ printed. K.took output.old printed output.new)) }
     ensures nothing { (result ≡ 2) ⊎ ((result ≡ 4) ⊎ (result ≡ 6)) → K.took output.old [] output.new }
     ensures usage { result ≡ 2 → MayBeRefused (texts arguments.now) }
     ensures refused { AreRefused (texts arguments.now) → (result ≡ 2) ⊎ (result ≡ 6) }

@@ -39,10 +39,10 @@ taken_by c arguments is free = sym (ap (λ a. fault_of a arguments) is) ∙ free
 -- a usage fault from one of clap's errors, if this has one of these kinds
 fault_among : (kinds : Kinds) (e : Error) (fault : UsageFault) → IsFaultOf (kind_of e) fault → HasKind kinds e → IsRefusedFor kinds fault
 fault_among kinds e NoMemory is has = tt
-fault_among kinds e (Help told) is (inl none) = absurd (cc (is.0, none))
-fault_among kinds e (Help told) is (inr among) = (is.1, subst (λ k. IsAmong k kinds) (is.0 ∙ sym is.1) among)
-fault_among kinds e (Usage told) is (inl none) = absurd (is.1 none)
-fault_among kinds e (Usage told) is (inr among) = (λ help. is.0 (sym is.2 ∙ help), subst (λ k. IsAmong k kinds) (sym is.2) among)
+fault_among kinds e (Help printed) is (inl none) = absurd (cc (is.0, none))
+fault_among kinds e (Help printed) is (inr among) = (is.1, subst (λ k. IsAmong k kinds) (is.0 ∙ sym is.1) among)
+fault_among kinds e (Usage printed) is (inl none) = absurd (is.1 none)
+fault_among kinds e (Usage printed) is (inr among) = (λ help. is.0 (sym is.2 ∙ help), subst (λ k. IsAmong k kinds) (sym is.2) among)
 
 -- clap rejects the arguments
 pub refused_by : {T : Type 0} (c : Command) (arguments : List Text) (e : Error) (r : Result T UsageFault) → app_of c ≡ command_line

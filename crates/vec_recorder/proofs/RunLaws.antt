@@ -116,10 +116,10 @@ end_by_totals ticks times spent old_times old_spent s left end few little no_tim
 -- ---- changes
 
 -- the lines of the changes, and then another text
-pub changes_told : {F A : Type 0} (took : F → List ℕ → F → Type 0) → ((a b c : F) (xs ys : List ℕ) → took a xs b → took b ys c → took a (xs ++ ys) c)
-    → (first new : Changes F A) (file after : F) (places : List Place) (found : List HartState) (told last : List ℕ) → first.sink ≡ file → first.places.items ≡ places
-    → first.number ≡ 0 → first.ticks ≡ 0 → IsRecorded took first found new → told ≡ last → took new.sink told after → took file (changes_from places 0 0 found ++ last) after
-changes_told took more first new file after places found told last sink_is places_are number_is ticks_are recorded last_is end =
+pub changes_printed : {F A : Type 0} (took : F → List ℕ → F → Type 0) → ((a b c : F) (xs ys : List ℕ) → took a xs b → took b ys c → took a (xs ++ ys) c)
+    → (first new : Changes F A) (file after : F) (places : List Place) (found : List HartState) (printed last : List ℕ) → first.sink ≡ file → first.places.items ≡ places
+    → first.number ≡ 0 → first.ticks ≡ 0 → IsRecorded took first found new → printed ≡ last → took new.sink printed after → took file (changes_from places 0 0 found ++ last) after
+changes_printed took more first new file after places found printed last sink_is places_are number_is ticks_are recorded last_is end =
     let lines : took first.sink (changes_from places 0 0 found) new.sink =
     let lines = recorded.lines in rw (places_are, number_is, ticks_are) at lines in
     subst (λ f. took f (changes_from places 0 0 found ++ last) after) sink_is
@@ -128,16 +128,16 @@ changes_told took more first new file after places found told last sink_is place
 -- ---- logs
 
 -- the lines of a log, including those still in the buffer, and then another text
-pub log_told : {F : Type 0} (took : F → List ℕ → F → Type 0) → ((a b c : F) (xs ys : List ℕ) → took a xs b → took b ys c → took a (xs ++ ys) c)
-    → (first new : Log F) (file mid after : F) (window : Window) (found : List HartState) (told last : List ℕ) → first.sink ≡ file → first.window ≡ window
-    → first.number ≡ 0 → first.text ≡ [] → IsLogged took first found new → took new.sink new.text mid → told ≡ last → took mid told after
+pub log_printed : {F : Type 0} (took : F → List ℕ → F → Type 0) → ((a b c : F) (xs ys : List ℕ) → took a xs b → took b ys c → took a (xs ++ ys) c)
+    → (first new : Log F) (file mid after : F) (window : Window) (found : List HartState) (printed last : List ℕ) → first.sink ≡ file → first.window ≡ window
+    → first.number ≡ 0 → first.text ≡ [] → IsLogged took first found new → took new.sink new.text mid → printed ≡ last → took mid printed after
     → took file (logged_from window 0 found ++ last) after
-log_told took more first new file mid after window found told last sink_is window_is number_is text_is logged gathered last_is end =
-    let told_all = logged.lines in
-    let lines : told_all.written ++ new.text ≡ logged_from window 0 found =
-    let all = told_all.all in rw (text_is, window_is, number_is) at all in
+log_printed took more first new file mid after window found printed last sink_is window_is number_is text_is logged gathered last_is end =
+    let printed_all = logged.lines in
+    let lines : printed_all.written ++ new.text ≡ logged_from window 0 found =
+    let all = printed_all.all in rw (text_is, window_is, number_is) at all in
     let written : took first.sink (logged_from window 0 found) mid =
-    subst (λ (l : List ℕ). took first.sink l mid) lines (more first.sink new.sink mid told_all.written new.text told_all.took gathered) in
+    subst (λ (l : List ℕ). took first.sink l mid) lines (more first.sink new.sink mid printed_all.written new.text printed_all.took gathered) in
     subst (λ f. took f (logged_from window 0 found ++ last) after) sink_is
     (more first.sink mid after (logged_from window 0 found) last written (subst (λ (l : List ℕ). took mid l after) last_is end))
 

@@ -59,7 +59,7 @@ pub record IsWritten {F : Type 0} (is_created : Text → F → Type 0) (took : F
   pub before : F
   pub after : F
   pub made : is_created path before
-  pub says : Says (λ told. took before told after)
+  pub says : Says (λ printed. took before printed after)
 
 -- the record is in the file at a path, if a path is given
 abbrev pub AreKept : {F : Type 0} → (Text → F → Type 0) → (F → List ℕ → F → Type 0) → Option Text → ((List ℕ → Type 0) → Type 0) → Type 0
@@ -73,9 +73,9 @@ pub record RunBy {F : Type 0} (file_bytes : Text → Option (List ℕ)) (is_crea
   pub state : HartState
   pub begins : StartsFrom file_bytes policy arguments.image memories arguments.registers state
   pub output : put (flat_map output_of (ran ticks state).found)
-  pub counted : AreKept is_created took arguments.counts (λ told. AreCounted told ticks state)
-  pub changed : AreKept is_created took arguments.changes (λ told. AreChanged told places ticks state)
-  pub logged : AreKept is_created took arguments.log (λ told. AreLogged told window ticks state)
+  pub counted : AreKept is_created took arguments.counts (λ printed. AreCounted printed ticks state)
+  pub changed : AreKept is_created took arguments.changes (λ printed. AreChanged printed places ticks state)
+  pub logged : AreKept is_created took arguments.log (λ printed. AreLogged printed window ticks state)
 
 -- The run that these values describe was executed with this output, and its records were written.
 pub record RecordedBy {F : Type 0} (file_bytes : Text → Option (List ℕ)) (is_created : Text → F → Type 0) (took : F → List ℕ → F → Type 0) (put : List ℕ → Type 0) (arguments : RunArguments) : Type 0 where

@@ -60,7 +60,7 @@ fn run_options<'a, R: Inputs + Outputs, K: Sink>(
     output: &mut K,
 ) -> Result<u64, ProgramFault<'a>>
     ensures { OnOk result (RunBy (R.file_bytes rt.now) (R.is_created rt.now) R.Created.took
-        (λ told. K.took output.old told output.new) (option_arguments options.now) values.entry.policy
+        (λ printed. K.took output.old printed output.new) (option_arguments options.now) values.entry.policy
         values.entry.ticks values.entry.memories.items values.entry.places.items values.entry.window) }
 {
     let CheckedOptions {
@@ -102,7 +102,7 @@ fn record_options<'a, R: Inputs + Outputs, K: Sink>(
     output: &mut K,
 ) -> Result<u64, ProgramFault<'a>>
     ensures { OnOk result (RecordedBy (R.file_bytes rt.now) (R.is_created rt.now) R.Created.took
-        (λ told. K.took output.old told output.new) (option_arguments options.now)) }
+        (λ printed. K.took output.old printed output.new) (option_arguments options.now)) }
 {
     let policy = policy(options.policy)?;
     let ticks = ticks(options.ticks)?;
@@ -134,7 +134,7 @@ fn record_arguments<'a, R: Inputs + Outputs + Print, K: Sink>(
 ) -> Result<u64, ProgramFault<'a>>
     ensures { OnOk result (IsAmong DisplayHelp (arguments_fault (texts arguments.now))
         ⊎ Recorded (R.file_bytes rt.now) (R.is_created rt.now) R.Created.took (texts arguments.now)
-        (λ told. K.took output.old told output.new)) }
+        (λ printed. K.took output.old printed output.new)) }
 {
     match options(alloc, arguments) {
         Ok(options) => record_options(rt, alloc, &options, output),
@@ -178,7 +178,7 @@ pub fn record_into<R: Inputs + Outputs + Print + Eprint, K: Sink>(
     // the specified output, and its counts, changes and log are in the files that they name.
     ensures recorded { result ≡ 0 → IsAmong DisplayHelp (arguments_fault (texts arguments.now))
         ⊎ Recorded (R.file_bytes rt.now) (R.is_created rt.now) R.Created.took (texts arguments.now)
-        (λ told. K.took output.old told output.new) }
+        (λ printed. K.took output.old printed output.new) }
 {
     match record_arguments(rt, alloc, arguments, output) {
         Ok(short) => {

@@ -99,7 +99,7 @@ fn run_recorded<'a, R: Outputs, K: Sink, O: Recorder<OwnBytes> + Drop>(
         (state_of own_memory machine.new) output.old output.new recorder) }
     ensures log { OnOk result (AreKept (R.is_created rt.now) R.Created.took
         (option_map (λ path. path.now) asked.entry.log)
-        (λ told. AreLogged told asked.entry.window asked.entry.ticks (state_of own_memory machine.old))) }
+        (λ printed. AreLogged printed asked.entry.window asked.entry.ticks (state_of own_memory machine.old))) }
 {
     let LoggedRun { ticks, log, window } = asked;
     let Some(path) = log else {
@@ -138,10 +138,10 @@ fn run_watched<'a, R: Outputs, K: Sink, O: Recorder<OwnBytes> + Drop>(
         (state_of own_memory machine.new) output.old output.new recorder) }
     ensures changes { OnOk result (AreKept (R.is_created rt.now) R.Created.took
         (option_map (λ path. path.now) asked.entry.changes)
-        (λ told. AreChanged told asked.entry.places.items asked.entry.logged.ticks (state_of own_memory machine.old))) }
+        (λ printed. AreChanged printed asked.entry.places.items asked.entry.logged.ticks (state_of own_memory machine.old))) }
     ensures log { OnOk result (AreKept (R.is_created rt.now) R.Created.took
         (option_map (λ path. path.now) asked.entry.logged.log)
-        (λ told. AreLogged told asked.entry.logged.window asked.entry.logged.ticks (state_of own_memory machine.old))) }
+        (λ printed. AreLogged printed asked.entry.logged.window asked.entry.logged.ticks (state_of own_memory machine.old))) }
 {
     let RecordedRun {
         logged,
@@ -184,13 +184,13 @@ pub(crate) fn run_machine<'a, R: Outputs, K: Sink>(
         (flat_map output_of (ran asked.entry.logged.ticks (state_of own_memory machine.old)).found) output.new) }
     ensures counts { OnOk result (AreKept (R.is_created rt.now) R.Created.took
         (option_map (λ path. path.now) asked.entry.counts)
-        (λ told. AreCounted told asked.entry.logged.ticks (state_of own_memory machine.old))) }
+        (λ printed. AreCounted printed asked.entry.logged.ticks (state_of own_memory machine.old))) }
     ensures changes { OnOk result (AreKept (R.is_created rt.now) R.Created.took
         (option_map (λ path. path.now) asked.entry.changes)
-        (λ told. AreChanged told asked.entry.places.items asked.entry.logged.ticks (state_of own_memory machine.old))) }
+        (λ printed. AreChanged printed asked.entry.places.items asked.entry.logged.ticks (state_of own_memory machine.old))) }
     ensures log { OnOk result (AreKept (R.is_created rt.now) R.Created.took
         (option_map (λ path. path.now) asked.entry.logged.log)
-        (λ told. AreLogged told asked.entry.logged.window asked.entry.logged.ticks (state_of own_memory machine.old))) }
+        (λ printed. AreLogged printed asked.entry.logged.window asked.entry.logged.ticks (state_of own_memory machine.old))) }
 {
     let short = ShortWrites::none();
     let Some(path) = asked.counts else {

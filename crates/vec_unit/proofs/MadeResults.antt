@@ -40,7 +40,7 @@ pub agnostic_filled : (k n size : ℕ) (body : Body) (fill_masked_off fill_tail 
     → k * n ≡ 32 → length old ≡ 32 * size → count ≡ n * size → end ≡ body.end → low ≡ min body.start body.end → number ≡ ones
     → from ≡ (if fill_masked_off then low else end) → to ≡ (if fill_tail then count else end)
     → Writes k (in_range from to) (λ i. number) old new → Writes k (is_agnostic body fill_masked_off fill_tail) (λ i. ones) old new
-agnostic_filled k n size body fill_masked_off fill_tail end low count from to ones number old new e long is same low_is told from_is to_is was =
+agnostic_filled k n size body fill_masked_off fill_tail end low count from to ones number old new e long is same low_is known from_is to_is was =
     let all : k * count ≡ length old = rw (is, ← mul_assoc k n size, e, long) refl in
     writes_same k (in_range from to) (is_agnostic body fill_masked_off fill_tail) (λ i. number) (λ i. ones) old new was
     (λ i l.
@@ -48,15 +48,15 @@ agnostic_filled k n size body fill_masked_off fill_tail end low count from to on
     same_range body.start body.end count low i fill_masked_off fill_tail inside low_is
     ∙ ap (λ b. in_range (if fill_masked_off then low else b) (if fill_tail then count else b) i) (sym same)
     ∙ sym (ap (λ f. in_range f to i) from_is ∙ ap (λ t. in_range (if fill_masked_off then low else end) t i) to_is))
-    (λ i h. sym told)
+    (λ i h. sym known)
 
 -- ---- results
 
--- only the active elements become results, where `told` and `result` are equal functions
-pub active_written : (k : ℕ) (body : Body) (told result : ℕ → ℕ) (ones : ℕ) (old new : List ℕ) → ((i : ℕ) → i < body.end → told i ≡ result i)
-    → Writes k (is_changed body false false) (result_or_ones body told ones) old new → Writes k (is_active body) result old new
-active_written k body told result ones old new same was =
-    writes_same k (is_changed body false false) (is_active body) (result_or_ones body told ones) result old new was
+-- only the active elements become results, where `known` and `result` are equal functions
+pub active_written : (k : ℕ) (body : Body) (known result : ℕ → ℕ) (ones : ℕ) (old new : List ℕ) → ((i : ℕ) → i < body.end → known i ≡ result i)
+    → Writes k (is_changed body false false) (result_or_ones body known ones) old new → Writes k (is_active body) result old new
+active_written k body known result ones old new same was =
+    writes_same k (is_changed body false false) (is_active body) (result_or_ones body known ones) result old new was
     (λ e l. sym (or-false (is_active body e)))
     (λ e h.
     let active : is_active body e ≡ true = rw (sym (or-false (is_active body e))) h in

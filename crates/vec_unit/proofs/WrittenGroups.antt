@@ -112,17 +112,17 @@ module _ (k n vd count : ℕ) (changes : ℕ → Bool) (number : ℕ → ℕ) (f
         let here : k * (n * vd + i) + m ≡ 32 * vd + (k * i + m) = omega (arith, place k n vd i e) in
         let starts : nat_le (n * vd) (n * vd + i) ≡ true = le-leb (n * vd) (n * vd + i) (omega arith) in
         let back : n * vd + i - n * vd ≡ i = omega arith in
-        let told = was.bytes (n * vd + i) m h (omega arith) in
+        let known = was.bytes (n * vd + i) m h (omega arith) in
         rw (get_or-chunk (32 * vd) (32 * count) new (k * i + m) 0 short, get_or-chunk (32 * vd) (32 * count) file (k * i + m) 0 short, ← here)
-        (rw (starts, back) at told);
+        (rw (starts, back) at known);
   }
 
   -- a byte outside of the changed elements is unchanged
   kept : (j : ℕ) → 0 < k → j < length file → test_from (n * vd) changes (j / k) ≡ false → get_or new j 0 ≡ get_or file j 0
   kept j some l stays =
       let at_j : k * (j / k) + j % k ≡ j = div-add-mod j k in
-      let told = was.bytes (j / k) (j % k) (mod-lt j some) (rw at_j l) in
-      rw (at_j, stays) at told
+      let known = was.bytes (j / k) (j % k) (mod-lt j some) (rw at_j l) in
+      rw (at_j, stays) at known
 
   element_below : (j : ℕ) → j < 32 * vd → 0 < k → j / k < n * vd
   element_below j low some = (div-lt_iff_lt-mul some).1 (omega (arith, place k n vd 0 e, mul-zero k, mul_comm k (n * vd), low))
@@ -184,14 +184,14 @@ pub turned_results : (g : GroupType) (n vd number : ℕ) (op : BinaryOp) (vs2 : 
 turned_results g n vd number op vs2 from x body fill_masked_off fill_tail count file new some e long inside is room whole tail was =
     let k : ℕ = width_bytes g.width in
     let regs : ℕ = registers g.emul in
-    let told : ℕ → ℕ = in_place_result g.width n op vs2 from number file in
+    let known : ℕ → ℕ = in_place_result g.width n op vs2 from number file in
     let changes : ℕ → Bool = is_changed body fill_masked_off false in
-    let numbers : ℕ → ℕ = result_or_ones body told (ones g.width) in
+    let numbers : ℕ → ℕ = result_or_ones body known (ones g.width) in
     let fits : 32 * (vd + regs) ≤ length file = omega arith in
     let written = group_written k n vd regs changes numbers file new e fits was in
     let covers : body.end ≤ n * regs = within k n regs body.end some e room in
     group_replaced k n vd regs changes numbers file new e fits was some (λ i h. unchanged body fill_masked_off i (omega (arith, covers, h)))
-    ∙ results_are g vd body fill_masked_off fill_tail told (binary_result g op vs2 from file x) file (group_of new vd g.emul)
+    ∙ results_are g vd body fill_masked_off fill_tail known (binary_result g op vs2 from file x) file (group_of new vd g.emul)
     (λ i h.
     let up : k * suc i ≤ k * body.end = mul-le-mul_left k h in
     result_is g n op vs2 from number file x i is e (omega (arith, mul-suc k i, up, room)))

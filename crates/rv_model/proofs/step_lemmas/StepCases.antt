@@ -152,11 +152,11 @@ pub record IsVectorStep (o : Option Instr) (word : ℕ) : Type 0 where
   pub same : (n : ℕ) (w : HartState) → executed n o word w ≡ vector_step n instr word w
 
 -- an instruction other than a vector instruction has the same step for any number of remaining ticks
-pub record IsScalarStep (P : Stepped → Type 0) (told_scalar : Bool) (of : ℕ → Stepped) : Type 0 where
+pub record IsScalarStep (P : Stepped → Type 0) (known_scalar : Bool) (of : ℕ → Stepped) : Type 0 where
   pub result : Stepped
   pub same : (n : ℕ) → of n ≡ result
   pub holds : P result
-  pub scalar : told_scalar ≡ true
+  pub scalar : known_scalar ≡ true
 
 executed_is : (s : HartState) (P : Stepped → Type 0) (o : Option Instr) (word : ℕ) → Cases s (target_of o) P
     → IsScalarStep P (is_scalar o) (λ n. executed n o word s) ⊎ IsVectorStep o word

@@ -1,7 +1,7 @@
 //! Decodes random words, prints them as text, and assembles the text again.
 use crate::by_chance::digest::{EMPTY, digest};
 use crate::encodings::is_same;
-use crate::spellings::{is_told, spells};
+use crate::spellings::{is_reassembled, spells};
 use draws::Draws;
 use rv_asm::{Text, text_of};
 use rv_decode::decode;
@@ -39,7 +39,7 @@ pub(crate) fn print_words(
         let name = text.as_str().split(' ').next().unwrap_or("");
         names = digest(digest(names, name.as_bytes()), b"\n");
         instructions = instructions.wrapping_add(u64::from(decode(word).is_some()));
-        let right = spells(&text, word) && is_told(word, &text) && is_same(word);
+        let right = spells(&text, word) && is_reassembled(word, &text) && is_same(word);
         wrong = wrong.wrapping_add(u64::from(!right));
     }
     match opcode {

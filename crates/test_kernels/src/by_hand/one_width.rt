@@ -115,7 +115,7 @@ const FILLED: Given = Given {
     ..MASKED
 };
 
-const KEPT: [Row<BinaryOp>; 1] = [(
+const UNDISTURBED: [Row<BinaryOp>; 1] = [(
     BinaryOp::Vadd,
     "vadd, masked-off elements kept",
     0,
@@ -222,7 +222,7 @@ fn compare_binary(report: &mut Report) {
 /// Compares multiply-adds, and sums with a mask.
 fn compare_sums(report: &mut Report) {
     compare_rows(report, &ADDED, &MULTIPLY_ADDS);
-    compare_rows(report, &MASKED, &KEPT);
+    compare_rows(report, &MASKED, &UNDISTURBED);
     compare_rows(report, &FILLED, &ONES);
 }
 

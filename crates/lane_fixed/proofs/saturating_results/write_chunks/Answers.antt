@@ -3,7 +3,7 @@ use Rattle.rv_model.specs.elements.Elements.{Body}
 use Rattle.rv_model.specs.elements.Formulas.{ones}
 use Rattle.rv_model.specs.vector.Groups.{width_bytes}
 use Rattle.lane_arith.proofs.ChunkWrites.{chunk_more, step_chunk}
-use Rattle.lane_fixed.proofs.SomeActive.{chunk_tells}
+use Rattle.lane_fixed.proofs.SomeActive.{chunk_shows}
 use Rattle.lane_fixed.proofs.saturating_results.write_chunks.Goals as goal
 
 pub loop-c-preserved : goal.loop-c-preserved
@@ -23,7 +23,7 @@ loop-c-preserved g c =
           c.put_results.ensures.0 c.active_bits-active.result c.filled_bits-filled.result fills room c.put_results.ensures.1 c.put_results.ensures.2
           (λ i m h l. c.put_results.ensures.3 i m (rw (sym is) h) l) (λ i h. c.active_bits-active.ensures i h) (λ i h. c.filled_bits-filled.ensures i h)
           (λ i h. rw is (c.in-Some.ensures.value i (rw (sym is) h))));
-      saturated = chunk_tells body saturates n c.loop-c.c c.loop-c.saturated c.in-Some.made.saturated c.active_bits-active.result
+      saturated = chunk_shows body saturates n c.loop-c.c c.loop-c.saturated c.in-Some.made.saturated c.active_bits-active.result
           c.loop-c.invariant.saturated (rw is c.in-Some.ensures.bound)
           (λ i h. rw is (c.in-Some.ensures.saturated i (rw (sym is) h))) (λ i h. c.active_bits-active.ensures i h);
     }

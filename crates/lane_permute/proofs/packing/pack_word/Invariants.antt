@@ -4,7 +4,7 @@ use Rattle.rv_model.specs.elements.PermutationResults.{packed}
 use Rattle.rv_model.specs.lending.Writes.{Writes}
 use Rattle.rv_model.specs.vector.Groups.{width_bytes}
 use Rattle.rv_model.proofs.element_lemmas.Packed.{PackedTo}
-use Rattle.lane_permute.proofs.PackedBits.{Tells}
+use Rattle.lane_permute.proofs.PackedBits.{Shows}
 use Rattle.lane_permute.proofs.packing.pack_word.Given as goal
 
 abbrev pub invariant-loop-set : goal.invariant-loop-set
@@ -14,7 +14,7 @@ invariant-loop-set g l =
       few : l.count ≤ l.next;
       inside : l.next ≤ l.to;
       sized : length l.destination ≡ length l.initial.destination;
-      told : Tells l.select l.set l.next l.to;
+      known : Shows l.select l.set l.next l.to;
       writes : (old : List ℕ) → Writes k (λ j. nat_lt j (length (packed l.select (element k l.a) l.from))) (slice_index (packed l.select (element k l.a) l.from)) old l.initial.destination
           → PackedTo l.select (element k l.a) k l.next l.count old l.destination;
     }

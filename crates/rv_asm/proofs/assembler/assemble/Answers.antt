@@ -12,7 +12,7 @@ returns-in_err-name-clause-err c =
     rw (p.1, p.2) (spelled_is_listed c.args.text.now ∙ spelled_nothing c.args.text.now c.in_err-name.field-0.0.column c.in_err-name.ensures.0 c.in_err-name.ensures.1)
 
 pub returns-in_default-clause-err : goal.returns-in_default-clause-err
-returns-in_default-clause-err c = spelled_is_listed c.args.text.now ∙ spelled_unknown c.args.text.now (record { column = c.in_ok-name.name.column; text = c.in_ok-name.name.text.now }) (rest c.args.text.now c.in_ok-name.after) c.misfit.result.column c.in_ok-name.ensures.0 (sym c.in_default.ensures.first) c.misfit.ensures
+returns-in_default-clause-err c = spelled_is_listed c.args.text.now ∙ spelled_unknown c.args.text.now (record { column = c.in_ok-name.name.column; text = c.in_ok-name.name.text.now }) (rest c.args.text.now c.in_ok-name.after) c.fault.result.column c.in_ok-name.ensures.0 (sym c.in_default.ensures.first) c.fault.ensures
 
 pub returns : goal.returns
 returns c =

@@ -25,7 +25,7 @@ loop-slot-preserved c =
     }
 
 pub returns-in-Some : goal.returns-in-Some
-returns-in-Some c = rw c.misfit.ensures (token_left c.args.slots.now c.loop-slot.slot-index (length c.args.text.now + 1) c.loop-slot.word (record { column = c.in-Some.token.column; text = c.in-Some.token.text.now }) (rest c.args.text.now c.loop-slot.at) (rest c.args.text.now c.in-Some.field-0-1) (read_operands (length c.args.text.now + 1) c.args.bits c.args.slots.now (rest c.args.text.now c.args.start)) c.loop-slot-test.false c.in-Some.ensures.0 c.loop-slot.invariant.so_far)
+returns-in-Some c = rw c.fault.ensures (token_left c.args.slots.now c.loop-slot.slot-index (length c.args.text.now + 1) c.loop-slot.word (record { column = c.in-Some.token.column; text = c.in-Some.token.text.now }) (rest c.args.text.now c.loop-slot.at) (rest c.args.text.now c.in-Some.field-0-1) (read_operands (length c.args.text.now + 1) c.args.bits c.args.slots.now (rest c.args.text.now c.args.start)) c.loop-slot-test.false c.in-Some.ensures.0 c.loop-slot.invariant.so_far)
 
 pub returns-in-None : goal.returns-in-None
 returns-in-None c = all_slots_read c.args.slots.now c.loop-slot.slot-index (length c.args.text.now + 1) c.loop-slot.word (rest c.args.text.now c.loop-slot.at) (read_operands (length c.args.text.now + 1) c.args.bits c.args.slots.now (rest c.args.text.now c.args.start)) c.loop-slot-test.false c.in-None.ensures c.loop-slot.invariant.so_far

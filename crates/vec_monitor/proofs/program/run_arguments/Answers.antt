@@ -15,11 +15,11 @@ returns-in-Ok-clause-ran g c =
     (asked.taken refl) asked.quantum asked.script asked.images ran))
     c.run_options.ensures.ran
 
-pub returns-in-Ok-clause-told : goal.returns-in-Ok-clause-told
-returns-in-Ok-clause-told g c =
+pub returns-in-Ok-clause-printed : goal.returns-in-Ok-clause-printed
+returns-in-Ok-clause-printed g c =
     let arguments = texts c.args.arguments.now in
     let asked = c.in-Ok.ensures in
-    elim c.run_options.ensures.told [
+    elim c.run_options.ensures.printed [
       | inl none ↦ inl none
       | inr ran ↦
           inr (ran_arguments (g.R.Inputs.file_bytes c.args.rt.now) (g.R.Inputs.input_bytes c.args.rt.now) arguments _ _ _ _

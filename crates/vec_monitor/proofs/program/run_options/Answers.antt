@@ -9,23 +9,23 @@ use Rattle.vec_monitor.proofs.program.run_options.Goals as goal
 pub returns-clause-ran : goal.returns-clause-ran
 returns-clause-ran g c =
     ran_options (g.I.Inputs.file_bytes c.args.inputs.now) (g.I.Inputs.input_bytes c.args.inputs.now) c.args.options.now.quantum
-    (option_map (λ path. path.now) c.args.options.now.script) _ _ _ _ _ _ _ _ _ (RanScript (λ told. g.K.Sink.took c.args.output.now told c.run_script.new.output))
+    (option_map (λ path. path.now) c.args.options.now.script) _ _ _ _ _ _ _ _ _ (RanScript (λ printed. g.K.Sink.took c.args.output.now printed c.run_script.new.output))
     c.as_slice.ensures.value c.in_ok-paths.ensures.images c.as_slice-2.ensures.value c.in_ok-files.ensures.files c.as_slice-3.ensures.value c.in_ok-images.ensures
     c.as_slice-4.ensures.value (c.in_ok-machine.ensures.faultless refl) c.in_ok-machine.ensures.new c.in_ok-run_script.ensures.ran
 
-pub returns-clause-told : goal.returns-clause-told
-returns-clause-told g c =
+pub returns-clause-printed : goal.returns-clause-printed
+returns-clause-printed g c =
     inr (ran_options (g.I.Inputs.file_bytes c.args.inputs.now) (g.I.Inputs.input_bytes c.args.inputs.now) c.args.options.now.quantum
-    (option_map (λ path. path.now) c.args.options.now.script) _ _ _ _ _ _ _ _ _ (OutputPrefix (λ told. g.K.Sink.took c.args.output.now told c.run_script.new.output))
+    (option_map (λ path. path.now) c.args.options.now.script) _ _ _ _ _ _ _ _ _ (OutputPrefix (λ printed. g.K.Sink.took c.args.output.now printed c.run_script.new.output))
     c.as_slice.ensures.value c.in_ok-paths.ensures.images c.as_slice-2.ensures.value c.in_ok-files.ensures.files c.as_slice-3.ensures.value c.in_ok-images.ensures
-    c.as_slice-4.ensures.value (c.in_ok-machine.ensures.faultless refl) c.in_ok-machine.ensures.new c.run_script.ensures.told)
+    c.as_slice-4.ensures.value (c.in_ok-machine.ensures.faultless refl) c.in_ok-machine.ensures.new c.run_script.ensures.printed)
 
-pub returns-in_err-run_script-clause-told : goal.returns-in_err-run_script-clause-told
-returns-in_err-run_script-clause-told g c =
+pub returns-in_err-run_script-clause-printed : goal.returns-in_err-run_script-clause-printed
+returns-in_err-run_script-clause-printed g c =
     inr (ran_options (g.I.Inputs.file_bytes c.args.inputs.now) (g.I.Inputs.input_bytes c.args.inputs.now) c.args.options.now.quantum
-    (option_map (λ path. path.now) c.args.options.now.script) _ _ _ _ _ _ _ _ _ (OutputPrefix (λ told. g.K.Sink.took c.args.output.now told c.run_script.new.output))
+    (option_map (λ path. path.now) c.args.options.now.script) _ _ _ _ _ _ _ _ _ (OutputPrefix (λ printed. g.K.Sink.took c.args.output.now printed c.run_script.new.output))
     c.as_slice.ensures.value c.in_ok-paths.ensures.images c.as_slice-2.ensures.value c.in_ok-files.ensures.files c.as_slice-3.ensures.value c.in_ok-images.ensures
-    c.as_slice-4.ensures.value (c.in_ok-machine.ensures.faultless refl) c.in_ok-machine.ensures.new c.run_script.ensures.told)
+    c.as_slice-4.ensures.value (c.in_ok-machine.ensures.faultless refl) c.in_ok-machine.ensures.new c.run_script.ensures.printed)
 
 pub returns-in_err-run_script-clause-nothing : goal.returns-in_err-run_script-clause-nothing
 returns-in_err-run_script-clause-nothing g c =

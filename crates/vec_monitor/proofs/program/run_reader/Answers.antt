@@ -24,15 +24,15 @@ returns-clause-ran g c = λ new.
     })
     c.run.ensures.headline
 
-pub returns-clause-told : goal.returns-clause-told
-returns-clause-told g c = λ new.
+pub returns-clause-printed : goal.returns-clause-printed
+returns-clause-printed g c = λ new.
     let m : MachineState = c.args.machine.now in
     let known : Option (List ℕ) = g.F.Read.remaining c.args.reader in
     let after : Option (List ℕ) = g.F.Read.remaining c.run.new.source.reader in
     let held : g.F.Read.remaining c.new.result.reader ≡ known = ap (g.F.Read.remaining) c.new.ensures.reader in
     let given : (text : List ℕ) → Consumes (g.F.Read.remaining c.new.result.reader) after text → Consumes known after text =
     λ text gave. subst (λ (it : Option (List ℕ)). Consumes it after text) held gave in
-    let took = λ (told : List ℕ). g.K.Sink.took c.args.output.now told c.run.new.sink in
+    let took = λ (printed : List ℕ). g.K.Sink.took c.args.output.now printed c.run.new.sink in
     each_end c.run.result
     (on_ok_weaker c.run.result (put_out_all took m.setup known) (returns-clause-ran g c new))
     (λ e.

@@ -12,9 +12,9 @@ returns-in-Viota c =
     let state = c.args.state.now in
     let t : GroupType = group_type target.vtype in
     let body : Body = body_of target.unmasked state in
-    let told : ℕ → ℕ = λ i. slice_index c.count_mask.new.counts i % 2 ^ bits t.width in
+    let known : ℕ → ℕ = λ i. slice_index c.count_mask.new.counts i % 2 ^ bits t.width in
     let same =
     results_same t target.vd body (fills_masked_off target.policy target.vtype body)
-    (fills_tail target.policy target.vtype body) told (iota_result t body c.args.vs2 state.file) state.file
+    (fills_tail target.policy target.vtype body) known (iota_result t body c.args.vs2 state.file) state.file
     (λ i h. ap (λ n. n % 2 ^ bits t.width) (c.count_mask.ensures i h)) in
     record { model = λ memory output. rw (c.in-Viota.is, c.perform.ensures, same) refl }

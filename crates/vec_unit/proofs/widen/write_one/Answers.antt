@@ -5,7 +5,7 @@ use Rattle.rv_model.specs.elements.Arithmetic.{second_element, widen_result}
 use Rattle.rv_model.specs.elements.Elements.{Body}
 use Rattle.rv_model.specs.vector.Groups.{GroupType, width_bytes}
 use Rattle.rv_model.specs.elements.Formulas.{ones, widen_formula, wrap}
-use Rattle.vec_unit.proofs.CopiedOperands.{told_second}
+use Rattle.vec_unit.proofs.CopiedOperands.{known_second}
 use Rattle.vec_unit.proofs.MadeResults.{active_written}
 use Rattle.vec_unit.specs.declared.widen.TheConstants.{OPERATIONS}
 use Rattle.vec_unit.specs.declared.operands.SecondOperand.{SecondOperand}
@@ -22,7 +22,7 @@ returns g c =
     let x = c.args.scalar.now in
     let end : body.end ≡ c.args.body.now.end = ap (λ (b : Body). b.end) c.copied-body.ensures in
     rw (sym c.copied-body.ensures) (active_written (width_bytes t.width) body _ (widen_result u t op o.vs2 o.source file x) (ones t.width) c.args.made.now c.write_results.new.destination
-    (λ i h. told_second u (λ a b. wrap t.width (widen_formula op u.width a b)) c.group.result.now file o.vs2 i _
+    (λ i h. known_second u (λ a b. wrap t.width (widen_formula op u.width a b)) c.group.result.now file o.vs2 i _
     (second_element u false o.source file x i) c.group.ensures.value
     (c.second_elements.ensures.numbers u.width i
     ∙ ap (λ (s : SecondOperand). second_element (record { width = u.width; emul = s.emul }) s.unsigned s.source file x i) c.signed_operand-operand.ensures))

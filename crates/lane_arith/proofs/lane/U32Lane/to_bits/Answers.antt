@@ -1,7 +1,7 @@
 use Rattle.std.proofs.Common.{arith}
 use Rattle.std.specs.Int.{w32}
-use Rattle.lane_arith.proofs.VectorLanes.{told_bit, told_below}
+use Rattle.lane_arith.proofs.VectorLanes.{known_bit, known_below}
 use Rattle.lane_arith.proofs.lane.U32Lane.to_bits.Goals as goal
 
 pub returns : goal.returns
-returns c = record { value = told_bit w32 c.args.mask 8 c.fits-mask.0 (omega arith); bound = told_below w32 c.args.mask 8 c.fits-mask.0 (omega arith) }
+returns c = record { value = known_bit w32 c.args.mask 8 c.fits-mask.0 (omega arith); bound = known_below w32 c.args.mask 8 c.fits-mask.0 (omega arith) }

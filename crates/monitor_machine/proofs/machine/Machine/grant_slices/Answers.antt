@@ -6,7 +6,7 @@ use Rattle.rv_model.specs.machine.Setup.{Setup}
 use Rattle.rv_model.specs.text.Lines.{text}
 use Rattle.monitor_machine.specs.MachineState.{after_slice}
 use Rattle.monitor_machine.specs.StopLineBounds.{stop_lines_bound}
-use Rattle.monitor_machine.proofs.GrantLaws.{count_granted_on, granted_to_nobody, none_granted, told_granted_on, world_granted_on}
+use Rattle.monitor_machine.proofs.GrantLaws.{count_granted_on, granted_to_nobody, none_granted, printed_granted_on, world_granted_on}
 use Rattle.monitor_machine.proofs.machine.Machine.grant_slices.Goals as goal
 
 -- no program is running any more
@@ -57,7 +57,7 @@ loop-granted-preserved g c =
           ∙ ap (λ (n : ℕ). after_events setup now (granted setup n now)) (sym one_less)
           ∙ c.loop-granted.invariant.world;
       printed_by_line =
-          sym (told_granted_on setup left user now turned next c.loop-granted.reply c.slice.new.reply turns turn moved (c.slice.ensures.reply ∙ ap (λ (q : ℕ). c.loop-granted.reply ++ text (48 + user) (sliced q (user_machine user turned)).lines) quantum))
+          sym (printed_granted_on setup left user now turned next c.loop-granted.reply c.slice.new.reply turns turn moved (c.slice.ensures.reply ∙ ap (λ (q : ℕ). c.loop-granted.reply ++ text (48 + user) (sliced q (user_machine user turned)).lines) quantum))
           ∙ ap (λ (n : ℕ). c.loop-granted.reply ++ printed_by_events setup now (granted setup n now)) (sym one_less)
           ∙ c.loop-granted.invariant.printed_by_line;
       number = omega (arith, count_granted_on setup left user now turned next turns turn moved, ap (λ (n : ℕ). length (granted setup n now)) one_less, c.loop-granted.invariant.number);

@@ -14,7 +14,7 @@ returns-clause-writes g c =
     let file = c.args.file.now in
     let first : (i : ℕ) → element (width_bytes u.width) c.group.result.now i ≡ group_element u file o.vs2 i =
     λ i. ap (λ bytes. element (width_bytes u.width) bytes i) c.group.ensures.value in
-    let told : ℕ → ℕ = λ a. wrap t.width (extend_formula o.op u.width a) in
-    active_written (width_bytes t.width) c.args.body.now (λ i. told (element (width_bytes u.width) c.group.result.now i))
-    (extend_result u t o.op o.vs2 file) (ones t.width) c.args.made.now c.write_results.new.destination (λ i h. ap told (first i))
+    let known : ℕ → ℕ = λ a. wrap t.width (extend_formula o.op u.width a) in
+    active_written (width_bytes t.width) c.args.body.now (λ i. known (element (width_bytes u.width) c.group.result.now i))
+    (extend_result u t o.op o.vs2 file) (ones t.width) c.args.made.now c.write_results.new.destination (λ i h. ap known (first i))
     c.write_results.ensures

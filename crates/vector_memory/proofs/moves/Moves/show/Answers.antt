@@ -38,21 +38,21 @@ loop-index-preserved g c =
     let d : Direction = unit_direction c.args.op in
     let file : List ℕ = c.args.file.now in
     let a : VectorAccess = segments_access m.segments m.body (g.A.Addresses.address m.addresses) in
-    let told : List Transfer → List MovedElement = map (element_of d (place_in m.segments) file) in
+    let known : List Transfer → List MovedElement = map (element_of d (place_in m.segments) file) in
     let saw = g.V.Viewer.saw in
     let room = g.V.Viewer.has_room in
     let fewer = g.met.V.Viewer.fewer in
     record {
       low = omega (arith, c.loop-index.invariant.low);
       high = grind (arith, nat_tests, c.loop-index-test.true, c.end-index-end.ensures.value);
-      shown = seen_more saw room fewer g.met.V.Viewer.saw_more _ _ _ (8 * (i - m.body.start)) 8 _ _ (told (plan a false i)) _ (omega (arith, c.loop-index.invariant.low))
+      shown = seen_more saw room fewer g.met.V.Viewer.saw_more _ _ _ (8 * (i - m.body.start)) 8 _ _ (known (plan a false i)) _ (omega (arith, c.loop-index.invariant.low))
           (index_more d m.segments m.body (g.A.Addresses.address m.addresses) file i c.loop-index.invariant.low) c.loop-index.invariant.shown
           (elim c.if-is_enabled.branch [
-            | then-is_enabled w ↦ subst (HasSeen saw room 8 v (told (plan a false i))) (sym w.viewer-is)
+            | then-is_enabled w ↦ subst (HasSeen saw room 8 v (known (plan a false i))) (sym w.viewer-is)
                 (seen_within saw room fewer v _ m.segments.fields 8 _ _ m.room.fields
-                (ap told (plan_active a false i (sym c.is_enabled.ensures ∙ w.if-is_enabled.true)) ∙ rw (c.unit_direction-direction.ensures, w.address-address.ensures) refl) w.show.ensures)
-            | else-is_enabled w ↦ subst (HasSeen saw room 8 v (told (plan a false i))) (sym w.viewer-is)
-                (subst (λ (ts : List Transfer). HasSeen saw room 8 v (told ts) v) (sym (plan_kept a false i (sym c.is_enabled.ensures ∙ w.if-is_enabled.false) refl)) (seen_none saw room fewer v 8 (g.met.V.Viewer.saw_none v)))
+                (ap known (plan_active a false i (sym c.is_enabled.ensures ∙ w.if-is_enabled.true)) ∙ rw (c.unit_direction-direction.ensures, w.address-address.ensures) refl) w.show.ensures)
+            | else-is_enabled w ↦ subst (HasSeen saw room 8 v (known (plan a false i))) (sym w.viewer-is)
+                (subst (λ (ts : List Transfer). HasSeen saw room 8 v (known ts) v) (sym (plan_kept a false i (sym c.is_enabled.ensures ∙ w.if-is_enabled.false) refl)) (seen_none saw room fewer v 8 (g.met.V.Viewer.saw_none v)))
           ]);
     }
 
