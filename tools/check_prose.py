@@ -81,7 +81,6 @@ class Limits:
     long: float
 
 
-# To be lowered with each page that is rewritten, to at most Limits(1, 3, 2) for all but comments.
 LIMITS = {
     "users": Limits(1, 3, 2),
     "teachers": Limits(1, 3, 2),
@@ -91,7 +90,7 @@ LIMITS = {
     "comments of lab tests": Limits(1, 3, 1),
     "comments of tests": Limits(1, 3, 5.5),
     "comments of tools": Limits(1, 3, 4.5),
-    "comments of crates": Limits(15.5, 16, 0.5),
+    "comments of crates": Limits(1, 3, 0.5),
 }
 
 
