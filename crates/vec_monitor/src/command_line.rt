@@ -14,14 +14,14 @@ pub const DEFAULT_QUANTUM: u16 = 100;
 
 /// The text after the options in the output of `--help`.
 const AFTER_HELP: &str = "\
-A script has a command on each line, after the digit of its user, 1 to 8, and a space:
+Each line of a script is the digit of a user, 1 to 8, a space, and a command:
   enter  leave  load  map  poke  peek  set  regs  setpc  vreg  vset  vcsr  policy
   asm  dis  break  unbreak  breaks  step  go  stop  state  out  trace
-The operator's lines begin with a star and a space: slices  run  list  stats
-What each does and answers stands in `man vecmon-commands`, and in docs/COMMANDS.md of the
-repository, which is share/doc/vecmon/docs/COMMANDS.md of a package.
+The operator's lines start with a star and a space: slices  run  list  stats
+See `man vecmon-commands` for each command and its output, or docs/COMMANDS.md in the
+repository, or share/doc/vecmon/docs/COMMANDS.md in a package.
 
-Example, a program of one instruction:
+Example: a program of one instruction
   1 enter
   1 map 0 1 rwx
   1 asm 0 addi x5, x0, 7
@@ -95,9 +95,9 @@ fn script<'a>(alloc: Global) -> Arg<'a>
     ensures rule { rule_of result ≡ script_rule }
     ensures local { result.global ≡ false }
 {
-    Arg::new(alloc, "script").value_name("SCRIPT").help(
-        "File with the script; without one, standard input is the script",
-    )
+    Arg::new(alloc, "script")
+        .value_name("SCRIPT")
+        .help("Path of the script; without it, standard input is read")
 }
 
 /// Return the arguments `[NAME=PATH]...`.
@@ -108,7 +108,7 @@ fn image<'a>(alloc: Global) -> Arg<'a>
     Arg::new(alloc, "image")
         .value_name("NAME=PATH")
         .action(ArgAction::Append)
-        .help("An ELF file, and the name by which users load it")
+        .help("ELF file at PATH, which users load as NAME")
 }
 
 /// Return clap's description of the command line. It fails if memory runs out.
