@@ -15,6 +15,7 @@ from ..guest.guest import IMAGE_BYTES, MOST_STEPS, QUANTUM, STACK_END, Guest, po
 from ..lessons.script import Script, read_assembled, read_compiled, send
 from ..machine.answers import Position, ScalarRegisters, Stop
 from ..machine.lines import check_line, words_of
+from ..machine.process import Vecmon
 from ..machine.program import check_flags
 from ..machine.session import Session
 from .exercise import UNLIMITED, Case, Exercise, Limits, Results
@@ -122,7 +123,7 @@ def _script_commands(text: str) -> list[str]:
 
 @contextlib.contextmanager
 def ready(
-    program: pathlib.Path,
+    program: Vecmon,
     answer: Answer,
     exercise: Exercise,
     case: Case,
@@ -147,7 +148,7 @@ def ready(
         yield guest
 
 
-def attempt(program: pathlib.Path, answer: Answer, exercise: Exercise, case: Case) -> Attempt:
+def attempt(program: Vecmon, answer: Answer, exercise: Exercise, case: Case) -> Attempt:
     """Runs an answer for a case. Raises LabError with the reason where it comes to no end of its own."""
     output = bytearray()
 
@@ -219,7 +220,7 @@ def _results(guest: Guest, expected: Results, output: bytes) -> Results:
     return Results(registers, memory, None if expected.output is None else output)
 
 
-def settled(program: pathlib.Path, exercise: Exercise) -> Exercise:
+def settled(program: Vecmon, exercise: Exercise) -> Exercise:
     """The exercise with what its reference leaves as what is expected. Raises LabError where a case can't be given."""
     reference, cases = Answer(pathlib.Path(), [f"setpc {RETURN:x}"]), []  # it returns at once
     if "reference" in exercise.files:

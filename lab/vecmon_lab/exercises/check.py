@@ -22,6 +22,7 @@ from ..assembler.trial import all_mistakes
 from ..compilers.compiled import CompiledProgram
 from ..compilers.failures import ToolError, without_folders
 from ..lessons.script import Script, Step, read_assembled
+from ..machine.process import Vecmon
 from .answer import inputs, read_answer, source_answer
 from .exercise import ADDRESSES, Case, Exercise, Results
 from .outcome import outcome
@@ -63,7 +64,7 @@ class Told(TypedDict, total=False):
 
 
 def check_or_failure(
-    program: pathlib.Path, exercise: Exercise, text: str, compiled: CompiledProgram | None, good: Taken | None
+    program: Vecmon, exercise: Exercise, text: str, compiled: CompiledProgram | None, good: Taken | None
 ) -> Told:
     """As `check`, once more where a tool fails; where one fails again, its failure instead of cases, so that it is no try."""
     with contextlib.suppress(ToolError):
@@ -79,10 +80,8 @@ def failed_check(cause: str) -> Told:
     return {"failure": cause, "unchecked": UNCHECKED}
 
 
-def check(
-    program: pathlib.Path, exercise: Exercise, text: str, compiled: CompiledProgram | None, good: Taken | None
-) -> Told:
-    """The result of a source, in an exercise with expected results. Raises ToolError.
+def check(program: Vecmon, exercise: Exercise, text: str, compiled: CompiledProgram | None, good: Taken | None) -> Told:
+    """What is told of a source, in an exercise with what is expected. Raises ToolError.
 
     compiled: its compiled form, if it is in C; good: the cost of the exercise's good answer, if known
     """
@@ -122,7 +121,7 @@ def mistakes_told(errors: Iterable[SourceError]) -> list[Mistake]:
     return [{"line": it.line, "column": it.column, "message": it.message} for it in errors]
 
 
-def lesson(program: pathlib.Path, exercise: Exercise, number: int, text: str, compiled: CompiledProgram | None) -> str:
+def lesson(program: Vecmon, exercise: Exercise, number: int, text: str, compiled: CompiledProgram | None) -> str:
     """A lesson, in HTML, of a source in a case, which begins when the case is given, and has 256 instructions at most."""
     answer, case = source_answer(text, NAME, compiled), exercise.cases[number]
     assert answer.commands is not None and answer.source is not None and answer.source.program is not None
@@ -139,13 +138,13 @@ def script_before(exercise: Exercise) -> Script:
     return read_assembled(file.read_text("utf-8"), file.name)
 
 
-def lesson_before(program: pathlib.Path, exercise: Exercise) -> str:
+def lesson_before(program: Vecmon, exercise: Exercise) -> str:
     """The page in HTML of the lesson before an exercise."""
     script = script_before(exercise)
     return _page(script.title, script, program)
 
 
-def _page(title: str, script: Script, program: pathlib.Path) -> str:
+def _page(title: str, script: Script, program: Vecmon) -> str:
     """The page in HTML of a script."""
     from ..lessons.frames import make_frames  # which a check does without
     from ..lessons.page import lesson_page

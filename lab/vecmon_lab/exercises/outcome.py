@@ -1,18 +1,18 @@
 """The outcome of an answer in a case: it passes, or it fails for a reason, or a tool failed and there is no outcome."""
 
-import pathlib
 from collections.abc import Iterator, Mapping
 
 from .. import LabError
 from ..compilers.failures import ToolError
 from ..instructions.table import ABI_NAMES
+from ..machine.process import Vecmon
 from ..machine.program import NoProgram
 from ..machine.session import OutOfStep, ProgramGone, ReplayDiffers
 from .answer import Answer, Attempt, attempt
 from .exercise import ADDRESSES, Case, Exercise, Results
 
 
-def outcome(program: pathlib.Path, answer: Answer, exercise: Exercise, case: Case) -> tuple[str, Attempt | None]:
+def outcome(program: Vecmon, answer: Answer, exercise: Exercise, case: Case) -> tuple[str, Attempt | None]:
     """Why an answer fails in a case, or ""; and what it left, if it came to an end.
 
     Raises ToolError where the machine failed, which says nothing about the answer.

@@ -1,8 +1,8 @@
 """The cost of an answer that passes: instructions, and the share of elements that did work."""
 
-import pathlib
 from typing import TypedDict
 
+from ..machine.process import Vecmon
 from .answer import Answer, ready
 from .exercise import Exercise
 
@@ -10,8 +10,8 @@ Taken = TypedDict("Taken", {"instructions": int, "work": int})
 """The cost of an answer in all visible cases: instructions, and of 100 elements those that did work."""
 
 
-def taken_by(program: pathlib.Path, answer: Answer, exercise: Exercise) -> Taken:
-    """The cost of an answer that passes. Raises LabError without a recorder."""
+def taken_by(program: Vecmon, answer: Answer, exercise: Exercise) -> Taken:
+    """What an answer takes that passes. Raises LabError where there is no recorder."""
     from ..runs.beginning import beginning_at  # which is for answers that pass
     from ..runs.recorder import record
 

@@ -14,6 +14,7 @@ from ..guest.notebook import registers_html
 from ..instructions.accesses import REGISTER_BYTES
 from ..machine.answers import Answer, Position, Refused, by_whom, read
 from ..machine.lines import DIGITS, BadLine, is_look, words_of
+from ..machine.process import Vecmon
 from ..machine.session import Session
 from ..page.state import ABSENT, RowChoice, Sight, State, look_at, registers_of, with_rows
 from .script import Script, Step, refused_statement
@@ -51,7 +52,7 @@ class Frame:
 
 
 def make_frames(
-    script: Script, program: pathlib.Path, images: Mapping[str, pathlib.Path] = {}, quantum: int | None = None
+    script: Script, program: Vecmon, images: Mapping[str, pathlib.Path] = {}, quantum: int | None = None
 ) -> list[Frame]:
     """The frames of a script. Raises LabError where it has no line, or the program can't run or refuses a source."""
     if not script.steps:

@@ -1,0 +1,199 @@
+"""The desk of a page, on the program behind its pipes: what is kept comes back, damaged or not, and images are dropped on it."""
+
+import json
+import pathlib
+from collections.abc import Mapping
+from dataclasses import replace
+from typing import Any
+
+import pytest
+
+from support.places import SUM
+from vecmon_lab.classes.progress import starts_of
+from vecmon_lab.exercises.answer import settled
+from vecmon_lab.exercises.exercise import Exercise, read_exercise
+from vecmon_lab.playground import page_desk
+from vecmon_lab.playground.kept_texts import KeptTexts
+from vecmon_lab.playground.page_desk import PageDesk
+
+SOURCE = "li t0, 7\nloop: addi t0, t0, -1\nbnez t0, loop\nebreak\n"
+ENDLESS = "loop: addi t1, t1, 1\nj loop\n"
+
+
+class Page:
+    """A page's desk, its texts, and the files that it was given."""
+
+    def __init__(self, program: pathlib.Path, folder: pathlib.Path, texts: Mapping[str, Any] = {}) -> None:
+        self.kept: dict[str, Any] = dict(texts)
+        self.folder, self.id = folder, 0
+        exercises = {"doubles": the_exercise(program)}
+        starts = {name: starts_of(each) for name, each in exercises.items()}
+        self.desk = PageDesk(program, KeptTexts(texts, self.keep), exercises, starts, self.put)
+        self.view: Any = self.desk.hello()["patch"]
+
+    def keep(self, name: str, text: str | None, when: float) -> None:
+        """Keeps what the desk reports."""
+        if text is None:
+            del self.kept[name]
+        else:
+            self.kept[name] = [text, when]
+
+    def put(self, path: pathlib.Path, content: bytes) -> None:
+        """Writes a file."""
+        path.parent.mkdir(parents=True, exist_ok=True)
+        path.write_bytes(content)
+
+    def ask(self, ask: str, **more: object) -> Mapping[str, Any]:
+        """The answer to a request."""
+        self.id += 1
+        answer = self.desk.answer(json.dumps({"id": self.id, "ask": ask, **more}))
+        assert "error" not in answer, answer
+        return answer
+
+    def do(self, *lines: str) -> list[str]:
+        """The first lines of the answers to lines."""
+        return [answer[0] for answer in self.ask("lines", do=lines)["do"]]
+
+    def close(self) -> dict[str, Any]:
+        """Ends the machine; what is kept then."""
+        self.desk.keep()
+        self.desk.machine.session.close()
+        return self.kept
+
+
+_EXERCISES: dict[str, Exercise] = {}
+
+
+def the_exercise(program: pathlib.Path) -> Exercise:
+    """The first exercise of the course without its good answer, as a page has it."""
+    if not _EXERCISES:
+        exercise = settled(program, read_exercise(pathlib.Path("doubles")))
+        files = {key: file for key, file in exercise.files.items() if key not in ("good", "reference")}
+        _EXERCISES["doubles"] = replace(exercise, files=files)
+    return _EXERCISES["doubles"]
+
+
+@pytest.fixture(autouse=True)
+def images_in_a_folder(tmp_path: pathlib.Path, monkeypatch: pytest.MonkeyPatch) -> None:
+    monkeypatch.setattr(page_desk, "ROOM", tmp_path / "images")
+
+
+def test_source_versions_and_machine_come_back(program: pathlib.Path, tmp_path: pathlib.Path) -> None:
+    page = Page(program, tmp_path)
+    assert page.ask("source", text=SOURCE)["mistakes"] == []
+    page.do("step 3", "set x11 1f", "break 10008")
+    page.ask("draft", text="nop\n", number=page.desk.student.source.number)
+    registers, pc = page.do("regs")[0], page.desk.seat.state["pc"]
+    again = Page(program, tmp_path, page.close())
+    assert again.desk.lost == [] and again.do("regs")[0] == registers
+    state, source = again.view["state"], again.view["source"]
+    assert (state["pc"], state["breaks"], state["x"]["11"]) == (pc, ["10008"], "1f")
+    assert (source["text"], [version["why"] for version in source["versions"]]) == ("nop\n", ["written"])
+    assert again.ask("version", number=1)["text"] == SOURCE
+    assert "loop" in str(again.view["state"]["labels"])
+    again.close()
+
+
+def test_tries_come_back_and_are_read(program: pathlib.Path, tmp_path: pathlib.Path) -> None:
+    page = Page(program, tmp_path)
+    page.ask("check", exercise="doubles", text="  ret\n")
+    assert page.desk.is_busy
+    news: Any = page.desk.turn()
+    told = news["patch"]["exercises"]["doubles"]
+    assert not all(told["told"]["cases"]) and told["tries"] == 1 and not page.desk.is_busy
+    ticket = told["lesson"].removeprefix("lesson/")
+    assert "The answer fails: " in page.desk.lesson(ticket) and "The answer fails: " not in page.desk.lesson("doubles")
+    again = Page(program, tmp_path, page.close())
+    assert again.view["exercises"]["doubles"]["tries"] == 1
+    assert again.ask("answer", exercise="doubles", number=1)["text"] == "  ret\n"
+    again.close()
+
+
+def test_damaged_texts_are_reported_and_the_rest_is_kept(program: pathlib.Path, tmp_path: pathlib.Path) -> None:
+    page = Page(program, tmp_path)
+    page.ask("source", text=SOURCE)
+    page.do("step 2")
+    page.ask("check", exercise="doubles", text="  ret\n")
+    page.desk.turn()
+    kept = page.close()
+    kept["A.script"][0] += "no line\n1 step 1\n"
+    kept["answers/A1.doubles.1.json"][0] = "{"
+    kept["images/none"] = ["!", 1.0]
+    kept["odd"] = 5
+    again = Page(program, tmp_path, kept)
+    assert len(again.desk.lost) == 3 and "damaged behind line" in again.desk.lost[2]
+    assert again.view["source"]["text"] == SOURCE and again.view["exercises"]["doubles"]["tries"] == 1
+    assert again.view["state"]["run"] == "stopped" and again.desk.machine.session.images == {}
+    again.close()
+
+
+def test_a_script_that_another_machine_answers_otherwise_is_given_up(
+    program: pathlib.Path, tmp_path: pathlib.Path
+) -> None:
+    again = Page(
+        program, tmp_path, {"A.script": ["1 enter\n* slices 0\n" + "1 x" * 400 + "\n", 1.0], "A.set_up": ["x", 1.0]}
+    )
+    assert len(again.desk.lost) == 1 and again.view["state"]["run"] in ("absent", "stopped")
+    again.close()
+
+
+def test_a_long_run_becomes_a_checkpoint(program: pathlib.Path, tmp_path: pathlib.Path) -> None:
+    page = Page(program, tmp_path)
+    page.ask("source", text="li t1, 400000\n" + SOURCE)
+    page.do("step 1", "go")
+    page.desk.machine.session.recorded.spent = 2.0  # as on a slower machine
+    while page.desk.is_busy:
+        page.desk.turn()
+    registers = page.do("regs")
+    assert b"* slices 1000\n" in page.desk.machine.session.script
+    page.desk.machine.session.recorded.spent = 2.0
+    kept = page.close()
+    assert int(kept["A.set_up"][0]) > 0 and "* slices 1000\n" not in kept["A.script"][0]
+    again = Page(program, tmp_path, kept)
+    assert again.do("regs") == registers and again.desk.lost == []
+    again.close()
+
+
+def test_a_program_that_never_stops_is_stopped(program: pathlib.Path, tmp_path: pathlib.Path) -> None:
+    page = Page(program, tmp_path)
+    page.desk.limit = 1_000_000
+    page.ask("source", text=ENDLESS)
+    page.do("go")
+    news = [page.desk.turn() for _ in range(200) if page.desk.is_busy]
+    assert page.desk.seat.state["run"] == "stopped" and "The page stopped the program" in json.dumps(news)
+    page.close()
+
+
+def test_an_image_is_loaded_and_comes_back(program: pathlib.Path, tmp_path: pathlib.Path) -> None:
+    page = Page(program, tmp_path)
+    news: Any = page.desk.drop("my sum.elf", SUM.read_bytes())
+    assert "my-sum" in str(news["patch"]["images"]) and page.desk.seat.state["run"] == "stopped"
+    assert "> load" not in json.dumps(news) and ">1 load my-sum" in news["logs"]["A1"]
+    assert any("The image my-sum has" in entry for entry in news["logs"]["A1"])
+    page.do("step 5")
+    registers = page.do("regs")
+    again = Page(program, tmp_path, page.close())
+    assert again.do("regs") == registers and again.view["images"] == ["my-sum"] and again.desk.lost == []
+    again.close()
+
+
+@pytest.mark.parametrize(
+    "name, content, why",
+    [
+        ("sum.c", b"int main;", "this page has no compiler; compile it elsewhere"),
+        ("notes.txt", b"hello", "this is no ELF image"),
+        ("big", b"\x7fELF" + bytes(1 << 20), "an image has 1,048,576 bytes at most, and this one 1,048,580"),
+        ("odd", b"\x7fELF" + bytes(100), "the machine refuses odd (E09"),
+    ],
+    ids=["c", "text", "large", "odd"],
+)
+def test_other_files_are_refused_by_name(
+    name: str, content: bytes, why: str, program: pathlib.Path, tmp_path: pathlib.Path
+) -> None:
+    page = Page(program, tmp_path)
+    page.ask("source", text=SOURCE)
+    registers = page.do("regs")
+    said = page.desk.drop(name, content)["logs"]["A1"]
+    assert said[-1].startswith(f"!{name}: ") and why in said[-1]
+    assert page.do("regs") == registers and page.desk.machine.session.images == {}
+    page.close()

@@ -1,0 +1,212 @@
+"""A student's seat at a machine of its own, in one thread and without a server: each request is answered at once.
+
+What goes on without a request, programs that run and checks of answers, is done in turns.
+"""
+
+import time
+from collections.abc import Callable, Mapping, Sequence
+
+from .. import LabError
+from ..assembler.source import Program
+from ..assembler.trial import read_whole_source
+from ..classes.languages import SourceText
+from ..classes.messages import Message, Updates, add_words, request_of
+from ..classes.progress import Exercises, Start, Try
+from ..classes.requests import BadRequest, Check, Draft, JsonObject, Lines, OpenExercise, ReadAnswer, ReadVersion
+from ..classes.requests import Request, Settings, Source, StepLine, TryCase, read_request
+from ..classes.shared_machine import Answers, MakeProgram, Result, SharedMachine, Steps, Turn
+from ..classes.student import Student, text_of
+from ..classes.text_store import TextStore
+from ..exercises.check import check, lesson, lesson_before
+from ..exercises.exercise import Exercise
+from ..exercises.taken import Taken
+from ..machine.process import Vecmon
+from ..machine.session import Session
+
+SLICES = 1000  # that a running program gets at once
+TURN_SECONDS, WATCH_SECONDS = 0.025, 0.5  # of a turn of a running program; and between looks at it
+NO_C = "there is no compiler here"
+
+
+class NoRecorder:
+    """Records no script: the session has it."""
+
+    def append(self, line: str) -> None:
+        """Ignores a line."""
+
+    def cut(self, size: int) -> None:
+        """Does nothing."""
+
+
+class Desk:
+    """A seat, its machine and the exercises.
+
+    no_c: why sources in C are refused, for the page
+    stopper: what stops a program that runs too long, in messages
+    own_slices: whether the page offers slices of a program that runs
+    limit: the ticks that a program has without a stop, about
+    """
+
+    no_c, stopper, own_slices = NO_C, "page", False
+
+    def __init__(
+        self,
+        program: Vecmon,
+        session: Session,
+        texts: TextStore,
+        exercises: Mapping[str, Exercise],
+        starts: Mapping[str, list[Start]],
+        limit: int = Settings.limit,
+    ) -> None:
+        """texts: keeps the seat's source and its versions; starts: of each exercise the sources to start with"""
+        self.program, self.texts, self.limit = program, texts, limit
+        self.exercises = Exercises(exercises, starts)
+        self.machine = SharedMachine("A", session, NoRecorder())
+        self.seat = self.machine.seats.users["1"]
+        self.student = Student(self.machine, self.seat, texts, self.exercises, self._begin_check)
+        self._sent, self._good = Updates(), dict[str, Taken]()
+        self._checks: list[Callable[[], None]] = []
+        self._looked = 0.0  # when a running program was looked at last
+
+    @property
+    def is_busy(self) -> bool:
+        """Whether there is something to do without a request."""
+        return bool(self._checks or self.machine.seats.running())
+
+    def hello(self) -> Message:
+        """The first message to a page."""
+        self._sent = Updates()
+        hello: Message = {"kind": "hello", "who": self.seat.name, "time": time.time()}
+        hello.update(self.news())
+        return hello
+
+    def news(self) -> Message:
+        """What the page hasn't been sent."""
+        return self._sent.news(self.student.view(self._more()), [self.seat])
+
+    def answer(self, text: str) -> Message:
+        """The answer to a request, with what is new."""
+        answer: Message = {"kind": "answer", "id": 0}
+        message: JsonObject = {}
+        done: Answers = []
+        try:
+            message = request_of(text, answer)
+            answer.update(self._execute(read_request(message, is_teacher=False), done))
+        except (LabError, ValueError, RecursionError) as error:
+            answer.update({"error": str(error), "done": done})
+        add_words(answer, self.seat.digit, message, done)
+        answer.update(self.news())
+        return answer
+
+    def turn(self) -> Message:
+        """Does a part of what goes on without a request; what is new then, which may be nothing."""
+        if self._checks:
+            self._checks.pop(0)()
+        elif self.machine.seats.running():
+            self._run_for(TURN_SECONDS)
+        news = self.news()
+        if news:
+            news["kind"] = "news"
+        return news
+
+    def lesson(self, ticket: str) -> str:
+        """The lesson that a ticket opens, or the one before the exercise of this name, in HTML. Raises LabError."""
+        if ticket in self.exercises.by_name and "lesson" in self.exercises.by_name[ticket].files:
+            return lesson_before(self.program, self.exercises.by_name[ticket])
+        if (answered := self.exercises.answered(ticket)) is None:
+            raise LabError("this lesson is gone: check the answer once more")
+        _, name, progress = answered
+        return lesson(self.program, self.exercises.by_name[name], progress.told["number"], progress.source.text, None)
+
+    def try_of(self, name: str, number: int) -> SourceText:
+        """The source of a try at an exercise, the first of which is 1. Raises BadRequest."""
+        raise BadRequest("there is no such answer")
+
+    def add_try(self, name: str, done: Try) -> None:
+        """Takes up the result of a check."""
+        self.exercises.take(self.seat.name, name, done)
+
+    def lines(self, request: Lines, done: Answers) -> Answers:
+        """Executes lines, which join `done` with their answers; the answers to lines that look. Raises LabError."""
+        return self.run(self.machine.lines(self.seat, request, done))
+
+    def run(self, steps: Steps[Result]) -> Result:
+        """Executes steps one after another. Raises LabError as the machine does."""
+        made: Program | None = None
+        try:
+            while True:
+                step, made = steps.send(made), None
+                if isinstance(step, Turn):
+                    try:
+                        self.machine.execute(step)
+                    finally:
+                        self.machine.report(step)
+                elif isinstance(step, MakeProgram):
+                    made = self._make(step.source)
+        except StopIteration as end:
+            result: Result = end.value
+            return result
+
+    def execute(self, request: Request, done: Answers) -> Message:
+        """Executes a request of a kind that only some desks know. Raises BadRequest."""
+        raise BadRequest("this page doesn't do that")
+
+    def names_of_images(self) -> Sequence[str]:
+        """The names of the images that the machine can load."""
+        return [*self.machine.session.images]
+
+    def _more(self) -> dict[str, object]:
+        """What isn't the seat's own of the page's view."""
+        more: dict[str, object] = {"name": "", "images": self.names_of_images(), "clock": True}
+        more |= {"own_slices": self.own_slices}
+        return more | {"notices": [], "no_c": self.no_c, "against": [], "ready": True, "trouble": ""}
+
+    def _execute(self, request: Request, done: Answers) -> Message:
+        """Executes a request; what its answer has of its own. Raises BadRequest."""
+        match request:
+            case Lines():
+                return {"do": done, "look": self.lines(request, done)}
+            case ReadAnswer(_, name, number):
+                self.exercises.exercise(name)
+                return text_of(self.try_of(name, number))
+            case Source() | StepLine() | Draft() | OpenExercise() | ReadVersion() | Check() | TryCase():
+                return self.run(self.student.execute(request))
+        return self.execute(request, done)
+
+    def _granted(self) -> Steps[None]:
+        yield self.machine.grant(SLICES)
+
+    def _run_for(self, seconds: float) -> None:
+        """Grants slices to a running program for a while, and looks at it now and then."""
+        start = time.monotonic()
+        while self.machine.seats.running() and time.monotonic() - start < seconds:
+            self.run(self._granted())
+        why = self.machine.has_run_long(self.seat, self.limit)
+        if self.machine.seats.running() and (why or start - self._looked > WATCH_SECONDS):
+            self._looked = start
+            self.run(self.machine.show(self.seat, why, self.stopper))
+
+    def _make(self, source: SourceText) -> Program:
+        """The program of a source. Raises BadRequest for one in C."""
+        if source.choice is not None:
+            raise BadRequest(f"sources in C aren't compiled: {self.no_c}")
+        return read_whole_source(source.text, self.program)
+
+    def _begin_check(self, seat: str, name: str, source: SourceText) -> None:
+        """Has an answer checked in one of the next turns. Raises BadRequest."""
+        exercise = self.exercises.exercise(name)
+        if source.choice is not None:
+            raise BadRequest(f"sources in C aren't compiled: {self.no_c}")
+        self.exercises.check_may_begin(seat, name)
+        self.exercises.busy[seat] = name
+
+        def finish() -> None:
+            try:
+                told = check(self.program, exercise, source.text, None, self._good.get(name))
+            finally:
+                del self.exercises.busy[seat]
+            if "good" in told:
+                self._good[name] = told["good"]
+            self.add_try(name, Try(time=int(time.time()), text=source.text, suffix=source.suffix, told=told))
+
+        self._checks.append(finish)

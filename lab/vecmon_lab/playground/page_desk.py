@@ -1,0 +1,228 @@
+"""The desk of a page: its work is kept as texts, and images are dropped on it."""
+
+import base64
+import contextlib
+import json
+import pathlib
+import re
+from collections.abc import Callable, Mapping
+from functools import partial
+
+from .. import LabError, mistakes_in
+from ..checkpoints.checkpoint import checkpoint
+from ..classes.kept import attempt
+from ..classes.languages import SourceText
+from ..classes.messages import Message
+from ..classes.past import Past
+from ..classes.progress import MOST_TRIES, Start, Try, source_of
+from ..classes.requests import BadRequest, Lines
+from ..classes.shared_machine import LEAVING, Answers
+from ..classes.text_store import TextStore
+from ..compilers.compiled import program_of
+from ..compilers.debug import image_of
+from ..exercises.exercise import Exercise
+from ..machine.answers import Refused, read
+from ..machine.lines import DIGITS, words_of
+from ..machine.process import Vecmon
+from ..machine.image import MARCH
+from ..machine.program import check_flags, image_refusal
+from ..machine.session import Session, recorded_lines
+from .desk import Desk
+
+SCRIPT, SET_UP = "A.script", "A.set_up"  # the machine's lines, and how many of the first ones set it up
+QUANTUM = "A.quantum"  # ticks of a slice, where a class had another number than this page
+IMAGES, IMAGE, ANSWERS = "images", "A1.image", "answers"
+IMAGE_BYTES, MOST_IMAGES = 1 << 20, 8
+ROOM = pathlib.Path("/images")  # where machines and pyelftools find images
+C_ADVICE = (
+    "this page has no compiler; compile it elsewhere, with "
+    f"`clang-19 --target=riscv64 {MARCH} -mabi=lp64 -g -O2 -nostdlib -static`, and drop the image here"
+)
+
+PutFile = Callable[[pathlib.Path, bytes], object]
+"""Makes a file of this path and content, for Python and for machines."""
+
+
+class PageDesk(Desk):
+    """A desk whose sources, versions, tries, images and machine come back when the page is opened again.
+
+    lost: sentences on what couldn't be read of the kept texts
+    """
+
+    def __init__(
+        self,
+        program: Vecmon,
+        texts: TextStore,
+        exercises: Mapping[str, Exercise],
+        starts: Mapping[str, list[Start]],
+        put_file: PutFile,
+    ) -> None:
+        self._put_file, self.lost = put_file, list[str]()
+        quantum = texts.read_text(QUANTUM)
+        self._opening = partial(
+            Session, program, quantum=int(quantum) if re.fullmatch("[1-9][0-9]{0,2}", quantum) else None
+        )
+        session = self._opening(self._kept_images(texts))
+        super().__init__(program, session, texts, exercises, starts)
+        self._set_up = 0
+        self._restore_tries()
+        self._restore_machine()
+        if cause := self.student.restore():
+            self.lost.append(cause)
+
+    def keep(self) -> None:
+        """Saves what has changed. Lines that would take long to execute again are replaced by a checkpoint's."""
+        self.student.keep()
+        if self.machine.session.weight >= 1 and not self.is_busy:
+            with contextlib.suppress(LabError):  # the script is saved as it is
+                self._shorten()
+        self.texts.write_text(SCRIPT, self.machine.session.script.decode("ascii"))
+        self.texts.write_text(SET_UP, f"{self._set_up}")
+
+    def drop(self, name: str, content: bytes) -> Message:
+        """Loads an image that was dropped on the page, or says why it isn't loaded; what is new then."""
+        try:
+            with mistakes_in(name):
+                own = self._add_image(name, content)
+            self.lines(Lines("", [*LEAVING[self.seat.state["run"]], "enter", f"load {own}"], 0, []), [])
+        except LabError as error:
+            self.seat.note(f"!{error}")
+        news = self.news()
+        news["kind"] = "news"
+        return news
+
+    def lines(self, request: Lines, done: Answers) -> Answers:
+        """As any desk's. Symbols, lines and variables of an image that was loaded are the seat's."""
+        looks = super().lines(request, done)
+        words = [words_of(f"1 {line}") for line, answer in zip(request.do, done) if answer[0].startswith("loaded")]
+        if words:
+            self.texts.write_text(IMAGE, words[-1][1])
+            self._take_image(words[-1][1])
+        return looks
+
+    def try_of(self, name: str, number: int) -> SourceText:
+        """The source of a try. Raises BadRequest."""
+        if not 1 <= number <= len(self.exercises.progress(self.seat.name, name).tries):
+            raise BadRequest("there is no such answer")
+        return source_of(self._kept_try(name, number))
+
+    def add_try(self, name: str, done: Try) -> None:
+        """Takes up the result of a check, and saves it if it counts as a try."""
+        if self.exercises.take(self.seat.name, name, done):
+            number = len(self.exercises.progress(self.seat.name, name).tries)
+            self.texts.write_text(self._file_of_try(name, number), json.dumps(done))
+
+    def _kept_images(self, texts: TextStore) -> dict[str, pathlib.Path]:
+        """The images that were kept, by name, as files."""
+        images = {}
+        for file in sorted(file for file, _ in texts.files(f"{IMAGES}/*")):
+            name = file.removeprefix(f"{IMAGES}/")
+            try:
+                self._put_file(ROOM / name, base64.b64decode(texts.read_text(file), validate=True))
+                images[name] = ROOM / name
+            except ValueError:
+                self.lost.append(f"the image {name} is damaged, so no machine loads it")
+        return images
+
+    def _add_image(self, file: str, content: bytes) -> str:
+        """Makes an image one of those that machines can load; its name there. Raises LabError."""
+        name = re.sub(r"[^A-Za-z0-9._-]+", "-", pathlib.PurePath(file).name.removesuffix(".elf"))[-32:] or "image"
+        session = self.machine.session
+        if file.endswith(".c"):
+            raise LabError(C_ADVICE)
+        if not content.startswith(b"\x7fELF"):
+            raise LabError("this is no ELF image, and the page loads no other files")
+        if len(content) > IMAGE_BYTES:
+            raise LabError(f"an image has {IMAGE_BYTES:,} bytes at most, and this one {len(content):,}")
+        if name not in session.images and len(session.images) >= MOST_IMAGES:
+            raise LabError(
+                f"the page keeps {MOST_IMAGES} images at most: export your work, and begin with a new machine"
+            )
+        path = ROOM / name
+        self._put_file(path, content)
+        check_flags(path)
+        with self._opening({name: path}) as trial:
+            answer = read(trial.do_all(["1 enter", f"1 load {name}"])[1])
+        if isinstance(answer, Refused):
+            raise LabError(image_refusal(name, f"{answer}"))
+        self._replace(self._opening({**session.images, name: path}), session.script)
+        self.texts.write_text(f"{IMAGES}/{name}", base64.b64encode(content).decode("ascii"))
+        return name
+
+    def _replace(self, heir: Session, script: bytes) -> None:
+        """Continues with another session, which executes a script. Raises LabError; then the first one stays."""
+        try:
+            for _ in heir.do_script(script):
+                pass
+        except LabError:
+            heir.close()
+            raise
+        self.machine.session.close()
+        self.machine.session = heir
+
+    def _take_image(self, name: str) -> None:
+        """Makes symbols, lines and variables of an image those of the seat's program."""
+        try:
+            with mistakes_in(name, ValueError, LabError):
+                program = program_of(image_of(ROOM / name), (), IMAGE_BYTES)
+        except LabError as error:
+            self.seat.note(f"!{error}")
+            return
+        self.seat.take(SourceText(), program)
+        self.seat.list_program(program)
+        told = f"{len(program.labels)} symbols, {len(program.rows)} rows of lines, {len(program.variables)} variables"
+        self.seat.note(f"!The image {name} has {told}.")
+
+    def _shorten(self) -> None:
+        """Replaces the lines of the machine by those of a checkpoint. Raises LabError where there is none."""
+        session = self.machine.session
+        made = checkpoint(partial(self._opening, session.images), session.short_script, session.images)
+        session.recorded.shorten(made, session.recorded.spent)
+        heir = session.renewed()
+        session.close()
+        self.machine.session, self._set_up, self.seat.used = heir, heir.lines, 0
+
+    def _restore_machine(self) -> None:
+        """Executes the kept lines of the machine again."""
+        text = self.texts.read_text(SCRIPT)
+        script = recorded_lines(text.encode("ascii", "replace"))
+        if len(script) < len(text):
+            count = script.count(b"\n")
+            self.lost.append(f"the machine's lines are damaged behind line {count}")
+        kept_count = self.texts.read_text(SET_UP)
+        self._set_up = int(kept_count) if re.fullmatch("[0-9]{1,9}", kept_count) else 0
+        past, session = Past(self._set_up), self.machine.session
+        try:
+            for block in session.do_blocks(script):
+                past.add(*block)
+        except LabError as error:
+            self.lost.append(f"the machine's lines can't be executed again: {error}")
+            session.close()
+            self.machine.session, self._set_up = self._opening(session.images), 0
+            return
+        past.tell(self.machine.seats)
+        self.machine.seats.take(self.machine.seats.look(session, [], DIGITS))
+        if (image := self.texts.read_text(IMAGE)) in session.images and self.seat.state["run"] != "absent":
+            self._take_image(image)
+
+    def _restore_tries(self) -> None:
+        """Takes up the kept tries at exercises. One that is lost counts as a try in which nothing passes."""
+        for name in self.exercises.by_name:
+            files = {file for file, _ in self.texts.files(f"{ANSWERS}/{self.seat.name}.{name}.*.json")}
+            number = next(
+                (number for number in range(MOST_TRIES, 0, -1) if self._file_of_try(name, number) in files), 0
+            )
+            for each in range(1, number + 1):
+                self.exercises.progress(self.seat.name, name).add(self._kept_try(name, each))
+
+    def _kept_try(self, name: str, number: int) -> Try:
+        """A try as it was kept; one in which nothing passes where it was lost."""
+        file = self._file_of_try(name, number)
+        try:
+            return attempt(**json.loads(self.texts.read_text(file)))
+        except (ValueError, TypeError):
+            self.lost.append(f"try {number} at {name} is damaged, and counts as one in which nothing passes")
+            return attempt()
+
+    def _file_of_try(self, name: str, number: int) -> str:
+        return f"{ANSWERS}/{self.seat.name}.{name}.{number}.json"
