@@ -273,11 +273,12 @@ async def test_answers_are_taken_home(room: Served) -> None:
 
 
 async def home(room: Served, seat: str) -> dict[str, str]:
-    """The texts of what a seat takes home, by name."""
+    """The texts of what a seat takes home, by name, but the file for the playground."""
     status, data = await room.get(f"{seat}/home", seat)
     assert status == 200, data
     with zipfile.ZipFile(io.BytesIO(data)) as packed:
-        return {name: packed.read(name).decode() for name in packed.namelist()}
+        names = [name for name in packed.namelist() if not name.endswith("/playground.json")]
+        return {name: packed.read(name).decode() for name in names}
 
 
 async def test_bad_answers_cost_the_others_nothing(room: Served) -> None:

@@ -33,7 +33,7 @@ async def test_an_archive(tmp_path: pathlib.Path) -> None:
             (folder / name).write_text(SOURCE)
         status, data = await room.get("A3/home", "A3")
         packed = zipfile.ZipFile(io.BytesIO(data))
-        assert status == 200 and packed.namelist() == ["A3/A3.script", "A3/A3.html", "A3/A3.s"]
+        assert status == 200 and packed.namelist() == ["A3/A3.script", "A3/A3.html", "A3/A3.s", "A3/playground.json"]
         assert packed.read("A3/A3.s").decode() == SOURCE
         alone = subprocess.run([find_program(), "/dev/stdin"], input=packed.read("A3/A3.script"), capture_output=True)
         registers = (await tab.do("regs"))[0]

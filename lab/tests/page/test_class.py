@@ -377,7 +377,7 @@ def test_the_teacher_sees_and_settles(sit: Sit, tmp_path: pathlib.Path, served: 
         assert saved == expected
     tab.save("#home", tmp_path / "A5.zip", lambda data: zipfile.is_zipfile(io.BytesIO(data)))
     with zipfile.ZipFile(tmp_path / "A5.zip") as packed:
-        assert packed.namelist() == ["A5/A5.script", "A5/A5.html"]
+        assert packed.namelist() == ["A5/A5.script", "A5/A5.html", "A5/playground.json"]
         assert b"5 break 10004\n" in packed.read("A5/A5.script")
     tab.wait("!id('home').disabled && !id('hint').textContent")
     old = served.codes["A5"]

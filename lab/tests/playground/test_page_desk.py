@@ -123,6 +123,8 @@ def test_damaged_texts_are_reported_and_the_rest_is_kept(program: pathlib.Path, 
     again = Page(program, tmp_path, kept)
     assert len(again.desk.lost) == 3 and "damaged behind line" in again.desk.lost[2]
     assert again.view["source"]["text"] == SOURCE and again.view["exercises"]["doubles"]["tries"] == 1
+    names = ["damaged/A.script", "damaged/answers-A1.doubles.1.json", "damaged/images-none"]
+    assert [again.kept[name][0] for name in names] == [kept["A.script"][0], "{", "!"]
     assert again.view["state"]["run"] == "stopped" and again.desk.machine.session.images == {}
     again.close()
 

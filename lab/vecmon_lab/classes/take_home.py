@@ -1,4 +1,5 @@
-"""An archive to take home: the source, the script, its images, a lesson of it for any browser, and answers."""
+"""What a student takes home: an archive with the source, the script, its images, a lesson of it for any browser, answers, and a
+file that the playground opens."""
 
 import contextlib
 import io
@@ -24,6 +25,7 @@ from .names import NAMES
 from .solo import solo
 from .sources import kept_program, kept_source
 from .store import Store
+from .work_file import work_file
 
 MOST_FRAMES, MOST_ENTRIES = 500, 200  # of a lesson; and of a frame's log
 
@@ -59,6 +61,7 @@ def archive(store: Store, seat: str) -> bytes:
     files |= {f"answers/{name}.{answer.suffix}": answer.text for name, answer in sorted(answers.items())}
     if not files:
         raise LabError(f"nothing was done at seat {seat}")
+    files["playground.json"] = work_file(store, seat, lines)
     data = io.BytesIO()
     with zipfile.ZipFile(data, "w", zipfile.ZIP_DEFLATED) as packed:
         for name, content in files.items():

@@ -121,6 +121,7 @@ class PageDesk(Desk):
                 self._put_file(ROOM / name, base64.b64decode(texts.read_text(file), validate=True))
                 images[name] = ROOM / name
             except ValueError:
+                _set_aside(texts, file)
                 self.lost.append(f"the image {name} is damaged, so no machine loads it")
         return images
 
@@ -188,6 +189,7 @@ class PageDesk(Desk):
         script = recorded_lines(text.encode("ascii", "replace"))
         if len(script) < len(text):
             count = script.count(b"\n")
+            _set_aside(self.texts, SCRIPT)
             self.lost.append(f"the machine's lines are damaged behind line {count}")
         kept_count = self.texts.read_text(SET_UP)
         self._set_up = int(kept_count) if re.fullmatch("[0-9]{1,9}", kept_count) else 0
@@ -196,6 +198,7 @@ class PageDesk(Desk):
             for block in session.do_blocks(script):
                 past.add(*block)
         except LabError as error:
+            _set_aside(self.texts, SCRIPT)
             self.lost.append(f"the machine's lines can't be executed again: {error}")
             session.close()
             self.machine.session, self._set_up = self._opening(session.images), 0
@@ -221,8 +224,14 @@ class PageDesk(Desk):
         try:
             return attempt(**json.loads(self.texts.read_text(file)))
         except (ValueError, TypeError):
+            _set_aside(self.texts, file)
             self.lost.append(f"try {number} at {name} is damaged, and counts as one in which nothing passes")
             return attempt()
 
     def _file_of_try(self, name: str, number: int) -> str:
         return f"{ANSWERS}/{self.seat.name}.{name}.{number}.json"
+
+
+def _set_aside(texts: TextStore, name: str) -> None:
+    """Keeps a damaged text under another name, so that an export has it."""
+    texts.write_text(f"damaged/{name.replace('/', '-')}", texts.read_text(name))
