@@ -1,0 +1,96 @@
+"""What the worker of a page calls: `answer` takes a message in JSON and returns the messages for the page, in JSON.
+
+`{"begin": TEXTS}`             makes the desk from the kept texts, each a text and its time by name
+`{"request": "..."}`           a request of the page (docs/CLASS_PROTOCOL.md)
+`{"turn": true}`               a part of what goes on without a request
+`{"keep": true}`               saves what has changed: the worker is given each text
+`{"image": NAME, "path": P}`   an image that was dropped, in the file P
+`{"lesson": TICKET}`           a lesson, in HTML
+`{"forget": true}`             drops the desk, for a snapshot
+"""
+
+import gc
+import json
+import pathlib
+import pickle
+import sys
+import types
+from typing import Any
+
+import _host  # of webassembly/python.c
+
+from .. import LabError
+from ..lessons.page import lesson_page
+from ..lessons.script import Script
+from .in_page import PageProgram, put_file
+from .kept_texts import KeptTexts
+from .page_desk import PageDesk
+
+EXERCISES = pathlib.Path("/exercises.pickle")
+LATER = "/later.zip"  # modules that only images need
+STARTS, BY_NAME = "starts", "exercises"
+
+_desk: PageDesk | None = None
+_exercises: dict[str, Any] = {STARTS: {}, BY_NAME: {}}
+
+
+def prepare() -> None:
+    """Reads what there are no files for later, before a snapshot is taken."""
+    if EXERCISES.exists():
+        _exercises.update(pickle.loads(EXERCISES.read_bytes()))
+    lesson_page("", [], Script("", []))  # reads the files of pages
+    # pyelftools 0.29 imports these, and uses them for compressed sections and for its own log alone
+    logging_config, zlib = types.ModuleType("logging.config"), types.ModuleType("zlib")
+    setattr(logging_config, "valid_ident", None)
+    setattr(zlib, "decompress", _refuse_compressed)
+    setattr(zlib, "decompressobj", _refuse_compressed)
+    sys.modules.update({"logging.config": logging_config, "zlib": zlib})
+    sys.path.append(LATER)
+
+
+def _refuse_compressed(*data: object) -> None:
+    """Raises ValueError for a compressed section of an image."""
+    raise ValueError("its debug data is compressed, which this page can't read: compile with -gz=none")
+
+
+def answer(text: str) -> str:
+    """The message for the page, and whether there is more to do without a request."""
+    asked = json.loads(text)
+    message = _message(asked)
+    if "keep" in asked and _desk:
+        _desk.keep()
+    return json.dumps([message, _desk is not None and _desk.is_busy], separators=(",", ":"))
+
+
+def _message(asked: dict[str, Any]) -> object:
+    """The message that answers one of the worker's."""
+    global _desk
+    match asked:
+        case {"begin": texts}:
+            kept = KeptTexts(texts, lambda *entry: _host.keep(json.dumps(entry)))
+            _desk = PageDesk(PageProgram(), kept, _exercises[BY_NAME], _exercises[STARTS], put_file)
+            hello: dict[str, object] = {**_desk.hello()}
+            return hello | {"lost": _desk.lost}
+        case {"forget": _}:
+            _desk = None
+            gc.collect()
+            return {}
+    assert _desk
+    match asked:
+        case {"request": request}:
+            return _desk.answer(request)
+        case {"image": name, "path": path}:
+            return _desk.drop(name, pathlib.Path(path).read_bytes())
+        case {"lesson": ticket}:
+            return {"kind": "lesson", **_lesson(_desk, ticket)}
+        case {"turn": _}:
+            return _desk.turn()
+    return {}
+
+
+def _lesson(desk: PageDesk, ticket: str) -> dict[str, str]:
+    """A lesson, or why there is none."""
+    try:
+        return {"page": desk.lesson(ticket)}
+    except LabError as error:
+        return {"error": f"{error}"}

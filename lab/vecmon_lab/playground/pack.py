@@ -1,0 +1,87 @@
+"""Packs what Python in a page imports: `python3 -m vecmon_lab.playground.pack LIBRARY OUT`.
+
+LIBRARY is the folder Lib of CPython.
+
+OUT/lib.zip   the standard library, compiled, without docstrings
+OUT/lab/      the lab, compiled, without docstrings, and its texts
+OUT/later.zip pyelftools, and what it alone imports
+
+The same sources give the same bytes.
+"""
+
+import ast
+import importlib.util
+import marshal
+import pathlib
+import sys
+import types
+import zipfile
+from collections.abc import Iterable, Iterator
+
+LAB = pathlib.Path(__file__).parents[1]
+LEFT_OUT = set(
+    "test idlelib tkinter lib2to3 ensurepip distutils turtledemo unittest asyncio multiprocessing xml email http xmlrpc "
+    "curses dbm sqlite3 wsgiref msilib pydoc_data venv concurrent __pycache__ ctypes site-packages".split()
+)
+TEXTS = {".txt", ".html", ".css", ".js", ".xml", ".s"}  # suffixes of the lab's files that it reads
+HEADER = importlib.util.MAGIC_NUMBER + bytes(12)  # of a compiled module without a time
+
+
+def compiled(path: pathlib.Path, name: str) -> bytes:
+    """A module as a .pyc file, without docstrings; asserts stay."""
+    tree = ast.parse(path.read_bytes())
+    for node in ast.walk(tree):
+        if isinstance(node, ast.Module | ast.ClassDef | ast.FunctionDef | ast.AsyncFunctionDef) and node.body:
+            first = node.body[0]
+            if (
+                isinstance(first, ast.Expr)
+                and isinstance(first.value, ast.Constant)
+                and isinstance(first.value.value, str)
+            ):
+                node.body[0] = ast.copy_location(ast.Pass(), first)
+    code: types.CodeType = compile(tree, name, "exec", dont_inherit=True, optimize=0)
+    return HEADER + marshal.dumps(code)
+
+
+def modules(folder: pathlib.Path) -> Iterator[tuple[str, pathlib.Path]]:
+    """The modules below a folder, as paths from there on, but those that are left out."""
+    for path in sorted(folder.rglob("*.py")):
+        name = path.relative_to(folder)
+        if not LEFT_OUT & set(name.parts):
+            yield str(name), path
+
+
+def write_zip(out: pathlib.Path, packed: Iterable[tuple[str, bytes]]) -> None:
+    """Writes an archive that isn't compressed."""
+    with zipfile.ZipFile(out, "w", zipfile.ZIP_STORED) as archive:
+        for name, content in packed:
+            archive.writestr(zipfile.ZipInfo(name), content)
+
+
+def pack(library: pathlib.Path, out: pathlib.Path) -> None:
+    """Writes all three."""
+    out.mkdir(parents=True, exist_ok=True)
+    write_zip(out / "lib.zip", ((f"{name}c", compiled(path, f"/lib/{name}")) for name, path in modules(library)))
+    for path in sorted(LAB.rglob("*")):
+        name = path.relative_to(LAB.parent)
+        target = out / "lab" / name
+        if path.suffix == ".py":
+            target.parent.mkdir(parents=True, exist_ok=True)
+            target.with_suffix(".pyc").write_bytes(compiled(path, f"/lab/{name}"))
+        elif path.suffix in TEXTS:
+            target.parent.mkdir(parents=True, exist_ok=True)
+            target.write_bytes(path.read_bytes())
+    write_zip(out / "later.zip", elf_modules())
+
+
+def elf_modules() -> Iterator[tuple[str, bytes]]:
+    """The modules of pyelftools."""
+    found = importlib.util.find_spec("elftools")
+    assert found and found.submodule_search_locations
+    folder = pathlib.Path(found.submodule_search_locations[0])
+    for name, path in modules(folder):
+        yield f"elftools/{name}c", compiled(path, f"/elftools/{name}")
+
+
+if __name__ == "__main__":
+    pack(*map(pathlib.Path, sys.argv[1:3]))
