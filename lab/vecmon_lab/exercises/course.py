@@ -16,6 +16,7 @@ def add_arguments(parser: argparse.ArgumentParser) -> None:
     parser.add_argument(
         "folder", metavar="DIR", type=pathlib.Path, help="the folder of the pages, created if necessary"
     )
+    parser.add_argument("--play", metavar="ADDRESS", default="", help="of a playground, where the pages lead to")
 
 
 def run(arguments: argparse.Namespace) -> int:
@@ -26,7 +27,13 @@ def run(arguments: argparse.Namespace) -> int:
     scripts = {name: script_before(exercise) for name, exercise in exercises.items()}
     pages, lessons = make_series(program, {name: (it, it.steps[0].note) for name, it in scripts.items()})
     entries = [
-        {"title": it.title, "text": it.text, "minutes": minutes[lesson["name"]], "lesson": lesson}
+        {
+            "title": it.title,
+            "text": it.text,
+            "minutes": minutes[lesson["name"]],
+            "lesson": lesson,
+            "play": arguments.play,
+        }
         for it, lesson in zip(exercises.values(), lessons)
     ]
     write_pages(folder, [*pages, ("index", "A course", lone_page("course", "A course", entries))])

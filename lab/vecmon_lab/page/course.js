@@ -4,9 +4,16 @@ import { blocks } from "./blocks.js";
 import { byId, make, prose } from "./elements.js";
 import { stripOf } from "./strip.js";
 
+const entries = JSON.parse(byId("data").textContent);
 byId("command").textContent = "vecmon-lab class DIR --course";
-for (const [place, { minutes, title, text, lesson }] of JSON.parse(byId("data").textContent).entries()) {
+if (entries[0].play) {
+  byId("checked").textContent = "The playground checks your answers, and keeps them in this browser.";
+  byId("command").remove();
+}
+for (const [place, { minutes, title, text, lesson, play }] of entries.entries()) {
   const link = Object.assign(make("a", "", lesson.title), { href: `${lesson.name}.html` });
   const about = make("p", "", "Lesson: ", link, ". ", ...prose(lesson.sentence), ` Lesson and exercise take about ${minutes} minutes.`);
+  const solve = Object.assign(make("a", "", "Solve it in the playground"), { href: `${play}#exercise=${lesson.name}` });
   byId("course").append(make("h2", "", `${place + 1}. ${title}`), about, stripOf(lesson.strip), ...blocks(text));
+  if (play) byId("course").append(make("p", "", solve));
 }

@@ -1,24 +1,27 @@
 // A source with its language behind the # of an address, which browsers send to nobody; and a file's language by its name.
 
 const PREFIX = "#source=";
+const MOST_LINK_LETTERS = 100000; // which all current browsers take in an address
 const namesOf = (languages) => [...languages.options].map(({ text }) => text);
 
-/** The part of an address with a source, in base64url; the language by its name in a list. */
+/** The part of an address with a source, in base64url; the language by its name in a list. Null where that is too long. */
 export function linkOf({ text, language }, languages) {
   const bytes = new TextEncoder().encode(JSON.stringify({ text, language: namesOf(languages)[language] }));
   const letters = btoa(Array.from(bytes, (byte) => String.fromCharCode(byte)).join(""));
-  return PREFIX + letters.replaceAll("+", "-").replaceAll("/", "_").replaceAll("=", "");
+  const hash = PREFIX + letters.replaceAll("+", "-").replaceAll("/", "_").replaceAll("=", "");
+  return hash.length > MOST_LINK_LETTERS ? null : hash;
 }
 
 export const isLink = (hash) => hash.startsWith(PREFIX);
 
 /** The source of such a part; null where it isn't one. */
 export function sourceOf(hash, languages) {
+  if (hash.length > MOST_LINK_LETTERS) return null;
   try {
     const letters = atob(hash.slice(PREFIX.length).replaceAll("-", "+").replaceAll("_", "/"));
     const bytes = Uint8Array.from(letters, (letter) => letter.charCodeAt(0));
     const { text, language } = JSON.parse(new TextDecoder().decode(bytes));
-    return { text: `${text}`, language: Math.max(0, namesOf(languages).indexOf(language)) };
+    return typeof text === "string" ? { text, language: Math.max(0, namesOf(languages).indexOf(language)) } : null;
   } catch {
     return null;
   }

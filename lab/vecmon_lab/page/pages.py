@@ -1,6 +1,7 @@
 """Pages, each with a style and a script in line, which are allowed by their hashes alone; and what is new to a page."""
 
 import base64
+import functools
 import hashlib
 import html
 import json
@@ -14,14 +15,21 @@ FILES = pathlib.Path(__file__).parent
 
 
 class Page:
-    """A page of this folder by its name, with which its styles begin; only its inline style and script are allowed."""
+    """A page of this folder by its name, with which its styles begin. Its style and its script stand in line, and its policy allows these alone.
 
-    def __init__(self, name: str) -> None:
-        frame, body, machine = map(page_file, ("page.html", f"{name}.html", "machine.html"))
+    style_source, script_source: what a policy calls them
+    """
+
+    def __init__(self, name: str, folder: pathlib.Path = FILES) -> None:
+        """folder: whose files stand in for those of the same name here"""
+        read = functools.partial(page_file, folder=folder)
+        frame, body, machine = map(read, ("page.html", f"{name}.html", "machine.html"))
         self._template = string.Template(frame.replace("$body", body).replace("$machine", machine))
-        self._style = "".join(map(page_file, ("page.css", *sorted(path.name for path in FILES.glob(f"{name}*.css")))))
-        self._script = join_modules(name, page_file)
-        own = f"style-src {_digest(self._style)}; script-src {_digest(self._script)}"
+        styles = {path.name for each in (FILES, folder) for path in each.glob(f"{name}*.css")}
+        self._style = "".join(map(read, ("page.css", *sorted(styles))))
+        self._script = join_modules(name, read)
+        self.style_source, self.script_source = _digest(self._style), _digest(self._script)
+        own = f"style-src {self.style_source}; script-src {self.script_source}"
         self.policy = f"default-src 'none'; img-src data:; {own}; base-uri 'none'; form-action 'none'"
 
     def text(self, title: str, data: str = "", policy: str = "") -> str:
@@ -29,9 +37,15 @@ class Page:
         return self._template.substitute(title=title, style=self._style, script=self._script, data=data, policy=policy)
 
 
+@functools.cache
+def _page(name: str) -> Page:
+    """A page of this folder, whose files are read once."""
+    return Page(name)
+
+
 def lone_page(name: str, title: str, data: object) -> str:
     """A page that loads nothing, with what its script shows."""
-    page, text = Page(name), json.dumps(data, separators=(",", ":")).replace("<", "\\u003c")
+    page, text = _page(name), json.dumps(data, separators=(",", ":")).replace("<", "\\u003c")
     policy = f'<meta http-equiv="Content-Security-Policy" content="{page.policy}">'
     return page.text(html.escape(title), text, policy)
 
@@ -63,6 +77,7 @@ def _digest(text: str) -> str:
     return f"'sha256-{base64.b64encode(hashlib.sha256(text.encode('utf-8')).digest()).decode('ascii')}'"
 
 
-def page_file(name: str) -> str:
-    """A file of this folder."""
-    return (FILES / name).read_text("utf-8")
+def page_file(name: str, folder: pathlib.Path = FILES) -> str:
+    """A file of a folder, or of this one where it isn't there."""
+    path = folder / name
+    return (path if path.exists() else FILES / name).read_text("utf-8")

@@ -244,15 +244,19 @@ export class Student {
 
   /** Puts the source into the page's address. */
   link() {
-    history.replaceState(null, "", linkOf(this.source.editor.source, byId("language")));
-    this.refuse("The address of this page has the source now. Opened at a seat, it puts the source into the editor.");
+    const hash = linkOf(this.source.editor.source, byId("language"));
+    if (!hash) return this.refuse("This source is too long for a link. Save it as a file instead.");
+    history.replaceState(null, "", hash);
+    return this.refuse("The address of this page has the source now. Opened at a seat, it puts the source into the editor.");
   }
 
   /** Puts a source into the editor that a link has brought; it is compiled only where that is asked for. */
   takeLinked() {
-    const linked = sessionStorage.getItem("linked") && sourceOf(sessionStorage.getItem("linked"), byId("language"));
+    const hash = sessionStorage.getItem("linked");
     sessionStorage.removeItem("linked");
-    if (!linked) return;
+    if (!hash) return;
+    const linked = sourceOf(hash, byId("language"));
+    if (!linked) return void this.refuse("The source in this link can't be read: it is damaged, or too long.");
     this.source.replace(linked);
     this.showSide("source");
     this.refuse("A link has brought this source; undo takes it back.");

@@ -28,6 +28,12 @@ from .page_desk import PageDesk
 
 EXERCISES = pathlib.Path("/exercises.pickle")
 LATER = "/later.zip"  # modules that only images need
+STAND_INS: dict[str, list[str]] = {
+    "logging.config": ["valid_ident"],
+    "pdb": [],
+    "zlib": ["decompress", "decompressobj"],
+}
+"""Modules that pyelftools 0.29 imports, and their functions: those of zlib are for compressed sections, the others unused."""
 STARTS, BY_NAME = "starts", "exercises"
 
 _desk: PageDesk | None = None
@@ -39,13 +45,11 @@ def prepare() -> None:
     if EXERCISES.exists():
         _exercises.update(pickle.loads(EXERCISES.read_bytes()))
     lesson_page("", [], Script("", []))  # reads the files of pages
-    # pyelftools 0.29 imports these, and uses them for compressed sections and for its own log alone
-    logging_config, zlib = types.ModuleType("logging.config"), types.ModuleType("zlib")
-    setattr(logging_config, "valid_ident", None)
-    setattr(zlib, "decompress", _refuse_compressed)
-    setattr(zlib, "decompressobj", _refuse_compressed)
-    sys.modules.update({"logging.config": logging_config, "zlib": zlib})
-    sys.path.append(LATER)
+    for name, functions in STAND_INS.items():
+        sys.modules[name] = types.ModuleType(name)
+        for function in functions:
+            setattr(sys.modules[name], function, _refuse_compressed)
+    sys.path.insert(0, LATER)  # before the library, which isn't there later
 
 
 def _refuse_compressed(*data: object) -> None:

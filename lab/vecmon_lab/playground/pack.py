@@ -23,6 +23,7 @@ LEFT_OUT = set(
     "test idlelib tkinter lib2to3 ensurepip distutils turtledemo unittest asyncio multiprocessing xml email http xmlrpc "
     "curses dbm sqlite3 wsgiref msilib pydoc_data venv concurrent __pycache__ ctypes site-packages".split()
 )
+OF_ELFTOOLS = ["pprint.py"]  # of the library what pyelftools alone imports
 TEXTS = {".txt", ".html", ".css", ".js", ".xml", ".s"}  # suffixes of the lab's files that it reads
 HEADER = importlib.util.MAGIC_NUMBER + bytes(12)  # of a compiled module without a time
 
@@ -38,7 +39,7 @@ def compiled(path: pathlib.Path, name: str) -> bytes:
                 and isinstance(first.value, ast.Constant)
                 and isinstance(first.value.value, str)
             ):
-                node.body[0] = ast.copy_location(ast.Pass(), first)
+                node.body = node.body[1:] or [ast.copy_location(ast.Pass(), first)]
     code: types.CodeType = compile(tree, name, "exec", dont_inherit=True, optimize=0)
     return HEADER + marshal.dumps(code)
 
@@ -71,7 +72,9 @@ def pack(library: pathlib.Path, out: pathlib.Path) -> None:
         elif path.suffix in TEXTS:
             target.parent.mkdir(parents=True, exist_ok=True)
             target.write_bytes(path.read_bytes())
-    write_zip(out / "later.zip", elf_modules())
+    write_zip(
+        out / "later.zip", [*elf_modules(), *((f"{name}c", compiled(library / name, name)) for name in OF_ELFTOOLS)]
+    )
 
 
 def elf_modules() -> Iterator[tuple[str, bytes]]:

@@ -1,0 +1,216 @@
+"""The built site in Chromium: the whole page, reload, exercises, lessons, images, work as files, links, and no request."""
+
+import json
+import pathlib
+from collections.abc import Iterator
+from typing import TYPE_CHECKING
+
+import pytest
+
+from support.class_pages import PATIENCE, close_all
+from support.places import SUM, TOP
+from support.site import SiteTab, built_site, served_files
+
+if TYPE_CHECKING:
+    from selenium.webdriver import Chrome
+
+LOOP = """# A loop.
+        li t0, 10
+loop:   vsetivli zero, 8, e32, m1, ta, ma
+        vid.v v1
+        vadd.vv v2, v1, v1
+        addi t0, t0, -1
+        bnez t0, loop
+        ebreak
+"""
+GIVEN = TOP / "lab" / "vecmon_lab" / "exercises" / "given" / "doubles"
+NO_STORAGE = (
+    "Object.defineProperty(window, 'indexedDB', {get() { throw new DOMException('refused', 'SecurityError'); }});"
+)
+DROP = """
+const bytes = Uint8Array.from(atob(arguments[1]), (letter) => letter.charCodeAt(0)), data = new DataTransfer();
+data.items.add(new File([bytes], arguments[0]));
+document.dispatchEvent(new DragEvent("drop", {dataTransfer: data, cancelable: true}));
+"""
+
+
+@pytest.fixture(scope="module")
+def site() -> pathlib.Path:
+    """The folder of the site."""
+    return built_site()
+
+
+@pytest.fixture(scope="module")
+def server(site: pathlib.Path) -> Iterator[tuple[str, list[str]]]:
+    """A server of its files, and what was asked of it."""
+    with served_files(site) as told:
+        yield told
+
+
+@pytest.fixture
+def tabs(browser: "Chrome") -> Iterator["Chrome"]:
+    """The browser; its console has said nothing behind the test."""
+    first = browser.current_window_handle
+    browser.get_log("browser")
+    yield browser
+    said = browser.get_log("browser")
+    close_all(browser, [first])
+    assert said == []
+
+
+def forget(tab: SiteTab) -> None:
+    """Deletes what the browser has stored of the page."""
+    tab.front().execute_async_script(
+        "const done = arguments[0], request = indexedDB.deleteDatabase('vecmon playground');"
+        "request.onblocked = request.onsuccess = request.onerror = () => done()"
+    )
+
+
+def test_the_page_steps_goes_and_goes_back(tabs: "Chrome", site: pathlib.Path) -> None:
+    tab = SiteTab(tabs, (site / "playground.html").as_uri())
+    tab.write(LOOP)
+    tab.wait("id('run').textContent === 'stopped'")
+    for _ in range(4):
+        tab.click("#one")
+    tab.wait("one('#log li:last-child').textContent.includes('stepped 1')")
+    tab.command("regs")
+    tab.command("break 10014", "go")
+    tab.wait("id('run').textContent === 'break'")
+    tab.click("#backward")
+    tab.wait("!id('says-past').hidden")
+    tab.click("#now")
+    tab.command("unbreak 10014")
+    tab.click("#go")
+    tab.wait("id('run').textContent === 'ebreak'")
+    tab.command("vreg v2 32")
+    assert "v2 00000000 00000002 00000004 00000006 00000008 0000000a 0000000c 0000000e" in tab.text("#log")
+    tab.write("bad x1\n")
+    tab.wait("all('#mistakes li').length === 1")
+    tab.run("(id('line').value = 'help vadd.vv', id('command').requestSubmit())")
+    tab.wait("one('#entries').textContent.includes('vadd')")
+
+
+def test_work_comes_back_after_a_reload(tabs: "Chrome", server: tuple[str, list[str]]) -> None:
+    tab = SiteTab(tabs, f"{server[0]}/play/index.html")
+    tab.write(LOOP)
+    tab.wait("id('run').textContent === 'stopped'")
+    tab.command("step 3", "set x11 1f")
+    answer = "a = indexedDB.open('vecmon playground'); a.onsuccess = () => { const all = a.result.transaction('texts').objectStore('texts').get('A.script');"
+    tab.front().set_script_timeout(30)
+    for _ in range(50):
+        kept = tab.front().execute_async_script(
+            f"const done = arguments[0], {answer} all.onsuccess = () => done(all.result?.text ?? ''); }}"
+        )
+        if "set x11 1f" in kept:
+            break
+    assert "1 set x11 1f" in kept
+    tab.open(f"{server[0]}/play/index.html")
+    tab.wait("id('run').textContent === 'stopped' && id('source').value === arguments[0]", LOOP)
+    assert "x11" in tab.text("body") and tab.run("!id('versions').hidden")
+    forget(tab)
+
+
+def test_an_exercise_fails_and_passes(tabs: "Chrome", site: pathlib.Path) -> None:
+    from selenium.webdriver.support.wait import WebDriverWait
+
+    tab = SiteTab(tabs, (site / "playground.html").as_uri() + "#exercise=doubles")
+    tab.wait("one('#exercise .reading') && !one('#exercise').hidden")
+    for answer, told in (("        ret\n", "1 try"), ((GIVEN / "good.s").read_text(), "2 tries, passed")):
+        tab.run("(id('source').value = arguments[0], id('source').dispatchEvent(new Event('input')))", answer)
+        tab.run("all('#exercise button').find((each) => each.textContent === 'Check').click()")
+        tab.wait("one('#exercise [role=status]').textContent === arguments[0]", told)
+    before = set(tabs.window_handles)
+    tab.run("all('#exercise a').find((each) => each.textContent.includes('lesson')).click()")
+    wait = WebDriverWait(tabs, PATIENCE)
+    (lesson,) = wait.until(lambda _: set(tabs.window_handles) - before)
+    tabs.switch_to.window(lesson)
+    wait.until(lambda _: tabs.execute_script("return document.querySelector('#count')?.textContent"))
+    tabs.switch_to.window(tab.handle)
+
+
+def test_nothing_is_sent(tabs: "Chrome", site: pathlib.Path) -> None:
+    """A server of the one file is asked for nothing else; the policy refuses a request of a script."""
+    with served_files(site) as (address, asked):
+        tab = SiteTab(tabs, f"{address}/playground.html")
+        tab.write(LOOP)
+        tab.click("#one")
+        tab.command("regs")
+        told = tab.front().execute_async_script(
+            f"fetch('{address}/index.html').then(() => arguments[0]('sent'), (error) => arguments[0](error.name))"
+        )
+        assert told == "TypeError" and set(asked) == {"/playground.html"}
+        assert any("Content Security Policy" in entry["message"] for entry in tab.front().get_log("browser"))
+        forget(tab)
+
+
+def test_a_refused_storage_is_said_at_once(tabs: "Chrome", site: pathlib.Path, tmp_path: pathlib.Path) -> None:
+    tab = SiteTab(tabs, (site / "playground.html").as_uri(), before=NO_STORAGE)
+    assert tab.text("#stored").startswith("This browser stores nothing for this page (SecurityError).")
+    tab.write(LOOP)
+    tab.command("step 3")
+    saved = tab.save("#home", tmp_path / "vecmon-work.json", lambda content: content.rstrip().endswith(b"}"))
+    work = json.loads(saved)
+    assert work["format"] == "vecmon work" and "1 step 3" in str([each["text"] for each in work["texts"]])
+
+
+def test_work_is_brought_from_a_file(tabs: "Chrome", site: pathlib.Path, tmp_path: pathlib.Path) -> None:
+    tab = SiteTab(tabs, (site / "playground.html").as_uri())
+    tab.write(LOOP)
+    tab.command("set x11 1234567")
+    path = tmp_path / "vecmon-work.json"
+    tab.save("#home", path, lambda content: content.rstrip().endswith(b"}"))
+    tab.command("set x11 0")
+    tab.write("nop\n")
+    tab.run("one('input[type=file][accept=\".json\"]').hidden = false")
+    tab.keys("input[type=file][accept='.json']", str(path))
+    tab.wait("id('ask').open")
+    tab.click("#yes")
+    tab.wait("!id('ask').open && id('gone').hidden && id('source').value === arguments[0]", LOOP)
+    tab.command("regs")
+    assert "1234567" in tab.text("#log")
+    path.write_text("{}")
+    tab.keys("input[type=file][accept='.json']", str(path))
+    tab.wait("id('stored').textContent === 'vecmon-work.json is no file of exported work.'")
+
+
+def test_links_carry_sources_and_no_markup(tabs: "Chrome", site: pathlib.Path) -> None:
+    address = (site / "playground.html").as_uri()
+    tab = SiteTab(tabs, address)
+    tab.write("# <img src=x onerror=alert(1)>\n")
+    tab.run("(id('show-source').click(), id('link').click())")
+    link = tab.run("location.hash")
+    tab.run("(id('source').value = 'nop', id('source').dispatchEvent(new Event('input')))")
+    tab.front().get("about:blank")
+    tab.open(address + link)
+    tab.wait("id('source').value.startsWith('# <img')")
+    assert tab.run("all('img').length") == 0
+    for hash in ("#source=%%%", "#source=" + "A" * 200_000, "#source=e30"):
+        tab.front().get("about:blank")
+        tab.open(address + hash)
+        tab.wait("id('stop').textContent.includes('this link can')")
+
+
+@pytest.mark.parametrize("name, told", [("sum.elf", "The image sum has"), ("sum.c", "this page has no compiler")])
+def test_files_are_dropped(name: str, told: str, tabs: "Chrome", site: pathlib.Path) -> None:
+    import base64
+
+    tab = SiteTab(tabs, (site / "playground.html").as_uri())
+    tab.front().execute_script(DROP, name, base64.b64encode(SUM.read_bytes()).decode())
+    tab.wait("id('log').textContent.includes(arguments[0])", told)
+
+
+def test_a_second_tab_is_told(tabs: "Chrome", server: tuple[str, list[str]]) -> None:
+    first = SiteTab(tabs, f"{server[0]}/play/index.html")
+    second = SiteTab(tabs, f"{server[0]}/play/index.html")
+    assert second.text("#stored").startswith("The playground is open in another tab")
+    assert first.run("id('stored').hidden")
+
+
+def test_the_pages_around_it(tabs: "Chrome", server: tuple[str, list[str]]) -> None:
+    tabs.switch_to.new_window("tab")
+    tabs.get(f"{server[0]}/index.html")
+    links = tabs.execute_script("return [...document.querySelectorAll('main a')].map((each) => each.href)")
+    assert len(links) == 5
+    tabs.get(f"{server[0]}/course/index.html")
+    hrefs = tabs.execute_script("return [...document.querySelectorAll('a')].map((each) => each.getAttribute('href'))")
+    assert "../play/index.html#exercise=doubles" in hrefs and len([it for it in hrefs if "#exercise=" in it]) == 12

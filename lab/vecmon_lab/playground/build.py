@@ -1,0 +1,124 @@
+"""Builds the site from its parts: `python3 -m vecmon_lab.playground.build PARTS OUT`.
+
+PARTS has python.wasm and its snapshot `memory`, vecmon.wasm and the file PROVENANCE of tools/wasm, later.zip, and the
+folder lessons. OUT gets playground.html, which is one file, play/, the same page with its parts as files, and index.html.
+The same parts give the same bytes.
+"""
+
+import base64
+import gzip
+import hashlib
+import html
+import json
+import pathlib
+import sys
+from collections.abc import Mapping
+
+from .. import LabError
+from ..page.modules import join_modules
+from ..page.pages import Page, page_file
+from ..page.reference import reference_text
+
+WEB = pathlib.Path(__file__).with_name("web")
+DIGEST_BYTES = 32
+DATA, DATA_COUNT = 11, 12  # sections of WebAssembly
+LATER = "later"  # the part that is loaded where it is needed
+EXAMPLES = pathlib.Path(__file__).parents[2] / "examples"
+PRACTICE = (
+    "Checks on this page are practice and not marks: the expected values are in the file, for anyone to read. "
+    "Nothing that you write here is sent anywhere."
+)
+
+
+def without_data(module: bytes) -> bytes:
+    """A WebAssembly module without the initial contents of its memory, which a snapshot replaces."""
+    made, at = module[:8], 8
+    while at < len(module):
+        start, size, shift, at = at, 0, 0, at + 1
+        while module[at] & 0x80:
+            size, shift, at = size | (module[at] & 0x7F) << shift, shift + 7, at + 1
+        at += 1 + (size | module[at] << shift)
+        made += b"" if module[start] in (DATA, DATA_COUNT) else module[start:at]
+    return made
+
+
+def parts_of(folder: pathlib.Path) -> dict[str, bytes]:
+    """The parts of a page by name. Raises LabError where the snapshot is that of another module."""
+    python, memory = (folder / "python.wasm").read_bytes(), (folder / "memory").read_bytes()
+    if memory[:DIGEST_BYTES] != hashlib.sha256(python).digest():
+        raise LabError(f"{folder / 'memory'} is no snapshot of {folder / 'python.wasm'}: make both again")
+    module = without_data(python)
+    lessons = {f"lessons/{path.name}": path.read_text("utf-8") for path in sorted((folder / "lessons").iterdir())}
+    return {
+        "python": module,
+        "memory": hashlib.sha256(module).digest() + memory[DIGEST_BYTES:],
+        "machine": (folder / "vecmon.wasm").read_bytes(),
+        "lessons": json.dumps(lessons).encode(),
+        LATER: (folder / "later.zip").read_bytes(),
+    }
+
+
+def about(provenance: str) -> str:
+    """What the page says of its machine and its checks; provenance: of tools/wasm."""
+    proof = "the proved program" if "of the proved program" in provenance else "the program built without its proofs"
+    return f"The machine is {proof}, as WebAssembly. {PRACTICE}"
+
+
+def examples() -> dict[str, str]:
+    """The assembler sources of the examples, by name."""
+    paths = sorted([*EXAMPLES.glob("*.s"), *EXAMPLES.glob("unwritten/*.s")])
+    return {path.stem.replace("_", " "): path.read_text("utf-8") for path in paths}
+
+
+def playground(page: Page, entries: Mapping[str, object], words: str, connect: str) -> str:
+    """The page in HTML; entries: of each part where it is; connect: a source of a policy."""
+    lesson = Page("lesson")  # which opens in a tab that has the page's policy
+    policy = "; ".join(
+        [
+            "default-src 'none'; img-src data:; base-uri 'none'; form-action 'none'; worker-src blob:",
+            f"style-src {page.style_source} {lesson.style_source}; connect-src {connect}",
+            f"script-src {page.script_source} {lesson.script_source} 'wasm-unsafe-eval'",
+        ]
+    )
+    meta = f'<meta http-equiv="Content-Security-Policy" content="{html.escape(policy)}">'
+    worker = join_modules("worker", lambda name: page_file(name, WEB))
+    return page.text("vecmon playground", reference_text(), meta) + "".join(
+        f'<script type="application/json" id="{name}">{_as_json(it)}</script>\n'
+        for name, it in (("parts", {"files": entries, "about": words, "examples": examples()}), ("worker", worker))
+    )
+
+
+def build(folder: pathlib.Path, out: pathlib.Path) -> None:
+    """Writes the pages. Raises LabError and OSError."""
+    parts, page = parts_of(folder), Page("class", WEB)
+    words = about((folder / "PROVENANCE").read_text("utf-8"))
+    packed = {name: gzip.compress(part, 9, mtime=0) for name, part in parts.items()}
+    digests = {name: hashlib.sha256(part).hexdigest() for name, part in parts.items()}
+    (out / "play").mkdir(parents=True, exist_ok=True)
+    files = {name: f"{name}-{digests[name][:12]}.gz" for name in parts}
+    for name, file in files.items():
+        (out / "play" / file).write_bytes(packed[name])
+    apart = {name: {"url": file, "digest": digests[name]} for name, file in files.items()}
+    (out / "play" / "index.html").write_text(playground(page, apart, words, "'self'"), "utf-8")
+    within = {name: {"id": f"part-{name}", "digest": digests[name]} for name in parts}
+    blocks = "".join(
+        f'<script type="text/plain" id="part-{name}">{base64.b64encode(part).decode("ascii")}</script>\n'
+        for name, part in packed.items()
+    )
+    (out / "playground.html").write_text(playground(page, within, words, "'none'") + blocks, "utf-8")
+    start = Page("start", WEB)
+    policy = f"{start.policy}; frame-src 'self' file:"
+    meta = f'<meta http-equiv="Content-Security-Policy" content="{html.escape(policy)}">'
+    (out / "index.html").write_text(start.text("vecmon", _as_json({"about": words}), meta), "utf-8")
+
+
+def _as_json(it: object) -> str:
+    """JSON that can be in a page."""
+    return json.dumps(it).replace("<", "\\u003c")
+
+
+if __name__ == "__main__":
+    try:
+        build(*map(pathlib.Path, sys.argv[1:3]))
+    except LabError as error:
+        sys.exit(f"vecmon_lab.playground.build: {error}")

@@ -1,0 +1,134 @@
+// The work of this page in the browser's storage (IndexedDB): texts by name, each with its time in seconds since 1970; and files of them.
+
+const [DATABASE, STORE, FORMAT_VERSION] = ["vecmon playground", "texts", 1];
+const LOCK = "vecmon playground"; // held by the tab that saves
+const FORMAT = "vecmon work";
+const ELSEWHERE = "The playground is open in another tab, which saves its work. Changes in this tab aren't saved: Take home exports them.";
+const [MOST_FILE_BYTES, MOST_TEXTS] = [64 << 20, 20000];
+const NAME = /^[\w.@-]+(\/[\w.@-]+)?$/; // of a text, with one folder at most
+
+/** What a request of the database gives. */
+const resultOf = (request) =>
+  new Promise((done, fail) => {
+    request.onsuccess = () => done(request.result);
+    request.onerror = () => fail(request.error);
+  });
+
+/** Whether an entry is one of this format: a name, a text and a time. */
+export const isEntry = (entry) =>
+  typeof entry?.name === "string" && NAME.test(entry.name) && typeof entry.text === "string" && Number.isFinite(entry.time);
+
+/** Texts by name, as Python takes them. */
+export const byName = (entries) => Object.fromEntries(entries.map(({ name, text, time }) => [name, [text, time]]));
+
+/** A file with all texts. */
+export function fileOf(texts) {
+  const entries = Object.entries(texts).map(([name, [text, time]]) => ({ name, text, time }));
+  return new Blob([JSON.stringify({ format: FORMAT, version: FORMAT_VERSION, texts: entries }, null, 1)], { type: "application/json" });
+}
+
+/** The texts of a file, by name; raises an error with a sentence if it is none of these. */
+export const textsOf = async (file) => {
+  if (file.size > MOST_FILE_BYTES) throw new Error(`${file.name} has more than ${MOST_FILE_BYTES.toLocaleString("en")} bytes.`);
+  let content;
+  try {
+    content = JSON.parse(await file.text());
+  } catch {
+    throw new Error(`${file.name} is no file of exported work.`);
+  }
+  if (content?.format !== FORMAT || !Array.isArray(content.texts)) throw new Error(`${file.name} is no file of exported work.`);
+  if (content.version > FORMAT_VERSION) throw new Error(`${file.name} was exported by a newer playground: open it there.`);
+  const entries = content.texts.slice(0, MOST_TEXTS).filter(isEntry);
+  if (!entries.length) throw new Error(`${file.name} has no work that can be read.`);
+  return byName(entries);
+};
+
+/** The storage of this page. Where it is refused, `trouble` says so, and texts are only in memory. */
+export class KeptWork {
+  /** told: is called when `trouble` has changed */
+  constructor(told) {
+    Object.assign(this, { told, texts: {}, rest: [], trouble: "", database: null, isOwner: true, due: new Map(), writing: null });
+  }
+
+  /** Opens the storage, and reads what it has. */
+  async open() {
+    this.isOwner = await this.holdLock();
+    try {
+      this.database = await this.openDatabase();
+      const entries = await this.readAll();
+      this.texts = byName(entries.filter(isEntry));
+      this.rest = entries.filter((entry) => !isEntry(entry));
+      if (this.rest.length) this.say(`${this.rest.length} saved texts can't be read: Damaged texts saves them as a file.`);
+    } catch (error) {
+      this.database = null;
+      const why = `This browser stores nothing for this page (${error.name})`;
+      this.say(`${why}. Your work is lost when the page closes: Take home exports it.`);
+    }
+    if (!this.isOwner) this.say(ELSEWHERE);
+  }
+
+  openDatabase() {
+    const request = indexedDB.open(DATABASE, FORMAT_VERSION);
+    request.onupgradeneeded = () => {
+      if (!request.result.objectStoreNames.contains(STORE)) request.result.createObjectStore(STORE, { keyPath: "name" });
+    };
+    return resultOf(request).catch((error) => {
+      if (error.name !== "VersionError") throw error;
+      this.isOwner = false; // a newer page has written it: it is only read
+      return resultOf(indexedDB.open(DATABASE));
+    });
+  }
+
+  readAll() {
+    return resultOf(this.database.transaction(STORE).objectStore(STORE).getAll());
+  }
+
+  /** Whether this tab is the one that saves. It is told when another tab takes that over. */
+  holdLock() {
+    return new Promise((done) => {
+      const hold = (lock) => (done(Boolean(lock)), lock && new Promise(() => {}));
+      if (!navigator.locks) return done(true);
+      return navigator.locks.request(LOCK, { ifAvailable: true }, hold).catch(() => done(true)); // of a page without an origin
+    });
+  }
+
+  /** Saves a text, or removes it where it is null, soon after. */
+  keep(name, text, time) {
+    if (text === null) delete this.texts[name];
+    else this.texts[name] = [text, time];
+    this.due.set(name, text === null ? null : { name, text, time });
+    this.writing ??= this.write();
+  }
+
+  /** Replaces all texts. */
+  async replace(texts) {
+    for (const name of Object.keys(this.texts)) if (!texts[name]) this.keep(name, null, 0);
+    for (const [name, entry] of Object.entries(texts)) this.keep(name, ...entry);
+    await this.writing;
+  }
+
+  /** Writes what is due, in one transaction. */
+  async write() {
+    await null; // so that what is kept together is written together
+    this.writing = null;
+    if (!this.database || !this.isOwner) return;
+    const entries = [...this.due];
+    this.due.clear();
+    try {
+      const transaction = this.database.transaction(STORE, "readwrite");
+      const store = transaction.objectStore(STORE);
+      for (const [name, entry] of entries) entry ? store.put(entry) : store.delete(name);
+      await new Promise((done, fail) => Object.assign(transaction, { oncomplete: done, onabort: () => fail(transaction.error) }));
+      if (this.isFull) this.say((this.isFull = ""));
+    } catch (error) {
+      for (const [name, entry] of entries) if (!this.due.has(name)) this.due.set(name, entry); // for the next transaction
+      this.isFull = `The browser's storage takes no more (${error?.name}). Changes aren't saved: Take home exports your work.`;
+      this.say(this.isFull);
+    }
+  }
+
+  say(words) {
+    this.trouble = words;
+    this.told(words);
+  }
+}

@@ -1,0 +1,110 @@
+// vecmon.wasm as a process that is asked synchronously: where it would wait for input, its stack is unwound into its memory
+// (binaryen's Asyncify), and wound up again with the next lines (docs/WEBASSEMBLY.md).
+
+const STACK_BYTES = 65536; // of what is unwound
+const PAGE_BYTES = 65536;
+const [UNWINDING, REWINDING] = [1, 2]; // states of Asyncify
+const [NO_FILE, NO_SEEK] = [-2, -29]; // ENOENT and ESPIPE of Linux
+const [INPUT, FIRST_FILE] = [0, 3]; // descriptors
+const INPUT_PATH = "/dev/stdin";
+
+/** A process of the program; its status is null until it has ended. */
+export class Machine {
+  /** words: its arguments; files: contents by path */
+  constructor(module, words, files) {
+    Object.assign(this, { files, opened: new Map(), input: new Uint8Array(), output: [], status: null });
+    this.words = ["vecmon", ...words].map((word) => new TextEncoder().encode(word));
+    const names = ["argument", "open", "read", "write", "close", "seek", "stat"];
+    const host = Object.fromEntries(names.map((name) => [name, (...values) => this[name](...values)]));
+    this.program = new WebAssembly.Instance(module, { host }).exports;
+    this.run(); // to its first read
+  }
+
+  /** The answers to lines, in bytes; null if the process has ended. */
+  ask(lines) {
+    if (this.status !== null) return null;
+    Object.assign(this, { input: lines, output: [] });
+    this.program.asyncify_start_rewind(this.stack);
+    this.run();
+    if (this.output.length === 1) return this.output[0];
+    const all = new Uint8Array(this.output.reduce((size, part) => size + part.length, 0));
+    this.output.reduce((place, part) => (all.set(part, place), place + part.length), 0);
+    return all;
+  }
+
+  /** Runs the program until it waits for lines, or ends. */
+  run() {
+    const status = this.program.run();
+    if (this.program.asyncify_get_state() === UNWINDING) this.program.asyncify_stop_unwind();
+    else this.status = status;
+  }
+
+  bytes(address, size) {
+    return new Uint8Array(this.program.memory.buffer, address >>> 0, size >>> 0);
+  }
+
+  /** The place of what is unwound, in pages of its own. */
+  get stack() {
+    if (this.place === undefined) {
+      this.place = this.program.memory.grow(1 + STACK_BYTES / PAGE_BYTES) * PAGE_BYTES;
+      new Uint32Array(this.program.memory.buffer, this.place, 2).set([this.place + 8, this.place + 8 + STACK_BYTES]);
+    }
+    return this.place;
+  }
+
+  argument(index, address, size) {
+    const word = this.words[index];
+    if (!word) return -1;
+    if (word.length <= size) this.bytes(address, word.length).set(word);
+    return word.length;
+  }
+
+  open(address) {
+    const memory = new Uint8Array(this.program.memory.buffer);
+    const path = new TextDecoder().decode(memory.slice(address >>> 0, memory.indexOf(0, address >>> 0)));
+    if (path === INPUT_PATH) return INPUT;
+    if (!this.files[path]) return NO_FILE;
+    const descriptor = FIRST_FILE + this.opened.size;
+    this.opened.set(descriptor, { content: this.files[path], place: 0 });
+    return descriptor;
+  }
+
+  read(descriptor, address, size) {
+    const file = this.opened.get(descriptor);
+    if (file) {
+      const part = file.content.subarray(file.place, file.place + size);
+      this.bytes(address, part.length).set(part);
+      file.place += part.length;
+      return part.length;
+    }
+    if (this.program.asyncify_get_state() === REWINDING) this.program.asyncify_stop_rewind();
+    if (!this.input.length) {
+      this.program.asyncify_start_unwind(this.stack);
+      return 0;
+    }
+    const part = this.input.subarray(0, size);
+    this.bytes(address, part.length).set(part);
+    this.input = this.input.subarray(part.length);
+    return part.length;
+  }
+
+  write(descriptor, address, size) {
+    this.output.push(this.bytes(address, size).slice());
+    return size;
+  }
+
+  close() {
+    return 0;
+  }
+
+  seek(descriptor, offset, whence) {
+    const file = this.opened.get(descriptor);
+    if (!file) return BigInt(NO_SEEK);
+    file.place = Number(offset) + [0, file.place, file.content.length][whence];
+    return BigInt(file.place);
+  }
+
+  stat() {
+    return NO_FILE;
+  }
+}
