@@ -1,6 +1,8 @@
 # Installs the programs that `rt ci` or `rt run` has built, the lab, manual pages, documents and the book: it builds no program.
 #
-#     make install|uninstall [prefix=/usr/local] [bindir=..] [mandir=..] [docdir=..] [DESTDIR=..]
+#     make install|uninstall [prefix=/usr/local] [bindir=..] [mandir=..] [docdir=..] [DESTDIR=..] [site=..]
+#
+# `site` is the folder that tools/site has written, for `vecmon-lab site`; without it the playground isn't installed.
 #
 # `uninstall` takes away the files that FILES lists. The lab lies in share/vecmon with all that it reads, as in the repository, so that it
 # needs no documents to run.
@@ -12,6 +14,7 @@ lab = $(prefix)/share/vecmon
 completions = $(prefix)/share/bash-completion/completions
 program = crates/vecmon/out/vecmon
 recorder = crates/vecmon_record/out/vecmon_record
+site =
 
 lab_files = lab/vecmon_lab/py.typed $(filter-out %.pyc, $(wildcard lab/vecmon_lab/*.py lab/vecmon_lab/*.txt lab/vecmon_lab/*/*.* \
     lab/vecmon_lab/compilers/runtime/* lab/vecmon_lab/tables/meanings/* lab/vecmon_lab/exercises/given/*/*.* lab/vecmon_lab/exercises/given/*/wrong/* \
@@ -45,6 +48,7 @@ install:
 	$(link) "$(DESTDIR)$(lab)/lab/vecmon_lab/exercises/given" "$(DESTDIR)$(docdir)/examples/exercises"
 	$(link) "$(DESTDIR)$(lab)/lab/vecmon_lab/lessons/tours" "$(DESTDIR)$(docdir)/examples/tour"
 	tools/book "$(DESTDIR)$(docdir)/html"
+	test -z "$(site)" || { install -d "$(DESTDIR)$(lab)/site" && cp -r --no-preserve=mode,ownership "$(site)"/. "$(DESTDIR)$(lab)/site"; }
 	$(call page,vecmon,1,'trainer machine for the RISC-V vector extension',PROGRAM.md)
 	$(call page,vecmon-record,1,'records what a program does on the machine of vecmon',RECORDER.md)
 	$(call page,vecmon-lab,1,'front end of vecmon with lessons and classes',LAB.md)
