@@ -17,7 +17,7 @@ from vecmon_lab.compilers.compiler import Compiler
 
 NAMES = ["doubles"]
 WEB = TOP / "lab" / "vecmon_lab" / "playground" / "web"
-OWN = ("name", "own_slices", "no_c", "exercises")  # of a view: what a page without a server has otherwise
+OWN = ("name", "own_slices", "no_c", "clock", "exercises")  # of a view: what a page without a server has otherwise
 COMPILE = (
     'int add(int a, int b) { return a + b; }\nvoid _start(void) { volatile int x = add(1, 2); __asm__("ebreak"); }\n'
 )
@@ -41,7 +41,8 @@ def answered_by_page(parts: pathlib.Path, requests: list[Request]) -> Sent:
 
 def common(sent: Sent) -> Sent:
     """Messages without what the playground has otherwise: its exercises, and a class's words on C and names."""
-    return [[_common(message) for message in messages] for messages in sent]
+    plain: Sent = json.loads(json.dumps(sent))  # without tuples
+    return [[_common(message) for message in messages] for messages in plain]
 
 
 def _common(message: Mapping[str, Any]) -> dict[str, Any]:
