@@ -41,18 +41,34 @@ def patched(value: Any, patch: Any) -> Any:
 
 
 class Tab:
-    """A tab: its view, its logs, and the messages that came."""
+    """A tab: its view, its logs, and the messages that came.
+
+    From the first `receive` on a task reads the socket, as a browser does: aiohttp answers the server's pings only while
+    it reads.
+    """
 
     def __init__(self, socket: aiohttp.ClientWebSocketResponse) -> None:
         self.socket = socket
         self.view: Message = {}
         self.logs: dict[str, list[str]] = {}
         self._number = 0
+        self._received = asyncio.Queue[aiohttp.WSMessage]()
+        self._reader: asyncio.Task[None] | None = None
+
+    async def _read(self) -> None:
+        """Queue the messages that arrive; the last one is that of the end."""
+        is_open = True
+        while is_open:
+            message = await self.socket.receive()
+            is_open = message.type is aiohttp.WSMsgType.TEXT
+            self._received.put_nowait(message)
 
     async def receive(self) -> Message:
         """The next message, taken up. Raises EOFError with the code where the server has closed."""
-        message = await asyncio.wait_for(self.socket.receive(), SECONDS)
+        self._reader = self._reader or asyncio.create_task(self._read())
+        message = await asyncio.wait_for(self._received.get(), SECONDS)
         if message.type is not aiohttp.WSMsgType.TEXT:
+            self._received.put_nowait(message)  # for the next call
             is_told = message.type is aiohttp.WSMsgType.CLOSE
             raise EOFError(message.data if is_told else self.socket.close_code)
         told: Message = json.loads(message.data)
