@@ -1,5 +1,5 @@
-"""What a student takes home: an archive with the source, the script, its images, a lesson of it for any browser, answers, and a
-file that the playground opens."""
+"""An archive to take home: the source, the script, its images, a lesson of it for any browser, answers, and a file that the
+playground opens."""
 
 import contextlib
 import io

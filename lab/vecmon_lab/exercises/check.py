@@ -81,7 +81,7 @@ def failed_check(cause: str) -> Told:
 
 
 def check(program: Vecmon, exercise: Exercise, text: str, compiled: CompiledProgram | None, good: Taken | None) -> Told:
-    """What is told of a source, in an exercise with what is expected. Raises ToolError.
+    """The result of a source, in an exercise with expected results. Raises ToolError.
 
     compiled: its compiled form, if it is in C; good: the cost of the exercise's good answer, if known
     """

@@ -11,7 +11,7 @@ Taken = TypedDict("Taken", {"instructions": int, "work": int})
 
 
 def taken_by(program: Vecmon, answer: Answer, exercise: Exercise) -> Taken:
-    """What an answer takes that passes. Raises LabError where there is no recorder."""
+    """The cost of an answer that passes. Raises LabError without a recorder."""
     from ..runs.beginning import beginning_at  # which is for answers that pass
     from ..runs.recorder import record
 

@@ -15,13 +15,13 @@ FILES = pathlib.Path(__file__).parent
 
 
 class Page:
-    """A page of this folder by its name, with which its styles begin. Its style and its script stand in line, and its policy allows these alone.
+    """A page of this folder by its name, with which its styles begin; only its inline style and script are allowed.
 
-    style_source, script_source: what a policy calls them
+    style_source, script_source: their sources in a content security policy
     """
 
     def __init__(self, name: str, folder: pathlib.Path = FILES) -> None:
-        """folder: whose files stand in for those of the same name here"""
+        """folder: its files replace those of the same name here"""
         read = functools.partial(page_file, folder=folder)
         frame, body, machine = map(read, ("page.html", f"{name}.html", "machine.html"))
         self._template = string.Template(frame.replace("$body", body).replace("$machine", machine))
@@ -78,6 +78,6 @@ def _digest(text: str) -> str:
 
 
 def page_file(name: str, folder: pathlib.Path = FILES) -> str:
-    """A file of a folder, or of this one where it isn't there."""
+    """The text of a file of a folder, or of this one if that has no such file."""
     path = folder / name
     return (path if path.exists() else FILES / name).read_text("utf-8")
