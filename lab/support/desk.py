@@ -11,7 +11,6 @@ from vecmon_lab.classes.shared_machine import Answers
 from vecmon_lab.exercises.exercise import Exercise
 from vecmon_lab.machine.process import Vecmon
 from vecmon_lab.machine.session import Session
-from vecmon_lab.playground.desk import SLICES
 from vecmon_lab.playground.desk import Desk as PageDesk
 from vecmon_lab.playground.kept_texts import KeptTexts
 

@@ -45,7 +45,7 @@ class Firefox:
         self._ask("WebDriver:Navigate", {"url": address})
 
     def execute_script(self, script: str, *arguments: object) -> Any:
-        """What a script returns."""
+        """The value that a script returns."""
         return self._ask("WebDriver:ExecuteScript", {"script": script, "args": list(arguments)})["value"]
 
     def quit(self) -> None:
@@ -59,7 +59,7 @@ class Firefox:
         shutil.rmtree(self._profile, ignore_errors=True)
 
     def _ask(self, name: str, body: Mapping[str, object]) -> Any:
-        """What a command answers. Raises RuntimeError where it fails."""
+        """The answer to a command. Raises RuntimeError if it fails."""
         self._number += 1
         message = json.dumps([0, self._number, name, body]).encode()
         self._socket.sendall(f"{len(message)}:".encode() + message)

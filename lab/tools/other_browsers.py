@@ -15,10 +15,10 @@ from typing import Any
 
 sys.path.insert(0, str(pathlib.Path(__file__).resolve().parents[1]))
 
-from support.browser import browser_with
-from support.marionette import Firefox
-from support.places import SUM, TOP
-from support.site import TITLE, served_files
+from support.browser import browser_with  # noqa: E402
+from support.marionette import Firefox  # noqa: E402
+from support.places import SUM, TOP  # noqa: E402
+from support.site import TITLE, served_files  # noqa: E402
 
 PATIENCE = 60.0
 SOURCE = "        li t0, 10\nloop:   vsetivli zero, 8, e32, m1, ta, ma\n        vid.v v1\n        addi t0, t0, -1\n        bnez t0, loop\n        ebreak\n"
@@ -49,7 +49,7 @@ class Page:
         return time.monotonic() - start
 
     def run(self, script: str, *arguments: object) -> Any:
-        """What a script returns."""
+        """The value that a script returns."""
         return self.driver.execute_script(script, *arguments)
 
     def wait(self, condition: str) -> float:

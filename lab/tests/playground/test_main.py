@@ -1,4 +1,4 @@
-"""What the worker of a page calls, on a stand-in for the worker: machines are the program behind its pipes."""
+"""The interface to the worker, with a test double of the worker whose machines are native processes."""
 
 import importlib
 import json
@@ -71,7 +71,7 @@ def worker(program: pathlib.Path, monkeypatch: pytest.MonkeyPatch, tmp_path: pat
 
 
 def say(main: Any, **message: object) -> tuple[Any, bool]:
-    """The message that Python answers, and whether more is to be done."""
+    """The message that Python answers, and whether there is more work."""
     answer, is_busy = json.loads(main.answer(json.dumps(message)))
     return answer, is_busy
 

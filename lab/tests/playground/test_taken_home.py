@@ -1,4 +1,4 @@
-"""What a student takes home from a class opens in the playground: source, versions and machine are as they were."""
+"""The archive that a student takes home from a class opens in the playground: source, versions and machine are unchanged."""
 
 import io
 import json

@@ -43,10 +43,12 @@ def without_data(module: bytes) -> bytes:
 
 
 def parts_of(folder: pathlib.Path) -> dict[str, bytes]:
-    """The parts of a page by name. Raises LabError where the snapshot is that of another module."""
+    """The parts of a page by name. Raises LabError if the snapshot belongs to another module."""
     python, memory = (folder / "python.wasm").read_bytes(), (folder / "memory").read_bytes()
     if memory[:DIGEST_BYTES] != hashlib.sha256(python).digest():
-        raise LabError(f"{folder / 'memory'} is no snapshot of {folder / 'python.wasm'}: make both again")
+        raise LabError(
+            f"{folder / 'memory'} is no snapshot of {folder / 'python.wasm'}: build both again with tools/site"
+        )
     module = without_data(python)
     lessons = {f"lessons/{path.name}": path.read_text("utf-8") for path in sorted((folder / "lessons").iterdir())}
     return {
@@ -59,7 +61,7 @@ def parts_of(folder: pathlib.Path) -> dict[str, bytes]:
 
 
 def about(provenance: str) -> str:
-    """What the page says of its machine and its checks; provenance: of tools/wasm."""
+    """The text about the machine and the checks at the foot of the page; provenance: the text of tools/wasm."""
     proof = "the proved program" if "of the proved program" in provenance else "the program built without its proofs"
     return f"The machine is {proof}, as WebAssembly. {PRACTICE}"
 
@@ -71,7 +73,7 @@ def examples() -> dict[str, str]:
 
 
 def playground(page: Page, entries: Mapping[str, object], words: str, connect: str) -> str:
-    """The page in HTML; entries: of each part where it is; connect: a source of a policy."""
+    """The page in HTML; entries: the place of each part; connect: a source of a content security policy."""
     lesson = Page("lesson")  # which opens in a tab that has the page's policy
     policy = "; ".join(
         [
@@ -91,10 +93,12 @@ def playground(page: Page, entries: Mapping[str, object], words: str, connect: s
 def build(folder: pathlib.Path, out: pathlib.Path) -> None:
     """Writes the pages. Raises LabError and OSError."""
     parts, page = parts_of(folder), Page("class", WEB)
-    words = about((folder / "PROVENANCE").read_text("utf-8"))
+    provenance = (folder / "PROVENANCE").read_text("utf-8")
+    words = about(provenance)
     packed = {name: gzip.compress(part, 9, mtime=0) for name, part in parts.items()}
     digests = {name: hashlib.sha256(part).hexdigest() for name, part in parts.items()}
     (out / "play").mkdir(parents=True, exist_ok=True)
+    (out / "PROVENANCE").write_text(provenance, "utf-8")
     files = {name: f"{name}-{digests[name][:12]}.gz" for name in parts}
     for name, file in files.items():
         (out / "play" / file).write_bytes(packed[name])

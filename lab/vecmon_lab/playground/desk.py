@@ -1,6 +1,6 @@
-"""A student's seat at a machine of its own, in one thread and without a server: each request is answered at once.
+"""A student's seat at a private machine, in one thread and without a server, which answers each request at once.
 
-What goes on without a request, programs that run and checks of answers, is done in turns.
+Work without a request, running programs and checks of answers, is done in turns.
 """
 
 import time
@@ -13,7 +13,7 @@ from ..classes.languages import SourceText
 from ..classes.messages import Message, Updates, add_words, request_of
 from ..classes.progress import Exercises, Start, Try
 from ..classes.requests import BadRequest, Check, Draft, JsonObject, Lines, OpenExercise, ReadAnswer, ReadVersion
-from ..classes.requests import Request, Settings, Source, StepLine, TryCase, read_request
+from ..classes.requests import Request, Settings, Source, StepLine, TryCase, Why, read_request
 from ..classes.shared_machine import Answers, MakeProgram, Result, SharedMachine, Steps, Turn
 from ..classes.student import Student, text_of
 from ..classes.text_store import TextStore
@@ -41,10 +41,10 @@ class NoRecorder:
 class Desk:
     """A seat, its machine and the exercises.
 
-    no_c: why sources in C are refused, for the page
-    stopper: what stops a program that runs too long, in messages
-    own_slices: whether the page offers slices of a program that runs
-    limit: the ticks that a program has without a stop, about
+    no_c: the reason why sources in C are refused, for the page.
+    stopper: the name in messages of the one that stops a program that runs too long.
+    own_slices: whether the page offers slices of a running program.
+    limit: the approximate number of ticks that a program may run without a stop.
     """
 
     no_c, stopper, own_slices = NO_C, "page", False
@@ -70,7 +70,7 @@ class Desk:
 
     @property
     def is_busy(self) -> bool:
-        """Whether there is something to do without a request."""
+        """Whether there is work without a request."""
         return bool(self._checks or self.machine.seats.running())
 
     def hello(self) -> Message:
@@ -81,7 +81,7 @@ class Desk:
         return hello
 
     def news(self) -> Message:
-        """What the page hasn't been sent."""
+        """The changes that the page doesn't have yet."""
         return self._sent.news(self.student.view(self._more()), [self.seat])
 
     def answer(self, text: str) -> Message:
@@ -99,7 +99,7 @@ class Desk:
         return answer
 
     def turn(self) -> Message:
-        """Does a part of what goes on without a request; what is new then, which may be nothing."""
+        """Do a part of the work without a request; return the changes, which may be empty."""
         if self._checks:
             self._checks.pop(0)()
         elif self.machine.seats.running():
@@ -119,7 +119,7 @@ class Desk:
         return lesson(self.program, self.exercises.by_name[name], progress.told["number"], progress.source.text, None)
 
     def try_of(self, name: str, number: int) -> SourceText:
-        """The source of a try at an exercise, the first of which is 1. Raises BadRequest."""
+        """The source of a try at an exercise; the first try has number 1. Raises BadRequest."""
         raise BadRequest("there is no such answer")
 
     def add_try(self, name: str, done: Try) -> None:
@@ -156,20 +156,20 @@ class Desk:
         return [*self.machine.session.images]
 
     def _more(self) -> dict[str, object]:
-        """What isn't the seat's own of the page's view."""
+        """The parts of the page's view that belong to no seat."""
         more: dict[str, object] = {"name": "", "images": self.names_of_images(), "clock": True}
         more |= {"own_slices": self.own_slices}
         return more | {"notices": [], "no_c": self.no_c, "against": [], "ready": True, "trouble": ""}
 
     def _execute(self, request: Request, done: Answers) -> Message:
-        """Executes a request; what its answer has of its own. Raises BadRequest."""
+        """Execute a request; return the fields of its answer. Raises BadRequest."""
         match request:
             case Lines():
                 return {"do": done, "look": self.lines(request, done)}
             case ReadAnswer(_, name, number):
                 self.exercises.exercise(name)
                 return text_of(self.try_of(name, number))
-            case Source() | StepLine() | Draft() | OpenExercise() | ReadVersion() | Check() | TryCase():
+            case Source() | StepLine() | Why() | Draft() | OpenExercise() | ReadVersion() | Check() | TryCase():
                 return self.run(self.student.execute(request))
         return self.execute(request, done)
 
@@ -193,7 +193,7 @@ class Desk:
         return read_whole_source(source.text, self.program)
 
     def _begin_check(self, seat: str, name: str, source: SourceText) -> None:
-        """Has an answer checked in one of the next turns. Raises BadRequest."""
+        """Queue the check of an answer for one of the next turns. Raises BadRequest."""
         exercise = self.exercises.exercise(name)
         if source.choice is not None:
             raise BadRequest(f"sources in C aren't compiled: {self.no_c}")

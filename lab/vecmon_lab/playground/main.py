@@ -1,12 +1,12 @@
-"""What the worker of a page calls: `answer` takes a message in JSON and returns the messages for the page, in JSON.
+"""The interface to the worker of a page: `answer` takes a message in JSON and returns a message for the page, in JSON.
 
-`{"begin": TEXTS}`             makes the desk from the kept texts, each a text and its time by name
-`{"request": "..."}`           a request of the page (docs/CLASS_PROTOCOL.md)
-`{"turn": true}`               a part of what goes on without a request
-`{"keep": true}`               saves what has changed: the worker is given each text
-`{"image": NAME, "path": P}`   an image that was dropped, in the file P
-`{"lesson": TICKET}`           a lesson, in HTML
-`{"forget": true}`             drops the desk, for a snapshot
+`{"begin": TEXTS}` makes the desk from the stored texts, each a text and its time by name.
+`{"request": "..."}` is a request of the page (docs/CLASS_PROTOCOL.md).
+`{"turn": true}` does a part of the work without a request.
+`{"keep": true}` sends each changed text to the worker, which saves it.
+`{"image": NAME, "path": P}` is an image that was dropped, in the file P.
+`{"lesson": TICKET}` returns a lesson, in HTML.
+`{"forget": true}` drops the desk, for a snapshot.
 """
 
 import gc
@@ -41,7 +41,7 @@ _exercises: dict[str, Any] = {STARTS: {}, BY_NAME: {}}
 
 
 def prepare() -> None:
-    """Reads what there are no files for later, before a snapshot is taken."""
+    """Read all files, before the snapshot: later there are none."""
     if EXERCISES.exists():
         _exercises.update(pickle.loads(EXERCISES.read_bytes()))
     lesson_page("", [], Script("", []))  # reads the files of pages
@@ -58,7 +58,7 @@ def _refuse_compressed(*data: object) -> None:
 
 
 def answer(text: str) -> str:
-    """The message for the page, and whether there is more to do without a request."""
+    """The message for the page, and whether there is work without a request."""
     asked = json.loads(text)
     message = _message(asked)
     if "keep" in asked and _desk:
@@ -93,7 +93,7 @@ def _message(asked: dict[str, Any]) -> object:
 
 
 def _lesson(desk: PageDesk, ticket: str) -> dict[str, str]:
-    """A lesson, or why there is none."""
+    """A lesson, or the reason why there is none."""
     try:
         return {"page": desk.lesson(ticket)}
     except LabError as error:

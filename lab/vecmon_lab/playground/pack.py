@@ -1,6 +1,6 @@
 """Packs what Python in a page imports: `python3 -m vecmon_lab.playground.pack LIBRARY OUT`.
 
-LIBRARY is the folder Lib of CPython.
+LIBRARY is the folder of CPython's library, as /usr/lib/python3.11.
 
 OUT/lib.zip   the standard library, compiled, without docstrings
 OUT/lab/      the lab, compiled, without docstrings, and its texts
@@ -21,7 +21,7 @@ from collections.abc import Iterable, Iterator
 LAB = pathlib.Path(__file__).parents[1]
 LEFT_OUT = set(
     "test idlelib tkinter lib2to3 ensurepip distutils turtledemo unittest asyncio multiprocessing xml email http xmlrpc "
-    "curses dbm sqlite3 wsgiref msilib pydoc_data venv concurrent __pycache__ ctypes site-packages".split()
+    "curses dbm sqlite3 wsgiref msilib pydoc_data venv concurrent __pycache__ ctypes site-packages dist-packages lib-dynload".split()
 )
 OF_ELFTOOLS = ["pprint.py"]  # of the library what pyelftools alone imports
 TEXTS = {".txt", ".html", ".css", ".js", ".xml", ".s"}  # suffixes of the lab's files that it reads

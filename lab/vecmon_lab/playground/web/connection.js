@@ -7,7 +7,7 @@ import { linkOf } from "./links.js";
 const WORK_FILE = "vecmon-work.json";
 const REPLACED = "The work in this file replaces the sources, versions, tries and machine of this page. Take home exports them before.";
 const MOST_IMAGE_BYTES = 1 << 20;
-const HIDDEN = ["name", "forget", "clock"]; // what belongs to a class
+const HIDDEN = ["name", "forget", "clock"]; // elements of a class
 const dataOf = (id) => JSON.parse(byId(id).textContent);
 
 /** Storage of this tab, where the browser refuses it, as in a frame without an origin. */
@@ -50,7 +50,7 @@ function takeExercise() {
 let wanted = takeExercise();
 
 export class Connection {
-  /** told: is given each message; gone: a sentence while the lab isn't there; ended: why it ended. */
+  /** told: receives each message; gone: receives a sentence while the lab isn't there; ended: receives the cause of the end. */
   constructor(code, told, gone, ended) {
     Object.assign(this, { told, gone, ended, number: 0, ahead: 0, isReady: false, waiting: [] });
     this.times = { page: performance.now() };
@@ -147,7 +147,7 @@ export class Connection {
     wanted = "";
   }
 
-  /** What the lab answers to a request; null where it isn't there. */
+  /** The lab's answer to a request; null if the lab isn't there. */
   ask(request) {
     if (!this.isReady) return null;
     return new Promise((done) => {
@@ -163,7 +163,7 @@ export class Connection {
     return true;
   }
 
-  /** Has the worker hand over what it hasn't yet, and waits for that. */
+  /** Have the worker send all changes, and wait for them. */
   settled() {
     if (!this.isReady) return null;
     return new Promise((done) => {
@@ -172,7 +172,7 @@ export class Connection {
     });
   }
 
-  /** Replaces the work by that of a file, where the answer is yes. */
+  /** Replace the work by that of a file, if the answer is yes. */
   async bring(file) {
     if (!file) return;
     try {

@@ -7,7 +7,7 @@ const ELSEWHERE = "The playground is open in another tab, which saves its work. 
 const [MOST_FILE_BYTES, MOST_TEXTS] = [64 << 20, 20000];
 const NAME = /^[\w.@-]+(\/[\w.@-]+)?$/; // of a text, with one folder at most
 
-/** What a request of the database gives. */
+/** The result of a request to the database. */
 const resultOf = (request) =>
   new Promise((done, fail) => {
     request.onsuccess = () => done(request.result);
@@ -45,9 +45,9 @@ export const textsOf = async (file) => {
 
 /** The storage of this page. Where it is refused, `trouble` says so, and texts are only in memory. */
 export class KeptWork {
-  /** told: is called when `trouble` has changed */
-  constructor(told) {
-    Object.assign(this, { told, texts: {}, rest: [], trouble: "", database: null, isOwner: true, due: new Map(), writing: null });
+  /** changed: called when `trouble` has changed */
+  constructor(changed) {
+    Object.assign(this, { changed, texts: {}, rest: [], trouble: "", database: null, isOwner: true, due: new Map(), writing: null });
   }
 
   /** Opens the storage, and reads what it has. */
@@ -83,7 +83,7 @@ export class KeptWork {
     return resultOf(this.database.transaction(STORE).objectStore(STORE).getAll());
   }
 
-  /** Whether this tab is the one that saves. It is told when another tab takes that over. */
+  /** Whether this tab holds the lock, and so is the one that saves. */
   holdLock() {
     return new Promise((done) => {
       const hold = (lock) => (done(Boolean(lock)), lock && new Promise(() => {}));
@@ -129,6 +129,6 @@ export class KeptWork {
 
   say(words) {
     this.trouble = words;
-    this.told(words);
+    this.changed(words);
   }
 }

@@ -1,4 +1,4 @@
-// The start page of the site: what it says of its machine.
+// The start page of the site: the text about its machine.
 
 import { byId } from "./elements.js";
 

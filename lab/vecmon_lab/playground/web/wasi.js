@@ -1,4 +1,4 @@
-// As much of WASI (preview 1) as CPython asks for: files in memory that are only read, clocks, and what it complains of.
+// The part of WASI (preview 1) that CPython uses: read-only files in memory, clocks, and standard error.
 
 const [OK, BAD_FILE, NO_FILE, NOT_SUPPORTED, NO_SEEK] = [0, 8, 44, 52, 70]; // errno
 const [DEVICE, FOLDER, FILE] = [2, 3, 4]; // filetype
@@ -13,7 +13,7 @@ export class Wasi {
     Object.assign(this, { opened: new Map([[ROOT, { path: "" }]]), next: ROOT + 1 });
   }
 
-  /** The imports of a module, of which those that aren't here are refused. */
+  /** The imports of a module; those that this class doesn't have return ENOTSUP. */
   imports(module) {
     const names = WebAssembly.Module.imports(module).filter((each) => each.module === "wasi_snapshot_preview1");
     return Object.fromEntries(names.map(({ name }) => [name, this[name]?.bind(this) ?? (() => NOT_SUPPORTED)]));

@@ -21,7 +21,7 @@ const host = {
   random: (bytes) => crypto.getRandomValues(bytes),
 };
 
-/** Gives Python a message, and the page what it answers. */
+/** Send a message to Python, and its answer to the page. */
 function give(message) {
   const [answer, isBusy] = python.answer(message);
   if (answer.kind) postMessage(answer);
@@ -45,7 +45,7 @@ async function load(part, type = "") {
 const bytesOf = async (part) => new Uint8Array(await (await load(part)).arrayBuffer());
 const hexadecimal = (bytes) => Array.from(bytes, (byte) => byte.toString(16).padStart(2, "0")).join("");
 
-/** What only images need: pyelftools. */
+/** Load pyelftools, which only images need. */
 async function loadLater() {
   pythonFiles["later.zip"] ??= await bytesOf(parts.later);
 }
@@ -89,7 +89,7 @@ async function take(message) {
   return undefined;
 }
 
-/** Does something; the page is told where it fails. */
+/** Do something; report its failure to the page. */
 async function attempt(something) {
   try {
     await something();
