@@ -11,7 +11,8 @@ NO_GDB = "there is no gdb-multiarch"
 NO_QEMU = "there is no qemu-riscv64 of version 7.2"
 NO_CLANG = "there is no clang with intrinsics of vectors"
 NO_SANDBOX = "there is no bwrap"
-NO_SITE = "there is no built site: run tools/site build/site"
+NO_NODE = "there is no node"
+NO_SITE = "VECMON_SITE names no built site: run tools/site build/site"
 NO_TOOL = "a documented command needs"
 
 

@@ -13,7 +13,18 @@ from _pytest.terminal import TerminalReporter
 
 from support.browser import WINDOWS, browser_with
 from support.commands import Lab
-from support.left_out import NO_BINUTILS, NO_BROWSER, NO_CLANG, NO_GDB, NO_QEMU, NO_SANDBOX, NO_SITE, NO_TOOL, leave_out
+from support.left_out import (
+    NO_BINUTILS,
+    NO_BROWSER,
+    NO_CLANG,
+    NO_GDB,
+    NO_NODE,
+    NO_QEMU,
+    NO_SANDBOX,
+    NO_SITE,
+    NO_TOOL,
+    leave_out,
+)
 from vecmon_lab.compilers.compiler import Compiler, find_compilers
 from vecmon_lab.compilers.failures import ToolError
 from vecmon_lab.compilers.sandbox import check_start
@@ -30,6 +41,7 @@ LEFT_OUT = {
     "of sources in C": NO_CLANG,
     "in a sandbox": NO_SANDBOX,
     "with an assembler": NO_BINUTILS,
+    "under node": NO_NODE,
     "of the playground": NO_SITE,
     "of documented commands": NO_TOOL,
 }

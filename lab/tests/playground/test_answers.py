@@ -3,6 +3,7 @@
 import json
 import pathlib
 import random
+import shutil
 import subprocess
 from collections.abc import Mapping
 from typing import Any
@@ -15,9 +16,11 @@ from support.places import SUM, TOP
 from support.site import built_site, unpack_parts
 from vecmon_lab.compilers.compiler import Compiler
 
+pytestmark = pytest.mark.site
 NAMES = ["doubles"]
 WEB = TOP / "lab" / "vecmon_lab" / "playground" / "web"
-OWN = ("name", "own_slices", "no_c", "clock", "exercises")  # of a view: what a page without a server has otherwise
+OWN = ("name", "own_slices", "no_c", "clock", "exercises")  # parts of a view that differ in a page without a server
+DIGITS = b"0123456789abcdef"  # in the machine's module
 COMPILE = (
     'int add(int a, int b) { return a + b; }\nvoid _start(void) { volatile int x = add(1, 2); __asm__("ebreak"); }\n'
 )
@@ -32,7 +35,7 @@ def parts(tmp_path_factory: pytest.TempPathFactory) -> pathlib.Path:
 
 
 def answered_by_page(parts: pathlib.Path, requests: list[Request]) -> Sent:
-    """What the page's desk sends."""
+    """The messages of the page's desk."""
     command = ["node", str(TOP / "lab" / "support" / "desk_answers.mjs"), str(WEB), str(parts)]
     done = subprocess.run(command, input=json.dumps(requests).encode(), stdout=subprocess.PIPE, check=True)
     sent: Sent = json.loads(done.stdout)
@@ -40,7 +43,7 @@ def answered_by_page(parts: pathlib.Path, requests: list[Request]) -> Sent:
 
 
 def common(sent: Sent) -> Sent:
-    """Messages without what the playground has otherwise: its exercises, and a class's words on C and names."""
+    """Messages without the parts that differ in the playground: its exercises, and a class's words on C and names."""
     plain: Sent = json.loads(json.dumps(sent))  # without tuples
     return [[_common(message) for message in messages] for messages in plain]
 
@@ -59,16 +62,22 @@ def served(requests: list[Request]) -> list[Request]:
 
 
 def test_drawn_requests_are_answered_as_by_the_server(parts: pathlib.Path, tmp_path: pathlib.Path) -> None:
-    """Also a test of the comparison: one digit of one register is found."""
     requests = served(list(drawn_requests(random.Random(2), 500)))
     server, _ = answered(tmp_path / "class", requests, NAMES, has_clock=False)
     page = common(answered_by_page(parts, requests))
     assert [(number, requests[number - 1]) for number in differences(common(server), page)] == []
-    place = next(at for at in range(200, 400) if "x" in page[at][0].get("patch", {}).get("state", {}))
-    registers = page[place][0]["patch"]["state"]["x"]
-    name, value = next(iter(registers.items()))
-    registers[name] = f"{int(value, 16) ^ 1:x}"
-    assert place in differences(common(server), page)
+
+
+def test_a_changed_digit_is_found(parts: pathlib.Path, tmp_path: pathlib.Path) -> None:
+    """The comparison finds a machine that prints 8 for the digit 9."""
+    requests = served(list(drawn_requests(random.Random(2), 100)))
+    server, _ = answered(tmp_path / "class", requests, NAMES, has_clock=False)
+    planted = tmp_path / "planted"
+    shutil.copytree(parts, planted)
+    machine = (planted / "machine").read_bytes()
+    assert machine.count(DIGITS) > 0
+    (planted / "machine").write_bytes(machine.replace(DIGITS, DIGITS.replace(b"9", b"8")))
+    assert differences(common(server), common(answered_by_page(planted, requests)))
 
 
 def test_an_image_has_its_symbols_lines_and_variables(

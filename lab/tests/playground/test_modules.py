@@ -9,17 +9,20 @@ from typing import Any
 
 import pytest
 
+from support.left_out import NO_NODE, leave_out
 from support.places import TOP
 from vecmon_lab.page.pages import FILES
 
 WEB = TOP / "lab" / "vecmon_lab" / "playground" / "web"
 OPTIONS = '{options: [{text: "assembler"}, {text: "C, O2"}]}'
 
-pytestmark = pytest.mark.skipif(not shutil.which("node"), reason="there is no node")
+pytestmark = pytest.mark.site
 
 
 def evaluated(module: pathlib.Path, script: str) -> Any:
-    """What a script prints as JSON, which has the module as `it`."""
+    """The JSON output of a script, in which the module is `it`."""
+    if not shutil.which("node"):
+        leave_out(NO_NODE)
     address = f"data:text/javascript,{urllib.parse.quote(module.read_text('utf-8'))}"
     whole = f'import * as it from "{address}"; {script}'
     done = subprocess.run(["node", "--input-type=module"], input=whole, stdout=subprocess.PIPE, text=True, check=True)

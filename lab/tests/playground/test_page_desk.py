@@ -184,7 +184,7 @@ def test_an_image_is_loaded_and_comes_back(program: pathlib.Path, tmp_path: path
     [
         ("sum.c", b"int main;", "this page has no compiler; compile it elsewhere"),
         ("notes.txt", b"hello", "this is no ELF image"),
-        ("big", b"\x7fELF" + bytes(1 << 20), "an image has 1,048,576 bytes at most, and this one 1,048,580"),
+        ("big", b"\x7fELF" + bytes(1 << 20), "an image has at most 1,048,576 bytes, and this one has more"),
         ("odd", b"\x7fELF" + bytes(100), "the machine refuses odd (E09"),
     ],
     ids=["c", "text", "large", "odd"],

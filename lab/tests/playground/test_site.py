@@ -1,5 +1,6 @@
 """The built site in Chromium: the whole page, reload, exercises, lessons, images, work as files, links, and no request."""
 
+import base64
 import json
 import pathlib
 from collections.abc import Iterator
@@ -14,6 +15,7 @@ from support.site import SiteTab, built_site, served_files
 if TYPE_CHECKING:
     from selenium.webdriver import Chrome
 
+pytestmark = pytest.mark.site
 LOOP = """# A loop.
         li t0, 10
 loop:   vsetivli zero, 8, e32, m1, ta, ma
@@ -190,13 +192,24 @@ def test_links_carry_sources_and_no_markup(tabs: "Chrome", site: pathlib.Path) -
         tab.wait("id('stop').textContent.includes('this link can')")
 
 
-@pytest.mark.parametrize("name, told", [("sum.elf", "The image sum has"), ("sum.c", "this page has no compiler")])
-def test_files_are_dropped(name: str, told: str, tabs: "Chrome", site: pathlib.Path) -> None:
-    import base64
-
+def test_files_are_dropped(tabs: "Chrome", site: pathlib.Path) -> None:
+    """An image is loaded; a source in C, an image that is too large, and any other file are refused by name."""
     tab = SiteTab(tabs, (site / "playground.html").as_uri())
-    tab.front().execute_script(DROP, name, base64.b64encode(SUM.read_bytes()).decode())
-    tab.wait("id('log').textContent.includes(arguments[0])", told)
+    for name, content, told in (
+        (
+            "sum.c",
+            b"int main(void) { return 0; }",
+            "sum.c: this page has no compiler; compile it elsewhere, with `clang-19",
+        ),
+        ("large", b"\x7fELF" + bytes(1 << 20), "large: an image has at most 1,048,576 bytes, and this one has more"),
+        ("notes.txt", b"<img src=x onerror=alert(1)>", "notes.txt: this is no ELF image"),
+        ("<b>.elf", b"\x7fELF", "<b>.elf: "),
+        ("sum.elf", SUM.read_bytes(), "The image sum has"),
+    ):
+        tab.front().execute_script(DROP, name, base64.b64encode(content).decode())
+        tab.wait("id('log').textContent.includes(arguments[0])", told)
+    assert tab.run("all('#log img, #log b').length") == 0
+    tab.wait("id('run').textContent === 'stopped'")
 
 
 def test_a_second_tab_is_told(tabs: "Chrome", server: tuple[str, list[str]]) -> None:

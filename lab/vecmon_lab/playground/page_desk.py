@@ -134,7 +134,7 @@ class PageDesk(Desk):
         if not content.startswith(b"\x7fELF"):
             raise LabError("this is no ELF image, and the page loads no other files")
         if len(content) > IMAGE_BYTES:
-            raise LabError(f"an image has {IMAGE_BYTES:,} bytes at most, and this one {len(content):,}")
+            raise LabError(f"an image has at most {IMAGE_BYTES:,} bytes, and this one has more")
         if name not in session.images and len(session.images) >= MOST_IMAGES:
             raise LabError(
                 f"the page keeps {MOST_IMAGES} images at most: export your work, and begin with a new machine"

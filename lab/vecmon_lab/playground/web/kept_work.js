@@ -4,6 +4,7 @@ const [DATABASE, STORE, FORMAT_VERSION] = ["vecmon playground", "texts", 1];
 const LOCK = "vecmon playground"; // held by the tab that saves
 const FORMAT = "vecmon work";
 const ELSEWHERE = "The playground is open in another tab, which saves its work. Changes in this tab aren't saved: Take home exports them.";
+const NEWER = "A newer playground has saved the work in this browser. It is only read here, and changes aren't saved: Take home exports them.";
 const [MOST_FILE_BYTES, MOST_TEXTS] = [64 << 20, 20000];
 const NAME = /^[\w.@-]+(\/[\w.@-]+)?$/; // of a text, with one folder at most
 
@@ -43,28 +44,29 @@ export const textsOf = async (file) => {
   return byName(entries);
 };
 
-/** The storage of this page. Where it is refused, `trouble` says so, and texts are only in memory. */
+/** The storage of this page. If it is refused, `trouble` has a sentence, and texts are only in memory. `readOnly`: why nothing is saved. */
 export class KeptWork {
   /** changed: called when `trouble` has changed */
   constructor(changed) {
-    Object.assign(this, { changed, texts: {}, rest: [], trouble: "", database: null, isOwner: true, due: new Map(), writing: null });
+    Object.assign(this, { changed, texts: {}, rest: [], trouble: "", database: null, readOnly: "", due: new Map(), writing: null });
   }
 
   /** Opens the storage, and reads what it has. */
   async open() {
-    this.isOwner = await this.holdLock();
+    if (!(await this.holdLock())) this.readOnly = ELSEWHERE;
     try {
       this.database = await this.openDatabase();
+      this.database.onversionchange = () => this.leave();
       const entries = await this.readAll();
       this.texts = byName(entries.filter(isEntry));
       this.rest = entries.filter((entry) => !isEntry(entry));
-      if (this.rest.length) this.say(`${this.rest.length} saved texts can't be read: Damaged texts saves them as a file.`);
+      const damaged = `${this.rest.length} saved texts can't be read: Damaged texts saves them as a file.`;
+      this.say([this.rest.length ? damaged : "", this.readOnly].join(" ").trim());
     } catch (error) {
       this.database = null;
       const why = `This browser stores nothing for this page (${error.name})`;
       this.say(`${why}. Your work is lost when the page closes: Take home exports it.`);
     }
-    if (!this.isOwner) this.say(ELSEWHERE);
   }
 
   openDatabase() {
@@ -74,16 +76,23 @@ export class KeptWork {
     };
     return resultOf(request).catch((error) => {
       if (error.name !== "VersionError") throw error;
-      this.isOwner = false; // a newer page has written it: it is only read
+      this.readOnly = NEWER;
       return resultOf(indexedDB.open(DATABASE));
     });
+  }
+
+  /** Leave the database to the page of a newer version that opens it. */
+  leave() {
+    this.database.close();
+    this.readOnly = NEWER;
+    this.say(NEWER);
   }
 
   readAll() {
     return resultOf(this.database.transaction(STORE).objectStore(STORE).getAll());
   }
 
-  /** Whether this tab holds the lock, and so is the one that saves. */
+  /** Whether this tab gets the lock, and so is the one that saves. */
   holdLock() {
     return new Promise((done) => {
       const hold = (lock) => (done(Boolean(lock)), lock && new Promise(() => {}));
@@ -111,7 +120,7 @@ export class KeptWork {
   async write() {
     await null; // so that what is kept together is written together
     this.writing = null;
-    if (!this.database || !this.isOwner) return;
+    if (!this.database || this.readOnly) return;
     const entries = [...this.due];
     this.due.clear();
     try {
