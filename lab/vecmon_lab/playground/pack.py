@@ -28,20 +28,37 @@ TEXTS = {".txt", ".html", ".css", ".js", ".xml", ".s"}  # suffixes of the lab's 
 HEADER = importlib.util.MAGIC_NUMBER + bytes(12)  # of a compiled module without a time
 
 
-def compiled(path: pathlib.Path, name: str) -> bytes:
-    """A module as a .pyc file, without docstrings; asserts stay."""
-    tree = ast.parse(path.read_bytes())
-    for node in ast.walk(tree):
-        if isinstance(node, ast.Module | ast.ClassDef | ast.FunctionDef | ast.AsyncFunctionDef) and node.body:
-            first = node.body[0]
-            if (
-                isinstance(first, ast.Expr)
-                and isinstance(first.value, ast.Constant)
-                and isinstance(first.value.value, str)
+class Stripper(ast.NodeTransformer):
+    """Removes docstrings, and annotations of functions; those of classes stay, which dataclasses read."""
+
+    def generic_visit(self, node: ast.AST) -> ast.AST:
+        """Strip a node and those in it."""
+        match node:
+            case ast.Module(body=[ast.Expr(ast.Constant(str())), *_]) | ast.ClassDef(
+                body=[ast.Expr(ast.Constant(str())), *_]
+            ) | ast.FunctionDef(body=[ast.Expr(ast.Constant(str())), *_]) | ast.AsyncFunctionDef(
+                body=[ast.Expr(ast.Constant(str())), *_]
             ):
-                node.body = node.body[1:] or [ast.copy_location(ast.Pass(), first)]
+                node.body = node.body[1:] or [ast.copy_location(ast.Pass(), node.body[0])]
+        match node:
+            case ast.FunctionDef() | ast.AsyncFunctionDef():
+                node.returns = None
+            case ast.arg():
+                node.annotation = None
+        return super().generic_visit(node)
+
+
+def without_lines(code: types.CodeType) -> types.CodeType:
+    """A code object without its table of line numbers, and those in it."""
+    constants = (without_lines(it) if isinstance(it, types.CodeType) else it for it in code.co_consts)
+    return code.replace(co_linetable=b"", co_consts=tuple(constants))
+
+
+def compiled(path: pathlib.Path, name: str, has_lines: bool = False) -> bytes:
+    """A module as a .pyc file, without docstrings; asserts stay. has_lines: whether it has line numbers, for tracebacks."""
+    tree = Stripper().visit(ast.parse(path.read_bytes()))
     code: types.CodeType = compile(tree, name, "exec", dont_inherit=True, optimize=0)
-    return HEADER + marshal.dumps(code)
+    return HEADER + marshal.dumps(code if has_lines else without_lines(code))
 
 
 def modules(folder: pathlib.Path) -> Iterator[tuple[str, pathlib.Path]]:
@@ -68,7 +85,7 @@ def pack(library: pathlib.Path, out: pathlib.Path) -> None:
         target = out / "lab" / name
         if path.suffix == ".py":
             target.parent.mkdir(parents=True, exist_ok=True)
-            target.with_suffix(".pyc").write_bytes(compiled(path, f"/lab/{name}"))
+            target.with_suffix(".pyc").write_bytes(compiled(path, f"/lab/{name}", has_lines=True))
         elif path.suffix in TEXTS:
             target.parent.mkdir(parents=True, exist_ok=True)
             target.write_bytes(path.read_bytes())
