@@ -48,8 +48,23 @@ class Firefox:
         """The value that a script returns."""
         return self._ask("WebDriver:ExecuteScript", {"script": script, "args": list(arguments)})["value"]
 
+    @property
+    def window_handles(self) -> list[str]:
+        """The tabs."""
+        handles: list[str] = self._ask("WebDriver:GetWindowHandles", {})
+        return handles
+
+    @property
+    def switch_to(self) -> "Firefox":
+        """This driver, as selenium's: its method `window` chooses a tab."""
+        return self
+
+    def window(self, handle: str) -> None:
+        """Choose the tab that later calls use."""
+        self._ask("WebDriver:SwitchToWindow", {"handle": handle, "name": handle, "focus": True})
+
     def quit(self) -> None:
-        """Ends it, and removes its profile."""
+        """End the browser, and remove its profile."""
         try:
             self._ask("Marionette:Quit", {"flags": ["eForceQuit"]})
             self._child.wait(10)

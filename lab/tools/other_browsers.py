@@ -26,6 +26,7 @@ LONG = "        li t0, 5000000\nloop:   addi t0, t0, -1\n        bnez t0, loop\n
 GOOD = TOP / "lab" / "vecmon_lab" / "exercises" / "given" / "doubles" / "good.s"
 RUN = "document.getElementById('run').textContent"
 CHECK = "[...document.querySelectorAll('#exercise button')].find((each) => each.textContent === 'Check')"
+LESSON = "[...document.querySelectorAll('#exercise a')].find((each) => each.textContent.includes('lesson'))"
 STATE = "document.querySelector('#exercise [role=status]').textContent"
 DROP = """
 const bytes = Uint8Array.from(atob(arguments[0]), (letter) => letter.charCodeAt(0)), data = new DataTransfer();
@@ -98,8 +99,22 @@ def webkit() -> Any:
 BROWSERS: dict[str, Callable[[], Any]] = {"chromium": chromium, "firefox": Firefox, "webkit": webkit}
 
 
+def open_lesson(page: Page) -> None:
+    """Open the lesson before the exercise, in its own tab, and come back."""
+    (before,) = page.driver.window_handles
+    page.run(f"{LESSON}.click()")
+    start = time.monotonic()
+    while len(page.driver.window_handles) < 2:
+        assert time.monotonic() - start < PATIENCE, "no lesson opens"
+        time.sleep(0.05)
+    (lesson,) = set(page.driver.window_handles) - {before}
+    page.driver.switch_to.window(lesson)
+    page.wait("document.querySelector('#count')?.textContent")
+    page.driver.switch_to.window(before)
+
+
 def work(page: Page) -> list[str]:
-    """Works at the page; the figures."""
+    """Work at the page; return the figures."""
     cold, warm = page.open(), page.open()
     page.assemble(SOURCE)
     steps = []
@@ -127,6 +142,7 @@ def work(page: Page) -> list[str]:
         page.write(answer)
         page.run(f"{CHECK}.click()")
         page.wait(f"{STATE} === {told!r}")
+    open_lesson(page)
     page.run(DROP, base64.b64encode(SUM.read_bytes()).decode())
     page.wait("document.getElementById('log').textContent.includes('The image sum has')")
     return [f"{1000 * each:.0f}" for each in (cold, warm, sorted(steps)[len(steps) // 2], went)]
