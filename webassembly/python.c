@@ -1,18 +1,19 @@
 // CPython as a library of a page: the host calls `begin` once, and then `answer` for each message (lab/vecmon_lab/playground/main.py).
 //
-// Python asks its host by the module `_host`. All functions run to their end; nothing waits.
+// Python calls its host by the module `_host`. All functions run to their end; nothing waits.
 #define PY_SSIZE_T_CLEAN
 #include <Python.h>
+#include <malloc.h>
 
 #define HOST(name) __attribute__((import_module("host"), import_name(#name)))
 #define EXPORT(name) __attribute__((export_name(#name)))
 
-HOST(start) void host_start(int number, const char *words, int size);  // a machine with this number; one argument in a line
-HOST(machine) int host_machine(int number, const char *lines, int size); // the size of its answers, -1 where it has ended
-HOST(take) void host_take(char *answers);                              // the answers of the last call
+HOST(start) void host_start(int number, const char *words, int size);    // a machine with this number; one argument in a line
+HOST(machine) int host_machine(int number, const char *lines, int size); // the size of its answers, -1 if it has ended
+HOST(take) void host_take(char *answers);                                // the answers of the last call
 HOST(end) void host_end(int number);
 HOST(file) void host_file(const char *path, int path_size, const char *content, int size);
-HOST(keep) void host_keep(const char *entry, int size);                // a text to save, with its name, in JSON
+HOST(keep) void host_keep(const char *entry, int size); // a text to save, with its name, in JSON
 
 static PyObject *start(PyObject *self, PyObject *arguments)
 {
@@ -81,17 +82,67 @@ static PyObject *initialize(void)
     return PyModule_Create(&module);
 }
 
-static PyObject *function, *last; // what answers; and its last answer, as bytes
+static int zeroes = 1; // whether freed memory is set to zero, so that a snapshot compresses well
 
-// Room for so many bytes, which `answer` frees.
+static void *allocate(void *context, size_t size)
+{
+    return malloc(size ? size : 1);
+}
+
+static void *allocate_zeroed(void *context, size_t count, size_t size)
+{
+    return count && size ? calloc(count, size) : calloc(1, 1);
+}
+
+static void release(void *context, void *place)
+{
+    if (zeroes && place) {
+        memset(place, 0, malloc_usable_size(place));
+        __asm__ volatile("" : : "r"(place) : "memory"); // else the compiler removes the memset
+    }
+    free(place);
+}
+
+static void *resize(void *context, void *place, size_t size)
+{
+    if (!zeroes || !place)
+        return realloc(place, size ? size : 1);
+    size_t before = malloc_usable_size(place);
+    void *moved = allocate(context, size);
+    if (moved) {
+        memcpy(moved, place, before < size ? before : size);
+        release(context, place);
+    }
+    return moved;
+}
+
+static void set_allocators(void)
+{
+    PyMemAllocatorEx own = {NULL, allocate, allocate_zeroed, resize, release};
+    PyMem_SetAllocator(PYMEM_DOMAIN_RAW, &own);
+    PyMem_SetAllocator(PYMEM_DOMAIN_MEM, &own);
+    PyMem_SetAllocator(PYMEM_DOMAIN_OBJ, &own);
+}
+
+static PyObject *function, *last; // the function that answers; and its last answer, as bytes
+
+// Allocates a number of bytes, which `answer` frees.
 EXPORT(room) char *room(int size)
 {
     return malloc(size);
 }
 
-// Starts Python with the library in /lib.zip, and runs a program that leaves a function `answer`. 0, or another number after a complaint.
+// Ends the preparation of a snapshot: from here on freed memory keeps its content.
+EXPORT(settle) void settle(void)
+{
+    zeroes = 0;
+}
+
+// Starts Python with the library in /lib.zip, and runs a program that defines a function `answer`. Returns 0, or another number after a
+// message on standard error.
 EXPORT(begin) int begin(const char *program)
 {
+    set_allocators();
     PyConfig config;
     PyConfig_InitIsolatedConfig(&config);
     config.site_import = config.write_bytecode = config.install_signal_handlers = config.pathconfig_warnings = 0;
@@ -115,11 +166,11 @@ EXPORT(begin) int begin(const char *program)
     return function == NULL;
 }
 
-// The size of the answer to a message in UTF-8, which lies in `room`; -1 where there is none.
+// Returns the size of the answer to a message in UTF-8, which lies in `room`; -1 without an answer.
 EXPORT(answer) int answer(char *message, int size)
 {
     PyObject *text = PyUnicode_DecodeUTF8(message, size, "replace");
-    free(message);
+    release(NULL, message);
     PyObject *answered = text ? PyObject_CallOneArg(function, text) : NULL;
     Py_XDECREF(text);
     Py_CLEAR(last);

@@ -11,8 +11,18 @@ import { Python } from "./python.js";
 
 const TIME = 1.7e12; // ms since 1970
 const PROGRAM = `
-import logging, sys
+import logging, sys, types
 logging.disable(logging.CRITICAL)  # of hashes that this Python doesn't have
+UNUSED = {  # large modules that others import, and the lab in a page doesn't use; with the names that these take
+    "decimal": {"Decimal": type("Decimal", (), {})},  # fractions
+    "html.entities": {"html5": {}},  # html
+    "inspect": {"signature": lambda it: ""},  # dataclasses
+    "ipaddress": {},  # urllib.parse
+    "shutil": {},  # modules of the lab that look for programs
+}
+for name, values in UNUSED.items():
+    sys.modules[name] = types.ModuleType(name)
+    vars(sys.modules[name]).update(values)
 sys.path.append("/lab")
 from vecmon_lab.playground.main import answer, prepare
 prepare()
@@ -75,6 +85,7 @@ for (const exercise of Object.keys(hello.patch.exercises).slice(0, 2)) {
 }
 lab.answer({ turn: true, keep: true });
 lab.answer({ forget: true });
+lab.program.settle();
 const memory = new Uint8Array(lab.memory.buffer);
 let size = memory.length;
 while (size && !memory[size - 1]) size--;
