@@ -1,12 +1,13 @@
-"""Drives the built site in Chromium, Firefox and WebKitGTK, and takes times: `lab/tools/other_browsers.py SITE [BROWSER]...`.
+"""Drive the built site in Chromium, Firefox and WebKitGTK, and take times: `lab/tools/other_browsers.py SITE [BROWSER]...`.
 
-SITE is what tools/site wrote. Of each browser, `chromium`, `firefox` or `webkit`, it works at the page from a server: the page, a
-reload, an exercise failed and passed, a lesson, an image. It prints a row for MEASUREMENTS.md, in milliseconds: the first interaction
-cold and warm, a step, and 10,000,000 instructions by Go; and the MB that Python and the machine have. The packages are those of
-`tools/debian_packages other-browsers`; WebKitGTK needs a display, as `xvfb-run` gives one.
+SITE is the output folder of tools/site. In each browser, `chromium`, `firefox` or `webkit`, it works at the page from a server: the
+page, a reload, an exercise failed and passed, a lesson, an image. It prints a row for MEASUREMENTS.md, in milliseconds: the first
+interaction cold and warm, a step, and 10,000,000 instructions by Go; and the MB of Python's memory. The packages are those of
+`tools/debian_packages other-browsers`; WebKitGTK needs a display, for instance that of `xvfb-run`.
 """
 
 import base64
+import json
 import pathlib
 import sys
 import time
@@ -145,12 +146,14 @@ def work(page: Page) -> list[str]:
     open_lesson(page)
     page.run(DROP, base64.b64encode(SUM.read_bytes()).decode())
     page.wait("document.getElementById('log').textContent.includes('The image sum has')")
-    return [f"{1000 * each:.0f}" for each in (cold, warm, sorted(steps)[len(steps) // 2], went)]
+    memory = json.loads(page.run("return document.body.dataset.times"))["memory"]
+    times = (cold, warm, sorted(steps)[len(steps) // 2], went)
+    return [*(f"{1000 * each:.0f}" for each in times), f"{memory / 1e6:.1f} MB"]
 
 
 def main(site: pathlib.Path, *names: str) -> None:
     """Works at the site in browsers, and prints a row for each."""
-    print("| browser | cold | warm | a step | 10,000,000 instructions |\n|---|---|---|---|---|")
+    print("| browser | cold | warm | a step | 10,000,000 instructions | Python's memory |\n|---|---|---|---|---|---|")
     with served_files(site) as (address, _):
         for name in names or BROWSERS:
             driver = BROWSERS[name]()
