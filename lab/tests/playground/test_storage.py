@@ -28,6 +28,11 @@ request.onsuccess = () => {{
   for (const entry of arguments[0]) store.put(entry);
   transaction.oncomplete = () => (request.result.close(), done());
 }};"""
+FULL = """const put = IDBObjectStore.prototype.put;
+IDBObjectStore.prototype.put = function (...values) {
+  if (window.isFull) throw new DOMException('full', 'QuotaExceededError');
+  return put.apply(this, values);
+};"""
 NEXT_VERSION = "const open = indexedDB.open.bind(indexedDB); indexedDB.open = (name, version) => open(name, version && version + 1);"
 
 
@@ -55,15 +60,14 @@ def wait_for_text(tab: SiteTab, part: str) -> None:
 
 
 def test_a_full_storage_is_reported_until_there_is_room(browser: "Chrome", address: str) -> None:
-    tab = SiteTab(browser, f"{address}/play/index.html")
+    tab = SiteTab(browser, f"{address}/play/index.html", before=FULL)
     tab.write(LOOP)
     wait_for_text(tab, "A loop")
-    quota = {"origin": address}
-    tab.front().execute_cdp_cmd("Storage.overrideQuotaForOrigin", {**quota, "quotaSize": 1})
+    tab.run("window.isFull = true")
     tab.write("# no room for this\n" + LOOP)
     tab.wait("id('stored').textContent.startsWith(\"The browser's storage takes no more (QuotaExceededError).\")")
     assert not any("no room" in entry["text"] for entry in entries(tab))
-    tab.front().execute_cdp_cmd("Storage.overrideQuotaForOrigin", quota)
+    tab.run("window.isFull = false")
     tab.command("set x11 1f")
     wait_for_text(tab, "set x11 1f")
     wait_for_text(tab, "no room for this")  # the change that wasn't saved is saved with the next one
@@ -77,7 +81,7 @@ def test_damaged_texts_leave_the_others(browser: "Chrome", address: str, tmp_pat
     tab.write(LOOP)
     tab.command("set x11 1f")
     wait_for_text(tab, "set x11 1f")
-    browser.get(f"{address}/PROVENANCE")
+    browser.get(f"{address}/index.html")
     damaged = [{"name": "A.script", "text": "1 enter\nno line\n", "time": 1}, {"name": "A1.note", "text": 5, "time": 1}]
     tab.front().execute_async_script(CHANGE, damaged)
     tab.open(page)
@@ -86,7 +90,7 @@ def test_damaged_texts_leave_the_others(browser: "Chrome", address: str, tmp_pat
     assert said.startswith("1 saved texts can't be read: Damaged texts saves them as a file.")
     assert "the machine's lines can't be executed again" in said or "the machine's lines are damaged" in said
     is_whole = lambda content: content.rstrip().endswith((b"]", b"}"))  # noqa: E731
-    saved = tab.save("[title='Save damaged texts as a file']", tmp_path / "vecmon-damaged.json", is_whole)
+    saved = tab.save("[aria-label='Save damaged texts as a file']", tmp_path / "vecmon-damaged.json", is_whole)
     assert json.loads(saved) == [damaged[1]]
     work = json.loads(tab.save("#home", tmp_path / "vecmon-work.json", is_whole))
     texts = {entry["name"]: entry["text"] for entry in work["texts"]}
@@ -100,9 +104,10 @@ def test_another_version_of_the_storage(browser: "Chrome", address: str) -> None
     tab.write(LOOP)
     wait_for_text(tab, "A loop")
     later = SiteTab(browser, page, before=NEXT_VERSION)
-    later.wait("id('source').value === arguments[0]", LOOP)
     tab.wait("id('stored').textContent.startsWith('A newer playground has saved the work in this browser.')")
-    tab.close()
+    tab.front().get("about:blank")  # so that the later one is the tab that saves
+    later.open(page)
+    later.wait("id('source').value === arguments[0]", LOOP)
     later.command("set x11 1f")
     wait_for_text(later, "set x11 1f")
     again = SiteTab(browser, page)

@@ -23,6 +23,7 @@ WEB = pathlib.Path(__file__).with_name("web")
 DIGEST_BYTES = 32
 DATA, DATA_COUNT = 11, 12  # sections of WebAssembly
 LATER = "later"  # the part that is loaded where it is needed
+LAB = pathlib.Path(__file__).parents[1]
 EXAMPLES = pathlib.Path(__file__).parents[2] / "examples"
 PRACTICE = (
     "Checks on this page are practice and not marks: the expected values are in the file, for anyone to read. "
@@ -51,6 +52,8 @@ def parts_of(folder: pathlib.Path) -> dict[str, bytes]:
         )
     module = without_data(python)
     lessons = {f"lessons/{path.name}": path.read_text("utf-8") for path in sorted((folder / "lessons").iterdir())}
+    tables = (path for path in sorted((LAB / "tables").rglob("*")) if path.suffix in (".txt", ".toml"))
+    lessons |= {f"lab/{path.relative_to(LAB.parent)}": path.read_text("utf-8") for path in tables}
     return {
         "python": module,
         "memory": hashlib.sha256(module).digest() + memory[DIGEST_BYTES:],

@@ -24,7 +24,7 @@ LEFT_OUT = set(
     "curses dbm sqlite3 wsgiref msilib pydoc_data venv concurrent __pycache__ ctypes site-packages dist-packages lib-dynload".split()
 )
 OF_ELFTOOLS = ["pprint.py"]  # of the library what pyelftools alone imports
-TEXTS = {".txt", ".html", ".css", ".js", ".xml", ".s"}  # suffixes of the lab's files that it reads
+TEXTS = {".txt", ".html", ".css", ".js", ".xml", ".s", ".toml"}  # suffixes of the lab's files that it reads
 HEADER = importlib.util.MAGIC_NUMBER + bytes(12)  # of a compiled module without a time
 
 
