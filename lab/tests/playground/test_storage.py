@@ -62,6 +62,7 @@ def wait_for_text(tab: SiteTab, part: str) -> None:
 def test_a_full_storage_is_reported_until_there_is_room(browser: "Chrome", address: str) -> None:
     tab = SiteTab(browser, f"{address}/play/index.html", before=FULL)
     tab.write(LOOP)
+    tab.wait("id('run').textContent === 'stopped'")
     wait_for_text(tab, "A loop")
     tab.run("window.isFull = true")
     tab.write("# no room for this\n" + LOOP)
