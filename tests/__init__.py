@@ -4,6 +4,7 @@ was stored.
 - `command_lines`: one command line after another, and the pages of docs/ that show what is answered;
 - `instruction_loops`: the results of loops of one kind of instruction, and how to measure them;
 - `isolation`: programs in slices of each length; eight users on one machine compared with eight private machines;
+- `peers`: single instructions, encodings and programs, compared with QEMU, GNU binutils and LLVM;
 - `recordings`: the recorder's counts, compared with counts by hand, the monitor's steps and QEMU's counts.
 
 With the program built (`rt run < stdin` in crates/vecmon) and the packages of `lab/setup`, at the top of the

@@ -7,6 +7,7 @@ import pytest
 
 NO_BROWSER = "there is no Chromium"
 NO_BINUTILS = "there is no riscv64-linux-gnu-ld"
+NO_LLVM = "there is no llvm-mc-19, or no riscv64-linux-gnu-objcopy"
 NO_GDB = "there is no gdb-multiarch"
 NO_QEMU = "there is no qemu-riscv64 of version 7.2"
 NO_CLANG = "there is no clang with intrinsics of vectors"

@@ -18,6 +18,7 @@ from support.left_out import (
     NO_BROWSER,
     NO_CLANG,
     NO_GDB,
+    NO_LLVM,
     NO_NODE,
     NO_QEMU,
     NO_SANDBOX,
@@ -43,6 +44,7 @@ LEFT_OUT = {
     "with an assembler": NO_BINUTILS,
     "under node": NO_NODE,
     "of the playground": NO_SITE,
+    "with LLVM's assembler": NO_LLVM,
     "of documented commands": NO_TOOL,
 }
 

@@ -1,11 +1,9 @@
 """Random programs: on QEMU and on vecmon, the same by their seed, and what is met in them."""
 
 import json
-import os
 import pathlib
 import subprocess
 from collections import Counter
-from concurrent.futures import ThreadPoolExecutor
 
 import pytest
 
@@ -28,26 +26,6 @@ def test_programs_run_on_vecmon(lab: Lab, tmp_path: pathlib.Path) -> None:
         ]  # for signals on Linux
         state = json.loads((tmp_path / f"program_{number}.state").read_text("ascii"))
         assert len(state["v"]) == 32 and len(state["memory"]["20000"]) == 2 * 8192
-
-
-@pytest.mark.usefixtures("qemu")
-def test_200_seeds_on_qemu(lab: Lab, tmp_path: pathlib.Path) -> None:
-    """Those that keep to what the standard fixes leave the same bytes there, and every tenth where agnostic elements become ones."""
-    ones = [*QEMU[:-1], f"{QEMU[-1]},rvv_ta_all_1s=true,rvv_ma_all_1s=true"]
-    assert lab("programs", tmp_path, "--count", "200", "--length", "100", "--seed", "100")[0] == 0
-    paths = sorted(tmp_path.glob("*.elf"))
-    with ThreadPoolExecutor(os.cpu_count()) as pool:
-        runs = [(path, pool.submit(run_on, QEMU, path)) for path in paths]
-        runs += [(path, pool.submit(run_on, ones, path)) for path in paths[::10]]
-    assert len(runs) == 220
-    for path, done in runs:
-        assert done.result() == (0, path.with_suffix(".reference").read_text("ascii") + "00000000\n"), path
-
-
-def run_on(emulator: list[str], path: pathlib.Path) -> tuple[int, str]:
-    """The status of a program there, and its output."""
-    done = subprocess.run([*emulator, path], stdout=subprocess.PIPE, text=True)
-    return done.returncode, done.stdout
 
 
 @pytest.mark.usefixtures("qemu")

@@ -12,7 +12,7 @@ import pytest
 
 from support.places import DATA
 from vecmon_lab.instructions.table import instruction_table
-from vecmon_lab.machine.answers import VILL, ControlRegisters
+from vecmon_lab.machine.answers import ControlRegisters
 from vecmon_lab.machine.session import Session
 from vecmon_lab.vectors import on_qemu
 from vecmon_lab.vectors.cases import Case, draw_case, plan
@@ -120,16 +120,6 @@ def test_a_seed_gives_the_same_lines_and_another_one_others(program: pathlib.Pat
     assert draw_case(row, 99, 1) == draw_case(row, 99, 1) != draw_case(row, 98, 1)
 
 
-@pytest.mark.usefixtures("qemu")
-def test_each_ninth_instruction_on_qemu(program: pathlib.Path) -> None:
-    rows = list(instruction_table().values())[::9]
-    cases = [json.loads(json.dumps(result)) for row in rows for result in golden_results(program, row, 5, 7)]
-    shown = [case for case in cases if on_qemu.can_run(case)]
-    reasons = Counter(reason_of(case, differing) for case, differing in zip(shown, on_qemu.differences(shown)))
-    assert "unknown" not in reasons, reasons
-    assert reasons["none"] > 250
-
-
 @pytest.mark.parametrize(
     ("version", "extension"),
     [
@@ -148,16 +138,16 @@ def test_names_of_extensions(
     emulator.write_text(f"#!/bin/sh\necho 'qemu-riscv64 version {version}'\n", "ascii")
     emulator.chmod(0o700)
     monkeypatch.setenv("PATH", f"{tmp_path}:{os.environ['PATH']}")
-    on_qemu.qemu.cache_clear()
+    on_qemu.version.cache_clear()
     assert on_qemu.qemu() == ["qemu-riscv64", "-cpu", f"rv64,{extension}=true,vext_spec=v1.0,vlen=256,elen=64"]
-    on_qemu.qemu.cache_clear()
+    on_qemu.version.cache_clear()
 
 
 def test_cases_behind_one_that_ends_qemu(monkeypatch: pytest.MonkeyPatch) -> None:
     """A process that ends at each case of zeros: the next one begins behind it."""
     size = on_qemu.LAYOUT.size
 
-    def run(cases: bytes) -> bytes:
+    def run(cases: bytes, policy: str) -> bytes:
         each = [cases[at : at + size] for at in range(0, len(cases), size)]
         end = each.index(bytes(size)) if bytes(size) in each else len(each)
         return bytes(size) + b"".join(each[:end])
@@ -165,34 +155,6 @@ def test_cases_behind_one_that_ends_qemu(monkeypatch: pytest.MonkeyPatch) -> Non
     monkeypatch.setattr(on_qemu, "_run", run)
     left = list(on_qemu.results([bytes([number]) * size for number in (1, 0, 2, 3, 0)]))
     assert [result and result[0] for result in left] == [1, None, 2, 3, None]
-
-
-def reason_of(case: dict[str, Any], differing: dict[str, tuple[Any, Any]]) -> str:
-    """Why QEMU 7.2 differs: empty if it doesn't; docs/GOLDEN_VECTORS.md has each reason."""
-    if not differing:
-        return "none"
-    names, is_access = set(differing), int(case["word"], 16) & 0x7F in (0x03, 0x07, 0x23, 0x27)
-    if names == {"vstart"} and 0 < case["vstart"] == differing["vstart"][1]:
-        return "vstart at or past the length stays"
-    if "seg" in case["name"] and names <= {"v", "memory", "value"}:
-        return "fields before the fault of a segment are done"
-    if names == {"value"} and is_access and 0 < differing["value"][1] - differing["value"][0] < 8:
-        return "the value is the first byte that is refused"
-    if names == {"value"} and is_access and differing["value"][0] >= 1 << 47 and differing["value"][1] == 0:
-        return "the value is 0 past what the host addresses"
-    if case["name"] in ("csrrs", "csrrc") and case["end"] == "fault" and differing["end"][1] == "ran":
-        return "no bits of a register that can't be written are set or cleared"
-    if names == {"vxrm"} and case["name"].startswith("csrr"):
-        return "vxrm keeps all bits"
-    if (
-        case["name"].startswith("vmv")
-        and case["name"].endswith("r.v")
-        and (case["vstart"] or case["vtype"] == f"{VILL:x}")
-    ):
-        return "moves of whole registers with vstart or vill"
-    if case["name"].startswith("vset") and names <= {"vl", "vtype"} and not int(case["word"], 16) & 0x000F8F80:
-        return "the length is kept with another VLMAX"
-    return "unknown"
 
 
 def test_the_program_for_qemu_is_what_its_texts_say(session: Session) -> None:

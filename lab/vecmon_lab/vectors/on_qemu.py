@@ -5,6 +5,7 @@ them (on_qemu.txt) takes each from standard input; a signal ends it.
 """
 
 import functools
+import itertools
 import json
 import pathlib
 import re
@@ -17,6 +18,9 @@ from collections.abc import Iterator, Mapping, Sequence
 
 QEMU = ["qemu-riscv64", "-cpu", "rv64,Zve64f=true,vext_spec=v1.0,vlen=256,elen=64"]
 """The command of QEMU 7.2."""
+
+POLICIES = {"keep": "", "ones": ",rvv_ta_all_1s=true,rvv_ma_all_1s=true"}
+"""What follows in its last argument, by the policy for agnostic elements."""
 
 CODE, DATA, PROGRAM, BLOCK, STACK = 0x10000, 0x20000, 0x60000000, 0x60010000, 0x60020000
 CONTROL = ("vl", "vtype", "vxrm", "vxsat", "vstart")
@@ -85,17 +89,18 @@ def found(case: Case, result: bytes | None) -> State:
 
 
 def differences(cases: Sequence[Case]) -> list[dict[str, tuple[object, object]]]:
-    """For each case what QEMU leaves otherwise, by name: what is expected, and what was found."""
+    """For each case what QEMU leaves otherwise, by name: what is expected, and what was found. All have one policy."""
     befores = [LAYOUT.pack(*(state(case) | {"end": int(str(case["word"]), 16)}).values()) for case in cases]
-    pairs = [(expected(case), found(case, result)) for case, result in zip(cases, results(befores), strict=True)]
+    left = results(befores, str(cases[0]["policy"]) if cases else "keep")
+    pairs = [(expected(case), found(case, result)) for case, result in zip(cases, left, strict=True)]
     return [{name: (one[name], other[name]) for name in NAMES if one[name] != other[name]} for one, other in pairs]
 
 
-def results(befores: Sequence[bytes]) -> Iterator[bytes | None]:
+def results(befores: Sequence[bytes], policy: str = "keep") -> Iterator[bytes | None]:
     """The state that QEMU leaves of each case; None where QEMU itself ends. Raises CalledProcessError where it doesn't start."""
     done = 0
     while done < len(befores):
-        output = _run(b"".join(before[-8192:] + before[:-8192] for before in befores[done:]))
+        output = _run(b"".join(before[-8192:] + before[:-8192] for before in befores[done:]), policy)
         ends = range(2 * LAYOUT.size, len(output) + 1, LAYOUT.size)  # the first state is that before all cases
         yield from (output[end - LAYOUT.size : end] for end in ends)
         done += len(ends)
@@ -104,7 +109,7 @@ def results(befores: Sequence[bytes]) -> Iterator[bytes | None]:
             done += 1
 
 
-def _run(cases: bytes) -> bytes:
+def _run(cases: bytes, policy: str) -> bytes:
     """The output of the program around cases. It reads them from a file, since a read from a pipe may be short."""
     with tempfile.TemporaryDirectory() as folder, tempfile.TemporaryFile() as feed:
         elf = pathlib.Path(folder, "image")
@@ -112,26 +117,32 @@ def _run(cases: bytes) -> bytes:
         elf.chmod(0o700)
         feed.write(cases)
         feed.seek(0)
-        done = subprocess.run([*qemu(), elf], stdin=feed, stdout=subprocess.PIPE)
+        done = subprocess.run([*qemu(policy), elf], stdin=feed, stdout=subprocess.PIPE)
     if len(done.stdout) < LAYOUT.size:
         raise subprocess.CalledProcessError(done.returncode, done.args)
     return done.stdout
 
 
 @functools.cache
-def qemu() -> list[str]:
-    """The command of the QEMU that is installed: since version 8.2 names of extensions are in lower case."""
+def version() -> tuple[int, int]:
+    """The version of the QEMU that is installed: its first two numbers; zeros if it prints none."""
     told = subprocess.run([QEMU[0], "--version"], stdout=subprocess.PIPE, text=True, check=True).stdout
-    version = re.search(r"version (\d+)\.(\d+)", told)
-    is_new = version is not None and (int(version[1]), int(version[2])) >= (8, 2)
-    return [*QEMU[:2], QEMU[2].replace("Zve", "zve") if is_new else QEMU[2]]
+    numbers = re.search(r"version (\d+)\.(\d+)", told)
+    return (int(numbers[1]), int(numbers[2])) if numbers else (0, 0)
+
+
+def qemu(policy: str = "keep") -> list[str]:
+    """The command of the QEMU that is installed, with a policy: since version 8.2 names of extensions are in lower case."""
+    extensions = QEMU[2].replace("Zve", "zve") if version() >= (8, 2) else QEMU[2]
+    return [*QEMU[:2], extensions + POLICIES[policy]]
 
 
 if __name__ == "__main__":
     if not shutil.which(QEMU[0]):
         sys.exit(f"on_qemu.py: {QEMU[0]} not found: sudo apt install qemu-user")
     shown = [case for line in pathlib.Path(sys.argv[1]).open() if can_run(case := json.loads(line))]
-    for part in (shown[at : at + 1000] for at in range(0, len(shown), 1000)):
-        for case, differing in zip(part, differences(part)):
-            if differing:
-                print(case["word"], case["text"], *differing)
+    for _, group in itertools.groupby(shown, key=lambda case: str(case["policy"])):
+        while part := list(itertools.islice(group, 1000)):
+            for case, differing in zip(part, differences(part)):
+                if differing:
+                    print(case["word"], case["text"], *differing)
