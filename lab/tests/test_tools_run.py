@@ -2,9 +2,12 @@
 
 import os
 import pathlib
+import re
+import shlex
 import shutil
 import signal
 import subprocess
+import sys
 import time
 from collections.abc import Callable
 
@@ -25,6 +28,19 @@ while (top / "wait").exists():
     time.sleep(0.02)
 shutil.copy("PROGRAM", out)
 """
+RT = """\
+#!/bin/sh
+top=TOP
+case $* in
+    version) echo kit logic 0123 ;;
+    doc) echo "$top/rattle/START-HERE.md" ;;
+    *)
+        echo "$* in $(basename "$PWD")" >> "$top/proofs"
+        [ ! -e "$top/fail" ] || { echo "low: failed (1)"; exit 1; }
+        [ "$1" != run ] || { mkdir -p out && cp PROGRAM "out/$(basename "$PWD")"; }
+        ;;
+esac
+"""
 SET_UP = """\
 #!/bin/sh
 cd "$(dirname "$0")/.." && echo set up >> builds
@@ -39,12 +55,15 @@ class Clone:
 
     def __init__(self, top: pathlib.Path, program: pathlib.Path) -> None:
         self.top, self.unproved, self.run_tool = top, top / "build" / "unproved", top / "tools" / "run"
-        self.environment = {**os.environ, "PATH": f"{top}/rattle:{os.environ['PATH']}"}
-        self.write("rattle/rt", "#!/bin/sh\necho kit logic 0123\n")
+        self.environment = {
+            **os.environ,
+            "PATH": f"{top}/rattle:{os.environ['PATH']}",
+            "XDG_CACHE_HOME": f"{top}/cache",
+        }
+        self.write("rattle/rt", RT.replace("TOP", shlex.quote(str(top))).replace("PROGRAM", shlex.quote(str(program))))
         self.write("lab/setup", SET_UP)
         self.write("tools/unproved_build.py", BUILD.replace("PROGRAM", str(program)))
-        self.write("tools/linked_kit.py", "")
-        for name in ("run", "source_digest"):
+        for name in ("run", "source_digest", "proved_build.py", "linked_kit.py"):
             shutil.copy(TOP / "tools" / name, top / "tools" / name)
         self.write("HANDLES", "Handles allowed: none.\n")
         self.write("crates.txt", "low: arrayvec\nvecmon: low # a comment\nvecmon_record: low\nother: low\n")
@@ -90,6 +109,11 @@ class Clone:
         log = self.top / "builds"
         return sorted(line for line in log.read_text().split("\n") if line.startswith("vecmon")) if log.exists() else []
 
+    def proofs(self) -> list[str]:
+        """The calls of rt that prove or build so far."""
+        log = self.top / "proofs"
+        return log.read_text().splitlines() if log.exists() else []
+
     def folders(self) -> list[str]:
         """The folders of programs."""
         return sorted(path.name for path in self.unproved.iterdir() if path.is_dir())
@@ -118,6 +142,62 @@ def waiting_builds(clone: Clone) -> list[str]:
         except OSError:
             pass  # it has ended
     return [text for text in texts if "unproved_build.py" in text and str(clone.unproved) in text]
+
+
+def test_proved_programs_are_built_and_recorded(clone: Clone) -> None:
+    """Of the crates below both programs alone, in a copy; the second start proves nothing."""
+    answers = check.first_script()[1]
+    first = clone.run("--proved")
+    assert (first.returncode, first.stdout) == (0, answers), first.stderr
+    proof, *builds = clone.proofs()
+    assert re.fullmatch(r"all check --jobs [1-9]\d* in crates", proof)
+    assert builds == ["run -- --help in vecmon", "run -- --help in vecmon_record"]
+    built = f"tools/run: built with proofs: {clone.top}/crates/vecmon/out/vecmon\n"
+    assert first.stderr.endswith(built) and clone.builds() == []
+    (copy,) = (clone.top / "cache" / "vecmon" / "kit-logic-0123" / "proved").iterdir()
+    assert sorted(path.name for path in (copy / "crates").iterdir()) == ["low", "vecmon", "vecmon_record"]
+    assert (copy / "crates.txt").read_text() == "low: arrayvec\nvecmon: low # a comment\nvecmon_record: low\n"
+    for words in (list[str](), ["--proved"]):
+        again = clone.run(*words)
+        assert (again.returncode, again.stdout, again.stderr) == (0, answers, built)
+    assert len(clone.proofs()) == 3
+
+
+def test_a_changed_source_is_proved_again(clone: Clone) -> None:
+    assert clone.run("--proved").returncode == 0
+    (clone.top / "crates" / "low" / "src" / "lib.rt").write_text("fn lower() {}\n")
+    (clone.top / "crates" / "low" / "src" / "more.rt").write_text("fn more() {}\n")
+    assert clone.run("--proved").returncode == 0
+    assert len(clone.proofs()) == 6
+    (copy,) = (clone.top / "cache" / "vecmon" / "kit-logic-0123" / "proved").iterdir()
+    texts = [path.read_text() for path in sorted((copy / "crates" / "low" / "src").iterdir())]
+    assert texts == ["fn lower() {}\n", "fn more() {}\n"]
+
+
+def test_a_failed_proof_builds_and_records_nothing(clone: Clone) -> None:
+    (clone.top / "fail").touch()
+    ran = clone.run("--proved")
+    assert (ran.returncode, ran.stdout) == (2, "")
+    assert ran.stderr.endswith("low: failed (1)\ntools/run: the proof failed: see the lines above\n")
+    assert len(clone.proofs()) == 1 and not (clone.top / "crates" / "vecmon" / "out").exists()
+
+
+@pytest.mark.parametrize(
+    ("words", "message"),
+    [(["lower"], "crates.txt has no crate lower"), (["--jobs", "0"], "--jobs takes a number above 0")],
+)
+def test_bad_arguments_of_proved_build(clone: Clone, words: list[str], message: str) -> None:
+    command = [sys.executable, str(clone.top / "tools" / "proved_build.py"), *words]
+    ran = subprocess.run(command, env=clone.environment, capture_output=True, text=True)
+    assert ran.returncode == 2 and ran.stderr.endswith(f"error: {message}\n") and clone.proofs() == []
+
+
+def test_one_crate_alone(clone: Clone) -> None:
+    command = [sys.executable, str(clone.top / "tools" / "proved_build.py"), "--jobs", "7", "other"]
+    subprocess.run(command, env=clone.environment, check=True)
+    assert clone.proofs() == ["all check --jobs 7 in crates"]
+    (copy,) = (clone.top / "cache" / "vecmon" / "kit-logic-0123" / "proved").iterdir()
+    assert sorted(path.name for path in (copy / "crates").iterdir()) == ["low", "other"]
 
 
 def test_first_and_second_start(clone: Clone) -> None:
