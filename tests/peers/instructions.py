@@ -20,7 +20,8 @@ from vecmon_lab.vectors.command import golden_results
 UNKNOWN = "unknown"
 LOADS_AND_STORES = (0x03, 0x07, 0x23, 0x27)
 _TOGETHER = 8  # instructions whose cases go through one process of QEMU
-_ONES = {"vm": "mask results and vlm.v", "vl": "a load that shortened vl", "vcompress": "vcompress"}
+_FILLED = {"vm": "mask results", "vlm.v": "vlm.v", "vl": "a load that shortened vl", "vcompress": "vcompress"}
+_UNFILLED = ("vmv.s.x", "vslidedown.v")
 
 Case = Mapping[str, object]
 Differing = Mapping[str, tuple[object, object]]
@@ -76,7 +77,7 @@ def reason_of(case: Case, differing: Differing) -> str:
         return "moves of whole registers with vstart or vill"
     if name.startswith("vset") and names <= {"vl", "vtype"} and not word & 0x000F8F80:
         return "the length is kept with another VLMAX"
-    if case["policy"] == "ones" and "v" in names and (reason := _reason_of_ones(name, differing)):
+    if case["policy"] == "ones" and "v" in names and (reason := _reason_of_ones(case, differing)):
         names -= {"v"}
         return reason if not names else _reason_of_state(case, differing, names)
     return _reason_of_state(case, differing, names)
@@ -98,10 +99,16 @@ def _reason_of_state(case: Case, differing: Differing, names: set[str]) -> str:
     return UNKNOWN
 
 
-def _reason_of_ones(name: str, differing: Differing) -> str:
-    """Why QEMU has more ones in vector registers under the policy `ones`; empty if it has fewer anywhere."""
-    mine, other = (value for value in differing["v"])
-    if not isinstance(mine, bytes) or not isinstance(other, bytes) or any(a & ~b for a, b in zip(mine, other)):
+def _reason_of_ones(case: Case, differing: Differing) -> str:
+    """Why QEMU has more or fewer ones in vector registers under the policy `ones`."""
+    mine, other = differing["v"]
+    before = on_qemu.state(case)["v"]
+    if not isinstance(mine, bytes) or not isinstance(other, bytes) or not isinstance(before, bytes):
         return ""
-    kinds = [kind for start, kind in _ONES.items() if name.startswith(start)]
-    return f"with ones, also what is past the end of {kinds[0]}" if kinds else ""
+    name, odd = str(case["name"]), [(a, b, old) for a, b, old in zip(mine, other, before, strict=True) if a != b]
+    if name.startswith(_UNFILLED) and all(a == 0xFF and b == old for a, b, old in odd):
+        return "with ones, agnostic elements of vmv.s.x and vslidedown stay"
+    kinds = [kind for start, kind in _FILLED.items() if name.startswith(start)]
+    if kinds and not any(a & ~b for a, b, _ in odd):
+        return f"with ones, also what is past the end of {kinds[0]}"
+    return ""
