@@ -20,7 +20,7 @@ def with_tables(page: str) -> str:
 
 
 def with_instructions(table: str, page: str) -> str:
-    """The lab's table of instructions, whose comments stay, with the rows of docs/INSTRUCTIONS.md."""
+    """The lab's table of instructions, whose comments stay, with the rows of the assembler's list or of docs/INSTRUCTIONS.md."""
     rows = re.findall(r"^\| `([a-z]\S*) ?([^`]*)` \| `([01 -]+)` \|", page, re.MULTILINE)
     comments = [line for line in table.splitlines() if line.startswith("#")]
     lines = [*comments, *(f"{name}  {operands or '-'}  {bits}" for name, operands, bits in rows)]
