@@ -13,12 +13,12 @@ from support.places import SCRIPTS, TOP
 from vecmon_lab.machine.answers import OutOfStep, is_refusal, is_whole
 from vecmon_lab.machine.lines import BadLine, is_look
 from vecmon_lab.machine.session import Session
+from vecmon_lab.tables.table import read_table
 
 CRATES, TESTS = TOP / "crates", TOP / "tests"
 IMAGES = {name: SCRIPTS / name for name in "magic class order machine entries interp entry bare good short".split()}
 IMAGES |= {name: SCRIPTS / "images" / name for name in ("sum", "squares")}
-COMMANDS = set("enter leave load map poke peek set setpc regs vset vreg vcsr policy asm dis".split())
-COMMANDS |= set("break unbreak breaks step go stop state trace out".split())
+COMMANDS = [form for _, form, _, answer, _ in read_table("commands") if answer != "-"]  # those of the machine
 FORMS = """
 enter;enter;enter;leave;load NAME;map ADDRESS COUNT PERMISSION;map 10000 1 rwx;map 20000 1 rw;poke ADDRESS BYTES
 peek ADDRESS COUNT;set SCALAR VALUE;set x17 VALUE;setpc ADDRESS;setpc 10000;regs;vset VECTOR BYTES;vreg VECTOR WIDTH
@@ -110,6 +110,12 @@ def test_stored_scripts(program: pathlib.Path, session: Session) -> None:
     assert lines_of_all > 3000
 
 
+def test_each_command_has_the_form_of_its_answer() -> None:
+    """Without a row in answers.txt, a session takes an answer for another line's."""
+    names = [" ".join(form.split()[: 1 + (form[0] == "*")]) for form in COMMANDS]
+    assert sorted(names) == sorted(name for name, _ in read_table("answers"))
+
+
 def test_drawn_lines(program: pathlib.Path) -> None:
     accepted: set[str] = set()
     stops: list[list[str]] = []
@@ -120,7 +126,7 @@ def test_drawn_lines(program: pathlib.Path) -> None:
                 accepted.add(f"{'*' if line[0] == '*' else 'user'} {line.split()[1]}")
             if line[0] == "*":
                 stops.append([part.split()[1] for part in answer[:-1]])
-    assert accepted == {f"user {word}" for word in COMMANDS} | {"* slices", "* run", "* list", "* stats"}
+    assert accepted == {" ".join((form if form[0] == "*" else f"user {form}").split()[:2]) for form in COMMANDS}
     assert {len(words) for words in stops} >= {0, 1, 2, 3}
     assert {word for words in stops for word in words} >= {"break", "ebreak", "exit", "fault"}
 
